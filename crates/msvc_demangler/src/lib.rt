@@ -1,0 +1,40 @@
+//! A demangler of C++ symbols as Microsoft's compiler mangles them: `?x@@3PEAY1NKM@5HEA` is `int (*x)[3500][6]`.
+//!
+//! [`parse`] reads a symbol into a tree, [`serialize`] prints a tree, and [`demangle`] does both.
+#![tactic(auto)]
+
+ghost use Rattle.std.specs.Prelude.{◌≡◌, ◌∷◌, [], ℕ, List, IfOk, IfErr, bit_and, string_bytes};
+ghost use Rattle.msvc_tree.specs.Trees.{SymbolTree};
+ghost use Rattle.msvc_read.specs.Grammar.{Derives, begins_with};
+ghost use Rattle.msvc_read.specs.Refusals.{IsRefusedRightly, IsAtOrMemory};
+ghost use Rattle.msvc_read.specs.State.{Note};
+ghost use Rattle.msvc_write.specs.Declaration.{declaration};
+ghost use Rattle.msvc_write.specs.Flags.{obeyed_flags};
+
+use std::alloc::Global;
+
+pub use msvc_read::parse;
+pub use msvc_tree::error::{Error, ErrorRepr};
+pub use msvc_tree::flags::{DemangleFlags, FuncClass, StorageClass};
+pub use msvc_tree::tree::{
+    CallingConv, Name, NameSequence, Operator, Params, ParseResult, Symbol, Type, VarStorageKind,
+};
+pub use msvc_write::serialize;
+
+/// The declaration of the symbol that `input` begins with, under the flags of printing: `parse`, then `serialize`.
+///
+/// A refusal has an offset into `input`, in bytes; one for want of memory has none.
+pub fn demangle(alloc: Global, input: &str, flags: DemangleFlags) -> Result<String, Error>
+    ensures declared { IfOk result (λ text. (tree : SymbolTree) × (rest : List ℕ) × (notes : List Note)
+        × Derives input.now tree rest notes × (string_bytes text ≡ declaration tree (bit_and flags.0 obeyed_flags))) }
+    ensures only { IfOk result (λ text. (tree : SymbolTree) (rest : List ℕ) (notes : List Note) → Derives input.now tree rest notes
+        → string_bytes text ≡ declaration tree (bit_and flags.0 obeyed_flags)) }
+    ensures refused { IfErr result (λ e. IsRefusedRightly input.now e) }
+    ensures begins { (begins_with (63 ∷ []) input.now → ⊥) → IfErr result (λ e. IsAtOrMemory 0 e) }
+    ensures begins_ok { IfOk result (λ text. begins_with (63 ∷ []) input.now) }
+{
+    match parse(alloc, input) {
+        Ok(symbol) => serialize(alloc, &symbol, flags),
+        Err(refusal) => Err(refusal),
+    }
+}

@@ -1,0 +1,13 @@
+//! Reads a symbol as Microsoft's C++ compiler mangles it into a tree. Nothing here knows how a tree is printed.
+#![tactic(auto)]
+
+mod letters;
+mod names;
+mod numbers;
+mod parser;
+mod read;
+mod refusal;
+mod symbols;
+mod types;
+
+pub use read::parse;

@@ -1,0 +1,91 @@
+//! Why nothing was read. A refusal is a few numbers until it leaves the reader: no text is made on the way.
+
+ghost use Rattle.std.specs.Prelude.{◌≡◌, ◌-◌, length};
+ghost use Rattle.msvc_read.specs.Refusals.{IsErrorOf};
+ghost use Rattle.msvc_read.specs.declared.refusal.Refusal.TheVariants.{Memory};
+
+use msvc_tree::error::{Error, parse_error};
+use std::alloc::{AllocError, AllocFailed, Global};
+use std::borrow::CowStr;
+
+/// What no rule of the grammar could read.
+#[derive(Clone, Copy, PartialEq, Eq, Debug)]
+pub enum Message {
+    NoQuestionMark,
+    EndOfInput,
+    MissingAt,
+    BadNumber,
+    NameReferenceTooLarge,
+    InvalidBackReference(u8),
+    InvalidArrayDimension(i32),
+    UnknownStorageClass,
+    UnknownPrimitiveType,
+}
+
+impl Message {
+    /// The text of the message. Only one that shows a number takes memory.
+    fn text(self, alloc: Global) -> Result<CowStr<'static>, AllocError> {
+        let text = match self {
+            Message::NoQuestionMark => "does not start with b'?'",
+            Message::EndOfInput => "unexpected end of input",
+            Message::MissingAt => "read_string: missing b'@'",
+            Message::BadNumber => "bad number",
+            Message::NameReferenceTooLarge => "name reference too large",
+            Message::UnknownStorageClass => "unknown storage class",
+            Message::UnknownPrimitiveType => "unknown primitive type",
+            Message::InvalidBackReference(index) => {
+                return Ok(CowStr::Owned(format!(in alloc; "invalid backreference: {index}")?));
+            }
+            Message::InvalidArrayDimension(dimension) => {
+                return Ok(CowStr::Owned(format!(in alloc; "invalid array dimension: {dimension}")?));
+            }
+        };
+        Ok(CowStr::Borrowed(text))
+    }
+}
+
+/// Why a reader gave nothing.
+#[derive(Clone, Copy, Debug)]
+pub enum Refusal {
+    /// A growth was refused.
+    Memory,
+    /// No rule reads on where this many bytes are left.
+    Unread(Message, usize),
+    /// Only a rule that isn't built yet could read on where this many bytes are left.
+    NotBuilt(usize),
+}
+
+impl Refusal {
+    /// The error that a caller sees: the message, the offset of the bytes that were left, and what stands there.
+    pub fn error(self, alloc: Global, text: &[u8]) -> Error
+        ensures { IsErrorOf self text.now result }
+    {
+        match self {
+            Refusal::Memory => Error::from(AllocError),
+            Refusal::Unread(message, left) => match message.text(alloc) {
+                Ok(message) => parse_error(alloc, message, text, text.len().saturating_sub(left)),
+                Err(refused) => Error::from(refused),
+            },
+            Refusal::NotBuilt(left) => {
+                let message = CowStr::Borrowed("form not built yet");
+                parse_error(alloc, message, text, text.len().saturating_sub(left))
+            }
+        }
+    }
+}
+
+impl From<AllocError> for Refusal {
+    ghost from_gives = { λ _ e. e ≡ Memory };
+
+    fn from(_e: AllocError) -> Refusal {
+        Refusal::Memory
+    }
+}
+
+impl<T: Drop> From<AllocFailed<T>> for Refusal {
+    ghost from_gives = { λ _ e. e ≡ Memory };
+
+    fn from(_e: AllocFailed<T>) -> Refusal {
+        Refusal::Memory
+    }
+}

@@ -1,0 +1,73 @@
+//! Symbols, and the types behind their names.
+
+ghost use Rattle.std.specs.Prelude.{◌≡◌, ◌∷◌, [], length, None, Err};
+ghost use Rattle.msvc_tree.specs.View.{type_of, tree_of};
+ghost use Rattle.msvc_read.specs.Parser.{state_of};
+ghost use Rattle.msvc_read.specs.Reading.{Gives, after, encoding_at, symbol_at, symbol_behind, variable_at};
+
+use crate::parser::Parser;
+use crate::refusal::{Message, Refusal};
+use msvc_tree::flags::StorageClass;
+use msvc_tree::tree::{ParseResult, Type, VarStorageKind};
+use bitflags::Flags;
+
+impl<'a> Parser<'a> {
+    /// `SYMBOL = "?" QUALIFIED_NAME ENCODING`.
+    #[tactic(auto, unfolding(crate::specs::Reading::symbol_at))]
+    pub fn symbol(&mut self) -> Result<ParseResult<'a>, Refusal>
+        ensures value { Gives (λ r. (tree_of r, self.new.rest.now, state_of self.new)) result (symbol_at self.old.rest.now (state_of self.old)) }
+        ensures start { after (63 ∷ []) self.old.rest.now ≡ None → result ≡ Err (Refusal.Unread Message.NoQuestionMark (length self.old.rest.now)) }
+    {
+        let Some(behind) = self.after(b"?") else {
+            return Err(self.refuse(Message::NoQuestionMark));
+        };
+        self.rest = behind;
+        if self.after(b"$").is_some() {
+            return Err(self.not_built());
+        }
+        self.named_symbol()
+    }
+
+    /// What follows the `?` of a symbol.
+    #[tactic(auto, using(crate::proofs::Onward::symbol_split), unfolding(crate::specs::Reading::symbol_behind))]
+    fn named_symbol(&mut self) -> Result<ParseResult<'a>, Refusal>
+        ensures { Gives (λ r. (tree_of r, self.new.rest.now, state_of self.new)) result (symbol_behind self.old.rest.now (state_of self.old)) }
+    {
+        let symbol = self.qualified_name()?;
+        let symbol_type = self.encoding()?;
+        Ok(ParseResult {
+            symbol,
+            symbol_type,
+        })
+    }
+
+    /// `ENCODING = end | "0".."4" VARIABLE | "9"`: at the end of the text there is no type.
+    #[tactic(auto, unfolding(crate::specs::Reading::encoding_at, crate::specs::Reading::encoding_of, msvc_tree::specs::View::type_of))]
+    fn encoding(&mut self) -> Result<Type<'a>, Refusal>
+        ensures { Gives (λ t. (type_of t, self.new.rest.now, state_of self.new)) result (encoding_at self.old.rest.now (state_of self.old)) }
+    {
+        let [letter, behind @ ..] = self.rest else {
+            return Ok(Type::None);
+        };
+        self.rest = behind;
+        match *letter {
+            b'0' => self.variable(VarStorageKind::PrivateStatic),
+            b'1' => self.variable(VarStorageKind::ProtectedStatic),
+            b'2' => self.variable(VarStorageKind::PublicStatic),
+            b'3' => self.variable(VarStorageKind::Global),
+            b'4' => self.variable(VarStorageKind::FunctionLocalStatic),
+            b'9' => Ok(Type::None),
+            _ => Err(self.not_built()),
+        }
+    }
+
+    /// `VARIABLE = TYPE [storage class]`.
+    #[tactic(auto, unfolding(crate::specs::Reading::variable_at, msvc_tree::specs::View::type_of))]
+    fn variable(&mut self, kind: VarStorageKind) -> Result<Type<'a>, Refusal>
+        ensures { Gives (λ t. (type_of t, self.new.rest.now, state_of self.new)) result (variable_at kind self.old.rest.now (state_of self.old)) }
+    {
+        let variable = self.any_type(StorageClass::empty())?;
+        let class = self.optional_storage_class();
+        Ok(Type::Var(Box::new(self.alloc, variable)?, kind, class))
+    }
+}

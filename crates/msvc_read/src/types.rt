@@ -1,0 +1,216 @@
+//! Types, and the table of types.
+
+ghost use Rattle.std.specs.Prelude.{◌≡◌, ◌<◌, ◌≤◌, ◌∷◌, length, map, slice_get, IfOk};
+ghost use Rattle.std.specs.Option.{option_map};
+ghost use Rattle.msvc_tree.specs.View.{type_of};
+ghost use Rattle.msvc_read.specs.Letters.{lookup, compound_letters, digits};
+ghost use Rattle.msvc_read.specs.Parser.{state_of, entry_of};
+ghost use Rattle.msvc_read.specs.Reading.{Gives, type_at, plain_type_with, plain_of, pointee_with, array_with, array_class_at, lengths_at, nested_arrays, extended_at, indexed_at, type_entry_of, dimension_at, begins_literal};
+
+use crate::letters;
+use crate::parser::Parser;
+use crate::refusal::{Message, Refusal};
+use bitflags::Flags;
+use msvc_tree::flags::StorageClass;
+use msvc_tree::tree::Type;
+use std::alloc::AllocError;
+
+impl<'a> Parser<'a> {
+    /// `TYPE = "W4" QUALIFIED_NAME | "$$Q" POINTEE | PLAIN_TYPE`.
+    #[cycle(types)]
+    #[tactic(auto, using(crate::proofs::Onward::type_split), unfolding(crate::specs::Reading::type_with, crate::specs::Reading::tagged_at, crate::specs::Reading::pointing_with))]
+    pub fn any_type(&mut self, q: StorageClass) -> Result<Type<'a>, Refusal>
+        ensures value { Gives (λ t. (type_of t, self.new.rest.now, state_of self.new)) result (type_at q.0 self.old.rest.now (state_of self.old)) }
+        ensures shorter { IfOk result (λ _. length self.new.rest.now < length self.old.rest.now) }
+    {
+        if let Some(behind) = self.after(b"W4") {
+            self.rest = behind;
+            let name = self.qualified_name()?;
+            return Ok(Type::Enum(name, q));
+        }
+        if let Some(behind) = self.after(b"$$Q") {
+            self.rest = behind;
+            let pointee = self.pointee()?;
+            return Ok(Type::RValueRef(pointee, q));
+        }
+        if self.begins_literal() {
+            return Err(self.not_built());
+        }
+        self.plain_type(q)
+    }
+
+    /// Whether the bytes left begin with what is no plain type.
+    #[tactic(auto, unfolding(crate::specs::Reading::begins_literal))]
+    fn begins_literal(&self) -> bool
+        ensures { result ≡ begins_literal self.now.rest.now }
+    {
+        self.after(b"W4").is_some()
+            || self.after(b"A6").is_some()
+            || self.after(b"P6").is_some()
+            || self.after(b"P8").is_some()
+            || self.after(b"$").is_some()
+    }
+
+    /// `PLAIN_TYPE = base letter | COMPOUND_TYPE`.
+    #[cycle(types)]
+    #[tactic(auto, using(crate::proofs::Onward::letters_split), unfolding(crate::specs::Reading::plain_type_with, crate::specs::Reading::byte_at, crate::specs::Reading::plain_of))]
+    fn plain_type(&mut self, q: StorageClass) -> Result<Type<'a>, Refusal>
+        ensures value { Gives (λ t. (type_of t, self.new.rest.now, state_of self.new)) result (plain_type_with type_at q.0 self.old.rest.now (state_of self.old)) }
+        ensures shorter { IfOk result (λ _. length self.new.rest.now < length self.old.rest.now) }
+    {
+        let letter = self.byte()?;
+        match letters::base_type(letter, q) {
+            Some(base) => Ok(base),
+            None => self.compound_type(letter, q),
+        }
+    }
+
+    /// What follows the first letter of a type that isn't one of the base types.
+    #[cycle(types)]
+    #[tactic(auto, using(crate::proofs::Onward::compound_split), unfolding(crate::specs::Reading::plain_of, crate::specs::Reading::tagged_at, crate::specs::Reading::pointing_with))]
+    fn compound_type(&mut self, letter: u8, q: StorageClass) -> Result<Type<'a>, Refusal>
+        ensures value { Gives (λ t. (type_of t, self.new.rest.now, state_of self.new)) result (plain_of type_at q.0 (lookup letter compound_letters) self.old.rest.now (state_of self.old)) }
+        ensures shorter { IfOk result (λ _. length self.new.rest.now ≤ length self.old.rest.now) }
+    {
+        let both = StorageClass::CONST.union(StorageClass::VOLATILE);
+        match letter {
+            b'T' => Ok(Type::Union(self.qualified_name()?, q)),
+            b'U' => Ok(Type::Struct(self.qualified_name()?, q)),
+            b'V' => Ok(Type::Class(self.qualified_name()?, q)),
+            b'A' => Ok(Type::Ref(self.pointee()?, q)),
+            b'B' => Ok(Type::Ref(self.pointee()?, StorageClass::VOLATILE)),
+            b'P' => Ok(Type::Ptr(self.pointee()?, q)),
+            b'Q' => Ok(Type::Ptr(self.pointee()?, StorageClass::CONST)),
+            b'R' => Ok(Type::Ptr(self.pointee()?, StorageClass::VOLATILE)),
+            b'S' => Ok(Type::Ptr(self.pointee()?, both)),
+            b'Y' => self.array(),
+            b'_' => self.extended_type(q),
+            b'?' => self.template_parameter(),
+            _ => self.type_entry(letter),
+        }
+    }
+
+    /// `POINTEE = ["E"] [storage class] TYPE`.
+    #[cycle(types)]
+    #[tactic(auto, unfolding(crate::specs::Reading::pointee_with))]
+    fn pointee(&mut self) -> Result<Box<Type<'a>>, Refusal>
+        ensures value { Gives (λ b. (type_of b.value, self.new.rest.now, state_of self.new)) result (pointee_with type_at self.old.rest.now (state_of self.old)) }
+        ensures shorter { IfOk result (λ _. length self.new.rest.now < length self.old.rest.now) }
+    {
+        let size = self.optional_mark(b'E', StorageClass::PTR64);
+        let class = self.optional_storage_class();
+        let pointee = self.any_type(size.union(class))?;
+        Ok(Box::new(self.alloc, pointee)?)
+    }
+
+    /// `ARRAY = NUMBER {NUMBER} ["$$C" plain qualifier] TYPE`: the first number says how many lengths follow.
+    #[cycle(types)]
+    #[tactic(auto, unfolding(crate::specs::Reading::array_with))]
+    fn array(&mut self) -> Result<Type<'a>, Refusal>
+        ensures value { Gives (λ t. (type_of t, self.new.rest.now, state_of self.new)) result (array_with type_at self.old.rest.now (state_of self.old)) }
+        ensures shorter { IfOk result (λ _. length self.new.rest.now < length self.old.rest.now) }
+    {
+        let dimension = self.dimension()?;
+        let lengths = self.lengths(dimension)?;
+        let class = self.array_class()?;
+        let element = self.any_type(StorageClass::empty())?;
+        Ok(self.nested_arrays(lengths, element, class)?)
+    }
+}
+
+impl<'a> Parser<'a> {
+    /// A number above 0.
+    #[tactic(auto, unfolding(crate::specs::Reading::dimension_at))]
+    fn dimension(&mut self) -> Result<u32, Refusal>
+        ensures value { Gives (λ n. (n, self.new.rest.now, state_of self.new)) result (dimension_at self.old.rest.now (state_of self.old)) }
+        ensures shorter { IfOk result (λ _. length self.new.rest.now < length self.old.rest.now) }
+    {
+        let dimension = self.number()?;
+        if dimension < 1 {
+            return Err(self.refuse(Message::InvalidArrayDimension(dimension)));
+        }
+        Ok(dimension as u32)
+    }
+
+    /// As many numbers.
+    #[tactic(auto, using(crate::proofs::Onward::lengths_go_on))]
+    fn lengths(&mut self, count: u32) -> Result<Vec<i32>, Refusal>
+        ensures value { Gives (λ v. (v.items, self.new.rest.now, state_of self.new)) result (lengths_at count self.old.rest.now (state_of self.old)) }
+        ensures shorter { IfOk result (λ _. length self.new.rest.now ≤ length self.old.rest.now) }
+    {
+        let mut lengths = Vec::new(self.alloc);
+        for _ in 0..count {
+            lengths.push(self.number()?)?;
+        }
+        Ok(lengths)
+    }
+
+    /// The qualifiers of each level of an array.
+    #[tactic(auto, unfolding(crate::specs::Reading::array_class_at, crate::specs::Reading::letter_at))]
+    fn array_class(&mut self) -> Result<StorageClass, Refusal>
+        ensures value { Gives (λ q. (q.0, self.new.rest.now, state_of self.new)) result (array_class_at self.old.rest.now (state_of self.old)) }
+        ensures shorter { IfOk result (λ _. length self.new.rest.now ≤ length self.old.rest.now) }
+    {
+        let Some(behind) = self.after(b"$$C") else {
+            return Ok(StorageClass::empty());
+        };
+        self.rest = behind;
+        let [letter, behind @ ..] = self.rest else {
+            return Err(self.refuse(Message::UnknownStorageClass));
+        };
+        let Some(class) = letters::plain_qualifier(*letter) else {
+            return Err(self.refuse(Message::UnknownStorageClass));
+        };
+        self.rest = behind;
+        Ok(class)
+    }
+
+    #[tactic(auto, using(crate::proofs::Onward::arrays_nest), unfolding(crate::specs::Reading::nested_arrays))]
+    /// An array of these lengths, the outermost first, with qualifiers at each level.
+    fn nested_arrays(&self, mut lengths: Vec<i32>, element: Type<'a>, class: StorageClass) -> Result<Type<'a>, AllocError>
+        ensures { IfOk result (λ t. type_of t ≡ nested_arrays lengths.items (type_of element.entry) class.0) }
+    {
+        let mut array = element;
+        while let Some(length) = lengths.pop() {
+            array = Type::Array(length, Box::new(self.alloc, array)?, class);
+        }
+        Ok(array)
+    }
+
+    /// The base type of a second letter.
+    #[tactic(auto, unfolding(crate::specs::Reading::extended_at, crate::specs::Reading::letter_at, crate::specs::Reading::byte_at))]
+    fn extended_type(&mut self, q: StorageClass) -> Result<Type<'a>, Refusal>
+        ensures value { Gives (λ t. (type_of t, self.new.rest.now, state_of self.new)) result (extended_at q.0 self.old.rest.now (state_of self.old)) }
+        ensures shorter { IfOk result (λ _. length self.new.rest.now < length self.old.rest.now) }
+    {
+        let letter = self.byte()?;
+        match letters::extended_type(letter, q) {
+            Some(base) => Ok(base),
+            None => Err(self.refuse(Message::UnknownPrimitiveType)),
+        }
+    }
+
+    /// The number of a template's parameter, negated.
+    #[tactic(auto, unfolding(crate::specs::Reading::indexed_at, msvc_tree::specs::View::type_of))]
+    fn template_parameter(&mut self) -> Result<Type<'a>, Refusal>
+        ensures value { Gives (λ t. (type_of t, self.new.rest.now, state_of self.new)) result (indexed_at self.old.rest.now (state_of self.old)) }
+        ensures shorter { IfOk result (λ _. length self.new.rest.now < length self.old.rest.now) }
+    {
+        let number = self.number()?;
+        Ok(Type::TemplateParameterWithIndex(number.wrapping_neg()))
+    }
+
+    /// The entry of the table of types that a digit stands for. Any other letter begins no type.
+    fn type_entry(&self, letter: u8) -> Result<Type<'a>, Refusal>
+        ensures { Gives (λ t. (type_of t, self.now.rest.now, state_of self.now)) result
+            (type_entry_of (lookup letter digits) self.now.rest.now (state_of self.now)) }
+    {
+        let Some(index) = letters::digit(letter) else {
+            return Err(self.refuse(Message::UnknownPrimitiveType));
+        };
+        match self.types.get(usize::from(index)) {
+            Some(entry) => Ok(entry.entered.clone(self.alloc)?),
+            None => Err(self.refuse(Message::InvalidBackReference(index))),
+        }
+    }
+}

@@ -1,0 +1,7 @@
+pub mod Contexts
+pub mod CopiedLists
+pub mod Copies
+pub mod Heads
+pub mod Lists
+pub mod Tests
+pub mod Views

@@ -1,0 +1,7 @@
+pub mod Decided
+pub mod EachName
+pub mod Equality
+pub mod Errors
+pub mod Heads
+pub mod Trees
+pub mod View

@@ -1,0 +1,165 @@
+//! Errors: why a symbol was refused, or that memory ran out. The context of a refusal is made here, once, and so
+//! is its text. Which message belongs to which symbol stands with the reader.
+
+ghost use Rattle.std.specs.Prelude.{◌≡◌, ◌≤◌, ◌↔◌, length, IfOk, IsTrue, string_bytes};
+ghost use Rattle.std.specs.Cow.{cow_str_bytes};
+ghost use Rattle.std.specs.Str.{IsAscii};
+ghost use Rattle.msvc_tree.specs.declared.error.ErrorRepr.{ErrorRepr};
+ghost use Rattle.msvc_tree.specs.declared.error.ErrorRepr.TheVariants.{FromUtf8, Memory, Utf8};
+ghost use Rattle.msvc_tree.specs.Errors.{IsMessageOrMemory, IsRefusalOrMemory, context_of, context_text_of, error_text, offset_of, shortened_text};
+
+use bstr::ByteSlice;
+use std::alloc::{AllocError, AllocFailed, Global};
+use std::borrow::CowStr;
+use std::fmt;
+use std::marker::Model;
+use std::str::Utf8Error;
+use std::string::FromUtf8Error;
+
+/// How many bytes of an input a refusal shows at most.
+const CONTEXT_LENGTH: usize = 20;
+
+/// Why a call was refused. It borrows nothing from an input. Contracts see it as its `ErrorRepr`.
+#[derive(Debug, Drop)]
+pub struct Error {
+    repr: ErrorRepr,
+}
+
+/// What an `Error` holds.
+#[derive(Debug, Drop)]
+pub enum ErrorRepr {
+    /// Owned bytes are not UTF-8, and why.
+    FromUtf8(FromUtf8Error),
+    /// Borrowed bytes are not UTF-8, and why.
+    Utf8(Utf8Error),
+    /// A text is no symbol: the message, what stands at the offset, cut short, and the offset in bytes.
+    ParseError(CowStr<'static>, String, usize),
+    /// A message alone.
+    Other(String),
+    /// Memory was refused.
+    Memory,
+}
+
+impl Model for Error {
+    ghost Value = { ErrorRepr };
+
+    ghost view = { λ e. e.repr };
+}
+
+impl Error {
+    /// An error of the message `s`, which is copied; out of memory where the copy was refused.
+    pub fn new(alloc: Global, s: &str) -> Error
+        ensures { IsMessageOrMemory s.now result }
+    {
+        let repr = match String::from_str(alloc, s) {
+            Ok(message) => ErrorRepr::Other(message),
+            Err(_) => ErrorRepr::Memory,
+        };
+        Error { repr }
+    }
+
+    /// The place in the input, in bytes, at which it was refused; `None` for any other error.
+    pub fn offset(&self) -> Option<usize>
+        ensures { result ≡ offset_of self.now }
+    {
+        match &self.repr {
+            ErrorRepr::ParseError(_, _, offset) => Some(*offset),
+            _ => None,
+        }
+    }
+
+    /// Whether memory was refused.
+    pub fn is_out_of_memory(&self) -> bool
+        ensures { IsTrue result ↔ (self.now ≡ Memory) }
+    {
+        matches!(&self.repr, ErrorRepr::Memory)
+    }
+}
+
+/// The refusal of `input` at `offset`, in bytes, with a message that is borrowed or was made for it. Its context is
+/// the input from there on, or 20 bytes of it and three dots, copied. Out of memory where the copy was refused.
+pub fn parse_error(alloc: Global, message: CowStr<'static>, input: &[u8], offset: usize) -> Error
+    requires { offset ≤ length input.now }
+    ensures refusal { IsRefusalOrMemory (cow_str_bytes message.entry) (context_text_of input.now offset) offset result }
+    ensures ascii { IsAscii input.now →
+        IsRefusalOrMemory (cow_str_bytes message.entry) (context_of input.now offset) offset result }
+{
+    let repr = match context(alloc, &input[offset..]) {
+        Ok(context) => ErrorRepr::ParseError(message, context, offset),
+        Err(_) => ErrorRepr::Memory,
+    };
+    Error { repr }
+}
+
+/// What a refusal shows of the bytes that remain at its offset.
+fn context(alloc: Global, remaining: &[u8]) -> Result<String, AllocError>
+    ensures { IfOk result (λ text. string_bytes text ≡ shortened_text remaining.now) }
+{
+    let mut text = String::new(alloc);
+    if remaining.len() <= CONTEXT_LENGTH {
+        remaining.to_str_lossy_into(&mut text)?;
+    } else {
+        let beginning = &remaining[..CONTEXT_LENGTH];
+        beginning.to_str_lossy_into(&mut text)?;
+        text.push_str("...")?;
+    }
+    Ok(text)
+}
+
+impl fmt::Display for Error {
+    ghost output = { error_text };
+
+    fn fmt<W: fmt::Write>(&self, f: &mut fmt::Formatter<W>) -> fmt::Result {
+        match &self.repr {
+            ErrorRepr::FromUtf8(cause) => write!(f, "{cause}"),
+            ErrorRepr::Utf8(cause) => write!(f, "{cause}"),
+            ErrorRepr::ParseError(message, context, offset) => {
+                write!(f, "{message} (offset: {offset}, remaining: {context:?})")
+            }
+            ErrorRepr::Other(message) => write!(f, "{message}"),
+            ErrorRepr::Memory => write!(f, "out of memory"),
+        }
+    }
+}
+
+impl std::error::Error for Error {}
+
+impl From<Utf8Error> for Error {
+    ghost from_gives = { λ cause e. e ≡ Utf8 cause };
+
+    fn from(cause: Utf8Error) -> Error {
+        Error {
+            repr: ErrorRepr::Utf8(cause),
+        }
+    }
+}
+
+impl From<FromUtf8Error> for Error {
+    ghost from_gives = { λ cause e. e ≡ FromUtf8 cause };
+
+    fn from(cause: FromUtf8Error) -> Error {
+        Error {
+            repr: ErrorRepr::FromUtf8(cause),
+        }
+    }
+}
+
+impl From<AllocError> for Error {
+    ghost from_gives = { λ _ e. e ≡ Memory };
+
+    fn from(_refused: AllocError) -> Error {
+        Error {
+            repr: ErrorRepr::Memory,
+        }
+    }
+}
+
+impl<T: Drop> From<AllocFailed<T>> for Error {
+    ghost from_gives = { λ _ e. e ≡ Memory };
+
+    fn from(_refused: AllocFailed<T>) -> Error {
+        Error {
+            repr: ErrorRepr::Memory,
+        }
+    }
+}

@@ -1,0 +1,8 @@
+pub mod Pieces
+pub mod Flags
+pub mod Words
+pub mod Functions
+pub mod Declaration
+pub mod Weights
+pub mod Shapes
+pub mod Work

@@ -1,0 +1,60 @@
+//! The loop over the stack, and its bytes as a text.
+
+ghost use Rattle.std.specs.Prelude.{◌≡◌, IfOk, IfErr, bit_and, string_bytes};
+ghost use Rattle.std.specs.Str.{IsUtf8};
+ghost use Rattle.std.specs.Str.Lossy.{utf8_lossy};
+ghost use Rattle.msvc_tree.specs.EachName.{EachName};
+ghost use Rattle.msvc_tree.specs.View.{tree_of};
+ghost use Rattle.msvc_tree.specs.declared.error.ErrorRepr.TheVariants.{Memory};
+ghost use Rattle.msvc_write.specs.Declaration.{declaration};
+ghost use Rattle.msvc_write.specs.Flags.{obeyed_flags};
+
+use crate::item::{Item, push};
+use crate::steps::step;
+use bitflags::Flags;
+use msvc_tree::error::Error;
+use msvc_tree::flags::DemangleFlags;
+use msvc_tree::tree::ParseResult;
+use std::alloc::{AllocError, Global};
+
+/// The bytes of the declaration of a tree.
+fn print(
+    alloc: Global,
+    input: &ParseResult<'_>,
+    flags: DemangleFlags,
+) -> Result<Vec<u8>, AllocError>
+    ensures { IfOk result (λ out. out.items ≡ declaration (tree_of input.now) (bit_and flags.0 obeyed_flags)) }
+{
+    let flags = flags.intersection(DemangleFlags::llvm());
+    let mut out = Vec::new(alloc);
+    let mut stack = Vec::new(alloc);
+    push(&mut stack, Item::After(&input.symbol_type, false))?;
+    push(&mut stack, Item::Symbol(&input.symbol))?;
+    push(&mut stack, Item::Before(&input.symbol_type, false))?;
+    while let Some(item) = stack.pop() {
+        step(&mut stack, &mut out, item, flags)?;
+    }
+    Ok(out)
+}
+
+/// The declaration of a symbol as a text, under the flags of printing. Of these, four bits are obeyed so far:
+/// `MS_TYPENAMES`, `SPACE_AFTER_COMMA`, `HUG_TYPE` and `SPACE_BEFORE_POINTER`; the others change nothing. Where names
+/// of the symbol are not UTF-8, what is no character is shown as U+FFFD. It refuses only for want of memory.
+pub fn serialize(
+    alloc: Global,
+    input: &ParseResult<'_>,
+    flags: DemangleFlags,
+) -> Result<String, Error>
+    ensures declared { IfOk result (λ text. EachName IsUtf8 (tree_of input.now) → string_bytes text ≡ declaration (tree_of input.now) (bit_and flags.0 obeyed_flags)) }
+    ensures lossy { IfOk result (λ text. string_bytes text ≡ utf8_lossy (declaration (tree_of input.now) (bit_and flags.0 obeyed_flags))) }
+    ensures memory { IfErr result (λ e. e ≡ Memory) }
+{
+    let bytes = print(alloc, input, flags)?;
+    match String::from_utf8(bytes) {
+        Ok(text) => Ok(text),
+        Err(refused) => {
+            let text = String::from_utf8_lossy(alloc, refused.as_bytes())?;
+            Ok(text)
+        }
+    }
+}
