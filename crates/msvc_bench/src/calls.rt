@@ -3,9 +3,7 @@
 #[cfg(test)]
 mod tests {
     use bitflags::Flags;
-    use msvc_demangler::{
-        DemangleFlags, Error, StorageClass, demangle, parse, serialize,
-    };
+    use msvc_demangler::{DemangleFlags, Error, StorageClass, demangle, parse, serialize};
     use std::process::Abort;
 
     fn shown(rt: &(impl Abort + AllocGlobal), error: &Error) -> String {
@@ -19,14 +17,26 @@ mod tests {
         assert!(rt; error.offset().is_none());
         assert!(rt; !error.is_out_of_memory());
         let refusals = [
-            ("x", 0, "does not start with b'?' (offset: 0, remaining: \"x\")"),
-            ("", 0, "does not start with b'?' (offset: 0, remaining: \"\")"),
+            (
+                "x",
+                0,
+                "does not start with b'?' (offset: 0, remaining: \"x\")",
+            ),
+            (
+                "",
+                0,
+                "does not start with b'?' (offset: 0, remaining: \"\")",
+            ),
             (
                 "nopenopenopenopenopenope",
                 0,
                 "does not start with b'?' (offset: 0, remaining: \"nopenopenopenopenope...\")",
             ),
-            ("?x", 1, "read_string: missing b'@' (offset: 1, remaining: \"x\")"),
+            (
+                "?x",
+                1,
+                "read_string: missing b'@' (offset: 1, remaining: \"x\")",
+            ),
         ];
         for (symbol, offset, text) in refusals {
             let Err(error) = parse(rt.alloc(), symbol) else {
@@ -46,7 +56,9 @@ mod tests {
         assert!(rt; !(copy == other));
         let text = serialize(rt.alloc(), &copy, DemangleFlags::empty()).expect(&rt, "memory");
         assert_eq!(rt; text.as_str(), "int (*x)[3500][6]");
-        let text = demangle(rt.alloc(), "?x@ns@@3HB", DemangleFlags::llvm()).expect(&rt, "a symbol");
+        let text = demangle(rt.alloc(), "?x@ns@@3HB", DemangleFlags::llvm()).expect(
+            &rt, "a symbol",
+        );
         assert_eq!(rt; text.as_str(), "int const ns::x");
     }
 

@@ -5,8 +5,7 @@
 
 use bitflags::Flags;
 use msvc_demangler::{DemangleFlags, demangle};
-use std::alloc::AllocError;
-use std::alloc::Global;
+use std::alloc::{AllocError, Global};
 use std::io;
 
 mod calls;

@@ -11,8 +11,6 @@ ghost use Rattle.msvc_read.specs.State.{Note};
 ghost use Rattle.msvc_write.specs.Declaration.{declaration};
 ghost use Rattle.msvc_write.specs.Flags.{obeyed_flags};
 
-use std::alloc::Global;
-
 pub use msvc_read::parse;
 pub use msvc_tree::error::{Error, ErrorRepr};
 pub use msvc_tree::flags::{DemangleFlags, FuncClass, StorageClass};
@@ -20,6 +18,7 @@ pub use msvc_tree::tree::{
     CallingConv, Name, NameSequence, Operator, Params, ParseResult, Symbol, Type, VarStorageKind,
 };
 pub use msvc_write::serialize;
+use std::alloc::Global;
 
 /// The declaration of the symbol that `input` begins with, under the flags of printing: `parse`, then `serialize`.
 ///
@@ -27,8 +26,6 @@ pub use msvc_write::serialize;
 pub fn demangle(alloc: Global, input: &str, flags: DemangleFlags) -> Result<String, Error>
     ensures declared { IfOk result (λ text. (tree : SymbolTree) × (rest : List ℕ) × (notes : List Note)
         × Derives input.now tree rest notes × (string_bytes text ≡ declaration tree (bit_and flags.0 obeyed_flags))) }
-    ensures only { IfOk result (λ text. (tree : SymbolTree) (rest : List ℕ) (notes : List Note) → Derives input.now tree rest notes
-        → string_bytes text ≡ declaration tree (bit_and flags.0 obeyed_flags)) }
     ensures refused { IfErr result (λ e. IsRefusedRightly input.now e) }
     ensures begins { (begins_with (63 ∷ []) input.now → ⊥) → IfErr result (λ e. IsAtOrMemory 0 e) }
     ensures begins_ok { IfOk result (λ text. begins_with (63 ∷ []) input.now) }

@@ -328,10 +328,10 @@ unfolding type_with begins_literal
 plain-is q left s r all e =
     type_at-step q left s
     ∙ ap (λ o. chosen o (λ behind. tagged_at enum q behind s)
-        (chosen (after (36 ∷ 36 ∷ 81 ∷ []) left) (λ behind. pointing_with type_at rvalue_reference q behind s)
-        (cond (begins_literal left) None (plain_type_with type_at q left s)))) (no_enum left all)
+    (chosen (after (36 ∷ 36 ∷ 81 ∷ []) left) (λ behind. pointing_with type_at rvalue_reference q behind s)
+    (cond (begins_literal left) None (plain_type_with type_at q left s)))) (no_enum left all)
     ∙ ap (λ o. chosen o (λ behind. pointing_with type_at rvalue_reference q behind s)
-        (cond (begins_literal left) None (plain_type_with type_at q left s))) (no_rvalue left all)
+    (cond (begins_literal left) None (plain_type_with type_at q left s))) (no_rvalue left all)
     ∙ ap (λ t. cond t None (plain_type_with type_at q left s)) (none_begins left literals all) ∙ e
 
 enum-is : (q : ℕ) (left : List ℕ) (s : State) → type_at q (87 ∷ 52 ∷ left) s ≡ tagged_at enum q left s
@@ -344,6 +344,7 @@ rvalue-is q left s = type_at-step q (36 ∷ 36 ∷ 81 ∷ left) s
 
 mutual
   unfolding plain_of
+
   pub type-complete : {q : ℕ} {left : List ℕ} {s : State} {x : TypeTree} {rest : List ℕ} {t : State} → IsType q left s x rest t
       → type_at q left s ≡ Some (x, rest, t)
   type-complete (grammar.enumeration {q = q} {left = left} {s = s} r) = enum-is q left s ∙ tagged-complete enum q r

@@ -6,3 +6,4 @@ pub mod Rows
 pub mod Shorter
 pub mod Sound
 pub mod Texts
+pub mod Whole

@@ -13,7 +13,7 @@ use Rattle.msvc_read.proofs.Shorter.{simple_name-shortens}
 pub use Rattle.msvc_read.proofs.Deeper.{type_at-step}
 use Rattle.msvc_read.specs.Letters.{lookup, letters_of, based, referred, digits, base_types, compound_letters, type_letters}
 pub use Rattle.msvc_tree.proofs.Views.{type_of-Union, type_of-Struct, type_of-Class, type_of-Enum, type_of-Ref, type_of-Ptr, type_of-RValueRef, type_of-Array, type_of-NonMemberFunction, type_of-MemberFunction, type_of-Var, type_of-TemplateParameterWithIndex}
-use Rattle.msvc_read.specs.Reading.{Reading, TypeReader, byte_at, plain_type_with, ◌>>=◌, number_at, lengths_at, nested_arrays, plain_of, type_entry_of, after, row_step, with_first, with_front, scope_end, scope_at, simple_name_at}
+use Rattle.msvc_read.specs.Reading.{Reading, TypeReader, qualified_name_at, encoding_at, symbol_behind, byte_at, plain_type_with, ◌>>=◌, number_at, lengths_at, nested_arrays, plain_of, type_entry_of, after, row_step, with_first, with_front, scope_end, scope_at, simple_name_at}
 use Rattle.msvc_read.specs.State.{State}
 
 pub with_front-nil : {X : Type 0} (r : Reading (List X)) → with_front [] r ≡ r
@@ -125,8 +125,11 @@ plain_type-compound recur q b (a ∷ bs) l s t e none =
     ∙ ap (λ u. plain_of recur q (lookup a type_letters) bs u) state
 
 pub ruleset letters_split = (base_letter, compound_letter)
+
 pub ruleset compound_split = (digit_letter, names_in-is, type_of-Union, type_of-Struct, type_of-Class, type_of-Ref, type_of-Ptr)
+
 pub ruleset type_split = (type_at-step, names_in-is, type_of-Enum, type_of-RValueRef)
+
 pub lengths-starts : (n : ℕ) (left : List ℕ) (s : State) → with_front [] (lengths_at n left s) ≡ lengths_at n left s
 lengths-starts n left s = with_front-nil (lengths_at n left s)
 
@@ -156,7 +159,9 @@ nested_arrays-last [] z t q = refl
 nested_arrays-last (y ∷ zs) z t q = ap (λ u. array y u q) (nested_arrays-last zs z t q)
 
 pub ruleset arrays_nest = (nested_arrays-last, type_of-Array)
+
 pub ruleset lengths_go_on = (lengths-starts, lengths-ends, lengths-refused)
+
 pub ruleset scope_goes_on = (scope-starts, scope-ends, scope-refused, scope-more)
 
 -- the tree of a symbol, by its parts
@@ -190,3 +195,10 @@ known_nowhere n [] i h = nothing i
     nothing (suc i) = refl
 known_nowhere n (m ∷ ns) zero h = absurd (omega arith)
 known_nowhere n (m ∷ ns) (suc i) h = known_nowhere n ns i (omega arith)
+
+-- a symbol's tree, from its name and its type
+pub symbol_behind-is : (left l rest : List ℕ) (s t u : State) (n : NameTree) (ns : List NameTree) (x : TypeTree)
+    → qualified_name_at left s ≡ Some ((n, ns), l, t) → encoding_at l t ≡ Some (x, rest, u)
+    → symbol_behind left s ≡ Some (record { name = n; scope = name_trees ns; symbol_type = x }, rest, u)
+unfolding symbol_behind
+symbol_behind-is left l rest s t u n ns x e f = rw (e, f)

@@ -99,7 +99,7 @@ pub record LettersRead (v : ℕ) (left : List ℕ) (s : State) (x : ℤ × List 
 low_half-digit : (m v value d : ℕ) → value ≡ v % m → ((value * 16) % m + d) % m ≡ (v * 16 + d) % m
 low_half-digit m v value d e =
     let scaled : (value * 16) % m ≡ (v * 16) % m =
-      ap (λ z. (z * 16) % m) e ∙ sym (mul-mod_second (v % m) 16 m) ∙ sym (mul-mod v 16 m) in
+    ap (λ z. (z * 16) % m) e ∙ sym (mul-mod_second (v % m) 16 m) ∙ sym (mul-mod v 16 m) in
     ap (λ z. (z + d) % m) scaled ∙ mod-add-mod (v * 16) m d
 
 letters_at_end : (v value b : ℕ) (bs : List ℕ) (s : State) → value ≡ v % 2 ^ 32 → b ≡ 64
@@ -120,9 +120,9 @@ letters-sound v value (b ∷ bs) s x same e =
     by_cond (b == 64) _ _ x
     (λ at h. by_some (LettersRead v (b ∷ bs) s) _ x (letters_at_end v value b bs s same (eqb-true b 64 at)) h)
     (λ _ h. by_cond (nat_lt b 65) _ _ x (λ _ k. absurd (cc))
-      (λ low h. by_cond (nat_lt 80 b) _ _ x (λ _ k. absurd (cc))
-        (λ high h. letters_on v b bs s x (ltb-false b 65 low) (ltb-false 80 b high)
-          (letters-sound (v * 16 + (b - 65)) _ bs s x (low_half-digit (2 ^ 32) v value (b - 65) same) h)) h) h) e
+    (λ low h. by_cond (nat_lt 80 b) _ _ x (λ _ k. absurd (cc))
+    (λ high h. letters_on v b bs s x (ltb-false b 65 low) (ltb-false 80 b high)
+    (letters-sound (v * 16 + (b - 65)) _ bs s x (low_half-digit (2 ^ 32) v value (b - 65) same) h)) h) h) e
 
 -- every row of a table has a value below n
 abbrev AllBelow : ℕ → List (ℕ × ℕ) → Type 0
@@ -169,17 +169,17 @@ pub record NumberRead (left : List ℕ) (s : State) (x : ℤ × List ℕ × Stat
 number-negative : (behind left : List ℕ) (s : State) (m : ℤ × List ℕ × State) → left ≡ 63 ∷ behind → MagnitudeRead behind s m
     → NumberRead left s (int_wrapping_neg w32 m.0, m.1, m.2)
 number-negative behind left s m whole r = record {
-    reads = subst (λ z. IsNumber left (int_wrapping_neg w32 z) m.1) (sym r.means)
+  reads = subst (λ z. IsNumber left (int_wrapping_neg w32 z) m.1) (sym r.means)
       (subst (λ l. IsNumber l (int_wrapping_neg w32 (signed r.value)) m.1) (sym whole) (negative r.reads));
-    still = r.still
-  }
+  still = r.still;
+}
 
 number_of-sound : (o : Option (List ℕ)) (left : List ℕ) (s : State) (x : ℤ × List ℕ × State) → after (63 ∷ []) left ≡ o
     → number_of o left s ≡ Some x → NumberRead left s x
 number_of-sound (Some behind) left s x at e =
     by_bind (magnitude_at behind s) negated x
     (λ m m_is h. by_some (NumberRead left s) _ x
-      (number-negative behind left s m (after-sound (63 ∷ []) left behind at) (magnitude-sound behind s m m_is)) h) e
+    (number-negative behind left s m (after-sound (63 ∷ []) left behind at) (magnitude-sound behind s m m_is)) h) e
 number_of-sound None left s x at e =
     let r = magnitude-sound left s x e in
     record { reads = subst (λ z. IsNumber left z x.1) (sym r.means) (positive r.reads); still = r.still }
@@ -227,11 +227,11 @@ cut-sound None left s x at e = absurd (cc)
 cut-sound (Some i) left s x at e =
     by_cond (nat_lt (position_or_len is_at left) (length left)) _ _ i
     (λ fits h.
-      let same : position_or_len is_at left ≡ i = cc in
-      let below : position_or_len is_at left < length left = ltb-true (position_or_len is_at left) (length left) fits in
-      let found : IsSourceName left (take i left) (drop (suc i) left) = source_name-cut left i same (omega arith) in
-      by_some (SourceNameRead left s) (take i left, drop (i + 1) left, s) x
-      (record { reads = subst (λ k. IsSourceName left (take i left) (drop k left)) (sym (add-one i)) found; still = refl }) e)
+    let same : position_or_len is_at left ≡ i = cc in
+    let below : position_or_len is_at left < length left = ltb-true (position_or_len is_at left) (length left) fits in
+    let found : IsSourceName left (take i left) (drop (suc i) left) = source_name-cut left i same (omega arith) in
+    by_some (SourceNameRead left s) (take i left, drop (i + 1) left, s) x
+    (record { reads = subst (λ k. IsSourceName left (take i left) (drop k left)) (sym (add-one i)) found; still = refl }) e)
     (λ _ h. absurd (cc)) at
 
 pub source_name-sound : (left : List ℕ) (s : State) (x : List ℕ × List ℕ × State) → source_name_at left s ≡ Some x → SourceNameRead left s x
@@ -259,7 +259,7 @@ unfolding new_source_name_at
 new_source_name-sound b bs s x unknown apart e =
     by_bind (source_name_at (b ∷ bs) s) _ x
     (λ name name_is h. by_some (NameRead (b ∷ bs) s) _ x
-      (new_name-sound b bs s name unknown apart (source_name-sound (b ∷ bs) s name name_is)) h) e
+    (new_name-sound b bs s name unknown apart (source_name-sound (b ∷ bs) s name name_is)) h) e
 
 name_of_digit-sound : (o : Option ℕ) (b : ℕ) (bs : List ℕ) (s : State) (x : NameTree × List ℕ × State) → lookup b digits ≡ o
     → name_of_digit o b bs s ≡ Some x → IsName (b ∷ bs) s x.0 x.1 x.2
@@ -296,8 +296,8 @@ row_step-sound ends one R rule others go (Some end) left s y at e =
 row_step-sound ends one R rule others go None left s y at e =
     by_bind (one left s) _ y
     (λ x x_is h. with_first-some x.0 (others x.1 x.2) y
-      (λ xs xs_are same. subst (λ (z : List _ × List ℕ × State). R left s z.0 z.1 z.2) same
-        (rule.more left s x xs at x_is (go x.1 x.2 xs xs_are))) h) e
+    (λ xs xs_are same. subst (λ (z : List _ × List ℕ × State). R left s z.0 z.1 z.2) same
+    (rule.more left s x xs at x_is (go x.1 x.2 xs xs_are))) h) e
 
 row_within-sound : {X : Type 0} (ends : Ending X) (one : List ℕ → State → Reading X) (R : List ℕ → State → List X → List ℕ → State → Type 0)
     → RowRule ends one R → (n : ℕ) (left : List ℕ) (s : State) (y : List X × List ℕ × State) → row_within ends one n left s ≡ Some y
@@ -345,8 +345,8 @@ unfolding qualified_name_at
 qualified_name-sound left s x e =
     by_bind (simple_name_at left s) _ x
     (λ n n_is h. by_bind (scope_at n.1 n.2) _ x
-      (λ ns ns_are k. by_some (λ (z : (NameTree × List NameTree) × List ℕ × State). IsQualifiedName left s z.0.0 z.0.1 z.1 z.2) _ x
-        (grammar.qualified_name (simple_name-sound left s n n_is) (scope-sound n.1 n.2 ns ns_are)) k) h) e
+    (λ ns ns_are k. by_some (λ (z : (NameTree × List NameTree) × List ℕ × State). IsQualifiedName left s z.0.0 z.0.1 z.1 z.2) _ x
+    (grammar.qualified_name (simple_name-sound left s n n_is) (scope-sound n.1 n.2 ns ns_are)) k) h) e
 
 -- arrays
 
@@ -361,11 +361,11 @@ lengths-sound zero left s x e =
 lengths-sound (suc n) left s x e =
     by_bind (number_at left s) _ x
     (λ z z_is h. with_first-some z.0 (lengths_at n z.1 z.2) x
-      (λ zs zs_are same.
-        let first = number-sound left s z z_is in
-        let others = lengths-sound n z.1 z.2 zs zs_are in
-        subst (LengthsRead (suc n) left s) same
-        (record { reads = grammar.lengths_more first.reads others.reads; still = others.still ∙ first.still })) h) e
+    (λ zs zs_are same.
+    let first = number-sound left s z z_is in
+    let others = lengths-sound n z.1 z.2 zs zs_are in
+    subst (LengthsRead (suc n) left s) same
+    (record { reads = grammar.lengths_more first.reads others.reads; still = others.still ∙ first.still })) h) e
 
 -- a number above 0 was read
 pub record DimensionRead (left : List ℕ) (s : State) (x : ℕ × List ℕ × State) : Type 0 where
@@ -426,7 +426,7 @@ pointee-sound recur sound left s x e =
     let far = optional_at pointer_sizes left in
     let class = optional_at storage_classes far.1 in
     grammar.pointee (optional-sound pointer_sizes left) (optional-sound storage_classes far.1)
-      (sound.by (bit_or far.0 class.0) class.1 s x e)
+    (sound.by (bit_or far.0 class.0) class.1 s x e)
 
 -- a mark before what it points to
 pub pointing-sound : (recur : TypeReader) → TypeSound recur → (P : TypeTree × List ℕ × State → Type 0) (mark : Mark) (q : ℕ) (left : List ℕ) (s : State)
@@ -466,8 +466,8 @@ array-sound recur sound left s x e =
     by_bind (array_class_at zs.1 zs.2) _ x (λ c c_is h3.
     by_bind (recur 0 c.1 c.2) _ x (λ t t_is h4.
     by_some (ArrayRead left s) _ x
-      (array_parts left s d zs c t (dimension-sound left s d d_is) (lengths-sound d.0 d.1 d.2 zs zs_are) (array_class-sound zs.1 zs.2 c c_is)
-        (sound.by 0 c.1 c.2 t t_is)) h4) h3) h2) h1) e
+    (array_parts left s d zs c t (dimension-sound left s d d_is) (lengths-sound d.0 d.1 d.2 zs zs_are) (array_class-sound zs.1 zs.2 c c_is)
+    (sound.by 0 c.1 c.2 t t_is)) h4) h3) h2) h1) e
 
 abbrev PlainRead : ℕ → List ℕ → State → TypeTree × List ℕ × State → Type 0
 PlainRead q left s x = IsPlainType q left s x.0 x.1 x.2
@@ -478,10 +478,10 @@ unfolding extended_at
 extended-sound q b bs s x known e =
     by_bind (letter_at extended_types bs s) _ x
     (λ t t_is h.
-      let r = letter-sound extended_types bs s t t_is in
-      let here : IsPlainType q (b ∷ r.b ∷ t.1) s (base t.0 q) t.1 s = grammar.extended_type known r.known in
-      let there : IsPlainType q (b ∷ bs) s (base t.0 q) t.1 s = subst (λ l. IsPlainType q (b ∷ l) s (base t.0 q) t.1 s) (sym r.whole) here in
-      by_some (PlainRead q (b ∷ bs) s) _ x (subst (λ (u : State). IsPlainType q (b ∷ bs) s (base t.0 q) t.1 u) (sym r.still) there) h) e
+    let r = letter-sound extended_types bs s t t_is in
+    let here : IsPlainType q (b ∷ r.b ∷ t.1) s (base t.0 q) t.1 s = grammar.extended_type known r.known in
+    let there : IsPlainType q (b ∷ bs) s (base t.0 q) t.1 s = subst (λ l. IsPlainType q (b ∷ l) s (base t.0 q) t.1 s) (sym r.whole) here in
+    by_some (PlainRead q (b ∷ bs) s) _ x (subst (λ (u : State). IsPlainType q (b ∷ bs) s (base t.0 q) t.1 u) (sym r.still) there) h) e
 
 indexed-sound : (q b : ℕ) (bs : List ℕ) (s : State) (x : TypeTree × List ℕ × State) → lookup b type_letters ≡ Some indexed
     → indexed_at bs s ≡ Some x → IsPlainType q (b ∷ bs) s x.0 x.1 x.2
@@ -489,10 +489,10 @@ unfolding indexed_at
 indexed-sound q b bs s x known e =
     by_bind (number_at bs s) _ x
     (λ z z_is h.
-      let r = number-sound bs s z z_is in
-      let here : IsPlainType q (b ∷ bs) s (numbered template_parameter (int_wrapping_neg w32 z.0)) z.1 s = grammar.indexed_type known r.reads in
-      by_some (PlainRead q (b ∷ bs) s) _ x
-      (subst (λ (u : State). IsPlainType q (b ∷ bs) s (numbered template_parameter (int_wrapping_neg w32 z.0)) z.1 u) (sym r.still) here) h) e
+    let r = number-sound bs s z z_is in
+    let here : IsPlainType q (b ∷ bs) s (numbered template_parameter (int_wrapping_neg w32 z.0)) z.1 s = grammar.indexed_type known r.reads in
+    by_some (PlainRead q (b ∷ bs) s) _ x
+    (subst (λ (u : State). IsPlainType q (b ∷ bs) s (numbered template_parameter (int_wrapping_neg w32 z.0)) z.1 u) (sym r.still) here) h) e
 
 type_entry-sound : (o : Option Entry) (q b i : ℕ) (bs : List ℕ) (s : State) (x : TypeTree × List ℕ × State) → lookup b type_letters ≡ Some (referred i)
     → slice_get s.types i ≡ o → entered_of o bs s ≡ Some x → IsPlainType q (b ∷ bs) s x.0 x.1 x.2
@@ -556,13 +556,15 @@ rvalue-sound recur sound q left behind s x whole e =
 
 pub type_with-sound : (recur : TypeReader) → TypeSound recur → TypeSound (type_with recur)
 unfolding type_with
-type_with-sound recur sound = record { by = λ q left s x e.
-    by_chosen (after (87 ∷ 52 ∷ []) left) _ _ x
-    (λ behind at h. enumeration-sound q left behind s x (after-sound (87 ∷ 52 ∷ []) left behind at) h)
-    (λ _ h. by_chosen (after (36 ∷ 36 ∷ 81 ∷ []) left) _ _ x
+type_with-sound recur sound = record {
+  by = λ q left s x e.
+      by_chosen (after (87 ∷ 52 ∷ []) left) _ _ x
+      (λ behind at h. enumeration-sound q left behind s x (after-sound (87 ∷ 52 ∷ []) left behind at) h)
+      (λ _ h. by_chosen (after (36 ∷ 36 ∷ 81 ∷ []) left) _ _ x
       (λ behind at k. rvalue-sound recur sound q left behind s x (after-sound (36 ∷ 36 ∷ 81 ∷ []) left behind at) k)
       (λ _ k. by_cond (begins_literal left) _ _ x (λ _ j. absurd (cc))
-        (λ none j. grammar.plain_type (no_literal-sound left none) (plain-sound recur sound q left s x j)) k) h) e }
+      (λ none j. grammar.plain_type (no_literal-sound left none) (plain-sound recur sound q left s x j)) k) h) e;
+}
 
 pub type_within-sound : (n : ℕ) → TypeSound (type_within n)
 unfolding type_within
@@ -612,8 +614,8 @@ parameters-ending (b ∷ bs) s e h =
     by_cond (b == 64) _ _ e
     (λ at k. by_some (EndRead (b ∷ bs) s) ([], bs) e (parameters_at_end b bs s (eqb-true b 64 at)) k)
     (λ _ k. by_cond (b == 90) _ _ e
-      (λ at j. by_some (EndRead (b ∷ bs) s) (plain variadic ∷ [], bs) e (parameters_at_ellipsis b bs s (eqb-true b 90 at)) j)
-      (λ _ j. absurd (cc)) k) h
+    (λ at j. by_some (EndRead (b ∷ bs) s) (plain variadic ∷ [], bs) e (parameters_at_ellipsis b bs s (eqb-true b 90 at)) j)
+    (λ _ j. absurd (cc)) k) h
 
 not_ended : {X : Type 0} (t u : Bool) (x y : X) → cond t (Some x) (cond u (Some y) None) ≡ None → (t ≡ false) × (u ≡ false)
 not_ended true u x y e = absurd (cc)
@@ -643,9 +645,11 @@ closed-sound : (o : Option (List ℕ)) (p x : List TypeTree × List ℕ × State
 closed-sound None p x at e = absurd (cc)
 closed-sound (Some behind) p x at e =
     let same : (p.0, behind, p.2) ≡ x = cc in
-    let whole : p.1 ≡ 90 ∷ behind = after-sound (90 ∷ []) p.1 behind at in
-    (whole ∙ ap (λ (z : List TypeTree × List ℕ × State). 90 ∷ z.1) same, ap (λ (z : List TypeTree × List ℕ × State). z.0) same,
-      ap (λ (z : List TypeTree × List ℕ × State). z.2) same)
+    let whole : p.1 ≡ 90 ∷ behind = after-sound (90 ∷ []) p.1 behind at in (
+      whole ∙ ap (λ (z : List TypeTree × List ℕ × State). 90 ∷ z.1) same,
+      ap (λ (z : List TypeTree × List ℕ × State). z.0) same,
+      ap (λ (z : List TypeTree × List ℕ × State). z.2) same,
+    )
 
 no_parameters-sound : (left behind : List ℕ) (s : State) (x : List TypeTree × List ℕ × State) → left ≡ 88 ∷ behind
     → closed_parameters (base void 0 ∷ [], behind, s) ≡ Some x → IsFunctionParameters left s x.0 x.1 x.2
@@ -730,7 +734,7 @@ function_qualifiers-sound left =
     let alignment = optional_at alignments restrict.1 in
     let reference = optional_at reference_qualifiers alignment.1 in
     grammar.function_qualifiers (optional-sound pointer_sizes left) (optional-sound restricts size.1) (optional-sound alignments restrict.1)
-      (optional-sound reference_qualifiers alignment.1) (optional-sound qualifiers reference.1)
+    (optional-sound reference_qualifiers alignment.1) (optional-sound qualifiers reference.1)
 
 abbrev EncodingRead : List ℕ → State → TypeTree × List ℕ × State → Type 0
 EncodingRead left s x = IsEncoding left s x.0 x.1 x.2
@@ -754,8 +758,8 @@ function-sound b left s x known e =
     by_bind (type_at q.0 q.1 q.2) _ x (λ t t_is h3.
     by_bind (function_parameters_at t.1 t.2) _ x (λ p p_is h4.
     by_some (EncodingRead (b ∷ left) s) _ x
-      (function_parts b left s c q t p known (letter-sound conventions left s c c_is) (return_qualifiers-sound c.1 c.2 q q_is)
-        (type-sound q.0 q.1 q.2 t t_is) (function_parameters-sound t.1 t.2 p p_is)) h4) h3) h2) h1) e
+    (function_parts b left s c q t p known (letter-sound conventions left s c c_is) (return_qualifiers-sound c.1 c.2 q q_is)
+    (type-sound q.0 q.1 q.2 t t_is) (function_parameters-sound t.1 t.2 p p_is)) h4) h3) h2) h1) e
 
 -- the number of a thunk was read, where there is one
 pub record ThunkNumberRead (class : ℕ) (left : List ℕ) (s : State) (x : ℤ × List ℕ × State) : Type 0 where
@@ -813,9 +817,9 @@ member_function-sound b class left s own behind u x begun e =
     by_bind (returned_at q.0 q.1 q.2) _ x (λ t t_is h3.
     by_bind (function_parameters_at t.1 t.2) _ x (λ p p_is h4.
     by_some (EncodingRead (b ∷ left) s) _ x
-      (member_parts b class left s own behind u c q t p begun (letter-sound conventions behind u c c_is)
-        (return_qualifiers-sound c.1 c.2 q q_is) (returned-sound q.0 q.1 q.2 t t_is)
-        (function_parameters-sound t.1 t.2 p p_is)) h4) h3) h2) h1) e
+    (member_parts b class left s own behind u c q t p begun (letter-sound conventions behind u c c_is)
+    (return_qualifiers-sound c.1 c.2 q q_is) (returned-sound q.0 q.1 q.2 t t_is)
+    (function_parameters-sound t.1 t.2 p p_is)) h4) h3) h2) h1) e
 
 pub member-sound : (b class : ℕ) (left : List ℕ) (s : State) (x : TypeTree × List ℕ × State) → lookup b encoding_letters ≡ Some (member class)
     → member_at class left s ≡ Some x → IsEncoding (b ∷ left) s x.0 x.1 x.2
@@ -823,10 +827,10 @@ unfolding member_at
 member-sound b class left s x known e =
     by_bind (thunk_number_of (has class 128) left s) _ x
     (λ thunk thunk_is h.
-      let own = own_qualifiers_of (has class 16) thunk.1 in
-      let r = thunk_number-sound class left s thunk thunk_is in
-      member_function-sound b class left s own.0 own.1 thunk.2 x
-      (record { l = thunk.1; known = known; thunk = r.reads; owned = own_qualifiers-sound class thunk.1; still = r.still }) h) e
+    let own = own_qualifiers_of (has class 16) thunk.1 in
+    let r = thunk_number-sound class left s thunk thunk_is in
+    member_function-sound b class left s own.0 own.1 thunk.2 x
+    (record { l = thunk.1; known = known; thunk = r.reads; owned = own_qualifiers-sound class thunk.1; still = r.still }) h) e
 
 -- symbols
 
@@ -836,7 +840,7 @@ unfolding variable_at
 variable-sound b kind left s x known e =
     by_bind (type_at 0 left s) _ x
     (λ t t_is h. by_some (EncodingRead (b ∷ left) s) _ x
-      (grammar.variable_encoding known (type-sound 0 left s t t_is) (optional-sound storage_classes t.1)) h) e
+    (grammar.variable_encoding known (type-sound 0 left s t t_is) (optional-sound storage_classes t.1)) h) e
 
 encoding_of-sound : (o : Option EncodingLetter) (b : ℕ) (bs : List ℕ) (s : State) (x : TypeTree × List ℕ × State) → lookup b encoding_letters ≡ o
     → encoding_of o bs s ≡ Some x → IsEncoding (b ∷ bs) s x.0 x.1 x.2
@@ -862,15 +866,15 @@ unfolding symbol_behind
 symbol_behind-sound behind s x none e =
     by_bind (qualified_name_at behind s) _ x
     (λ n n_is h. by_bind (encoding_at n.1 n.2) _ x
-      (λ t t_is k. by_some (SymbolRead (63 ∷ behind) s) _ x
-        (grammar.symbol none (qualified_name-sound behind s n n_is) (encoding-sound n.1 n.2 t t_is)) k) h) e
+    (λ t t_is k. by_some (SymbolRead (63 ∷ behind) s) _ x
+    (grammar.symbol none (qualified_name-sound behind s n n_is) (encoding-sound n.1 n.2 t t_is)) k) h) e
 
 symbol_begun-sound : (behind left : List ℕ) (s : State) (x : SymbolTree × List ℕ × State) → left ≡ 63 ∷ behind
     → cond (is_some (after (36 ∷ []) behind)) None (symbol_behind behind s) ≡ Some x → IsSymbol left s x.0 x.1 x.2
 symbol_begun-sound behind left s x whole e =
     by_cond (is_some (after (36 ∷ []) behind)) _ _ x (λ _ h. absurd (cc))
     (λ none h. subst (λ l. SymbolRead l s x) (sym whole)
-      (symbol_behind-sound behind s x (after-none (36 ∷ []) behind (not_some (after (36 ∷ []) behind) none)) h)) e
+    (symbol_behind-sound behind s x (after-none (36 ∷ []) behind (not_some (after (36 ∷ []) behind) none)) h)) e
 
 pub symbol-sound : (left : List ℕ) (s : State) (x : SymbolTree × List ℕ × State) → symbol_at left s ≡ Some x → IsSymbol left s x.0 x.1 x.2
 unfolding symbol_at

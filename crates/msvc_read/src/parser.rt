@@ -49,9 +49,13 @@ pub struct Parser<'a> {
 
 impl<'a> Parser<'a> {
     ghost use Rattle.msvc_read.specs.Parser.{state_of};
+    ghost use Rattle.msvc_read.specs.State.{beginning};
 
     /// A parser at the beginning of a text.
-    pub fn new(alloc: Global, text: &'a [u8]) -> Parser<'a> {
+    pub fn new(alloc: Global, text: &'a [u8]) -> Parser<'a>
+        ensures rest { result.rest.now ≡ text.now }
+        ensures state { state_of result ≡ beginning text.now }
+    {
         Parser {
             alloc,
             whole: text.len(),

@@ -37,7 +37,9 @@ impl Message {
                 return Ok(CowStr::Owned(format!(in alloc; "invalid backreference: {index}")?));
             }
             Message::InvalidArrayDimension(dimension) => {
-                return Ok(CowStr::Owned(format!(in alloc; "invalid array dimension: {dimension}")?));
+                return Ok(CowStr::Owned(format!(in alloc;
+                    "invalid array dimension: {dimension}"
+                )?));
             }
         };
         Ok(CowStr::Borrowed(text))

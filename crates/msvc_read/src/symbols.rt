@@ -7,9 +7,9 @@ ghost use Rattle.msvc_read.specs.Reading.{Gives, after, encoding_at, symbol_at, 
 
 use crate::parser::Parser;
 use crate::refusal::{Message, Refusal};
+use bitflags::Flags;
 use msvc_tree::flags::StorageClass;
 use msvc_tree::tree::{ParseResult, Type, VarStorageKind};
-use bitflags::Flags;
 
 impl<'a> Parser<'a> {
     /// `SYMBOL = "?" QUALIFIED_NAME ENCODING`.

@@ -167,7 +167,12 @@ impl<'a> Parser<'a> {
 
     #[tactic(auto, using(crate::proofs::Onward::arrays_nest), unfolding(crate::specs::Reading::nested_arrays))]
     /// An array of these lengths, the outermost first, with qualifiers at each level.
-    fn nested_arrays(&self, mut lengths: Vec<i32>, element: Type<'a>, class: StorageClass) -> Result<Type<'a>, AllocError>
+    fn nested_arrays(
+        &self,
+        mut lengths: Vec<i32>,
+        element: Type<'a>,
+        class: StorageClass,
+    ) -> Result<Type<'a>, AllocError>
         ensures { IfOk result (λ t. type_of t ≡ nested_arrays lengths.items (type_of element.entry) class.0) }
     {
         let mut array = element;

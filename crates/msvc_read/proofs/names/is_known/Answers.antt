@@ -17,7 +17,7 @@ returns-then-eq c =
 pub loop-known-preserved : goal.loop-known-preserved
 loop-known-preserved c =
     let other : name_of (get_or c.args.names.now c.loop-known.known-index c.known-item.result) ≡ name_of c.args.name.now → ⊥ =
-        λ e. let yes : false ≡ true = c.if-eq.ensures.same.1 (ap name_of c.known-item.is ∙ e) in absurd (cc) in
+    λ e. let yes : false ≡ true = c.if-eq.ensures.same.1 (ap name_of c.known-item.is ∙ e) in absurd (cc) in
     ap (λ (i : ℕ). list_any (same_name (name_of c.args.name.now)) (map name_of (drop i c.args.names.now))) (add-one c.loop-known.known-index)
     ∙ sym (known_later (name_of c.args.name.now) c.args.names.now c.loop-known.known-index c.known-item.result (omega arith) other)
     ∙ c.loop-known.invariant

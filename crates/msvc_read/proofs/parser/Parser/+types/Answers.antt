@@ -12,6 +12,6 @@ plain_type-returns-in-None-clause-value t c =
     let none : lookup c.in_ok-letter.letter base_types ≡ None = search rules in
     let read : byte_at c.args.self.now.rest.now (state_of c.args.self.now) ≡ Some (c.in_ok-letter.letter, c.byte.new.self.rest.now, state_of c.byte.new.self) = search rules in
     let same : plain_type_with type_at c.args.q.0 c.args.self.now.rest.now (state_of c.args.self.now)
-        ≡ plain_of type_at c.args.q.0 (lookup c.in_ok-letter.letter compound_letters) c.byte.new.self.rest.now (state_of c.byte.new.self) =
-        sym (plain_type-compound type_at c.args.q.0 c.in_ok-letter.letter c.args.self.now.rest.now c.byte.new.self.rest.now (state_of c.args.self.now) (state_of c.byte.new.self) read none) in
+    ≡ plain_of type_at c.args.q.0 (lookup c.in_ok-letter.letter compound_letters) c.byte.new.self.rest.now (state_of c.byte.new.self) =
+    sym (plain_type-compound type_at c.args.q.0 c.in_ok-letter.letter c.args.self.now.rest.now c.byte.new.self.rest.now (state_of c.args.self.now) (state_of c.byte.new.self) read none) in
     rw same c.compound_type.ensures.value

@@ -10,7 +10,9 @@ pub loop-preserved : goal.loop-preserved
 loop-preserved c =
     let items : c.push.new.self.items ≡ c.loop.lengths.items ++ c.in_ok-number.field-0 ∷ [] = grind (arith, common_steps) in
     let read : number_at c.loop.self.rest.now (state_of c.loop.self) ≡ Some (c.in_ok-number.field-0, c.number.new.self.rest.now, state_of c.number.new.self) = search rules in
-    let one_less : c.args.count - c.loop.counter ≡ suc (c.args.count - (c.loop.counter + 1)) = omega arith in
-    (ap (λ (zs : List ℤ). with_front zs (lengths_at (c.args.count - (c.loop.counter + 1)) c.number.new.self.rest.now (state_of c.number.new.self))) items
-    ∙ sym (lengths-more c.loop.lengths.items (c.args.count - c.loop.counter) (c.args.count - (c.loop.counter + 1)) c.loop.self.rest.now c.number.new.self.rest.now (state_of c.loop.self) (state_of c.number.new.self) c.in_ok-number.field-0 one_less read)
-    ∙ c.loop.invariant.0, omega (arith, c.in_ok-number.ensures.shorter))
+    let one_less : c.args.count - c.loop.counter ≡ suc (c.args.count - (c.loop.counter + 1)) = omega arith in (
+      ap (λ (zs : List ℤ). with_front zs (lengths_at (c.args.count - (c.loop.counter + 1)) c.number.new.self.rest.now (state_of c.number.new.self))) items
+          ∙ sym (lengths-more c.loop.lengths.items (c.args.count - c.loop.counter) (c.args.count - (c.loop.counter + 1)) c.loop.self.rest.now c.number.new.self.rest.now (state_of c.loop.self) (state_of c.number.new.self) c.in_ok-number.field-0 one_less read)
+          ∙ c.loop.invariant.0,
+      omega (arith, c.in_ok-number.ensures.shorter),
+    )

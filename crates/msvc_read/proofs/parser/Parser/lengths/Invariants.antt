@@ -7,5 +7,5 @@ use Rattle.msvc_read.proofs.parser.Parser.lengths.Given as goal
 abbrev pub invariant-loop : goal.invariant-loop
 invariant-loop l =
     (with_front l.lengths.items (lengths_at (l.count - l.counter) l.self.rest.now (state_of l.self))
-      ≡ lengths_at l.count l.initial.self.rest.now (state_of l.initial.self))
+    ≡ lengths_at l.count l.initial.self.rest.now (state_of l.initial.self))
     × (length l.self.rest.now ≤ length l.initial.self.rest.now)

@@ -13,7 +13,9 @@ pub names-preserved : goal.names-preserved
 names-preserved c =
     let items : map name_of c.push.new.self.items ≡ map name_of c.names.names.items ++ name_of c.in_ok-simple_name.field-0 ∷ [] = grind (arith, common_steps) in
     let none : after (64 ∷ []) c.names.self.rest.now ≡ None = search rules in
-    let read : simple_name_at c.names.self.rest.now (state_of c.names.self) ≡ Some (name_of c.in_ok-simple_name.field-0, c.simple_name.new.self.rest.now, state_of c.simple_name.new.self) = search rules in
-    (ap (λ names. with_front names (scope_at c.simple_name.new.self.rest.now (state_of c.simple_name.new.self))) items
-    ∙ sym (scope-more (map name_of c.names.names.items) c.names.self.rest.now c.simple_name.new.self.rest.now (state_of c.names.self) (state_of c.simple_name.new.self) (name_of c.in_ok-simple_name.field-0) none read)
-    ∙ c.names.invariant.0, omega (arith, c.in_ok-simple_name.ensures.shorter))
+    let read : simple_name_at c.names.self.rest.now (state_of c.names.self) ≡ Some (name_of c.in_ok-simple_name.field-0, c.simple_name.new.self.rest.now, state_of c.simple_name.new.self) = search rules in (
+      ap (λ names. with_front names (scope_at c.simple_name.new.self.rest.now (state_of c.simple_name.new.self))) items
+          ∙ sym (scope-more (map name_of c.names.names.items) c.names.self.rest.now c.simple_name.new.self.rest.now (state_of c.names.self) (state_of c.simple_name.new.self) (name_of c.in_ok-simple_name.field-0) none read)
+          ∙ c.names.invariant.0,
+      omega (arith, c.in_ok-simple_name.ensures.shorter),
+    )
