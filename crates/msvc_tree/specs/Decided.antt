@@ -1,7 +1,7 @@
 -- Trees can be told apart: of any two, either they are the same or they are not. What has no such test yet is
 -- numbered, each value by its place in its declaration, and told apart by the numbers.
-use Rattle.std.specs.Prelude.{◌≡◌, ◌↔◌, IsTrue, Bool, true, false, ℕ, List, [], ◌∷◌, Option, Some, None, refl}
-use Rattle.std.proofs.Common.{sym, ap, ◌∙◌, get_or}
+use Rattle.std.specs.Prelude.{is_some, unwrap_or, ◌≡◌, ◌↔◌, IsTrue, Bool, true, false, ℕ, List, [], ◌∷◌, Option, Some, None, refl}
+use Rattle.std.proofs.Common.{true≢false, sym, ap, ◌∙◌, get_or}
 use Rattle.std.specs.Cmp.{IsEquivalence}
 use lib.IntN.{ℤ_discrete}
 use mathlib.Core.List.{List-discrete}
@@ -154,12 +154,12 @@ operator_discrete = numbered operator_number operator_at operator-numbered
 
 some_discrete : {A : Type 0} (a b : A) → Dec (a ≡ b) → Dec (Path (Option A) (Some a) (Some b))
 some_discrete a b (yes e) = yes (ap Some e)
-some_discrete a b (no n) = no (λ e. n (cc))
+some_discrete a b (no n) = no (λ e. n (ap (λ o. unwrap_or o a) e))
 
 option_discrete : {A : Type 0} → Discrete A → Discrete (Option A)
 option_discrete d None None = yes refl
-option_discrete d None (Some b) = no (λ e. cc)
-option_discrete d (Some a) None = no (λ e. cc)
+option_discrete d None (Some b) = no (λ e. true≢false (sym (ap is_some e)))
+option_discrete d (Some a) None = no (λ e. true≢false (ap is_some e))
 option_discrete d (Some a) (Some b) = some_discrete a b (d a b)
 
 text_discrete : Discrete (List ℕ)
@@ -202,7 +202,7 @@ is_yes (no n) = false
 pub is_yes-is : {A : Type 0} (d : Dec A) → IsTrue (is_yes d) ↔ A
 unfolding is_yes
 is_yes-is (yes a) = (λ e. a, λ b. refl)
-is_yes-is (no n) = (λ e. absurd (let h : false ≡ true = e in cc), λ a. absurd (n a))
+is_yes-is (no n) = (λ e. absurd (true≢false (sym e)), λ a. absurd (n a))
 
 one_answer : (s t : Bool) → (s ≡ true → t ≡ true) → (t ≡ true → s ≡ true) → s ≡ t
 one_answer true t f g = sym (f refl)
