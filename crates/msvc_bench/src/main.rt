@@ -3,6 +3,8 @@
 //! differs is printed; the last line counts.
 #![tactic(auto)]
 
+mod calls;
+
 use bitflags::Flags;
 use msvc_demangler::{DemangleFlags, demangle};
 use std::alloc::{AllocError, Global};

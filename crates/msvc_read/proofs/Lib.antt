@@ -4,6 +4,7 @@ pub mod Deeper
 pub mod Onward
 pub mod Rows
 pub mod Shorter
+pub mod Signatures
 pub mod Sound
 pub mod Texts
 pub mod Whole

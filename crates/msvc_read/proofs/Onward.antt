@@ -3,7 +3,7 @@ use Rattle.std.proofs.Common.{ℕ, List, [], ◌∷◌, ◌++◌, length, Option
 use Rattle.std.specs.Option.{option_map_or}
 use Rattle.std.specs.Prelude.{map, IsTrue}
 use Rattle.std.specs.List.{list_any}
-use Rattle.msvc_tree.specs.Equality.{same_name, same_name-is}
+use Rattle.msvc_tree.specs.Equality.{same_name, same_name-is, same_type, same_type-is}
 use Rattle.msvc_tree.specs.Trees.{NameTree, TypeTree, BaseType, array, names, name_trees}
 use Rattle.msvc_tree.specs.View.{name_of, names_in, type_of, tree_of}
 use Rattle.msvc_tree.specs.declared.tree.ParseResult.{ParseResult}
@@ -14,7 +14,10 @@ pub use Rattle.msvc_read.proofs.Deeper.{type_at-step}
 use Rattle.msvc_read.specs.Letters.{lookup, letters_of, based, referred, digits, base_types, compound_letters, type_letters}
 pub use Rattle.msvc_tree.proofs.Views.{type_of-Union, type_of-Struct, type_of-Class, type_of-Enum, type_of-Ref, type_of-Ptr, type_of-RValueRef, type_of-Array, type_of-NonMemberFunction, type_of-MemberFunction, type_of-Var, type_of-TemplateParameterWithIndex}
 use Rattle.msvc_read.specs.Reading.{Reading, TypeReader, qualified_name_at, encoding_at, symbol_behind, byte_at, plain_type_with, ◌>>=◌, number_at, lengths_at, nested_arrays, plain_of, type_entry_of, after, row_step, with_first, with_front, scope_end, scope_at, simple_name_at}
+use Rattle.msvc_read.specs.Parser.{entry_of}
+use Rattle.msvc_read.specs.State as state
 use Rattle.msvc_read.specs.State.{State}
+use Rattle.msvc_read.specs.declared.parser.Entry.{Entry}
 
 pub with_front-nil : {X : Type 0} (r : Reading (List X)) → with_front [] r ≡ r
 with_front-nil None = refl
@@ -77,8 +80,8 @@ scope-more xs left l s t x e some =
     ∙ ap (λ r. row_step scope_at None r s) some)
     ∙ with_front-first xs x (scope_at l t)
 
--- the letters of the base types, then the others
-lookup-letters : {A B : Type 0} (f : A → B) (b : ℕ) (rows : List (ℕ × A)) (others : List (ℕ × B))
+-- the letters of one table, then the others
+pub lookup-letters : {A B : Type 0} (f : A → B) (b : ℕ) (rows : List (ℕ × A)) (others : List (ℕ × B))
     → lookup b (letters_of f rows others) ≡ option_map_or (λ x. Some (f x)) (lookup b rows) (lookup b others)
 lookup-letters f b [] others = refl
 lookup-letters f b (row ∷ rows) others = by_row (b == row.0) f row.1 _ _ _ (lookup-letters f b rows others)
@@ -170,31 +173,41 @@ tree_of-is r = ap (λ ns. record { name = name_of r.symbol.name; scope = ns; sym
 
 pub ruleset symbol_split = (tree_of-is)
 
--- looking for a name in the table, from the entry at i on
+-- looking for an entry of a table, from that at i on
+any_here : {A B : Type 0} (p : B → Bool) (f : A → B) (xs : List A) (i : ℕ) (d : A) → i < length xs → p (f (get_or xs i d)) ≡ true
+    → list_any p (map f (drop i xs)) ≡ true
+any_here p f xs i d h e = rw (drop-cons xs i d, e)
+
+any_later : {A B : Type 0} (p : B → Bool) (f : A → B) (xs : List A) (i : ℕ) (d : A) → i < length xs → p (f (get_or xs i d)) ≡ false
+    → list_any p (map f (drop i xs)) ≡ list_any p (map f (drop (suc i) xs))
+any_later p f xs i d h e = rw (drop-cons xs i d, e)
+
+differs : (t : Bool) → (IsTrue t → ⊥) → t ≡ false
+differs true f = absurd (f refl)
+differs false f = refl
+
 pub known_here : (n : NameTree) (ns : List Name) (i : ℕ) (d : Name) → i < length ns → name_of (get_or ns i d) ≡ n
     → list_any (same_name n) (map name_of (drop i ns)) ≡ true
-known_here n ns i d h e =
-    let first : same_name n (name_of (get_or ns i d)) ≡ true = (same_name-is n (name_of (get_or ns i d))).1 (sym e) in
-    rw (drop-cons ns i d, first)
+known_here n ns i d h e = any_here (same_name n) name_of ns i d h ((same_name-is n (name_of (get_or ns i d))).1 (sym e))
 
 pub known_later : (n : NameTree) (ns : List Name) (i : ℕ) (d : Name) → i < length ns → (name_of (get_or ns i d) ≡ n → ⊥)
     → list_any (same_name n) (map name_of (drop i ns)) ≡ list_any (same_name n) (map name_of (drop (suc i) ns))
 known_later n ns i d h ne =
-    let first : same_name n (name_of (get_or ns i d)) ≡ false = differs (same_name n (name_of (get_or ns i d))) (λ t. ne (sym ((same_name-is n (name_of (get_or ns i d))).0 t))) in
-    rw (drop-cons ns i d, first)
-  where
-    differs : (t : Bool) → (IsTrue t → ⊥) → t ≡ false
-    differs true f = absurd (f refl)
-    differs false f = refl
+    any_later (same_name n) name_of ns i d h
+    (differs (same_name n (name_of (get_or ns i d))) (λ t. ne (sym ((same_name-is n (name_of (get_or ns i d))).0 t))))
 
-pub known_nowhere : (n : NameTree) (ns : List Name) (i : ℕ) → length ns ≤ i → list_any (same_name n) (map name_of (drop i ns)) ≡ false
-known_nowhere n [] i h = nothing i
-  where
-    nothing : (i : ℕ) → list_any (same_name n) (map name_of (drop i (let none : List Name = [] in none))) ≡ false
-    nothing zero = refl
-    nothing (suc i) = refl
-known_nowhere n (m ∷ ns) zero h = absurd (omega arith)
-known_nowhere n (m ∷ ns) (suc i) h = known_nowhere n ns i (omega arith)
+abbrev pub has_type : TypeTree → state.Entry → Bool
+has_type t known = same_type t known.entered
+
+pub known_type_here : (t : TypeTree) (es : List Entry) (i : ℕ) (d : Entry) → i < length es → type_of (get_or es i d).entered ≡ t
+    → list_any (has_type t) (map entry_of (drop i es)) ≡ true
+known_type_here t es i d h e = any_here (has_type t) entry_of es i d h ((same_type-is t (type_of (get_or es i d).entered)).1 (sym e))
+
+pub known_type_later : (t : TypeTree) (es : List Entry) (i : ℕ) (d : Entry) → i < length es → (type_of (get_or es i d).entered ≡ t → ⊥)
+    → list_any (has_type t) (map entry_of (drop i es)) ≡ list_any (has_type t) (map entry_of (drop (suc i) es))
+known_type_later t es i d h ne =
+    any_later (has_type t) entry_of es i d h
+    (differs (same_type t (type_of (get_or es i d).entered)) (λ e. ne (sym ((same_type-is t (type_of (get_or es i d).entered)).0 e))))
 
 -- a symbol's tree, from its name and its type
 pub symbol_behind-is : (left l rest : List ℕ) (s t u : State) (n : NameTree) (ns : List NameTree) (x : TypeTree)

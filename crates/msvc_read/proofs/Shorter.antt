@@ -1,11 +1,11 @@
 -- What each reading function leaves: fewer bytes than there were, or no more.
-use Rattle.std.proofs.Common.{ℕ, ℤ, zero, suc, pos, negsuc, List, [], ◌∷◌, length, Option, Some, None, Bool, true, false, cond, ◌≡◌, ◌<◌, ◌≤◌, ◌+◌, ◌-◌, ◌*◌, ◌%◌, ◌==◌, nat_lt, refl, sym, ap, ◌∙◌, subst, arith, drop, take, length-drop}
-use Rattle.std.specs.Prelude.{slice_get}
-use Rattle.msvc_tree.specs.Trees.{NameTree, TypeTree, spelled, source}
+use Rattle.std.proofs.Common.{ℕ, ℤ, zero, suc, pos, negsuc, List, [], ◌∷◌, length, Option, Some, None, Bool, true, false, cond, bit_or, ◌≡◌, ◌<◌, ◌≤◌, ◌+◌, ◌-◌, ◌*◌, ◌%◌, ◌==◌, nat_lt, refl, sym, ap, ◌∙◌, subst, arith, drop, take, length-drop}
+use Rattle.std.specs.Prelude.{slice_get, unwrap_or}
+use Rattle.msvc_tree.specs.Trees.{NameTree, TypeTree, spelled, source, Tag, enum, Mark, pointing, rvalue_reference}
 use Rattle.msvc_read.proofs.Rows.{Shortens}
-use Rattle.msvc_read.specs.Letters.{lookup, digits}
-use Rattle.msvc_read.specs.Reading.{Reading, Ending, ◌>>=◌, after, cut, name_length, entry_of, name_of_digit, new_name, source_name_at, new_source_name_at, simple_name_at, scope_end, scope_at, with_first, row_step, row_within, row_at, low_half, letters_at, magnitude_of, magnitude_at, negated, number_of, number_at, letter_of, letter_at, optional_of, optional_at, dimension_of, dimension_at, lengths_at, array_class_of, array_class_at}
-use Rattle.msvc_read.specs.State.{State}
+use Rattle.msvc_read.specs.Letters.{lookup, digits, storage_classes, pointer_sizes, type_letters, TypeLetter, based, extended, named, points, arrayed, indexed, referred, extended_types}
+use Rattle.msvc_read.specs.Reading.{Reading, Ending, TypeReader, ◌>>=◌, after, chosen, cut, name_length, entry_of, name_of_digit, new_name, source_name_at, new_source_name_at, simple_name_at, scope_end, scope_at, with_first, row_step, row_within, row_at, low_half, letters_at, magnitude_of, magnitude_at, negated, number_of, number_at, letter_of, letter_at, optional_of, optional_at, dimension_of, dimension_at, lengths_at, array_class_of, array_class_at, qualified_name_at, tagged_at, extended_at, indexed_at, entered_of, pointee_with, pointing_with, array_with, plain_of, plain_type_with, begins_literal, type_with, type_within, type_at, noted_of, parameter_of, parameter_at}
+use Rattle.msvc_read.specs.State.{State, Entry}
 
 -- what is read leaves no more bytes than these
 pub record Within {X : Type 0} (n : ℕ) (r : Reading X) : Type 0 where
@@ -206,3 +206,129 @@ weakly one shortens l t = record { by = λ x e. let small : length x.1 < length 
 pub scope-within : (left : List ℕ) (s : State) → Within (length left) (scope_at left s)
 unfolding scope_at
 scope-within left s = row-within scope_end simple_name_at scope_end-shorter (weakly simple_name_at simple_name-shortens) left s
+
+-- types
+
+qualified_name-within : (left : List ℕ) (s : State) → Within (length left) (qualified_name_at left s)
+unfolding qualified_name_at
+qualified_name-within left s =
+    within-bind (length left) (length left) (simple_name_at left s) _ (weakly simple_name_at simple_name-shortens left s)
+    (λ x h. within-bind (length left) (length left) (scope_at x.1 x.2) _ (within-more (length x.1) (length left) _ h (scope-within x.1 x.2))
+    (λ y k. within-some (length left) _ y.1 y.2 k))
+
+tagged-within : (tag : Tag) (q : ℕ) (left : List ℕ) (s : State) → Within (length left) (tagged_at tag q left s)
+unfolding tagged_at
+tagged-within tag q left s =
+    within-bind (length left) (length left) (qualified_name_at left s) _ (qualified_name-within left s) (λ n h. within-some (length left) _ n.1 n.2 h)
+
+extended-within : (q : ℕ) (left : List ℕ) (s : State) → Within (length left) (extended_at q left s)
+unfolding extended_at
+extended-within q left s =
+    within-bind (length left) (length left) (letter_at extended_types left s) _ (letter-within extended_types left s) (λ t h. within-some (length left) _ t.1 t.2 h)
+
+indexed-within : (left : List ℕ) (s : State) → Within (length left) (indexed_at left s)
+unfolding indexed_at
+indexed-within left s =
+    within-bind (length left) (length left) (number_at left s) _ (number-within left s) (λ n h. within-some (length left) _ n.1 n.2 h)
+
+entered-within : (o : Option Entry) (bs : List ℕ) (s : State) → Within (length bs) (entered_of o bs s)
+entered-within None bs s = within-none (length bs)
+entered-within (Some e) bs s = within-some (length bs) _ bs s (omega arith)
+
+-- a reader of types leaves no more bytes than there were
+record Keeps (recur : TypeReader) : Type 0 where
+  by : (q : ℕ) (l : List ℕ) (s : State) → Within (length l) (recur q l s)
+
+pointee-within : (recur : TypeReader) → Keeps recur → (left : List ℕ) (s : State) → Within (length left) (pointee_with recur left s)
+unfolding pointee_with
+pointee-within recur keeps left s =
+    within-more (length (optional_at storage_classes (optional_at pointer_sizes left).1).1) (length left) _
+    (omega (arith, optional-length storage_classes (optional_at pointer_sizes left).1, optional-length pointer_sizes left))
+    (keeps.by _ (optional_at storage_classes (optional_at pointer_sizes left).1).1 s)
+
+pointing-within : (recur : TypeReader) → Keeps recur → (mark : Mark) (q : ℕ) (left : List ℕ) (s : State) → Within (length left) (pointing_with recur mark q left s)
+unfolding pointing_with
+pointing-within recur keeps mark q left s =
+    within-bind (length left) (length left) (pointee_with recur left s) _ (pointee-within recur keeps left s) (λ t h. within-some (length left) _ t.1 t.2 h)
+
+array-within : (recur : TypeReader) → Keeps recur → (left : List ℕ) (s : State) → Within (length left) (array_with recur left s)
+unfolding array_with
+array-within recur keeps left s =
+    let n = length left in
+    within-bind n n (dimension_at left s) _ (dimension-within left s)
+    (λ d d_is. within-bind n n (lengths_at d.0 d.1 d.2) _ (within-more (length d.1) n _ d_is (lengths-within d.0 d.1 d.2))
+    (λ l l_is. within-bind n n (array_class_at l.1 l.2) _ (within-more (length l.1) n _ l_is (array_class-within l.1 l.2))
+    (λ q q_is. within-bind n n (recur 0 q.1 q.2) _ (within-more (length q.1) n _ q_is (keeps.by 0 q.1 q.2))
+    (λ t t_is. within-some n _ t.1 t.2 t_is))))
+
+plain_of-within : (recur : TypeReader) → Keeps recur → (q : ℕ) (o : Option TypeLetter) (bs : List ℕ) (s : State) → Within (length bs) (plain_of recur q o bs s)
+unfolding plain_of
+plain_of-within recur keeps q None bs s = within-none (length bs)
+plain_of-within recur keeps q (Some (based x)) bs s = within-some (length bs) _ bs s (omega arith)
+plain_of-within recur keeps q (Some extended) bs s = extended-within q bs s
+plain_of-within recur keeps q (Some (named tag)) bs s = tagged-within tag q bs s
+plain_of-within recur keeps q (Some (points mark own)) bs s = pointing-within recur keeps mark (unwrap_or own q) bs s
+plain_of-within recur keeps q (Some arrayed) bs s = array-within recur keeps bs s
+plain_of-within recur keeps q (Some indexed) bs s = indexed-within bs s
+plain_of-within recur keeps q (Some (referred i)) bs s = entered-within (slice_get s.types i) bs s
+
+plain_type-within : (recur : TypeReader) → Keeps recur → (q b : ℕ) (bs : List ℕ) (s : State) → Within (length bs) (plain_type_with recur q (b ∷ bs) s)
+unfolding plain_type_with
+plain_type-within recur keeps q b bs s = plain_of-within recur keeps q (lookup b type_letters) bs s
+
+chosen-within : {X : Type 0} (n : ℕ) (o : Option (List ℕ)) (f : List ℕ → Reading X) (other : Reading X)
+    → ((behind : List ℕ) → o ≡ Some behind → Within n (f behind)) → Within n other → Within n (chosen o f other)
+chosen-within n None f other h w = w
+chosen-within n (Some behind) f other h w = h behind refl
+
+unless-within : {X : Type 0} (n : ℕ) (t : Bool) (r : Reading X) → Within n r → Within n (cond t None r)
+unless-within n true r w = within-none n
+unless-within n false r w = w
+
+type_with-within : (recur : TypeReader) → Keeps recur → (q b : ℕ) (bs : List ℕ) (s : State) → Within (length bs) (type_with recur q (b ∷ bs) s)
+unfolding type_with
+type_with-within recur keeps q b bs s =
+    chosen-within (length bs) (after (87 ∷ 52 ∷ []) (b ∷ bs)) _ _
+    (λ behind e. within-more (length behind) (length bs) _ (omega (arith, after-length (87 ∷ 52 ∷ []) (b ∷ bs) behind e)) (tagged-within enum q behind s))
+    (chosen-within (length bs) (after (36 ∷ 36 ∷ 81 ∷ []) (b ∷ bs)) _ _
+    (λ behind e. within-more (length behind) (length bs) _ (omega (arith, after-length (36 ∷ 36 ∷ 81 ∷ []) (b ∷ bs) behind e)) (pointing-within recur keeps rvalue_reference q behind s))
+    (unless-within (length bs) (begins_literal (b ∷ bs)) _ (plain_type-within recur keeps q b bs s)))
+
+type_with-none : (recur : TypeReader) (q : ℕ) (s : State) → type_with recur q [] s ≡ None
+unfolding type_with plain_type_with begins_literal
+type_with-none recur q s = refl
+
+type_with-keeps : (recur : TypeReader) → Keeps recur → (q : ℕ) (l : List ℕ) (s : State) → Within (length l) (type_with recur q l s)
+type_with-keeps recur keeps q [] s = subst (λ r. Within 0 r) (sym (type_with-none recur q s)) (within-none 0)
+type_with-keeps recur keeps q (b ∷ bs) s = within-more (length bs) (length (b ∷ bs)) _ (omega arith) (type_with-within recur keeps q b bs s)
+
+type_within-keeps : (n q : ℕ) (l : List ℕ) (s : State) → Within (length l) (type_within n q l s)
+unfolding type_within
+type_within-keeps zero q l s = within-none (length l)
+type_within-keeps (suc n) q l s = type_with-keeps (type_within n) (record { by = type_within-keeps n }) q l s
+
+pub type-within : (q b : ℕ) (bs : List ℕ) (s : State) → Within (length bs) (type_at q (b ∷ bs) s)
+unfolding type_at type_within
+type-within q b bs s = type_with-within (type_within (length (b ∷ bs))) (record { by = type_within-keeps (length (b ∷ bs)) }) q b bs s
+
+-- parameters
+
+noted-within : (o : Option Entry) (left bs : List ℕ) (s : State) → Within (length bs) (noted_of o left bs s)
+noted-within None left bs s = within-none (length bs)
+noted-within (Some e) left bs s = within-some (length bs) _ bs _ (omega arith)
+
+parameter_of-within : (o : Option ℕ) (b : ℕ) (bs : List ℕ) (s : State) → Within (length bs) (parameter_of o (b ∷ bs) bs s)
+parameter_of-within (Some i) b bs s = noted-within (slice_get s.types i) (b ∷ bs) bs s
+parameter_of-within None b bs s =
+    within-bind (length bs) (length bs) (type_at 0 (b ∷ bs) s) _ (type-within 0 b bs s) (λ t h. within-some (length bs) _ t.1 _ h)
+
+parameter-within : (b : ℕ) (bs : List ℕ) (s : State) → Within (length bs) (parameter_at (b ∷ bs) s)
+unfolding parameter_at
+parameter-within b bs s = parameter_of-within (lookup b digits) b bs s
+
+parameter-none : (s : State) → parameter_at [] s ≡ None
+unfolding parameter_at
+parameter-none s = refl
+
+pub parameter-shortens : Shortens parameter_at
+parameter-shortens = shortens parameter_at parameter-none parameter-within

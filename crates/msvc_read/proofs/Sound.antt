@@ -10,7 +10,7 @@ use Rattle.std.proofs.lemmas.List.Elements.{All-nil, All-cons}
 use Rattle.msvc_tree.specs.declared.tree.CallingConv.{CallingConv}
 use Rattle.msvc_tree.specs.declared.tree.VarStorageKind.{VarStorageKind}
 use Rattle.msvc_tree.specs.Trees.{NameTree, TypeTree, SymbolTree, Tag, Mark, spelled, source, plain, no_type, variadic, base, void, tagged, enum, numbered, template_parameter, pointing, rvalue_reference, array, function, member_function, name_trees, type_trees}
-use Rattle.msvc_read.specs.Letters.{lookup, digits, qualifiers, storage_classes, plain_qualifiers, pointer_sizes, restricts, alignments, reference_qualifiers, conventions, type_letters, TypeLetter, based, extended, named, points, arrayed, indexed, referred, extended_types, encoding_letters, EncodingLetter, variable_of, untyped, plain_function, member, literals}
+use Rattle.msvc_read.specs.Letters.{lookup, digits, qualifiers, storage_classes, qualifiers_of_returns, qualifiers_of_arrays, pointer_sizes, restricts, alignments, reference_qualifiers, conventions, type_letters, TypeLetter, based, extended, named, points, arrayed, indexed, referred, extended_types, encoding_letters, EncodingLetter, variable_of, untyped, plain_function, member, literals}
 use Rattle.msvc_read.specs.State.{State, Entry, remember_name}
 use Rattle.msvc_read.specs.Grammar as grammar
 use Rattle.msvc_read.specs.Grammar.{IsOptional, present, absent, absent_at_end, IsLetters, letters_end, letters_more, IsMagnitude, one_digit, many_letters, signed, IsNumber, positive, negative, IsSourceName, IsName, IsScope, IsQualifiedName, IsLengths, begins_with, IsArrayClass, arrays, IsType, IsPlainType, IsPointee, IsArray, IsParameter, IsParameters, IsFunctionParameters, IsReturnQualifiers, IsReturned, IsFunctionQualifiers, IsThunkNumber, IsOwnQualifiers, IsEncoding, IsSymbol}
@@ -391,7 +391,7 @@ pub record ArrayClassRead (left : List ℕ) (s : State) (x : ℕ × List ℕ × 
   pub still : x.2 ≡ s
 
 array_class-letter : (behind left : List ℕ) (s : State) (x : ℕ × List ℕ × State) → left ≡ 36 ∷ 36 ∷ 67 ∷ behind
-    → LetterRead plain_qualifiers behind s x → ArrayClassRead left s x
+    → LetterRead qualifiers_of_arrays behind s x → ArrayClassRead left s x
 array_class-letter behind left s x whole r =
     let full : left ≡ 36 ∷ 36 ∷ 67 ∷ r.b ∷ x.1 = whole ∙ ap (λ l. 36 ∷ 36 ∷ 67 ∷ l) r.whole in
     record { reads = subst (λ l. IsArrayClass l x.0 x.1) (sym full) (grammar.array_class r.known); still = r.still }
@@ -399,7 +399,7 @@ array_class-letter behind left s x whole r =
 array_class_of-sound : (o : Option (List ℕ)) (left : List ℕ) (s : State) (x : ℕ × List ℕ × State) → after (36 ∷ 36 ∷ 67 ∷ []) left ≡ o
     → array_class_of o left s ≡ Some x → ArrayClassRead left s x
 array_class_of-sound (Some behind) left s x at e =
-    array_class-letter behind left s x (after-sound (36 ∷ 36 ∷ 67 ∷ []) left behind at) (letter-sound plain_qualifiers behind s x e)
+    array_class-letter behind left s x (after-sound (36 ∷ 36 ∷ 67 ∷ []) left behind at) (letter-sound qualifiers_of_arrays behind s x e)
 array_class_of-sound None left s x at e =
     by_some (ArrayClassRead left s) (0, left, s) x
     (record { reads = grammar.no_array_class (after-none (36 ∷ 36 ∷ 67 ∷ []) left at); still = refl }) e
@@ -689,7 +689,7 @@ pub record ReturnQualifiersRead (left : List ℕ) (s : State) (x : ℕ × List �
   pub still : x.2 ≡ s
 
 return_qualifiers-letter : (behind left : List ℕ) (s : State) (x : ℕ × List ℕ × State) → left ≡ 63 ∷ behind
-    → LetterRead plain_qualifiers behind s x → ReturnQualifiersRead left s x
+    → LetterRead qualifiers_of_returns behind s x → ReturnQualifiersRead left s x
 return_qualifiers-letter behind left s x whole r =
     let full : left ≡ 63 ∷ r.b ∷ x.1 = whole ∙ ap (λ l. 63 ∷ l) r.whole in
     record { reads = subst (λ l. IsReturnQualifiers l x.0 x.1) (sym full) (grammar.return_qualifiers r.known); still = r.still }
@@ -697,7 +697,7 @@ return_qualifiers-letter behind left s x whole r =
 return_qualifiers_of-sound : (o : Option (List ℕ)) (left : List ℕ) (s : State) (x : ℕ × List ℕ × State) → after (63 ∷ []) left ≡ o
     → return_qualifiers_of o left s ≡ Some x → ReturnQualifiersRead left s x
 return_qualifiers_of-sound (Some behind) left s x at e =
-    return_qualifiers-letter behind left s x (after-sound (63 ∷ []) left behind at) (letter-sound plain_qualifiers behind s x e)
+    return_qualifiers-letter behind left s x (after-sound (63 ∷ []) left behind at) (letter-sound qualifiers_of_returns behind s x e)
 return_qualifiers_of-sound None left s x at e =
     by_some (ReturnQualifiersRead left s) (0, left, s) x
     (record { reads = grammar.no_return_qualifiers (after-none (63 ∷ []) left at); still = refl }) e

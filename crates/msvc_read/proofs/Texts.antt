@@ -12,7 +12,7 @@ use Rattle.msvc_tree.specs.Trees.{NameTree, TypeTree, SymbolTree, spelled, sourc
 use Rattle.msvc_tree.specs.EachName.{EachNameOfName, EachNameOfNames, EachNameOfType, EachNameOfTypes, EachName}
 use Rattle.msvc_read.specs.Grammar as grammar
 use Rattle.msvc_read.specs.Grammar.{IsOptional, IsLetters, IsMagnitude, IsNumber, IsSourceName, IsName, IsScope, IsQualifiedName, IsLengths, IsArrayClass, IsType, IsPlainType, IsPointee, IsArray, IsParameter, IsParameters, IsFunctionParameters, IsReturnQualifiers, IsReturned, IsFunctionQualifiers, IsThunkNumber, IsOwnQualifiers, IsEncoding, IsSymbol, Derives, arrays, entered}
-use Rattle.msvc_read.specs.Letters.{lookup, digits, qualifiers, storage_classes, plain_qualifiers, pointer_sizes, restricts, alignments, reference_qualifiers, conventions, type_letters, extended_types, encoding_letters}
+use Rattle.msvc_read.specs.Letters.{lookup, digits, qualifiers, storage_classes, qualifiers_of_returns, qualifiers_of_arrays, pointer_sizes, restricts, alignments, reference_qualifiers, conventions, type_letters, extended_types, encoding_letters}
 use Rattle.msvc_read.specs.State.{State, Entry, Note, place, beginning, remember_name, remember_type, take_note}
 
 -- Bytes before a text
@@ -136,11 +136,11 @@ lengths-utf8 (grammar.lengths_more a r) h = lengths-utf8 r (number-utf8 a h)
 
 array_class-utf8 : {left rest : List ℕ} {q : ℕ} → IsArrayClass left q rest → IsUtf8 left → IsUtf8 rest
 array_class-utf8 (grammar.array_class {b = b} l) h =
-    letter_eaten b plain_qualifiers refl l (eaten 67 (omega arith) (eaten 36 (omega arith) (eaten 36 (omega arith) h)))
+    letter_eaten b qualifiers_of_arrays refl l (eaten 67 (omega arith) (eaten 36 (omega arith) (eaten 36 (omega arith) h)))
 array_class-utf8 (grammar.no_array_class n) h = h
 
 return_qualifiers-utf8 : {left rest : List ℕ} {q : ℕ} → IsReturnQualifiers left q rest → IsUtf8 left → IsUtf8 rest
-return_qualifiers-utf8 (grammar.return_qualifiers {b = b} l) h = letter_eaten b plain_qualifiers refl l (eaten 63 (omega arith) h)
+return_qualifiers-utf8 (grammar.return_qualifiers {b = b} l) h = letter_eaten b qualifiers_of_returns refl l (eaten 63 (omega arith) h)
 return_qualifiers-utf8 (grammar.no_return_qualifiers n) h = h
 
 function_qualifiers-utf8 : {left rest : List ℕ} {q : ℕ} → IsFunctionQualifiers left q rest → IsUtf8 left → IsUtf8 rest

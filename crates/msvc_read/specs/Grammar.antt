@@ -5,7 +5,7 @@ use Rattle.std.specs.Prelude.{ℕ, ℤ, pos, suc, List, [], ◌∷◌, ◌++◌,
 use Rattle.std.specs.Int.{cast_signed, int_wrapping_neg, w32}
 use Rattle.msvc_tree.specs.declared.tree.CallingConv.{CallingConv}
 use Rattle.msvc_tree.specs.Trees.{NameTree, TypeTree, SymbolTree, spelled, source, plain, no_type, variadic, base, void, tagged, enum, numbered, template_parameter, pointing, rvalue_reference, array, function, member_function, variable, name_trees, type_trees}
-use Rattle.msvc_read.specs.Letters.{lookup, has_bit, digits, qualifiers, storage_classes, plain_qualifiers, pointer_sizes, restricts, alignments, reference_qualifiers, conventions, type_letters, based, extended, named, points, arrayed, indexed, referred, extended_types, encoding_letters, variable_of, untyped, plain_function, member, literals}
+use Rattle.msvc_read.specs.Letters.{lookup, has_bit, digits, qualifiers, storage_classes, qualifiers_of_returns, qualifiers_of_arrays, pointer_sizes, restricts, alignments, reference_qualifiers, conventions, type_letters, based, extended, named, points, arrayed, indexed, referred, extended_types, encoding_letters, variable_of, untyped, plain_function, member, literals}
 use Rattle.msvc_read.specs.State.{State, Entry, Note, place, beginning, remember_name, remember_type, take_note}
 
 -- Parts over a table of letters
@@ -77,7 +77,7 @@ begins_with literal left = (rest : List ℕ) × (left ≡ literal ++ rest)
 
 -- $$C and a letter, or nothing
 pub data IsArrayClass : List ℕ → ℕ → List ℕ → Type 0 where
-  array_class : {b q : ℕ} {rest : List ℕ} → lookup b plain_qualifiers ≡ Some q → IsArrayClass (36 ∷ 36 ∷ 67 ∷ b ∷ rest) q rest
+  array_class : {b q : ℕ} {rest : List ℕ} → lookup b qualifiers_of_arrays ≡ Some q → IsArrayClass (36 ∷ 36 ∷ 67 ∷ b ∷ rest) q rest
   no_array_class : {left : List ℕ} → (begins_with (36 ∷ 36 ∷ 67 ∷ []) left → ⊥) → IsArrayClass left 0 left
 
 -- an array of these lengths, the outermost first, with the same qualifiers at each level
@@ -161,7 +161,7 @@ pub data IsFunctionParameters : List ℕ → State → List TypeTree → List �
 
 -- a ? and a letter, or nothing
 pub data IsReturnQualifiers : List ℕ → ℕ → List ℕ → Type 0 where
-  return_qualifiers : {b q : ℕ} {rest : List ℕ} → lookup b plain_qualifiers ≡ Some q → IsReturnQualifiers (63 ∷ b ∷ rest) q rest
+  return_qualifiers : {b q : ℕ} {rest : List ℕ} → lookup b qualifiers_of_returns ≡ Some q → IsReturnQualifiers (63 ∷ b ∷ rest) q rest
   no_return_qualifiers : {left : List ℕ} → (begins_with (63 ∷ []) left → ⊥) → IsReturnQualifiers left 0 left
 
 -- an @ for no type, as a constructor has none, or a type

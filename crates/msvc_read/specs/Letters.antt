@@ -30,9 +30,13 @@ storage_classes =
     (65, 0) ∷ (66, 1) ∷ (67, 2) ∷ (68, 3) ∷ (69, 4) ∷ (70, 5) ∷ (71, 6) ∷ (72, 7) ∷
     (81, 0) ∷ (82, 1) ∷ (83, 2) ∷ (84, 3) ∷ []
 
--- the qualifiers of what a function returns, and of the elements of an array: A to D
-abbrev pub plain_qualifiers : List (ℕ × ℕ)
-plain_qualifiers = (65, 0) ∷ (66, 1) ∷ (67, 2) ∷ (68, 3) ∷ []
+-- the qualifiers of what a function returns: A to D
+abbrev pub qualifiers_of_returns : List (ℕ × ℕ)
+qualifiers_of_returns = (65, 0) ∷ (66, 1) ∷ (67, 2) ∷ (68, 3) ∷ []
+
+-- the qualifiers of the elements of an array: A to D, and none of these is VOLATILE alone
+abbrev pub qualifiers_of_arrays : List (ℕ × ℕ)
+qualifiers_of_arrays = (65, 0) ∷ (66, 1) ∷ (67, 3) ∷ (68, 3) ∷ []
 
 -- single marks: E for PTR64, I for RESTRICT, F for UNALIGNED, G and H for the two kinds of references
 abbrev pub pointer_sizes : List (ℕ × ℕ)

@@ -6,7 +6,7 @@ use Rattle.std.specs.Int.{cast_signed, int_wrapping_neg, w32}
 use Rattle.msvc_tree.specs.declared.tree.CallingConv.{CallingConv}
 use Rattle.msvc_tree.specs.declared.tree.VarStorageKind.{VarStorageKind}
 use Rattle.msvc_tree.specs.Trees.{NameTree, NameTrees, TypeTree, TypeTrees, SymbolTree, BaseType, Tag, Mark, rvalue_reference, spelled, source, plain, no_type, variadic, base, void, tagged, enum, numbered, template_parameter, pointing, array, function, member_function, variable, name_trees, type_trees}
-use Rattle.msvc_read.specs.Letters.{lookup, digits, qualifiers, storage_classes, plain_qualifiers, pointer_sizes, restricts, alignments, reference_qualifiers, conventions, type_letters, TypeLetter, based, extended, named, points, arrayed, indexed, referred, extended_types, encoding_letters, literals, EncodingLetter, variable_of, untyped, plain_function, member}
+use Rattle.msvc_read.specs.Letters.{lookup, digits, qualifiers, storage_classes, qualifiers_of_returns, qualifiers_of_arrays, pointer_sizes, restricts, alignments, reference_qualifiers, conventions, type_letters, TypeLetter, based, extended, named, points, arrayed, indexed, referred, extended_types, encoding_letters, literals, EncodingLetter, variable_of, untyped, plain_function, member}
 use Rattle.msvc_read.specs.State.{State, Entry, Note, place, remember_name, remember_type, take_note}
 use Rattle.msvc_read.specs.declared.refusal.Refusal.{Refusal}
 use Rattle.msvc_read.specs.declared.refusal.Refusal.TheVariants as refusal
@@ -218,7 +218,7 @@ lengths_at zero left s = Some ([], left, s)
 lengths_at (suc n) left s = number_at left s >>= λ x. with_first x.0 (lengths_at n x.1 x.2)
 
 abbrev pub array_class_of : Option (List ℕ) → List ℕ → State → Reading ℕ
-array_class_of (Some behind) left s = letter_at plain_qualifiers behind s
+array_class_of (Some behind) left s = letter_at qualifiers_of_arrays behind s
 array_class_of None left s = Some (0, left, s)
 
 unfoldable pub array_class_at : List ℕ → State → Reading ℕ
@@ -293,9 +293,13 @@ noted_of None left bs s = None
 noted_of (Some e) left bs s =
     Some (e.entered, bs, take_note (record { at = place left s; start = e.start; end = e.end }) s)
 
+-- a type that is a parameter
+abbrev pub new_parameter_at : List ℕ → State → Reading TypeTree
+new_parameter_at left s = type_at 0 left s >>= λ t. Some (enter left t)
+
 abbrev pub parameter_of : Option ℕ → List ℕ → List ℕ → State → Reading TypeTree
 parameter_of (Some i) left bs s = noted_of (slice_get s.types i) left bs s
-parameter_of None left bs s = type_at 0 left s >>= λ t. Some (enter left t)
+parameter_of None left bs s = new_parameter_at left s
 
 unfoldable pub parameter_at : List ℕ → State → Reading TypeTree
 parameter_at [] s = None
@@ -305,6 +309,11 @@ parameter_at (b ∷ bs) s = parameter_of (lookup b digits) (b ∷ bs) bs s
 unfoldable pub parameters_stop : List ℕ → Option (Bool × List ℕ)
 parameters_stop [] = Some (false, [])
 parameters_stop (b ∷ bs) = if b == 64 then Some (false, bs) else (if b == 90 then Some (true, bs) else None)
+
+-- what a list of parameters has behind its last one, for a Z and for what else it stops at
+abbrev pub ellipsis : Bool → List TypeTree
+ellipsis true = plain variadic ∷ []
+ellipsis false = []
 
 unfoldable pub parameters_end : Ending TypeTree
 parameters_end [] = Some ([], [])
@@ -329,7 +338,7 @@ unfoldable pub function_parameters_at : List ℕ → State → Reading (List Typ
 function_parameters_at left s = function_parameters_of (after (88 ∷ []) left) left s
 
 abbrev pub return_qualifiers_of : Option (List ℕ) → List ℕ → State → Reading ℕ
-return_qualifiers_of (Some behind) left s = letter_at plain_qualifiers behind s
+return_qualifiers_of (Some behind) left s = letter_at qualifiers_of_returns behind s
 return_qualifiers_of None left s = Some (0, left, s)
 
 unfoldable pub return_qualifiers_at : List ℕ → State → Reading ℕ
@@ -396,6 +405,11 @@ variable_at kind left s = do
   t ← type_at 0 left s
   let class = optional_at storage_classes t.1
   Some (variable t.0 kind class.0, class.1, t.2)
+
+-- a member function of this class, if there is such a class
+abbrev pub member_of : Option ℕ → List ℕ → State → Reading TypeTree
+member_of None bs s = None
+member_of (Some class) bs s = member_at class bs s
 
 unfoldable pub encoding_of : Option EncodingLetter → List ℕ → State → Reading TypeTree
 encoding_of None bs s = None

@@ -4,11 +4,11 @@ ghost use Rattle.std.specs.Prelude.{◌≡◌};
 ghost use Rattle.std.specs.Option.{option_map};
 ghost use Rattle.msvc_tree.specs.View.{type_of};
 ghost use Rattle.msvc_tree.specs.Trees.{base};
-ghost use Rattle.msvc_read.specs.Letters.{lookup, digits, storage_classes, plain_qualifiers, base_types, extended_types};
+ghost use Rattle.msvc_read.specs.Letters.{lookup, digits, qualifiers, storage_classes, qualifiers_of_returns, qualifiers_of_arrays, reference_qualifiers, conventions, base_types, extended_types, function_classes};
 
 use bitflags::Flags;
-use msvc_tree::flags::StorageClass;
-use msvc_tree::tree::Type;
+use msvc_tree::flags::{FuncClass, StorageClass};
+use msvc_tree::tree::{CallingConv, Type};
 
 /// The entry of a table that a digit stands for.
 pub fn digit(letter: u8) -> Option<u8>
@@ -20,9 +20,9 @@ pub fn digit(letter: u8) -> Option<u8>
     }
 }
 
-/// `const` and `volatile` of what a function returns and of the elements of an array.
-pub fn plain_qualifier(letter: u8) -> Option<StorageClass>
-    ensures { option_map (λ (q : StorageClass). q.0) result ≡ lookup letter plain_qualifiers }
+/// `const` and `volatile` of what a function returns.
+pub fn return_qualifier(letter: u8) -> Option<StorageClass>
+    ensures { option_map (λ (q : StorageClass). q.0) result ≡ lookup letter qualifiers_of_returns }
 {
     let bits = match letter {
         b'A' => 0,
@@ -32,6 +32,44 @@ pub fn plain_qualifier(letter: u8) -> Option<StorageClass>
         _ => return None,
     };
     Some(StorageClass::from_bits_retain(bits))
+}
+
+/// `const` and `volatile` of the elements of an array: there is no letter for `volatile` alone.
+pub fn array_qualifier(letter: u8) -> Option<StorageClass>
+    ensures { option_map (λ (q : StorageClass). q.0) result ≡ lookup letter qualifiers_of_arrays }
+{
+    let bits = match letter {
+        b'A' => 0,
+        b'B' => 1,
+        b'C' | b'D' => 3,
+        _ => return None,
+    };
+    Some(StorageClass::from_bits_retain(bits))
+}
+
+/// `const` and `volatile` of the object of a member function.
+pub fn qualifier(letter: u8) -> Option<StorageClass>
+    ensures { option_map (λ (q : StorageClass). q.0) result ≡ lookup letter qualifiers }
+{
+    let bits = match letter {
+        b'A' | b'Q' => 0,
+        b'B' | b'R' => 1,
+        b'C' | b'S' => 2,
+        b'D' | b'T' => 3,
+        _ => return None,
+    };
+    Some(StorageClass::from_bits_retain(bits))
+}
+
+/// `&` and `&&` behind a member function.
+pub fn reference_qualifier(letter: u8) -> Option<StorageClass>
+    ensures { option_map (λ (q : StorageClass). q.0) result ≡ lookup letter reference_qualifiers }
+{
+    match letter {
+        b'G' => Some(StorageClass::LVALUE_QUAL),
+        b'H' => Some(StorageClass::RVALUE_QUAL),
+        _ => None,
+    }
 }
 
 /// `const`, `volatile` and `far` of a variable or of what is pointed to.
@@ -92,4 +130,53 @@ pub fn extended_type<'a>(letter: u8, q: StorageClass) -> Option<Type<'a>>
         b'M' => Some(Type::Uint128(q)),
         _ => None,
     }
+}
+
+/// How a function is called.
+pub fn convention(letter: u8) -> Option<CallingConv>
+    ensures { result ≡ lookup letter conventions }
+{
+    match letter {
+        b'A' | b'B' => Some(CallingConv::Cdecl),
+        b'C' => Some(CallingConv::Pascal),
+        b'E' => Some(CallingConv::Thiscall),
+        b'G' => Some(CallingConv::Stdcall),
+        b'I' => Some(CallingConv::Fastcall),
+        _ => None,
+    }
+}
+
+/// The access and the kind of a member function, in bits: `PUBLIC` 1, `PROTECTED` 2, `PRIVATE` 4, `GLOBAL` 8,
+/// `STATIC` 16, `VIRTUAL` 32, `FAR` 64, `THUNK` 128.
+pub fn function_class(letter: u8) -> Option<FuncClass>
+    ensures { option_map (λ (class : FuncClass). class.0) result ≡ lookup letter function_classes }
+{
+    let bits = match letter {
+        b'A' => 4,
+        b'B' => 4 + 64,
+        b'C' | b'D' => 4 + 16,
+        b'E' | b'F' => 4 + 32,
+        b'G' => 4 + 32 + 128,
+        b'H' => 4 + 32 + 64 + 128,
+        b'I' => 2,
+        b'J' => 2 + 64,
+        b'K' => 2 + 16,
+        b'L' => 2 + 16 + 64,
+        b'M' => 2 + 32,
+        b'N' => 2 + 32 + 64,
+        b'O' => 2 + 32 + 128,
+        b'P' => 2 + 32 + 64 + 128,
+        b'Q' => 1,
+        b'R' => 1 + 64,
+        b'S' => 1 + 16,
+        b'T' => 1 + 16 + 64,
+        b'U' => 1 + 32,
+        b'V' => 1 + 32 + 64,
+        b'W' => 1 + 32 + 128,
+        b'X' => 1 + 32 + 64 + 128,
+        b'Y' => 8,
+        b'Z' => 8 + 64,
+        _ => return None,
+    };
+    Some(FuncClass::from_bits_retain(bits))
 }

@@ -1,9 +1,11 @@
 //! Reads a symbol as Microsoft's C++ compiler mangles it into a tree. Nothing here knows how a tree is printed.
 #![tactic(auto)]
 
+mod functions;
 mod letters;
 mod names;
 mod numbers;
+mod parameters;
 mod parser;
 mod read;
 mod refusal;

@@ -2,8 +2,9 @@
 
 ghost use Rattle.std.specs.Prelude.{◌≡◌, ◌≤◌, ◌+◌, ◌∷◌, [], length, IfSome};
 ghost use Rattle.std.specs.Option.{option_map};
-ghost use Rattle.msvc_read.specs.Letters.{storage_classes};
+ghost use Rattle.msvc_read.specs.Letters.{qualifiers, storage_classes, reference_qualifiers};
 ghost use Rattle.msvc_read.specs.Reading.{Gives, after, byte_at, optional_at};
+ghost use Rattle.msvc_read.specs.State.{place};
 
 use crate::letters;
 use crate::refusal::{Message, Refusal};
@@ -80,6 +81,13 @@ impl<'a> Parser<'a> {
         Refusal::NotBuilt(self.rest.len())
     }
 
+    /// The place in the text where the bytes left begin with these.
+    pub fn place_of(&self, left: &[u8]) -> usize
+        ensures { result ≡ place left.now (state_of self.now) }
+    {
+        self.whole.saturating_sub(left.len())
+    }
+
     /// The next byte.
     #[tactic(auto, unfolding(crate::specs::Reading::byte_at))]
     pub fn byte(&mut self) -> Result<u8, Refusal>
@@ -114,6 +122,40 @@ impl<'a> Parser<'a> {
             if let Some(class) = letters::storage_class(*first) {
                 self.rest = rest;
                 return class;
+            }
+        }
+        StorageClass::empty()
+    }
+
+    /// `const` and `volatile` of a member function, if the next byte is the letter of these; else no bits.
+    #[tactic(auto, unfolding(crate::specs::Reading::optional_at))]
+    pub fn optional_qualifier(&mut self) -> StorageClass
+        ensures bits { result.0 ≡ (optional_at qualifiers self.old.rest.now).0 }
+        ensures rest { self.new.rest.now ≡ (optional_at qualifiers self.old.rest.now).1 }
+        ensures shorter { length self.new.rest.now ≤ length self.old.rest.now }
+        ensures state { state_of self.new ≡ state_of self.old }
+    {
+        if let [first, rest @ ..] = self.rest {
+            if let Some(qualifier) = letters::qualifier(*first) {
+                self.rest = rest;
+                return qualifier;
+            }
+        }
+        StorageClass::empty()
+    }
+
+    /// `&` or `&&` behind a member function, if the next byte is the letter of one; else no bits.
+    #[tactic(auto, unfolding(crate::specs::Reading::optional_at))]
+    pub fn optional_reference(&mut self) -> StorageClass
+        ensures bits { result.0 ≡ (optional_at reference_qualifiers self.old.rest.now).0 }
+        ensures rest { self.new.rest.now ≡ (optional_at reference_qualifiers self.old.rest.now).1 }
+        ensures shorter { length self.new.rest.now ≤ length self.old.rest.now }
+        ensures state { state_of self.new ≡ state_of self.old }
+    {
+        if let [first, rest @ ..] = self.rest {
+            if let Some(reference) = letters::reference_qualifier(*first) {
+                self.rest = rest;
+                return reference;
             }
         }
         StorageClass::empty()

@@ -20,6 +20,9 @@ pub enum Message {
     InvalidArrayDimension(i32),
     UnknownStorageClass,
     UnknownPrimitiveType,
+    UnknownCallingConv,
+    UnknownFuncClass,
+    ZExpected,
 }
 
 impl Message {
@@ -33,6 +36,9 @@ impl Message {
             Message::NameReferenceTooLarge => "name reference too large",
             Message::UnknownStorageClass => "unknown storage class",
             Message::UnknownPrimitiveType => "unknown primitive type",
+            Message::UnknownCallingConv => "unknown calling conv",
+            Message::UnknownFuncClass => "unknown func class",
+            Message::ZExpected => "Z expected",
             Message::InvalidBackReference(index) => {
                 return Ok(CowStr::Owned(format!(in alloc; "invalid backreference: {index}")?));
             }

@@ -2,9 +2,11 @@
 
 ghost use Rattle.std.specs.Prelude.{◌≡◌, ◌∷◌, [], length, None, Err};
 ghost use Rattle.msvc_tree.specs.View.{type_of, tree_of};
+ghost use Rattle.msvc_read.specs.Letters.{lookup, encoding_letters, function_classes};
 ghost use Rattle.msvc_read.specs.Parser.{state_of};
-ghost use Rattle.msvc_read.specs.Reading.{Gives, after, encoding_at, symbol_at, symbol_behind, variable_at};
+ghost use Rattle.msvc_read.specs.Reading.{Gives, after, encoding_at, encoding_of, member_of, symbol_at, symbol_behind, variable_at};
 
+use crate::letters;
 use crate::parser::Parser;
 use crate::refusal::{Message, Refusal};
 use bitflags::Flags;
@@ -41,8 +43,8 @@ impl<'a> Parser<'a> {
         })
     }
 
-    /// `ENCODING = end | "0".."4" VARIABLE | "9"`: at the end of the text there is no type.
-    #[tactic(auto, unfolding(crate::specs::Reading::encoding_at, crate::specs::Reading::encoding_of, msvc_tree::specs::View::type_of))]
+    /// `ENCODING = end | letter ENCODING_BEHIND`: at the end of the text there is no type.
+    #[tactic(auto, unfolding(crate::specs::Reading::encoding_at, msvc_tree::specs::View::type_of))]
     fn encoding(&mut self) -> Result<Type<'a>, Refusal>
         ensures { Gives (λ t. (type_of t, self.new.rest.now, state_of self.new)) result (encoding_at self.old.rest.now (state_of self.old)) }
     {
@@ -50,14 +52,36 @@ impl<'a> Parser<'a> {
             return Ok(Type::None);
         };
         self.rest = behind;
-        match *letter {
+        self.encoding_behind(*letter)
+    }
+
+    /// What follows the first letter of an encoding: a variable behind `0` to `4`, nothing behind `9`, a function behind
+    /// `Y`, else a member function.
+    #[tactic(auto, using(crate::proofs::Signatures::member_split), unfolding(crate::specs::Reading::encoding_of, msvc_tree::specs::View::type_of))]
+    fn encoding_behind(&mut self, letter: u8) -> Result<Type<'a>, Refusal>
+        ensures { Gives (λ t. (type_of t, self.new.rest.now, state_of self.new)) result (encoding_of (lookup letter encoding_letters) self.old.rest.now (state_of self.old)) }
+    {
+        match letter {
             b'0' => self.variable(VarStorageKind::PrivateStatic),
             b'1' => self.variable(VarStorageKind::ProtectedStatic),
             b'2' => self.variable(VarStorageKind::PublicStatic),
             b'3' => self.variable(VarStorageKind::Global),
             b'4' => self.variable(VarStorageKind::FunctionLocalStatic),
             b'9' => Ok(Type::None),
-            _ => Err(self.not_built()),
+            b'Y' => self.function(),
+            _ => self.member_encoding(letter),
+        }
+    }
+
+    /// `MEMBER_ENCODING = function class MEMBER`.
+    fn member_encoding(&mut self, letter: u8) -> Result<Type<'a>, Refusal>
+        ensures { Gives (λ t. (type_of t, self.new.rest.now, state_of self.new)) result
+            (member_of (lookup letter function_classes) self.old.rest.now (state_of self.old)) }
+    {
+        match letters::function_class(letter) {
+            Some(class) => self.member(class),
+            None if begins_later_encoding(letter) => Err(self.not_built()),
+            None => Err(self.refuse(Message::UnknownFuncClass)),
         }
     }
 
@@ -70,4 +94,9 @@ impl<'a> Parser<'a> {
         let class = self.optional_storage_class();
         Ok(Type::Var(Box::new(self.alloc, variable)?, kind, class))
     }
+}
+
+/// Whether an encoding that isn't built yet begins with the letter.
+fn begins_later_encoding(letter: u8) -> bool {
+    matches!(letter, b'6'..=b'8' | b'_' | b'$')
 }

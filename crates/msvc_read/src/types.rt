@@ -158,7 +158,7 @@ impl<'a> Parser<'a> {
         let [letter, behind @ ..] = self.rest else {
             return Err(self.refuse(Message::UnknownStorageClass));
         };
-        let Some(class) = letters::plain_qualifier(*letter) else {
+        let Some(class) = letters::array_qualifier(*letter) else {
             return Err(self.refuse(Message::UnknownStorageClass));
         };
         self.rest = behind;

@@ -1,0 +1,68 @@
+//! Each public call once, with ample memory: its answer is compared with what the documents say.
+
+#[cfg(test)]
+mod tests {
+    use bitflags::Flags;
+    use msvc_demangler::{DemangleFlags, Error, StorageClass, demangle, parse, serialize};
+    use std::str::from_utf8;
+    use std::test::Fail;
+
+    #[test]
+    fn messages(rt: HostRuntime) -> Result<(), Fail> {
+        let error = Error::new(rt.alloc(), "no");
+        assert_eq!(rt; error.offset(), None);
+        assert!(rt; !error.is_out_of_memory());
+        let shown = format!(in rt.alloc(); "{error}")?;
+        assert_eq!(rt; shown.as_str(), "no");
+        Ok(())
+    }
+
+    #[test]
+    fn causes(rt: HostRuntime) -> Result<(), Fail> {
+        let cause = from_utf8(b"a\xFF").err().ok_or("read")?;
+        let error = Error::from(cause);
+        let shown = format!(in rt.alloc(); "{error}")?;
+        assert_eq!(rt; shown.as_str(), "invalid utf-8 sequence of 1 bytes from index 1");
+        Ok(())
+    }
+
+    #[test]
+    fn refusals(rt: HostRuntime) -> Result<(), Fail> {
+        let refusal = demangle(rt.alloc(), "nopenopenopenopenopenope", DemangleFlags::llvm())
+            .err()
+            .ok_or("read")?;
+        assert_eq!(rt; refusal.offset(), Some(0));
+        let shown = format!(in rt.alloc(); "{refusal}")?;
+        assert_eq!(rt; shown.as_str(),
+            "does not start with b'?' (offset: 0, remaining: \"nopenopenopenopenope...\")");
+        Ok(())
+    }
+
+    #[test]
+    fn copies(rt: HostRuntime) -> Result<(), Fail> {
+        let tree = parse(rt.alloc(), "?x@@3PEAY1NKM@5HEA")?;
+        let copy = tree.clone(rt.alloc())?;
+        assert!(rt; copy == tree);
+        let text = serialize(rt.alloc(), &copy, DemangleFlags::llvm())?;
+        assert_eq!(rt; text.as_str(), "int (*x)[3500][6]");
+        Ok(())
+    }
+
+    #[test]
+    fn others(rt: HostRuntime) -> Result<(), Fail> {
+        let tree = parse(rt.alloc(), "?x@@3PEAY1NKM@5HEA")?;
+        let other = parse(rt.alloc(), "?x@@3PEAY1NKM@5DEA")?;
+        assert!(rt; tree != other);
+        Ok(())
+    }
+
+    #[test]
+    fn sets(rt: HostRuntime) {
+        let both = StorageClass::CONST.union(StorageClass::VOLATILE);
+        assert_eq!(rt; both.bits(), 3);
+        assert!(rt; both.contains(StorageClass::VOLATILE));
+        assert!(rt; !StorageClass::empty().contains(StorageClass::CONST));
+        assert_eq!(rt; StorageClass::from_bits(3), Some(both));
+        assert_eq!(rt; DemangleFlags::llvm().bits(), 0xE00400);
+    }
+}

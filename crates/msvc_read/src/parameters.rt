@@ -1,0 +1,181 @@
+//! Parameters, and the table of types that they enter.
+
+ghost use Rattle.std.specs.Prelude.{◌≡◌, ◌<◌, ◌∷◌, ◌++◌, [], length, map, slice_get, IfOk};
+ghost use Rattle.std.specs.Option.{option_map};
+ghost use Rattle.std.specs.List.{list_any};
+ghost use Rattle.msvc_tree.specs.Equality.{same_type};
+ghost use Rattle.msvc_tree.specs.Trees.{base, void};
+ghost use Rattle.msvc_tree.specs.View.{type_of};
+ghost use Rattle.msvc_read.specs.Parser.{state_of, entry_of};
+ghost use Rattle.msvc_read.specs.Reading.{Gives, after, ellipsis, function_parameters_at, new_parameter_at, noted_of, parameter_at, parameters_at, parameters_stop, span_of};
+ghost use Rattle.msvc_read.specs.State.{remember_type};
+
+use crate::letters;
+use crate::parser::{BackReference, Entry, Parser};
+use crate::refusal::{Message, Refusal};
+use bitflags::Flags;
+use msvc_tree::flags::StorageClass;
+use msvc_tree::tree::{Params, Type};
+use std::alloc::AllocError;
+
+impl<'a> Parser<'a> {
+    /// `FUNCTION_PARAMETERS = ("X" | PARAMETERS) "Z"`: an `X` is one void.
+    #[tactic(auto, unfolding(crate::specs::Reading::function_parameters_at, msvc_tree::specs::View::type_of))]
+    pub fn function_parameters(&mut self) -> Result<Params<'a>, Refusal>
+        ensures { Gives (λ p. (map type_of p.types.items, self.new.rest.now, state_of self.new)) result (function_parameters_at self.old.rest.now (state_of self.old)) }
+    {
+        let parameters = match self.after(b"X") {
+            Some(behind) => {
+                self.rest = behind;
+                self.no_parameters()?
+            }
+            None => self.parameters()?,
+        };
+        self.closing_z()?;
+        Ok(parameters)
+    }
+
+    /// One void.
+    #[tactic(auto, unfolding(msvc_tree::specs::View::type_of))]
+    fn no_parameters(&self) -> Result<Params<'a>, AllocError>
+        ensures { IfOk result (λ p. map type_of p.types.items ≡ base void 0 ∷ []) }
+    {
+        let mut types = Vec::new(self.alloc);
+        types.push(Type::Void(StorageClass::empty()))?;
+        Ok(Params { types })
+    }
+
+    /// The `Z` behind the parameters of a function.
+    fn closing_z(&mut self) -> Result<(), Refusal>
+        ensures value { Gives (λ _. self.new.rest.now) result (after (90 ∷ []) self.old.rest.now) }
+        ensures state { state_of self.new ≡ state_of self.old }
+    {
+        let Some(behind) = self.after(b"Z") else {
+            return Err(self.refuse(Message::ZExpected));
+        };
+        self.rest = behind;
+        Ok(())
+    }
+
+    /// `PARAMETERS = {PARAMETER} ("@" | "Z" | end)`: a `Z` adds an ellipsis.
+    #[tactic(auto, using(crate::proofs::Signatures::parameters_go_on))]
+    fn parameters(&mut self) -> Result<Params<'a>, Refusal>
+        ensures { Gives (λ p. (map type_of p.types.items, self.new.rest.now, state_of self.new)) result (parameters_at self.old.rest.now (state_of self.old)) }
+    {
+        let mut types = Vec::new(self.alloc);
+        'parameters: loop {
+            if let Some((variadic, behind)) = parameters_stop(self.rest) {
+                self.rest = behind;
+                return Ok(with_ellipsis(types, variadic)?);
+            }
+            types.push(self.parameter()?)?;
+        }
+    }
+
+    /// `PARAMETER = digit | TYPE`: a digit stands for an entry of the table of types.
+    #[tactic(auto, unfolding(crate::specs::Reading::parameter_at))]
+    fn parameter(&mut self) -> Result<Type<'a>, Refusal>
+        ensures value { Gives (λ t. (type_of t, self.new.rest.now, state_of self.new)) result (parameter_at self.old.rest.now (state_of self.old)) }
+        ensures shorter { IfOk result (λ _. length self.new.rest.now < length self.old.rest.now) }
+    {
+        let left = self.rest;
+        let [first, behind @ ..] = left else {
+            return Err(self.refuse(Message::EndOfInput));
+        };
+        match letters::digit(*first) {
+            Some(index) => {
+                self.rest = behind;
+                self.noted_entry(index, left)
+            }
+            None => self.new_parameter(),
+        }
+    }
+
+    /// The entry of the table of types that a digit stands for. The digit, with which `left` begins, is noted.
+    fn noted_entry(&mut self, index: u8, left: &[u8]) -> Result<Type<'a>, Refusal>
+        ensures value { Gives (λ t. (type_of t, self.new.rest.now, state_of self.new)) result
+            (noted_of (slice_get (map entry_of self.old.types.items) index) left.now self.old.rest.now (state_of self.old)) }
+        ensures rest { self.new.rest.now ≡ self.old.rest.now }
+    {
+        let Some(entry) = self.types.get(usize::from(index)) else {
+            return Err(self.refuse(Message::InvalidBackReference(index)));
+        };
+        let entered = entry.entered.clone(self.alloc)?;
+        let note = BackReference {
+            at: self.place_of(left),
+            start: entry.start,
+            end: entry.end,
+        };
+        self.notes.push(note)?;
+        Ok(entered)
+    }
+
+    /// A type that enters the table if more than one byte is read for it.
+    fn new_parameter(&mut self) -> Result<Type<'a>, Refusal>
+        ensures value { Gives (λ t. (type_of t, self.new.rest.now, state_of self.new)) result (new_parameter_at self.old.rest.now (state_of self.old)) }
+        ensures shorter { IfOk result (λ _. length self.new.rest.now < length self.old.rest.now) }
+    {
+        let left = self.rest;
+        let parameter = self.any_type(StorageClass::empty())?;
+        if left.len() - self.rest.len() > 1 {
+            self.remember_type(&parameter, left)?;
+        }
+        Ok(parameter)
+    }
+
+    /// Enters the type of the bytes from `left` up to those left into the table, if there is room and no equal type.
+    fn remember_type(&mut self, entered: &Type<'a>, left: &[u8]) -> Result<(), AllocError>
+        ensures value { IfOk result (λ _. state_of self.new ≡ remember_type (span_of (type_of entered.now) left.now self.old.rest.now (state_of self.old)) (state_of self.old)) }
+        ensures rest { self.new.rest.now ≡ self.old.rest.now }
+    {
+        if self.types.len() < 10 && !is_known(&self.types, entered) {
+            let entry = Entry {
+                entered: entered.clone(self.alloc)?,
+                start: self.place_of(left),
+                end: self.place_of(self.rest),
+            };
+            self.types.push(entry)?;
+        }
+        Ok(())
+    }
+}
+
+/// Where parameters stop: whether at a `Z`, and what is behind.
+#[tactic(auto, unfolding(crate::specs::Reading::parameters_stop))]
+fn parameters_stop<'a>(left: &'a [u8]) -> Option<(bool, &'a [u8])>
+    ensures { option_map (λ stop. (stop.0, stop.1.now)) result ≡ parameters_stop left.now }
+{
+    match left {
+        [] => Some((false, left)),
+        [b'@', behind @ ..] => Some((false, behind)),
+        [b'Z', behind @ ..] => Some((true, behind)),
+        _ => None,
+    }
+}
+
+/// A list of parameters, with an ellipsis behind them if there is one.
+#[tactic(auto, using(crate::proofs::Signatures::parameters_go_on))]
+fn with_ellipsis<'a>(
+    mut types: Vec<Type<'a>>,
+    variadic: bool,
+) -> Result<Params<'a>, AllocError>
+    ensures { IfOk result (λ p. map type_of p.types.items ≡ map type_of types.entry.items ++ ellipsis variadic) }
+{
+    if !variadic {
+        return Ok(Params { types });
+    }
+    types.push(Type::VarArgs)?;
+    Ok(Params { types })
+}
+
+/// Whether a table has an equal type.
+fn is_known<'a>(types: &[Entry<'a>], entered: &Type<'a>) -> bool
+    ensures { result ≡ list_any (λ known. same_type (type_of entered.now) known.entered) (map entry_of types.now) }
+{
+    for known in types {
+        if known.entered == *entered {
+            return true;
+        }
+    }
+    false
+}
