@@ -22,19 +22,28 @@ mod tests {
         let cause = from_utf8(b"a\xFF").err().ok_or("read")?;
         let error = Error::from(cause);
         let shown = format!(in rt.alloc(); "{error}")?;
-        assert_eq!(rt; shown.as_str(), "invalid utf-8 sequence of 1 bytes from index 1");
+        assert_eq!(rt;
+            shown.as_str(),
+            "invalid utf-8 sequence of 1 bytes from index 1"
+        );
         Ok(())
     }
 
     #[test]
     fn refusals(rt: HostRuntime) -> Result<(), Fail> {
-        let refusal = demangle(rt.alloc(), "nopenopenopenopenopenope", DemangleFlags::llvm())
-            .err()
-            .ok_or("read")?;
+        let refusal = demangle(
+            rt.alloc(),
+            "nopenopenopenopenopenope",
+            DemangleFlags::llvm(),
+        )
+        .err()
+        .ok_or("read")?;
         assert_eq!(rt; refusal.offset(), Some(0));
         let shown = format!(in rt.alloc(); "{refusal}")?;
-        assert_eq!(rt; shown.as_str(),
-            "does not start with b'?' (offset: 0, remaining: \"nopenopenopenopenope...\")");
+        assert_eq!(rt;
+            shown.as_str(),
+            "does not start with b'?' (offset: 0, remaining: \"nopenopenopenopenope...\")"
+        );
         Ok(())
     }
 

@@ -6,6 +6,7 @@ use Rattle.std.specs.List.{list_any, AllByRecursion}
 use Rattle.msvc_tree.specs.Equality.{same_name, same_type}
 use Rattle.msvc_tree.specs.Trees.{NameTree, TypeTree, SymbolTree, spelled, source, name_trees, type_trees}
 use Rattle.msvc_tree.specs.EachName.{EachNameOfName, EachNameOfNames, EachNameOfType, EachNameOfTypes}
+use Rattle.msvc_read.proofs.Lists.{appended, got, either}
 use Rattle.msvc_read.specs.Parts.{IsPart, NamesAreParts}
 use Rattle.msvc_read.specs.Grammar as grammar
 use Rattle.msvc_read.specs.Grammar.{IsOptional, IsLetters, IsMagnitude, IsNumber, IsSourceName, IsName, IsScope, IsQualifiedName, IsLengths, IsArrayClass, IsType, IsPlainType, IsPointee, IsArray, IsParameter, IsParameters, IsFunctionParameters, IsReturnQualifiers, IsReturned, IsFunctionQualifiers, IsThunkNumber, IsOwnQualifiers, IsEncoding, IsSymbol, Derives, arrays, entered}
@@ -25,21 +26,6 @@ one_eaten {rest = rest} {b = b} e = eaten (b ∷ []) rest e
 -- what stands before an end is a part
 part : {text : List ℕ} (bytes behind : List ℕ) → IsEnd text (bytes ++ behind) → IsPart text bytes
 part bytes behind e = (e.0, behind, e.1)
-
--- Lists
-
-appended : {A : Type 0} (P : A → Type 0) (xs : List A) (x : A) → AllByRecursion P xs → P x → AllByRecursion P (xs ++ x ∷ [])
-appended P [] x h p = (p, tt)
-appended P (y ∷ ys) x h p = (h.0, appended P ys x h.1 p)
-
-got : {A : Type 0} (P : A → Type 0) (xs : List A) (i : ℕ) (x : A) → AllByRecursion P xs → slice_get xs i ≡ Some x → P x
-got P [] i x h e = absurd (cc)
-got P (y ∷ ys) zero x h e = let same : y ≡ x = cc in subst P same h.0
-got P (y ∷ ys) (suc i) x h e = got P ys i x h.1 e
-
-either : {A : Type 0} (P : A → Type 0) (b : Bool) (x y : A) → P x → P y → P (if b then x else y)
-either P true x y p q = p
-either P false x y p q = q
 
 -- States
 

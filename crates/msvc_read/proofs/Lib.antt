@@ -1,10 +1,12 @@
 pub mod Borrowed
 pub mod Complete
 pub mod Deeper
+pub mod Lists
 pub mod Onward
 pub mod Rows
 pub mod Shorter
 pub mod Signatures
 pub mod Sound
+pub mod SoundSymbols
 pub mod Texts
 pub mod Whole

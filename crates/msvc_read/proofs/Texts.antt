@@ -10,6 +10,7 @@ use Rattle.std.proofs.lemmas.Str.{IsUtf8-take, IsUtf8-drop, IsCharBoundary-befor
 use Rattle.msvc_tree.specs.Equality.{same_name, same_type}
 use Rattle.msvc_tree.specs.Trees.{NameTree, TypeTree, SymbolTree, spelled, source, name_trees, type_trees}
 use Rattle.msvc_tree.specs.EachName.{EachNameOfName, EachNameOfNames, EachNameOfType, EachNameOfTypes, EachName}
+use Rattle.msvc_read.proofs.Lists.{appended, got, either}
 use Rattle.msvc_read.specs.Grammar as grammar
 use Rattle.msvc_read.specs.Grammar.{IsOptional, IsLetters, IsMagnitude, IsNumber, IsSourceName, IsName, IsScope, IsQualifiedName, IsLengths, IsArrayClass, IsType, IsPlainType, IsPointee, IsArray, IsParameter, IsParameters, IsFunctionParameters, IsReturnQualifiers, IsReturned, IsFunctionQualifiers, IsThunkNumber, IsOwnQualifiers, IsEncoding, IsSymbol, Derives, arrays, entered}
 use Rattle.msvc_read.specs.Letters.{lookup, digits, qualifiers, storage_classes, qualifiers_of_returns, qualifiers_of_arrays, pointer_sizes, restricts, alignments, reference_qualifiers, conventions, type_letters, extended_types, encoding_letters}
@@ -62,21 +63,6 @@ lookup-ascii {x = x} b (row ∷ rows) low e =
 letter_eaten : {A : Type 0} {x : A} {rest : List ℕ} (b : ℕ) (table : List (ℕ × A)) → low_letters table ≡ true → lookup b table ≡ Some x
     → IsUtf8 (b ∷ rest) → IsUtf8 rest
 letter_eaten b table low l h = eaten b (lookup-ascii b table low l) h
-
--- Lists
-
-appended : {A : Type 0} (P : A → Type 0) (xs : List A) (x : A) → AllByRecursion P xs → P x → AllByRecursion P (xs ++ x ∷ [])
-appended P [] x h p = (p, tt)
-appended P (y ∷ ys) x h p = (h.0, appended P ys x h.1 p)
-
-got : {A : Type 0} (P : A → Type 0) (xs : List A) (i : ℕ) (x : A) → AllByRecursion P xs → slice_get xs i ≡ Some x → P x
-got P [] i x h e = absurd (cc)
-got P (y ∷ ys) zero x h e = let same : y ≡ x = cc in subst P same h.0
-got P (y ∷ ys) (suc i) x h e = got P ys i x h.1 e
-
-either : {A : Type 0} (P : A → Type 0) (b : Bool) (x y : A) → P x → P y → P (if b then x else y)
-either P true x y p q = p
-either P false x y p q = q
 
 -- States
 

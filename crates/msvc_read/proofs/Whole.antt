@@ -10,7 +10,7 @@ use Rattle.msvc_tree.specs.declared.error.ErrorRepr.{ErrorRepr}
 use Rattle.msvc_tree.specs.declared.error.ErrorRepr.TheVariants as error
 use Rattle.msvc_read.proofs.Borrowed.{derived-parts}
 use Rattle.msvc_read.proofs.Complete.{symbol-complete}
-use Rattle.msvc_read.proofs.Sound.{symbol-sound}
+use Rattle.msvc_read.proofs.SoundSymbols.{symbol-sound}
 use Rattle.msvc_read.proofs.Texts.{derived-utf8}
 use Rattle.msvc_read.specs.Grammar.{Derives}
 use Rattle.msvc_read.specs.Parts.{NamesAreParts}

@@ -41,8 +41,8 @@ impl<'a> Parser<'a> {
         }
     }
 
-    #[tactic(auto, unfolding(crate::specs::Reading::letters_at))]
     /// `LETTERS = {letter} "@"`: `A` to `P` are the digits to base 16, and what passes 32 bits is dropped.
+    #[tactic(auto, unfolding(crate::specs::Reading::letters_at))]
     fn hexadecimal(&mut self) -> Result<i32, Refusal>
         ensures value { Gives (λ z. (z, self.new.rest.now, state_of self.new)) result (letters_at 0 self.old.rest.now (state_of self.old)) }
         ensures shorter { IfOk result (λ _. length self.new.rest.now < length self.old.rest.now) }

@@ -155,10 +155,7 @@ fn parameters_stop<'a>(left: &'a [u8]) -> Option<(bool, &'a [u8])>
 
 /// A list of parameters, with an ellipsis behind them if there is one.
 #[tactic(auto, using(crate::proofs::Signatures::parameters_go_on))]
-fn with_ellipsis<'a>(
-    mut types: Vec<Type<'a>>,
-    variadic: bool,
-) -> Result<Params<'a>, AllocError>
+fn with_ellipsis<'a>(mut types: Vec<Type<'a>>, variadic: bool) -> Result<Params<'a>, AllocError>
     ensures { IfOk result (λ p. map type_of p.types.items ≡ map type_of types.entry.items ++ ellipsis variadic) }
 {
     if !variadic {

@@ -165,8 +165,8 @@ impl<'a> Parser<'a> {
         Ok(class)
     }
 
-    #[tactic(auto, using(crate::proofs::Onward::arrays_nest), unfolding(crate::specs::Reading::nested_arrays))]
     /// An array of these lengths, the outermost first, with qualifiers at each level.
+    #[tactic(auto, using(crate::proofs::Onward::arrays_nest), unfolding(crate::specs::Reading::nested_arrays))]
     fn nested_arrays(
         &self,
         mut lengths: Vec<i32>,
