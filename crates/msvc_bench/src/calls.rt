@@ -1,9 +1,10 @@
-//! Each public call once, with ample memory: its answer is compared with what the documents say.
+//! The public calls on errors and sets, each once, with ample memory: its answer is compared with what the documents
+//! say. Those on trees stand in `.ci/trees`, where they run without a proof.
 
 #[cfg(test)]
 mod tests {
     use bitflags::Flags;
-    use msvc_demangler::{DemangleFlags, Error, StorageClass, demangle, parse, serialize};
+    use msvc_demangler::{DemangleFlags, Error, StorageClass, demangle};
     use std::str::from_utf8;
     use std::test::Fail;
 
@@ -44,24 +45,6 @@ mod tests {
             shown.as_str(),
             "does not start with b'?' (offset: 0, remaining: \"nopenopenopenopenope...\")"
         );
-        Ok(())
-    }
-
-    #[test]
-    fn copies(rt: HostRuntime) -> Result<(), Fail> {
-        let tree = parse(rt.alloc(), "?x@@3PEAY1NKM@5HEA")?;
-        let copy = tree.clone(rt.alloc())?;
-        assert!(rt; copy == tree);
-        let text = serialize(rt.alloc(), &copy, DemangleFlags::llvm())?;
-        assert_eq!(rt; text.as_str(), "int (*x)[3500][6]");
-        Ok(())
-    }
-
-    #[test]
-    fn others(rt: HostRuntime) -> Result<(), Fail> {
-        let tree = parse(rt.alloc(), "?x@@3PEAY1NKM@5HEA")?;
-        let other = parse(rt.alloc(), "?x@@3PEAY1NKM@5DEA")?;
-        assert!(rt; tree != other);
         Ok(())
     }
 
