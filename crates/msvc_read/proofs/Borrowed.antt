@@ -1,7 +1,7 @@
 -- The names in a tree that a text is derived to are parts of that text: each rule leaves an end of the text, and the
 -- tables of a state have no other names than parts of it.
-use Rattle.std.proofs.Common.{ℕ, ℤ, zero, suc, List, [], ◌∷◌, ◌++◌, length, Some, Bool, true, false, ◌≡◌, ◌-◌, nat_lt, refl, sym, ◌∙◌, subst, append_assoc}
-use Rattle.std.specs.Prelude.{slice_get, if◌then◌else◌}
+use Rattle.std.proofs.Common.{ℕ, ℤ, List, [], ◌∷◌, ◌++◌, length, Some, ◌≡◌, ◌-◌, nat_lt, refl, sym, ◌∙◌, subst, append_assoc}
+use Rattle.std.specs.Prelude.{slice_get}
 use Rattle.std.specs.List.{list_any, AllByRecursion}
 use Rattle.msvc_tree.specs.Equality.{same_name, same_type}
 use Rattle.msvc_tree.specs.Trees.{NameTree, TypeTree, SymbolTree, spelled, source, name_trees, type_trees}

@@ -1,7 +1,7 @@
 -- What the grammar derives, the reading functions give.
-use Rattle.std.proofs.Common.{ℕ, ℤ, zero, suc, pos, List, [], ◌∷◌, ◌++◌, length, Option, Some, None, All, Bool, true, false, cond, ◌≡◌, ◌≢◌, ◌<◌, ◌≤◌, ◌+◌, ◌-◌, ◌*◌, ◌%◌, ◌^◌, ◌==◌, bit_or, nat_lt, refl, sym, ap, ◌∙◌, subst, arith, eqb-true, ne_eqb, eq-eqb, le-ltb, mod-eq_of_lt, drop, length-append, ◌||◌, bit_and}
+use Rattle.std.proofs.Common.{ℕ, ℤ, suc, pos, List, [], ◌∷◌, ◌++◌, length, Option, Some, None, All, Bool, true, false, cond, ◌≡◌, ◌≢◌, ◌<◌, ◌≤◌, ◌+◌, ◌-◌, ◌*◌, ◌%◌, ◌^◌, ◌==◌, bit_or, nat_lt, refl, sym, ap, ◌∙◌, subst, arith, eqb-true, ne_eqb, eq-eqb, le-ltb, mod-eq_of_lt, drop, length-append, ◌||◌, bit_and}
 use Rattle.std.specs.List.{list_any, position_or_len}
-use Rattle.std.specs.Prelude.{slice_get, unwrap_or, is_some}
+use Rattle.std.specs.Prelude.{unwrap_or, is_some}
 use Rattle.std.specs.Int.{cast_signed, int_wrapping_neg, w32}
 use Rattle.std.proofs.Math.Nat.{mod-add-mod}
 use Rattle.std.proofs.lemmas.Nat.{mul-mod_first}
@@ -17,8 +17,8 @@ use Rattle.msvc_read.proofs.Deeper.{type_at-step}
 use Rattle.msvc_read.specs.Grammar as grammar
 use Rattle.msvc_read.specs.Grammar.{IsOptional, IsLetters, IsMagnitude, signed, IsNumber, IsSourceName, IsName, IsScope, IsQualifiedName, IsLengths, begins_with, IsArrayClass, arrays, IsType, IsPlainType, IsPointee, IsArray, IsParameter, IsParameters, IsFunctionParameters, IsReturnQualifiers, IsReturned, IsFunctionQualifiers, IsThunkNumber, IsOwnQualifiers, IsEncoding, IsSymbol}
 use Rattle.msvc_read.specs.Letters.{lookup, digits, literals, storage_classes, qualifiers_of_returns, qualifiers_of_arrays, pointer_sizes, conventions, type_letters, TypeLetter, based, extended, named, points, arrayed, indexed, referred, extended_types, encoding_letters, EncodingLetter, variable_of, untyped, plain_function, member}
-use Rattle.msvc_read.specs.Reading.{Reading, TypeReader, ◌>>=◌, after, chosen, optional_of, optional_at, letter_of, letter_at, letters_at, magnitude_of, magnitude_at, negated, number_of, number_at, cut, name_length, source_name_at, new_name, new_source_name_at, entry_of, name_of_digit, simple_name_at, with_first, row_step, scope_end, scope_at, qualified_name_at, tagged_at, extended_at, indexed_at, entered_of, pointee_with, pointing_with, dimension_of, dimension_at, lengths_at, array_class_of, array_class_at, nested_arrays, array_with, plain_of, plain_type_with, begins_literal, type_with, type_within, type_at, enter, noted_of, parameter_of, parameter_at, parameters_end, parameters_at, closed_parameters, function_parameters_of, function_parameters_at, return_qualifiers_of, return_qualifiers_at, returned_of, returned_at, function_at, member_function_at, function_qualifiers_at, has, thunk_number_of, own_qualifiers_of, member_at, variable_at, encoding_of, encoding_at, symbol_behind, symbol_at}
-use Rattle.msvc_read.specs.State.{State, Entry, remember_name}
+use Rattle.msvc_read.specs.Reading.{Reading, ◌>>=◌, after, chosen, optional_of, optional_at, letter_of, letter_at, letters_at, magnitude_of, magnitude_at, negated, number_of, number_at, cut, name_length, source_name_at, new_name, new_source_name_at, entry_of, name_of_digit, simple_name_at, with_first, row_step, scope_end, scope_at, qualified_name_at, tagged_at, extended_at, indexed_at, entered_of, pointee_with, pointing_with, dimension_of, dimension_at, lengths_at, array_class_of, array_class_at, nested_arrays, array_with, plain_of, plain_type_with, begins_literal, type_with, type_at, enter, noted_of, parameter_of, parameter_at, parameters_end, parameters_at, closed_parameters, function_parameters_of, function_parameters_at, return_qualifiers_of, return_qualifiers_at, returned_of, returned_at, function_at, member_function_at, function_qualifiers_at, has, thunk_number_of, own_qualifiers_of, member_at, variable_at, encoding_of, encoding_at, symbol_behind, symbol_at}
+use Rattle.msvc_read.specs.State.{State, remember_name}
 
 -- what is read goes on
 bind-is : {X Y : Type 0} (r : Option X) (f : X → Option Y) (x : X) (y : Option Y) → r ≡ Some x → f x ≡ y → (r >>= f) ≡ y

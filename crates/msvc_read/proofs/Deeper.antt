@@ -1,13 +1,12 @@
 -- A type inside a type has fewer bytes left: so how deep a type may go does not matter, and its reading goes on as
 -- it began.
-use Rattle.std.proofs.Common.{ℕ, ℤ, zero, suc, pos, negsuc, List, [], ◌∷◌, length, Option, Some, None, Bool, true, false, cond, bit_or, ◌≡◌, ◌<◌, ◌≤◌, ◌+◌, refl, sym, ap, ◌∙◌, subst, arith}
-use Rattle.std.specs.Prelude.{slice_get, unwrap_or}
-use Rattle.msvc_tree.specs.Trees.{TypeTree, Tag, enum, Mark, pointing, rvalue_reference, tagged, base, name_trees}
-use Rattle.msvc_read.proofs.Rows.{Shortens}
-use Rattle.msvc_read.proofs.Shorter.{Within, within-none, within-some, within-more, within-bind, shortens, after-length, optional-length, dimension-within, lengths-within, array_class-within, letter-within, simple_name-shortens, weakly, scope-within}
-use Rattle.msvc_read.specs.Letters.{lookup, type_letters, TypeLetter, based, extended, named, points, arrayed, indexed, referred, extended_types, pointer_sizes, storage_classes}
-use Rattle.msvc_read.specs.Reading.{Reading, TypeReader, ◌>>=◌, after, chosen, optional_at, letter_at, dimension_at, lengths_at, array_class_at, nested_arrays, simple_name_at, scope_at, tagged_at, extended_at, indexed_at, entered_of, pointee_with, pointing_with, array_with, plain_of, plain_type_with, begins_literal, type_with, type_within, type_at}
-use Rattle.msvc_read.specs.State.{State, Entry}
+use Rattle.std.proofs.Common.{ℕ, zero, suc, List, [], ◌∷◌, length, Option, Some, None, cond, ◌≡◌, ◌<◌, ◌≤◌, refl, ap, arith}
+use Rattle.std.specs.Prelude.{unwrap_or}
+use Rattle.msvc_tree.specs.Trees.{TypeTree, Mark, pointing, rvalue_reference}
+use Rattle.msvc_read.proofs.Shorter.{after-length, optional-length, dimension-within, lengths-within, array_class-within}
+use Rattle.msvc_read.specs.Letters.{lookup, type_letters, TypeLetter, based, extended, named, points, arrayed, indexed, referred, pointer_sizes, storage_classes}
+use Rattle.msvc_read.specs.Reading.{Reading, TypeReader, ◌>>=◌, after, chosen, optional_at, dimension_at, lengths_at, array_class_at, nested_arrays, pointee_with, pointing_with, array_with, plain_of, plain_type_with, begins_literal, type_with, type_within, type_at}
+use Rattle.msvc_read.specs.State.{State}
 
 -- two ways to read a type agree wherever fewer than n bytes are left
 record TypesAgree (n : ℕ) (f g : TypeReader) : Type 0 where

@@ -1,5 +1,5 @@
 -- How rows and types go on: the equations that the readers of the program follow.
-use Rattle.std.proofs.Common.{ℕ, List, [], ◌∷◌, ◌++◌, length, Option, Some, None, Bool, true, false, cond, ◌==◌, ◌≡◌, refl, sym, ap, ◌∙◌, ◌<◌, zero, suc, ℤ, arith, ◌≤◌, length, drop, get_or, drop-cons, append_assoc, append-nil}
+use Rattle.std.proofs.Common.{ℕ, List, [], ◌∷◌, ◌++◌, length, Option, Some, None, Bool, true, false, cond, ◌==◌, ◌≡◌, refl, sym, ap, ◌∙◌, ◌<◌, zero, suc, ℤ, arith, length, drop, get_or, drop-cons, append_assoc, append-nil}
 use Rattle.std.specs.Option.{option_map_or}
 use Rattle.std.specs.Prelude.{map, IsTrue}
 use Rattle.std.specs.List.{list_any}

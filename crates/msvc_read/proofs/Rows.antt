@@ -1,5 +1,5 @@
 -- A row whose parts each eat a byte: how often it may be gone over does not matter, so it goes on as it began.
-use Rattle.std.proofs.Common.{ℕ, zero, suc, List, [], ◌∷◌, length, Option, Some, None, ◌≡◌, ◌<◌, ◌≤◌, refl, sym, ap, ◌∙◌, arith}
+use Rattle.std.proofs.Common.{ℕ, zero, suc, List, length, Option, Some, None, ◌≡◌, ◌<◌, refl, ap, arith}
 use Rattle.msvc_read.specs.Reading.{Reading, Ending, with_first, row_step, row_within, row_at}
 use Rattle.msvc_read.specs.State.{State}
 

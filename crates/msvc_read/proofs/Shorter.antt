@@ -1,10 +1,10 @@
 -- What each reading function leaves: fewer bytes than there were, or no more.
-use Rattle.std.proofs.Common.{ℕ, ℤ, zero, suc, pos, negsuc, List, [], ◌∷◌, length, Option, Some, None, Bool, true, false, cond, bit_or, ◌≡◌, ◌<◌, ◌≤◌, ◌+◌, ◌-◌, ◌*◌, ◌%◌, ◌==◌, nat_lt, refl, sym, ap, ◌∙◌, subst, arith, drop, take, length-drop}
+use Rattle.std.proofs.Common.{ℕ, ℤ, zero, suc, pos, negsuc, List, [], ◌∷◌, length, Option, Some, None, Bool, true, false, cond, ◌≡◌, ◌<◌, ◌≤◌, ◌+◌, ◌-◌, ◌*◌, ◌==◌, nat_lt, refl, sym, ap, ◌∙◌, subst, arith, drop, length-drop}
 use Rattle.std.specs.Prelude.{slice_get, unwrap_or}
-use Rattle.msvc_tree.specs.Trees.{NameTree, TypeTree, spelled, source, Tag, enum, Mark, pointing, rvalue_reference}
+use Rattle.msvc_tree.specs.Trees.{NameTree, Tag, enum, Mark, rvalue_reference}
 use Rattle.msvc_read.proofs.Rows.{Shortens}
 use Rattle.msvc_read.specs.Letters.{lookup, digits, storage_classes, pointer_sizes, type_letters, TypeLetter, based, extended, named, points, arrayed, indexed, referred, extended_types}
-use Rattle.msvc_read.specs.Reading.{Reading, Ending, TypeReader, ◌>>=◌, after, chosen, cut, name_length, entry_of, name_of_digit, new_name, source_name_at, new_source_name_at, simple_name_at, scope_end, scope_at, with_first, row_step, row_within, row_at, low_half, letters_at, magnitude_of, magnitude_at, negated, number_of, number_at, letter_of, letter_at, optional_of, optional_at, dimension_of, dimension_at, lengths_at, array_class_of, array_class_at, qualified_name_at, tagged_at, extended_at, indexed_at, entered_of, pointee_with, pointing_with, array_with, plain_of, plain_type_with, begins_literal, type_with, type_within, type_at, noted_of, parameter_of, parameter_at}
+use Rattle.msvc_read.specs.Reading.{Reading, Ending, TypeReader, ◌>>=◌, after, chosen, cut, name_length, entry_of, name_of_digit, source_name_at, new_source_name_at, simple_name_at, scope_end, scope_at, with_first, row_step, row_within, row_at, low_half, letters_at, magnitude_of, magnitude_at, negated, number_of, number_at, letter_of, letter_at, optional_of, optional_at, dimension_of, dimension_at, lengths_at, array_class_of, array_class_at, qualified_name_at, tagged_at, extended_at, indexed_at, entered_of, pointee_with, pointing_with, array_with, plain_of, plain_type_with, begins_literal, type_with, type_within, type_at, noted_of, parameter_of, parameter_at}
 use Rattle.msvc_read.specs.State.{State, Entry}
 
 -- what is read leaves no more bytes than these

@@ -1,6 +1,6 @@
 -- How parameters go on, and what functions are: the equations that the readers of functions follow.
 use Rattle.std.proofs.Common.{ℕ, List, [], ◌∷◌, ◌++◌, Option, Some, None, Bool, true, false, cond, ◌==◌, ◌≡◌, refl, ap, ◌∙◌}
-use Rattle.std.specs.Option.{option_map, option_map_or}
+use Rattle.std.specs.Option.{option_map_or}
 use Rattle.std.specs.Prelude.{map}
 use Rattle.msvc_tree.specs.declared.tree.CallingConv.{CallingConv}
 use Rattle.msvc_tree.specs.Trees.{TypeTree, plain, variadic, types, type_trees, function}
@@ -10,7 +10,7 @@ pub use Rattle.msvc_tree.proofs.Views.{type_of-NonMemberFunction, type_of-Member
 use Rattle.msvc_read.proofs.Onward.{lookup-letters, with_front-nil, with_front-first}
 use Rattle.msvc_read.proofs.Rows.{row_at-step}
 use Rattle.msvc_read.proofs.Shorter.{parameter-shortens}
-use Rattle.msvc_read.specs.Letters.{lookup, letters_of, EncodingLetter, member, function_classes, conventions}
+use Rattle.msvc_read.specs.Letters.{lookup, letters_of, member, function_classes, conventions}
 use Rattle.msvc_read.specs.Reading.{row_step, with_front, ellipsis, encoding_of, member_of, letter_at, return_qualifiers_at, type_at, function_at, function_parameters_at, parameter_at, parameters_at, parameters_end, parameters_stop}
 use Rattle.msvc_read.specs.State.{State}
 

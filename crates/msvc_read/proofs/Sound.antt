@@ -12,7 +12,7 @@ use Rattle.msvc_read.specs.Letters.{lookup, digits, storage_classes, qualifiers_
 use Rattle.msvc_read.specs.State.{State, Entry, remember_name}
 use Rattle.msvc_read.specs.Grammar as grammar
 use Rattle.msvc_read.specs.Grammar.{IsOptional, present, absent, absent_at_end, IsLetters, letters_end, letters_more, IsMagnitude, one_digit, many_letters, signed, IsNumber, positive, negative, IsSourceName, IsName, IsScope, IsQualifiedName, IsLengths, begins_with, IsArrayClass, arrays, IsType, IsPlainType, IsPointee, IsArray}
-use Rattle.msvc_read.specs.Reading.{Reading, Ending, TypeReader, ◌>>=◌, after, optional_of, optional_at, letter_of, letter_at, letters_at, magnitude_of, magnitude_at, negated, number_of, number_at, cut, name_length, source_name_at, new_source_name_at, entry_of, name_of_digit, simple_name_at, with_first, row_step, row_within, row_at, scope_end, scope_at, qualified_name_at, tagged_at, extended_at, indexed_at, entered_of, pointee_with, pointing_with, dimension_of, dimension_at, lengths_at, array_class_of, array_class_at, nested_arrays, array_with, plain_of, plain_type_with, chosen, begins_literal, type_with, type_within, type_at, has}
+use Rattle.msvc_read.specs.Reading.{Reading, Ending, TypeReader, ◌>>=◌, after, optional_of, optional_at, letter_of, letter_at, letters_at, magnitude_of, magnitude_at, negated, number_of, number_at, cut, name_length, source_name_at, new_source_name_at, entry_of, name_of_digit, simple_name_at, with_first, row_step, row_within, row_at, scope_end, scope_at, qualified_name_at, tagged_at, extended_at, indexed_at, entered_of, pointee_with, pointing_with, dimension_of, dimension_at, lengths_at, array_class_of, array_class_at, nested_arrays, array_with, plain_of, plain_type_with, chosen, begins_literal, type_with, type_within, type_at}
 
 -- what was read, by cases
 

@@ -1,6 +1,6 @@
 -- What the reading functions give of parameters, functions and whole symbols, the grammar derives.
-use Rattle.std.proofs.Common.{ℕ, ℤ, pos, List, [], ◌∷◌, ◌++◌, Option, Some, None, Bool, true, false, cond, bit_and, ◌≡◌, ◌≢◌, ◌<◌, ◌≤◌, ◌+◌, ◌-◌, ◌*◌, ◌%◌, ◌^◌, ◌==◌, refl, sym, ap, ◌∙◌, subst}
-use Rattle.std.specs.Prelude.{slice_get, is_some, ◌||◌}
+use Rattle.std.proofs.Common.{ℕ, ℤ, pos, List, [], ◌∷◌, Option, Some, None, Bool, true, false, cond, bit_and, ◌≡◌, ◌==◌, refl, sym, ap, ◌∙◌, subst}
+use Rattle.std.specs.Prelude.{slice_get, is_some}
 use Rattle.std.proofs.lemmas.Bool.{eqb-true, eqb-false}
 use Rattle.msvc_tree.specs.declared.tree.CallingConv.{CallingConv}
 use Rattle.msvc_tree.specs.declared.tree.VarStorageKind.{VarStorageKind}
@@ -9,8 +9,8 @@ use Rattle.msvc_read.specs.Letters.{lookup, digits, qualifiers, storage_classes,
 use Rattle.msvc_read.specs.State.{State, Entry}
 use Rattle.msvc_read.specs.Grammar as grammar
 use Rattle.msvc_read.specs.Grammar.{begins_with, IsType, IsParameter, IsParameters, IsFunctionParameters, IsReturnQualifiers, IsReturned, IsFunctionQualifiers, IsThunkNumber, IsOwnQualifiers, IsEncoding, IsSymbol}
-use Rattle.msvc_read.specs.Reading.{◌>>=◌, after, optional_at, letter_at, qualified_name_at, type_at, noted_of, parameter_of, parameter_at, parameters_end, parameters_at, closed, closed_parameters, function_parameters_of, function_parameters_at, return_qualifiers_of, return_qualifiers_at, returned_of, returned_at, function_at, member_function_at, function_qualifiers_at, has, thunk_number_of, own_qualifiers_of, member_at, variable_at, encoding_of, encoding_at, symbol_behind, symbol_at}
-use Rattle.msvc_read.proofs.Sound.{by_some, by_cond, by_bind, by_chosen, after-sound, after-none, optional-sound, LetterRead, letter-sound, number-sound, row-sound, RowRule, qualified_name-sound, not_some, type-sound}
+use Rattle.msvc_read.specs.Reading.{after, optional_at, letter_at, qualified_name_at, type_at, noted_of, parameter_of, parameter_at, parameters_end, parameters_at, closed, closed_parameters, function_parameters_of, function_parameters_at, return_qualifiers_of, return_qualifiers_at, returned_of, returned_at, function_at, member_function_at, function_qualifiers_at, has, thunk_number_of, own_qualifiers_of, member_at, variable_at, encoding_of, encoding_at, symbol_behind, symbol_at}
+use Rattle.msvc_read.proofs.Sound.{by_some, by_cond, by_bind, by_chosen, after-sound, after-none, optional-sound, LetterRead, letter-sound, number-sound, row-sound, qualified_name-sound, not_some, type-sound}
 
 -- parameters
 

@@ -1,6 +1,6 @@
 -- The names in a tree that a text is derived to are UTF-8, if the text is: each rule eats ASCII bytes or a name before
 -- an ASCII byte, so the bytes left are UTF-8 behind it, and the tables of a state have only such names.
-use Rattle.std.proofs.Common.{ℕ, ℤ, zero, suc, List, [], ◌∷◌, ◌++◌, length, get_or, Some, Bool, true, false, ◌≡◌, ◌<◌, ◌-◌, ◌+◌, nat_lt, length-append, eqb-true, refl, sym, ap, subst, arith}
+use Rattle.std.proofs.Common.{ℕ, ℤ, List, [], ◌∷◌, ◌++◌, length, get_or, Some, Bool, true, false, ◌≡◌, ◌<◌, ◌-◌, ◌+◌, nat_lt, length-append, eqb-true, refl, sym, ap, subst, arith}
 use Rattle.std.specs.Prelude.{slice_get, if◌then◌else◌, ◌==◌, ◌&&◌}
 use Rattle.std.specs.List.{list_any, list_all, AllByRecursion}
 use Rattle.std.specs.Str.{IsUtf8}

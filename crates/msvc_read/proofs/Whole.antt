@@ -1,5 +1,5 @@
 -- The reading of a whole text: what it gives is the one tree that is derived, and where it gives none there is none.
-use Rattle.std.proofs.Common.{ℕ, List, [], ◌∷◌, ◌++◌, length, Option, Some, None, ◌≡◌, ◌≤◌, ◌-◌, refl, sym, ap, ◌∙◌, subst, arith, inl, inr}
+use Rattle.std.proofs.Common.{ℕ, List, length, Some, None, ◌≡◌, ◌≤◌, ◌-◌, refl, sym, ap, subst, arith, inl, inr}
 use Rattle.std.specs.Prelude.{Result, Ok, Err}
 use Rattle.std.specs.Str.{IsUtf8}
 use Rattle.msvc_tree.specs.View.{tree_of}

@@ -1,7 +1,7 @@
 -- The grammar of symbols, as a relation: what bytes a rule reads, with which tables, and what they are a tree of.
 -- A rule relates the bytes left and the state before it, a value, and the bytes left and the state behind it. The
 -- bytes of a rule's own stand in it as numbers, with the letters in the comment.
-use Rattle.std.specs.Prelude.{ℕ, ℤ, pos, suc, List, [], ◌∷◌, ◌++◌, Option, Some, None, All, ◌≡◌, ◌≢◌, ◌≤◌, ◌<◌, ◌+◌, ◌-◌, ◌*◌, ◌%◌, ◌^◌, length, slice_get, bit_or, unwrap_or, if◌then◌else◌, nat_lt}
+use Rattle.std.specs.Prelude.{ℕ, ℤ, pos, suc, List, [], ◌∷◌, ◌++◌, Some, None, All, ◌≡◌, ◌≢◌, ◌≤◌, ◌+◌, ◌-◌, ◌*◌, ◌%◌, ◌^◌, length, slice_get, bit_or, unwrap_or, if◌then◌else◌, nat_lt}
 use Rattle.std.specs.Int.{cast_signed, int_wrapping_neg, w32}
 use Rattle.msvc_tree.specs.declared.tree.CallingConv.{CallingConv}
 use Rattle.msvc_tree.specs.Trees.{NameTree, TypeTree, SymbolTree, spelled, source, plain, no_type, variadic, base, void, tagged, enum, numbered, template_parameter, pointing, rvalue_reference, array, function, member_function, variable, name_trees, type_trees}

@@ -1,5 +1,5 @@
 -- The state that a parser of the program stands for.
-use Rattle.std.specs.Prelude.{List, map}
+use Rattle.std.specs.Prelude.{map}
 use Rattle.msvc_tree.specs.View.{name_of, type_of}
 use Rattle.msvc_read.specs.State as state
 use Rattle.msvc_read.specs.declared.parser.BackReference.{BackReference}

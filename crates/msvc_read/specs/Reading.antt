@@ -1,13 +1,12 @@
 -- Reading as a function on lists. No public contract names it: it stands between the code, which gives what it
 -- gives, and the grammar, which derives what it gives.
-use Rattle.std.specs.Prelude.{ℕ, ℤ, pos, negsuc, zero, suc, List, [], ◌∷◌, ◌++◌, Option, Some, None, Result, Ok, Err, Bool, true, false, ◌≡◌, ◌+◌, ◌-◌, ◌*◌, ◌%◌, ◌^◌, ◌==◌, if◌then◌else◌, length, nat_lt, nat_le, take, drop, slice_get, position, bit_and, bit_or, unwrap_or, is_some}
+use Rattle.std.specs.Prelude.{ℕ, ℤ, pos, negsuc, zero, suc, List, [], ◌∷◌, ◌++◌, Option, Some, None, Result, Ok, Err, Bool, true, false, ◌≡◌, ◌+◌, ◌-◌, ◌*◌, ◌%◌, ◌^◌, ◌==◌, if◌then◌else◌, length, nat_lt, take, drop, slice_get, position, bit_and, bit_or, unwrap_or, is_some}
 use Rattle.std.specs.List.{list_any}
 use Rattle.std.specs.Int.{cast_signed, int_wrapping_neg, w32}
-use Rattle.msvc_tree.specs.declared.tree.CallingConv.{CallingConv}
 use Rattle.msvc_tree.specs.declared.tree.VarStorageKind.{VarStorageKind}
-use Rattle.msvc_tree.specs.Trees.{NameTree, NameTrees, TypeTree, TypeTrees, SymbolTree, BaseType, Tag, Mark, rvalue_reference, spelled, source, plain, no_type, variadic, base, void, tagged, enum, numbered, template_parameter, pointing, array, function, member_function, variable, name_trees, type_trees}
+use Rattle.msvc_tree.specs.Trees.{NameTree, TypeTree, SymbolTree, Tag, Mark, rvalue_reference, spelled, source, plain, no_type, variadic, base, void, tagged, enum, numbered, template_parameter, pointing, array, function, member_function, variable, name_trees, type_trees}
 use Rattle.msvc_read.specs.Letters.{lookup, digits, qualifiers, storage_classes, qualifiers_of_returns, qualifiers_of_arrays, pointer_sizes, restricts, alignments, reference_qualifiers, conventions, type_letters, TypeLetter, based, extended, named, points, arrayed, indexed, referred, extended_types, encoding_letters, literals, EncodingLetter, variable_of, untyped, plain_function, member}
-use Rattle.msvc_read.specs.State.{State, Entry, Note, place, remember_name, remember_type, take_note}
+use Rattle.msvc_read.specs.State.{State, Entry, place, remember_name, remember_type, take_note}
 use Rattle.msvc_read.specs.declared.refusal.Refusal.{Refusal}
 use Rattle.msvc_read.specs.declared.refusal.Refusal.TheVariants as refusal
 

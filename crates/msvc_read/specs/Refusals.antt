@@ -1,5 +1,5 @@
 -- What a refusal is to those who call.
-use Rattle.std.specs.Prelude.{ℕ, List, ◌-◌, ◌≤◌, ◌≡◌, ◌⊎◌, length, codes, string_bytes}
+use Rattle.std.specs.Prelude.{ℕ, List, ◌-◌, ◌≤◌, ◌≡◌, ◌⊎◌, length, codes}
 use Rattle.std.specs.Cow.{cow_str_bytes}
 use Rattle.msvc_tree.specs.Trees.{SymbolTree}
 use Rattle.msvc_tree.specs.declared.error.ErrorRepr.{ErrorRepr}

@@ -43,7 +43,7 @@ impl<'a> Parser<'a> {
         })
     }
 
-    /// `ENCODING = end | letter ENCODING_BEHIND`: at the end of the text there is no type.
+    /// `ENCODING = end | letter of encodings, and what its row asks for`: at the end of the text there is no type.
     #[tactic(auto, unfolding(crate::specs::Reading::encoding_at, msvc_tree::specs::View::type_of))]
     fn encoding(&mut self) -> Result<Type<'a>, Refusal>
         ensures { Gives (λ t. (type_of t, self.new.rest.now, state_of self.new)) result (encoding_at self.old.rest.now (state_of self.old)) }

@@ -1,4 +1,4 @@
-use Rattle.std.proofs.Common.{◌≡◌, ◌+◌, suc, ℕ, drop, get_or, sym, ap, ◌∙◌, add-one, arith, refl, true, false}
+use Rattle.std.proofs.Common.{◌≡◌, ℕ, drop, get_or, sym, ap, ◌∙◌, add-one, arith, refl, true, false}
 use Rattle.std.specs.Prelude.{map}
 use Rattle.std.specs.List.{list_any}
 use Rattle.msvc_tree.specs.View.{type_of}

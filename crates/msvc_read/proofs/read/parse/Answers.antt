@@ -1,4 +1,3 @@
-use Rattle.std.proofs.Common.{◌≡◌, List}
 use Rattle.msvc_tree.specs.View.{tree_of}
 use Rattle.msvc_read.proofs.Whole.{read-derived, read-only, read-parts, read-texts, error-refused}
 use Rattle.msvc_read.proofs.read.parse.Goals as goal

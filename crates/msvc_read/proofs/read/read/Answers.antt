@@ -1,4 +1,4 @@
-use Rattle.std.proofs.Common.{◌≡◌, ◌∷◌, [], List, ap, ◌∙◌}
+use Rattle.std.proofs.Common.{◌≡◌, ◌∷◌, [], ap, ◌∙◌}
 use Rattle.msvc_read.proofs.Whole.{gives-tree}
 use Rattle.msvc_read.specs.Parser.{state_of}
 use Rattle.msvc_read.specs.Reading.{after, symbol_at}

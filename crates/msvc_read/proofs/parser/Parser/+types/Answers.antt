@@ -1,5 +1,4 @@
-use Rattle.std.proofs.Common.{rules, ◌≡◌, List, Option, Some, None, ℕ, sym}
-use Rattle.std.proofs.lemmas.Grind.{common_steps}
+use Rattle.std.proofs.Common.{rules, ◌≡◌, Some, None, sym}
 use Rattle.msvc_read.proofs.Onward.{plain_type-compound}
 use Rattle.msvc_read.specs.Letters.{lookup, base_types, compound_letters}
 use Rattle.msvc_read.specs.Parser.{state_of}

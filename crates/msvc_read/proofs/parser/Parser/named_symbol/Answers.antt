@@ -1,6 +1,5 @@
-use Rattle.std.proofs.Common.{rules, ◌≡◌, ◌∙◌, List, Some, ap, sym}
+use Rattle.std.proofs.Common.{rules, ◌≡◌, ◌∙◌, Some, ap, sym}
 use Rattle.std.specs.Prelude.{map}
-use Rattle.msvc_tree.specs.Trees.{name_trees}
 use Rattle.msvc_tree.specs.View.{name_of, type_of}
 use Rattle.msvc_read.proofs.Onward.{names_in-is, symbol_behind-is}
 use Rattle.msvc_read.specs.Parser.{state_of}

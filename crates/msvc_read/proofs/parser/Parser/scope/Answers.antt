@@ -1,11 +1,10 @@
-use Rattle.std.proofs.Common.{rules, ◌≡◌, ◌<◌, ◌∷◌, ◌≤◌, length, List, [], ◌++◌, Option, Some, None, sym, ap, ◌∙◌, arith, refl}
+use Rattle.std.proofs.Common.{rules, ◌≡◌, ◌∷◌, [], ◌++◌, Some, None, sym, ap, ◌∙◌, arith}
 use Rattle.std.specs.Prelude.{map}
-use Rattle.std.specs.Option.{option_map}
 use Rattle.std.proofs.lemmas.Grind.{common_steps}
 use Rattle.msvc_tree.specs.View.{name_of}
 use Rattle.msvc_read.proofs.Onward.{scope-more}
 use Rattle.msvc_read.specs.Parser.{state_of}
-use Rattle.msvc_read.specs.Reading.{Gives, after, with_front, simple_name_at, scope_at}
+use Rattle.msvc_read.specs.Reading.{after, with_front, simple_name_at, scope_at}
 use Rattle.msvc_read.proofs.parser.Parser.scope.Goals as goal
 
 -- the new name goes behind those so far
