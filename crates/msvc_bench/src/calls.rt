@@ -52,9 +52,13 @@ mod tests {
     fn sets(rt: HostRuntime) {
         let both = StorageClass::CONST.union(StorageClass::VOLATILE);
         assert_eq!(rt; both.bits(), 3);
+        assert!(rt; both.contains(StorageClass::CONST));
         assert!(rt; both.contains(StorageClass::VOLATILE));
         assert!(rt; !StorageClass::empty().contains(StorageClass::CONST));
         assert_eq!(rt; StorageClass::from_bits(3), Some(both));
+        assert!(rt; DemangleFlags::from_bits(1).is_none());
+        assert!(rt; DemangleFlags::from_bits(0x1F01EE6).is_some());
+        assert_eq!(rt; DemangleFlags::empty().bits(), 0);
         assert_eq!(rt; DemangleFlags::llvm().bits(), 0xE00400);
     }
 }
