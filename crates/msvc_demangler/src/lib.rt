@@ -14,6 +14,7 @@ ghost use Rattle.msvc_write.specs.Flags.{obeyed_flags};
 pub use msvc_read::parse;
 pub use msvc_tree::error::{Error, ErrorRepr};
 pub use msvc_tree::flags::{DemangleFlags, FuncClass, StorageClass};
+use msvc_tree::tree::discard;
 pub use msvc_tree::tree::{
     CallingConv, Name, NameSequence, Operator, Params, ParseResult, Symbol, Type, VarStorageKind,
 };
@@ -31,7 +32,11 @@ pub fn demangle(alloc: Global, input: &str, flags: DemangleFlags) -> Result<Stri
     ensures begins_ok { IfOk result (λ text. begins_with (63 ∷ []) input.now) }
 {
     match parse(alloc, input) {
-        Ok(symbol) => serialize(alloc, &symbol, flags),
+        Ok(symbol) => {
+            let text = serialize(alloc, &symbol, flags);
+            discard(symbol);
+            text
+        }
         Err(refusal) => Err(refusal),
     }
 }

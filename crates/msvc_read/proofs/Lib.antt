@@ -1,4 +1,5 @@
 pub mod Borrowed
+pub mod Carried
 pub mod Complete
 pub mod Deeper
 pub mod Lists

@@ -1,7 +1,7 @@
 -- How rows and types go on: the equations that the readers of the program follow.
 use Rattle.std.proofs.Common.{ℕ, List, [], ◌∷◌, ◌++◌, length, Option, Some, None, Bool, true, false, cond, ◌==◌, ◌≡◌, refl, sym, ap, ◌∙◌, ◌<◌, zero, suc, ℤ, arith, length, drop, get_or, drop-cons, append_assoc, append-nil}
 use Rattle.std.specs.Option.{option_map_or}
-use Rattle.std.specs.Prelude.{map, IsTrue}
+use Rattle.std.specs.Prelude.{map, is_some, ◌||◌, if◌then◌else◌, IsTrue}
 use Rattle.std.specs.List.{list_any}
 use Rattle.msvc_tree.specs.Equality.{same_name, same_name-is, same_type, same_type-is}
 use Rattle.msvc_tree.specs.Trees.{NameTree, TypeTree, BaseType, array, names, name_trees}
@@ -13,7 +13,7 @@ use Rattle.msvc_read.proofs.Shorter.{simple_name-shortens}
 pub use Rattle.msvc_read.proofs.Deeper.{type_at-step}
 use Rattle.msvc_read.specs.Letters.{lookup, letters_of, based, referred, digits, base_types, compound_letters, type_letters}
 pub use Rattle.msvc_tree.proofs.Views.{type_of-Union, type_of-Struct, type_of-Class, type_of-Enum, type_of-Ref, type_of-Ptr, type_of-RValueRef, type_of-Array, type_of-NonMemberFunction, type_of-MemberFunction, type_of-Var, type_of-TemplateParameterWithIndex}
-use Rattle.msvc_read.specs.Reading.{Reading, TypeReader, qualified_name_at, encoding_at, symbol_behind, byte_at, plain_type_with, ◌>>=◌, number_at, lengths_at, nested_arrays, plain_of, type_entry_of, after, row_step, with_first, with_front, scope_end, scope_at, simple_name_at}
+use Rattle.msvc_read.specs.Reading.{Reading, TypeReader, chosen, begins_literal, type_with, qualified_name_at, encoding_at, symbol_behind, byte_at, plain_type_with, ◌>>=◌, number_at, lengths_at, nested_arrays, plain_of, type_entry_of, after, row_step, with_first, with_front, scope_end, scope_at, simple_name_at}
 use Rattle.msvc_read.specs.Parser.{entry_of}
 use Rattle.msvc_read.specs.State as state
 use Rattle.msvc_read.specs.State.{State}
@@ -131,7 +131,48 @@ pub ruleset letters_split = (base_letter, compound_letter)
 
 pub ruleset compound_split = (digit_letter, names_in-is, type_of-Union, type_of-Struct, type_of-Class, type_of-Ref, type_of-Ptr)
 
-pub ruleset type_split = (type_at-step, names_in-is, type_of-Enum, type_of-RValueRef)
+-- where no literal begins, only a plain type does
+
+or_left : (t u : Bool) → t ≡ true → (t || u) ≡ true
+or_left true u e = refl
+or_left false u e = absurd (cc)
+
+or_right : (t u : Bool) → u ≡ true → (t || u) ≡ true
+or_right true u e = refl
+or_right false u e = e
+
+shorter_literal : (t : Bool) (o : Option (List ℕ)) (bs : List ℕ) → is_some (cond t o None) ≡ true → is_some (cond t (Some bs) None) ≡ true
+shorter_literal true o bs e = refl
+shorter_literal false o bs e = e
+
+enum_begins : (left : List ℕ) → is_some (after (87 ∷ 52 ∷ []) left) ≡ true → begins_literal left ≡ true
+unfolding begins_literal
+enum_begins left e = or_left (is_some (after (87 ∷ 52 ∷ []) left)) _ e
+
+rvalue_begins : (left : List ℕ) → is_some (after (36 ∷ 36 ∷ 81 ∷ []) left) ≡ true → begins_literal left ≡ true
+unfolding begins_literal
+rvalue_begins [] e = absurd (cc)
+rvalue_begins (b ∷ bs) e =
+    or_right (is_some (after (87 ∷ 52 ∷ []) (b ∷ bs))) _
+    (or_right (is_some (after (65 ∷ 54 ∷ []) (b ∷ bs))) _
+    (or_right (is_some (after (80 ∷ 54 ∷ []) (b ∷ bs))) _
+    (or_right (is_some (after (80 ∷ 56 ∷ []) (b ∷ bs))) _
+    (or_left (is_some (after (36 ∷ []) (b ∷ bs))) _ (shorter_literal (b == 36) (after (36 ∷ 81 ∷ []) bs) bs e)))))
+
+chosen_last : {X : Type 0} (o p : Option (List ℕ)) (t : Bool) (f g : List ℕ → Reading X) (last : Reading X)
+    → (is_some o ≡ true → t ≡ true) → (is_some p ≡ true → t ≡ true) → t ≡ false
+    → chosen o f (chosen p g (if t then None else last)) ≡ last
+chosen_last None None t f g last first second e = rw e refl
+chosen_last None (Some behind) t f g last first second e = let yes : t ≡ true = second refl in absurd (cc)
+chosen_last (Some behind) p t f g last first second e = let yes : t ≡ true = first refl in absurd (cc)
+
+pub plain_type_alone : (recur : TypeReader) (q : ℕ) (left : List ℕ) (s : State) → begins_literal left ≡ false
+    → type_with recur q left s ≡ plain_type_with recur q left s
+unfolding type_with
+plain_type_alone recur q left s e =
+    chosen_last (after (87 ∷ 52 ∷ []) left) (after (36 ∷ 36 ∷ 81 ∷ []) left) (begins_literal left) _ _ _ (enum_begins left) (rvalue_begins left) e
+
+pub ruleset type_split = (type_at-step, plain_type_alone, names_in-is, type_of-Enum, type_of-RValueRef)
 
 pub lengths-starts : (n : ℕ) (left : List ℕ) (s : State) → with_front [] (lengths_at n left s) ≡ lengths_at n left s
 lengths-starts n left s = with_front-nil (lengths_at n left s)

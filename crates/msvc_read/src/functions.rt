@@ -11,6 +11,7 @@ use crate::parser::Parser;
 use crate::refusal::{Message, Refusal};
 use bitflags::Flags;
 use msvc_tree::flags::{FuncClass, StorageClass};
+use msvc_tree::made::boxed_made;
 use msvc_tree::tree::{CallingConv, Type};
 
 impl<'a> Parser<'a> {
@@ -21,14 +22,9 @@ impl<'a> Parser<'a> {
     {
         let convention = self.convention()?;
         let q = self.return_qualifiers()?;
-        let returned = self.any_type(q)?;
+        let returned = self.boxed_type(q)?;
         let parameters = self.function_parameters()?;
-        Ok(Type::NonMemberFunction(
-            convention,
-            parameters,
-            StorageClass::empty(),
-            Box::new(self.alloc, returned)?,
-        ))
+        Ok(Type::NonMemberFunction(convention, parameters, StorageClass::empty(), returned))
     }
 
     /// `MEMBER = [NUMBER] [FUNCTION_QUALIFIERS] MEMBER_FUNCTION`: a thunk has the number, which is dropped, and a
@@ -57,13 +53,7 @@ impl<'a> Parser<'a> {
         let q = self.return_qualifiers()?;
         let returned = self.returned(q)?;
         let parameters = self.function_parameters()?;
-        Ok(Type::MemberFunction(
-            class,
-            convention,
-            parameters,
-            own,
-            Box::new(self.alloc, returned)?,
-        ))
+        Ok(Type::MemberFunction(class, convention, parameters, own, returned))
     }
 
     /// How a function is called.
@@ -96,15 +86,15 @@ impl<'a> Parser<'a> {
 
     /// `RETURNED = "@" | TYPE`: an `@` stands for no type, as a constructor has none.
     #[tactic(auto, unfolding(crate::specs::Reading::returned_at, msvc_tree::specs::View::type_of))]
-    fn returned(&mut self, q: StorageClass) -> Result<Type<'a>, Refusal>
-        ensures { Gives (λ t. (type_of t, self.new.rest.now, state_of self.new)) result (returned_at q.0 self.old.rest.now (state_of self.old)) }
+    fn returned(&mut self, q: StorageClass) -> Result<Box<Type<'a>>, Refusal>
+        ensures { Gives (λ b. (type_of b.value, self.new.rest.now, state_of self.new)) result (returned_at q.0 self.old.rest.now (state_of self.old)) }
     {
         match self.after(b"@") {
             Some(behind) => {
                 self.rest = behind;
-                Ok(Type::None)
+                boxed_made(self.alloc, Ok(Type::None))
             }
-            None => self.any_type(q),
+            None => self.boxed_type(q),
         }
     }
 

@@ -95,22 +95,23 @@ pub fn storage_class(letter: u8) -> Option<StorageClass>
 pub fn base_type<'a>(letter: u8, q: StorageClass) -> Option<Type<'a>>
     ensures { option_map type_of result ≡ option_map (λ t. base t q.0) (lookup letter base_types) }
 {
-    match letter {
-        b'X' => Some(Type::Void(q)),
-        b'C' => Some(Type::Schar(q)),
-        b'D' => Some(Type::Char(q)),
-        b'E' => Some(Type::Uchar(q)),
-        b'F' => Some(Type::Short(q)),
-        b'G' => Some(Type::Ushort(q)),
-        b'H' => Some(Type::Int(q)),
-        b'I' => Some(Type::Uint(q)),
-        b'J' => Some(Type::Long(q)),
-        b'K' => Some(Type::Ulong(q)),
-        b'M' => Some(Type::Float(q)),
-        b'N' => Some(Type::Double(q)),
-        b'O' => Some(Type::Ldouble(q)),
-        _ => None,
-    }
+    let base = match letter {
+        b'X' => Type::Void(q),
+        b'C' => Type::Schar(q),
+        b'D' => Type::Char(q),
+        b'E' => Type::Uchar(q),
+        b'F' => Type::Short(q),
+        b'G' => Type::Ushort(q),
+        b'H' => Type::Int(q),
+        b'I' => Type::Uint(q),
+        b'J' => Type::Long(q),
+        b'K' => Type::Ulong(q),
+        b'M' => Type::Float(q),
+        b'N' => Type::Double(q),
+        b'O' => Type::Ldouble(q),
+        _ => return None,
+    };
+    Some(base)
 }
 
 /// The base type of a second letter, behind an underscore.
@@ -118,18 +119,19 @@ pub fn base_type<'a>(letter: u8, q: StorageClass) -> Option<Type<'a>>
 pub fn extended_type<'a>(letter: u8, q: StorageClass) -> Option<Type<'a>>
     ensures { option_map type_of result ≡ option_map (λ t. base t q.0) (lookup letter extended_types) }
 {
-    match letter {
-        b'N' => Some(Type::Bool(q)),
-        b'W' => Some(Type::Wchar(q)),
-        b'Q' => Some(Type::Char8(q)),
-        b'S' => Some(Type::Char16(q)),
-        b'U' => Some(Type::Char32(q)),
-        b'J' => Some(Type::Int64(q)),
-        b'K' => Some(Type::Uint64(q)),
-        b'L' => Some(Type::Int128(q)),
-        b'M' => Some(Type::Uint128(q)),
-        _ => None,
-    }
+    let base = match letter {
+        b'N' => Type::Bool(q),
+        b'W' => Type::Wchar(q),
+        b'Q' => Type::Char8(q),
+        b'S' => Type::Char16(q),
+        b'U' => Type::Char32(q),
+        b'J' => Type::Int64(q),
+        b'K' => Type::Uint64(q),
+        b'L' => Type::Int128(q),
+        b'M' => Type::Uint128(q),
+        _ => return None,
+    };
+    Some(base)
 }
 
 /// How a function is called.

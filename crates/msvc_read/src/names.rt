@@ -12,6 +12,7 @@ ghost use Rattle.msvc_read.specs.State.{remember_name};
 use crate::letters;
 use crate::parser::Parser;
 use crate::refusal::{Message, Refusal};
+use msvc_tree::made::{made_as, push_made};
 use msvc_tree::tree::{Name, NameSequence, Symbol};
 use std::alloc::AllocError;
 
@@ -38,8 +39,8 @@ impl<'a> Parser<'a> {
     {
         let text = self.source_name()?;
         let name = Name::NonTemplate(text);
-        self.remember_name(&name)?;
-        Ok(name)
+        let entered: Result<(), Refusal> = made_as(self.remember_name(&name));
+        entered.and(Ok(name))
     }
 
     /// `SIMPLE_NAME = digit | SOURCE_NAME`: a digit stands for an entry of the table.
@@ -67,7 +68,7 @@ impl<'a> Parser<'a> {
             (entry_of (slice_get (map name_of self.now.names.items) index) self.now.rest.now (state_of self.now)) }
     {
         match self.names.get(usize::from(index)) {
-            Some(name) => Ok(name.clone(self.alloc)?),
+            Some(name) => made_as(name.clone(self.alloc)),
             None => Err(self.refuse(Message::NameReferenceTooLarge)),
         }
     }
@@ -78,7 +79,7 @@ impl<'a> Parser<'a> {
         ensures rest { IfOk result (λ _. self.new.rest.now ≡ self.old.rest.now) }
     {
         if self.names.len() < 10 && !is_known(&self.names, name) {
-            self.names.push(name.clone(self.alloc)?)?;
+            return push_made(&mut self.names, name.clone(self.alloc));
         }
         Ok(())
     }
@@ -95,7 +96,8 @@ impl<'a> Parser<'a> {
                 self.rest = behind;
                 return Ok(NameSequence { names });
             }
-            names.push(self.simple_name()?)?;
+            let made = self.simple_name();
+            push_made(&mut names, made)?;
         }
     }
 

@@ -1,6 +1,6 @@
 //! Parameters, and the table of types that they enter.
 
-ghost use Rattle.std.specs.Prelude.{◌≡◌, ◌<◌, ◌∷◌, ◌++◌, [], length, map, slice_get, IfOk};
+ghost use Rattle.std.specs.Prelude.{◌≡◌, ◌<◌, ◌∷◌, ◌++◌, [], length, map, slice_get, IfOk, Ok};
 ghost use Rattle.std.specs.Option.{option_map};
 ghost use Rattle.std.specs.List.{list_any};
 ghost use Rattle.msvc_tree.specs.Equality.{same_type};
@@ -15,6 +15,7 @@ use crate::parser::{BackReference, Entry, Parser};
 use crate::refusal::{Message, Refusal};
 use bitflags::Flags;
 use msvc_tree::flags::StorageClass;
+use msvc_tree::made::{made_as, push_item, push_made};
 use msvc_tree::tree::{Params, Type};
 use std::alloc::AllocError;
 
@@ -41,7 +42,7 @@ impl<'a> Parser<'a> {
         ensures { IfOk result (λ p. map type_of p.types.items ≡ base void 0 ∷ []) }
     {
         let mut types = Vec::new(self.alloc);
-        types.push(Type::Void(StorageClass::empty()))?;
+        push_item(&mut types, Type::Void(StorageClass::empty()))?;
         Ok(Params { types })
     }
 
@@ -68,7 +69,8 @@ impl<'a> Parser<'a> {
                 self.rest = behind;
                 return Ok(with_ellipsis(types, variadic)?);
             }
-            types.push(self.parameter()?)?;
+            let made = self.parameter();
+            push_made(&mut types, made)?;
         }
     }
 
@@ -100,14 +102,14 @@ impl<'a> Parser<'a> {
         let Some(entry) = self.types.get(usize::from(index)) else {
             return Err(self.refuse(Message::InvalidBackReference(index)));
         };
-        let entered = entry.entered.clone(self.alloc)?;
         let note = BackReference {
             at: self.place_of(left),
             start: entry.start,
             end: entry.end,
         };
-        self.notes.push(note)?;
-        Ok(entered)
+        let entered = made_as(entry.entered.clone(self.alloc));
+        let noted: Result<(), Refusal> = made_as(self.notes.push(note));
+        noted.and(entered)
     }
 
     /// A type that enters the table if more than one byte is read for it.
@@ -116,11 +118,14 @@ impl<'a> Parser<'a> {
         ensures shorter { IfOk result (λ _. length self.new.rest.now < length self.old.rest.now) }
     {
         let left = self.rest;
-        let parameter = self.any_type(StorageClass::empty())?;
-        if left.len() - self.rest.len() > 1 {
-            self.remember_type(&parameter, left)?;
-        }
-        Ok(parameter)
+        let parameter = self.any_type(StorageClass::empty());
+        let entered: Result<(), Refusal> = match &parameter {
+            Ok(parameter) if left.len() - self.rest.len() > 1 => {
+                made_as(self.remember_type(parameter, left))
+            }
+            _ => Ok(()),
+        };
+        entered.and(parameter)
     }
 
     /// Enters the type of the bytes from `left` up to those left into the table, if there is room and no equal type.
@@ -129,15 +134,27 @@ impl<'a> Parser<'a> {
         ensures rest { self.new.rest.now ≡ self.old.rest.now }
     {
         if self.types.len() < 10 && !is_known(&self.types, entered) {
-            let entry = Entry {
-                entered: entered.clone(self.alloc)?,
-                start: self.place_of(left),
-                end: self.place_of(self.rest),
-            };
-            self.types.push(entry)?;
+            let start = self.place_of(left);
+            let entry = entry(entered.clone(self.alloc), start, self.place_of(self.rest));
+            return push_made(&mut self.types, entry);
         }
         Ok(())
     }
+}
+
+/// An entry of a type, if it was made.
+fn entry<'a>(
+    made: Result<Type<'a>, AllocError>,
+    start: usize,
+    end: usize,
+) -> Result<Entry<'a>, AllocError>
+    ensures { IfOk result (λ e. (made.entry ≡ Ok e.entered) × (e.start ≡ start) × (e.end ≡ end)) }
+{
+    Ok(Entry {
+        entered: made?,
+        start,
+        end,
+    })
 }
 
 /// Where parameters stop: whether at a `Z`, and what is behind.
@@ -161,7 +178,7 @@ fn with_ellipsis<'a>(mut types: Vec<Type<'a>>, variadic: bool) -> Result<Params<
     if !variadic {
         return Ok(Params { types });
     }
-    types.push(Type::VarArgs)?;
+    push_item(&mut types, Type::VarArgs)?;
     Ok(Params { types })
 }
 

@@ -90,9 +90,9 @@ impl<'a> Parser<'a> {
     fn variable(&mut self, kind: VarStorageKind) -> Result<Type<'a>, Refusal>
         ensures { Gives (λ t. (type_of t, self.new.rest.now, state_of self.new)) result (variable_at kind self.old.rest.now (state_of self.old)) }
     {
-        let variable = self.any_type(StorageClass::empty())?;
+        let variable = self.boxed_type(StorageClass::empty())?;
         let class = self.optional_storage_class();
-        Ok(Type::Var(Box::new(self.alloc, variable)?, kind, class))
+        Ok(Type::Var(variable, kind, class))
     }
 }
 

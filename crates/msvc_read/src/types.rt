@@ -12,6 +12,7 @@ use crate::parser::Parser;
 use crate::refusal::{Message, Refusal};
 use bitflags::Flags;
 use msvc_tree::flags::StorageClass;
+use msvc_tree::made::{boxed_made, made_as};
 use msvc_tree::tree::Type;
 use std::alloc::AllocError;
 
@@ -23,6 +24,9 @@ impl<'a> Parser<'a> {
         ensures value { Gives (λ t. (type_of t, self.new.rest.now, state_of self.new)) result (type_at q.0 self.old.rest.now (state_of self.old)) }
         ensures shorter { IfOk result (λ _. length self.new.rest.now < length self.old.rest.now) }
     {
+        if !self.begins_literal() {
+            return self.plain_type(q);
+        }
         if let Some(behind) = self.after(b"W4") {
             self.rest = behind;
             let name = self.qualified_name()?;
@@ -33,10 +37,7 @@ impl<'a> Parser<'a> {
             let pointee = self.pointee()?;
             return Ok(Type::RValueRef(pointee, q));
         }
-        if self.begins_literal() {
-            return Err(self.not_built());
-        }
-        self.plain_type(q)
+        Err(self.not_built())
     }
 
     /// Whether the bytes left begin with what is no plain type.
@@ -44,11 +45,10 @@ impl<'a> Parser<'a> {
     fn begins_literal(&self) -> bool
         ensures { result ≡ begins_literal self.now.rest.now }
     {
-        self.after(b"W4").is_some()
-            || self.after(b"A6").is_some()
-            || self.after(b"P6").is_some()
-            || self.after(b"P8").is_some()
-            || self.after(b"$").is_some()
+        matches!(
+            self.rest,
+            [b'$', ..] | [b'W', b'4', ..] | [b'A', b'6', ..] | [b'P', b'6' | b'8', ..]
+        )
     }
 
     /// `PLAIN_TYPE = base letter | COMPOUND_TYPE`.
@@ -99,13 +99,23 @@ impl<'a> Parser<'a> {
     {
         let size = self.optional_mark(b'E', StorageClass::PTR64);
         let class = self.optional_storage_class();
-        let pointee = self.any_type(size.union(class))?;
-        Ok(Box::new(self.alloc, pointee)?)
+        self.boxed_type(size.union(class))
+    }
+
+    /// A type in a box of its own.
+    #[cycle(types)]
+    pub fn boxed_type(&mut self, q: StorageClass) -> Result<Box<Type<'a>>, Refusal>
+        ensures value { Gives (λ b. (type_of b.value, self.new.rest.now, state_of self.new)) result (type_at q.0 self.old.rest.now (state_of self.old)) }
+        ensures shorter { IfOk result (λ _. length self.new.rest.now < length self.old.rest.now) }
+    {
+        let made = self.any_type(q);
+        boxed_made(self.alloc, made)
     }
 
     /// `ARRAY = NUMBER {NUMBER} ["$$C" plain qualifier] TYPE`: the first number says how many lengths follow.
     #[cycle(types)]
     #[tactic(auto, unfolding(crate::specs::Reading::array_with))]
+    #[inline(never)]
     fn array(&mut self) -> Result<Type<'a>, Refusal>
         ensures value { Gives (λ t. (type_of t, self.new.rest.now, state_of self.new)) result (array_with type_at self.old.rest.now (state_of self.old)) }
         ensures shorter { IfOk result (λ _. length self.new.rest.now < length self.old.rest.now) }
@@ -184,6 +194,7 @@ impl<'a> Parser<'a> {
 
     /// The base type of a second letter.
     #[tactic(auto, unfolding(crate::specs::Reading::extended_at, crate::specs::Reading::letter_at, crate::specs::Reading::byte_at))]
+    #[inline(never)]
     fn extended_type(&mut self, q: StorageClass) -> Result<Type<'a>, Refusal>
         ensures value { Gives (λ t. (type_of t, self.new.rest.now, state_of self.new)) result (extended_at q.0 self.old.rest.now (state_of self.old)) }
         ensures shorter { IfOk result (λ _. length self.new.rest.now < length self.old.rest.now) }
@@ -197,6 +208,7 @@ impl<'a> Parser<'a> {
 
     /// The number of a template's parameter, negated.
     #[tactic(auto, unfolding(crate::specs::Reading::indexed_at, msvc_tree::specs::View::type_of))]
+    #[inline(never)]
     fn template_parameter(&mut self) -> Result<Type<'a>, Refusal>
         ensures value { Gives (λ t. (type_of t, self.new.rest.now, state_of self.new)) result (indexed_at self.old.rest.now (state_of self.old)) }
         ensures shorter { IfOk result (λ _. length self.new.rest.now < length self.old.rest.now) }
@@ -206,6 +218,7 @@ impl<'a> Parser<'a> {
     }
 
     /// The entry of the table of types that a digit stands for. Any other letter begins no type.
+    #[inline(never)]
     fn type_entry(&self, letter: u8) -> Result<Type<'a>, Refusal>
         ensures { Gives (λ t. (type_of t, self.now.rest.now, state_of self.now)) result
             (type_entry_of (lookup letter digits) self.now.rest.now (state_of self.now)) }
@@ -214,7 +227,7 @@ impl<'a> Parser<'a> {
             return Err(self.refuse(Message::UnknownPrimitiveType));
         };
         match self.types.get(usize::from(index)) {
-            Some(entry) => Ok(entry.entered.clone(self.alloc)?),
+            Some(entry) => made_as(entry.entered.clone(self.alloc)),
             None => Err(self.refuse(Message::InvalidBackReference(index))),
         }
     }

@@ -4,4 +4,5 @@
 
 pub mod error;
 pub mod flags;
+pub mod made;
 pub mod tree;

@@ -1,117 +1,197 @@
 //! The tree of a symbol: its name with its scope, and its type. Names borrow the text that was read.
 
 mod clone;
+mod debug;
 mod equality;
 mod head;
 
 use crate::flags::{FuncClass, StorageClass};
 
-/// The name of a symbol, or one name of a scope.
+/// The name of a symbol, or one name of a scope. Bytes that it borrows are a part of the text that was read.
 #[derive(Debug, Drop)]
 #[cycle(ast)]
 pub enum Name<'a> {
     /// The name of an operator, a constructor or something that the compiler made.
     Operator(Operator<'a>),
-    /// A name as it stands in the source.
+    /// A name as it stands in the source, borrowed from the text, without the `@` behind it; possibly empty.
     NonTemplate(&'a [u8]),
-    /// A template's name and its arguments.
+    /// A template's name, and its arguments in their order.
     Template(Box<Name<'a>>, Params<'a>),
-    /// The number of a scope inside a function.
+    /// The number of a scope inside a function, which tells scopes of one function apart.
     Discriminator(i32),
     /// A whole symbol as a scope, as that of the function around a local variable.
     ParsedName(Box<ParseResult<'a>>),
-    /// An anonymous namespace, with the text of its `0x` and digits if there is one.
+    /// An anonymous namespace, with `0x` and the hexadecimal digits behind it if they are there; this text is owned.
     AnonymousNamespace(Option<String>),
-    /// An interface that a member function comes from.
+    /// The name of the interface that a member function comes from, borrowed from the text, without the brackets that
+    /// it is printed in.
     AsInterface(&'a [u8]),
-    /// The hexadecimal digits that stand for a name that was too long.
+    /// The 32 hexadecimal digits that stand for a name that was too long, of either case, borrowed from the text,
+    /// without the `??@` before and the `@` behind them.
     Md5(&'a [u8]),
 }
 
-/// The names that the compiler gives.
-#[derive(Debug, Drop)]
+/// The names that the compiler gives, each with what it is printed as.
+#[derive(Drop)]
 #[cycle(ast)]
 pub enum Operator<'a> {
+    /// A constructor: printed as the innermost name of its scope.
     Ctor,
+    /// A destructor: printed as `~` and the innermost name of its scope.
     Dtor,
+    /// `operator new`.
     New,
+    /// `operator delete`.
     Delete,
+    /// `operator=`.
     Equal,
+    /// `operator>>`.
     RShift,
+    /// `operator<<`.
     LShift,
+    /// `operator!`.
     Bang,
+    /// `operator==`.
     EqualEqual,
+    /// `operator!=`.
     BangEqual,
+    /// `operator[]`.
     Subscript,
+    /// A conversion: printed as `operator` and the type that the function returns.
     Conversion,
+    /// `operator->`.
     Arrow,
+    /// `operator*`.
     Star,
+    /// `operator++`.
     PlusPlus,
+    /// `operator--`.
     MinusMinus,
+    /// `operator-`.
     Minus,
+    /// `operator+`.
     Plus,
+    /// `operator&`.
     Amp,
+    /// `operator->*`.
     ArrowStar,
+    /// `operator/`.
     Slash,
+    /// `operator%`.
     Percent,
+    /// `operator<`.
     Less,
+    /// `operator<=`.
     LessEqual,
+    /// `operator>`.
     Greater,
+    /// `operator>=`.
     GreaterEqual,
+    /// `operator,`.
     Comma,
+    /// `operator()`.
     Call,
+    /// `operator~`.
     Tilde,
+    /// `operator^`.
     Caret,
+    /// `operator|`.
     Pipe,
+    /// `operator&&`.
     AmpAmp,
+    /// `operator||`.
     PipePipe,
+    /// `operator*=`.
     StarEqual,
+    /// `operator+=`.
     PlusEqual,
+    /// `operator-=`.
     MinusEqual,
+    /// `operator/=`.
     SlashEqual,
+    /// `operator%=`.
     PercentEqual,
+    /// `operator>>=`.
     GreaterGreaterEqual,
+    /// `operator<<=`.
     LessLessEqual,
+    /// `operator&=`.
     AmpEqual,
+    /// `operator|=`.
     PipeEqual,
+    /// `operator^=`.
     CaretEqual,
+    /// `` `vftable' ``.
     VFTable,
+    /// `` `vbtable' ``.
     VBTable,
+    /// `` `vcall' ``.
     VCall,
+    /// `` `typeof' ``.
     Typeof,
-    /// The guard of a static variable in a function, with its number if it has one.
+    /// The guard of a static variable in a function, with the number that stands behind it, at least 0, if there is
+    /// one.
     LocalStaticGuard(Option<u32>),
+    /// `` `string' ``.
     String,
+    /// `` `vbase destructor' ``.
     VBaseDtor,
+    /// `` `vector deleting destructor' ``.
     VectorDeletingDtor,
+    /// `` `default constructor closure' ``.
     DefaultCtorClosure,
+    /// `` `scalar deleting destructor' ``.
     ScalarDeletingDtor,
+    /// `` `vector constructor iterator' ``.
     VectorCtorIterator,
+    /// `` `vector destructor iterator' ``.
     VectorDtorIterator,
+    /// `` `vector vbase constructor iterator' ``.
     VectorVBaseCtorIterator,
+    /// `` `virtual displacement map' ``.
     VirtualDisplacementMap,
+    /// `` `eh vector constructor iterator' ``.
     EHVectorCtorIterator,
+    /// `` `eh vector destructor iterator' ``.
     EHVectorDtorIterator,
+    /// `` `eh vector vbase constructor iterator' ``.
     EHVectorVBaseCtorIterator,
+    /// `` `copy constructor closure' ``.
     CopyCtorClosure,
+    /// `` `local vftable' ``.
     LocalVFTable,
+    /// `` `local vftable constructor closure' ``.
     LocalVFTableCtorClosure,
+    /// `` operator new[] ``.
     ArrayNew,
+    /// `` operator delete[] ``.
     ArrayDelete,
+    /// `` `placement delete closure' ``.
     PlacementDeleteClosure,
+    /// `` `placement delete[] closure' ``.
     PlacementArrayDeleteClosure,
-    /// The descriptor of a type, with the qualifiers that were read for it and the type.
+    /// The descriptor of a type: the qualifiers that were read for it, and the type, which has them too.
     RTTITypeDescriptor(StorageClass, Box<Type<'a>>),
-    /// The place of a base class in an object, in the order in which the four numbers are read.
+    /// The place of a base class in an object, in the order in which the four numbers are read and printed: the
+    /// offset of the member, that of the pointer to the table of virtual bases, that in the table, and a set of
+    /// attributes. Offsets are in bytes; -1 stands for none.
     RTTIBaseClassDescriptor(i32, i32, i32, i32),
+    /// `` `RTTI Base Class Array' ``.
     RTTIBaseClassArray,
+    /// `` `RTTI Class Hierarchy Descriptor' ``.
     RTTIClassHierarchyDescriptor,
+    /// `` `RTTI Complete Object Locator' ``.
     RTTIClassCompleteObjectLocator,
+    /// `` `dynamic initializer' ``.
     DynamicInitializer,
+    /// `` `dynamic atexit destructor' ``.
     DynamicAtexitDtor,
-    /// The guard of a thread-safe static variable in a function, with its number if it has one.
+    /// The guard of a thread-safe static variable in a function, with the number that stands behind it, at least 0,
+    /// if there is one.
     LocalStaticThreadGuard(Option<u32>),
+    /// `operator ""`, whose suffix is the innermost name of the scope.
     LiteralOperatorName,
+    /// `co_await`.
     CoroutineAwait,
 }
 
@@ -119,6 +199,7 @@ pub enum Operator<'a> {
 #[derive(Debug, Drop)]
 #[cycle(ast)]
 pub struct NameSequence<'a> {
+    /// The innermost first: of `a::b::x` they are `b`, `a`.
     pub names: Vec<Name<'a>>,
 }
 
@@ -126,6 +207,7 @@ pub struct NameSequence<'a> {
 #[derive(Debug, Drop)]
 #[cycle(ast)]
 pub struct Params<'a> {
+    /// In their order. One `Void` alone for `(void)`; `VarArgs` last where the list ends in `...`.
     pub types: Vec<Type<'a>>,
 }
 
@@ -133,7 +215,9 @@ pub struct Params<'a> {
 #[derive(Debug, Drop)]
 #[cycle(ast)]
 pub struct Symbol<'a> {
+    /// What is named, without its scope.
     pub name: Name<'a>,
+    /// The names around it, the innermost first; empty outside all scopes.
     pub scope: NameSequence<'a>,
 }
 
@@ -141,39 +225,60 @@ pub struct Symbol<'a> {
 #[derive(Debug, Drop)]
 #[cycle(ast)]
 pub struct ParseResult<'a> {
+    /// The name that is declared.
     pub symbol: Symbol<'a>,
+    /// Its type; `Type::None` where the symbol has none.
     pub symbol_type: Type<'a>,
 }
 
 /// How a function is called.
 #[derive(Clone, Copy, PartialEq, Eq, Debug)]
 pub enum CallingConv {
+    /// `__cdecl`, by the letters `A` and `B`.
     Cdecl,
+    /// `__pascal`, by `C`.
     Pascal,
+    /// `__thiscall`, by `E`.
     Thiscall,
+    /// `__stdcall`, by `G`.
     Stdcall,
+    /// `__fastcall`, by `I`.
     Fastcall,
+    /// `__regcall`. No letter gives it.
     _Regcall,
 }
 
 /// Where a variable lives, and who may name it.
 #[derive(Clone, Copy, PartialEq, Eq, Debug)]
 pub enum VarStorageKind {
+    /// `private: static `, by the letter `0`.
     PrivateStatic,
+    /// `protected: static `, by `1`.
     ProtectedStatic,
+    /// `public: static `, by `2`.
     PublicStatic,
+    /// Outside all classes, by `3`; nothing is printed for it.
     Global,
+    /// A static variable of a function, by `4`; nothing is printed for it.
     FunctionLocalStatic,
 }
 
-/// A type, or what stands in the place of one.
-#[derive(Debug, Drop)]
+/// A type, or what stands in the place of one. A `StorageClass` is the last field but where a comment says otherwise,
+/// and holds the type's own qualifiers: those of a pointer are the pointer's, not those of what it points to. Trees
+/// inside are owned; of the text only names are borrowed.
+#[derive(Drop)]
 #[cycle(ast)]
 pub enum Type<'a> {
+    /// No type: of a symbol that is a name alone, and where a constructor or a destructor returns nothing.
     None,
+    /// The bytes of a string literal, decoded and owned: at most 32 where characters have one byte, at most 64 where
+    /// they have two.
     ConstantString(Vec<u8>),
+    /// A parameter pack with nothing in it; lists are printed without it.
     EmptyParameterPack,
+    /// What stands in the place of a type behind the names of run-time type information.
     RTTIType,
+    /// The types that are one word of the language, or a few, each with its qualifiers.
     Void(StorageClass),
     Char(StorageClass),
     Schar(StorageClass),
@@ -192,28 +297,48 @@ pub enum Type<'a> {
     Char8(StorageClass),
     Char16(StorageClass),
     Char32(StorageClass),
+    /// The integers of 64 and 128 bits, whose words go by the flag `MS_TYPENAMES`.
     Int64(StorageClass),
     Uint64(StorageClass),
     Int128(StorageClass),
     Uint128(StorageClass),
+    /// A class by its name in its scope, and its qualifiers; the same for the four below.
     Class(Symbol<'a>, StorageClass),
+    /// A struct.
     Struct(Symbol<'a>, StorageClass),
+    /// A union.
     Union(Symbol<'a>, StorageClass),
+    /// An enumeration.
     Enum(Symbol<'a>, StorageClass),
+    /// A type alias, printed as its name alone.
     Alias(Symbol<'a>, StorageClass),
+    /// A number as a template argument: 32 bits, signed; what passes them was dropped.
     Constant(i32),
+    /// A parameter of a template by its number, which is negated where it was read behind `?`.
     TemplateParameterWithIndex(i32),
+    /// The guard of a thread-safe static variable by its number, from 0 to 2147483647.
     ThreadSafeStaticGuard(i32),
+    /// `...`, the last of a list of parameters.
     VarArgs,
+    /// `std::nullptr_t`.
     Nullptr,
+    /// What is pointed to, and the pointer's own qualifiers.
     Ptr(Box<Type<'a>>, StorageClass),
+    /// What `&` refers to, and the reference's own qualifiers.
     Ref(Box<Type<'a>>, StorageClass),
+    /// What `&&` refers to, and the reference's own qualifiers.
     RValueRef(Box<Type<'a>>, StorageClass),
-    /// The length of the outermost level, the elements, and the qualifiers of the level.
+    /// The length of the outermost level, in elements, as it was read, so 0 or below too; the elements, which are an
+    /// array again where there are more levels; and the qualifiers, which each level has.
     Array(i32, Box<Type<'a>>, StorageClass),
-    /// The convention, the parameters, the function's own qualifiers, and what it returns.
+    /// The convention, the parameters, the function's own qualifiers, which are empty for a plain function, and what
+    /// it returns.
     NonMemberFunction(CallingConv, Params<'a>, StorageClass, Box<Type<'a>>),
+    /// The class, the convention, the parameters, the function's own qualifiers (empty for a static one), and what it
+    /// returns.
     MemberFunction(FuncClass, CallingConv, Params<'a>, StorageClass, Box<Type<'a>>),
+    /// The class whose member is pointed to, its function class, the convention, the parameters, the function's own
+    /// qualifiers, and what it returns.
     MemberFunctionPointer(
         Symbol<'a>,
         FuncClass,
@@ -222,9 +347,18 @@ pub enum Type<'a> {
         StorageClass,
         Box<Type<'a>>,
     ),
+    /// The variable's type, who may name it and where it lives, and the storage class behind the type.
     Var(Box<Type<'a>>, VarStorageKind, StorageClass),
+    /// The scope of the base that the table of virtual functions is for, the innermost name first, possibly empty,
+    /// and the table's qualifiers.
     CXXVFTable(NameSequence<'a>, StorageClass),
+    /// The same of a table of virtual bases.
     CXXVBTable(NameSequence<'a>, StorageClass),
-    /// The offset in the table, and the convention.
+    /// The offset in the table of virtual functions, in bytes, and the convention.
     VCallThunk(i32, CallingConv),
+}
+
+/// Lets a tree go. A crate that lets trees go here alone need not prove anew that each part of one may be.
+pub fn discard(tree: ParseResult<'_>) {
+    drop(tree);
 }

@@ -5,6 +5,7 @@
 ghost use Rattle.std.specs.Prelude.{◌≡◌, IfOk, option_map, string_bytes};
 ghost use Rattle.msvc_tree.specs.View.{name_of, operator_of, type_of, scope_of, params_of, tree_of};
 
+use crate::made::{boxed_made, push_made};
 use crate::tree::{Name, NameSequence, Operator, Params, ParseResult, Symbol, Type};
 use std::alloc::{AllocError, Global};
 
@@ -18,12 +19,12 @@ impl<'a> Name<'a> {
             Name::Operator(operator) => Ok(Name::Operator(operator.clone(alloc)?)),
             Name::NonTemplate(text) => Ok(Name::NonTemplate(*text)),
             Name::Template(name, arguments) => Ok(Name::Template(
-                Box::new(alloc, (**name).clone(alloc)?)?,
+                boxed_made(alloc, (**name).clone(alloc))?,
                 arguments.clone(alloc)?,
             )),
             Name::Discriminator(number) => Ok(Name::Discriminator(*number)),
             Name::ParsedName(symbol) => {
-                Ok(Name::ParsedName(Box::new(alloc, (**symbol).clone(alloc)?)?))
+                Ok(Name::ParsedName(boxed_made(alloc, (**symbol).clone(alloc))?))
             }
             Name::AnonymousNamespace(text) => Ok(Name::AnonymousNamespace(clone_text(text)?)),
             Name::AsInterface(text) => Ok(Name::AsInterface(*text)),
@@ -40,7 +41,7 @@ impl<'a> NameSequence<'a> {
     {
         let mut names = Vec::with_capacity(alloc, self.names.len())?;
         for name in &self.names {
-            names.push(name.clone(alloc)?)?;
+            push_made(&mut names, name.clone(alloc))?;
         }
         Ok(NameSequence { names })
     }
@@ -54,7 +55,7 @@ impl<'a> Params<'a> {
     {
         let mut types = Vec::with_capacity(alloc, self.types.len())?;
         for item in &self.types {
-            types.push(item.clone(alloc)?)?;
+            push_made(&mut types, item.clone(alloc))?;
         }
         Ok(Params { types })
     }
@@ -287,8 +288,7 @@ impl<'a> Type<'a> {
 fn clone_boxed<'a>(inner: &Type<'a>, alloc: Global) -> Result<Box<Type<'a>>, AllocError>
     ensures { IfOk result (λ b. type_of b.value ≡ type_of inner.now) }
 {
-    let copy = inner.clone(alloc)?;
-    Ok(Box::new(alloc, copy)?)
+    boxed_made(alloc, inner.clone(alloc))
 }
 
 fn clone_text(text: &Option<String>) -> Result<Option<String>, AllocError>

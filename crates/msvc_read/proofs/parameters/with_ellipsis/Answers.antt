@@ -13,5 +13,5 @@ pub returns : goal.returns
 returns c =
     let parameters : List TypeTree = map type_of c.args.types.items in
     let wanted : c.args.variadic ≡ true = search rules in
-    let items : map type_of c.push.new.self.items ≡ parameters ++ type_of VarArgs ∷ [] = grind (arith, common_steps) in
+    let items : map type_of c.push_item.new.list.items ≡ parameters ++ type_of VarArgs ∷ [] = grind (arith, common_steps) in
     items ∙ ap (λ (t : TypeTree). parameters ++ t ∷ []) type_of-VarArgs ∙ ap (λ (b : Bool). parameters ++ ellipsis b) (sym wanted)

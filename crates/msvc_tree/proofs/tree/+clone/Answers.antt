@@ -1,15 +1,28 @@
-use Rattle.std.proofs.Common.{rules, sym, ap, ◌∙◌, map, arith}
+use Rattle.std.proofs.Common.{rules, [], ◌∷◌, ◌++◌, sym, ap, ◌∙◌, map, take, arith}
 use mir.Val.{to_z, of_z}
 use Rattle.std.specs.Int.{w32}
-use Rattle.std.proofs.lemmas.List.{take_all}
+use Rattle.std.proofs.lemmas.List.{map_more, take_all}
 use Rattle.msvc_tree.specs.View.{name_of, type_of}
 use Rattle.msvc_tree.proofs.CopiedLists.{names_in-from_map, types_in-from_map}
-use Rattle.msvc_tree.proofs.Copies.{same_array, same_function, same_member_function, same_member_pointer, same_variable}
+use Rattle.msvc_tree.proofs.Copies.{same_template, same_array, same_function, same_member_function, same_member_pointer, same_variable}
+use Rattle.msvc_tree.proofs.Kept.{boxed-seen, pushed-seen}
 use Rattle.msvc_tree.proofs.tree.+clone.Goals as goal
+
+pub Name::clone-returns-in_ok-clone-in-Template : goal.Name::clone-returns-in_ok-clone-in-Template
+Name::clone-returns-in_ok-clone-in-Template t c =
+    let w = c.in-Template in
+    same_template _ w.name _ w.arguments (boxed-seen _ _ name_of _ _ _ c.in_ok-boxed_made-in-Template.ensures c.clone-in-Template.ensures ∙ ap name_of c.deref.ensures) c.in_ok-clone-in-Template.ensures ∙ sym (ap name_of w.is)
 
 pub NameSequence::clone-returns : goal.NameSequence::clone-returns
 NameSequence::clone-returns t c =
     names_in-from_map _ _ (c.loop-name.invariant ∙ ap (map name_of) (take_all c.loop-name.name-index c.deref-name-items.result.now (search (rules, arith)) ∙ c.deref-name-items.ensures.value))
+
+pub Params::clone-loop-item-preserved : goal.Params::clone-loop-item-preserved
+Params::clone-loop-item-preserved t c =
+    let x = c.item-item.result in
+    let items = c.deref-item-items.result.now in
+    let before = take c.loop-item.item-index items in
+    pushed-seen _ type_of _ _ _ _ (type_of x) c.in_ok-push_made.ensures c.clone.ensures ∙ ap (λ ts. ts ++ type_of x ∷ []) c.loop-item.invariant ∙ ap (λ y. map type_of before ++ type_of y ∷ []) c.item-item.is ∙ sym (map_more type_of items c.loop-item.item-index x (omega arith))
 
 pub Params::clone-returns : goal.Params::clone-returns
 Params::clone-returns t c =
