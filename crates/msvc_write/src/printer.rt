@@ -17,6 +17,12 @@ use msvc_tree::flags::DemangleFlags;
 use msvc_tree::tree::ParseResult;
 use std::alloc::{AllocError, Global};
 
+/// How many bytes a declaration has room for before it grows: more than most need.
+const FIRST_BYTES: usize = 128;
+
+/// How many items the stack has room for before it grows: more than most symbols need.
+const FIRST_ITEMS: usize = 16;
+
 /// The bytes of the declaration of a tree.
 fn print(
     alloc: Global,
@@ -26,8 +32,8 @@ fn print(
     ensures { IfOk result (λ out. out.items ≡ declaration (tree_of input.now) (bit_and flags.0 obeyed_flags)) }
 {
     let flags = flags.intersection(DemangleFlags::llvm());
-    let mut out = Vec::new(alloc);
-    let mut stack = Vec::new(alloc);
+    let mut out = Vec::with_capacity(alloc, FIRST_BYTES)?;
+    let mut stack = Vec::with_capacity(alloc, FIRST_ITEMS)?;
     push(&mut stack, Item::After(&input.symbol_type, false))?;
     push(&mut stack, Item::Symbol(&input.symbol))?;
     push(&mut stack, Item::Before(&input.symbol_type, false))?;

@@ -9,7 +9,7 @@ use Rattle.msvc_write.proofs.printer.print.Goals as goal
 pub loop-item-init : goal.loop-item-init
 loop-item-init c =
     pushed_three _ _ _ _ _ _ _ _ _ c.in_ok-push.ensures c.in_ok-push-2.ensures c.in_ok-push-3.ensures
-    ∙ finished-none _ _ _ c.new-stack.ensures.items ∙ rw c.new-out.ensures.items (sym (declaration-symbol c.args.input.now _))
+    ∙ finished-none _ _ _ c.in_ok-stack.ensures.items ∙ rw c.in_ok-out.ensures.items (sym (declaration-symbol c.args.input.now _))
 
 pub loop-item-smaller : goal.loop-item-smaller
 loop-item-smaller c = omega (arith, c.in_ok-step.ensures.lighter, work_one _ _ _ c.in-Some.ensures.items)
