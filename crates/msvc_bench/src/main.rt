@@ -1,20 +1,28 @@
 //! Compares the demangler with answers that come from outside. Each line of standard input is a row: flags in
 //! hexadecimal, a symbol, and `ok` with the text or `err` with the offset and the message, parted by tabs. A row that
-//! differs is printed; the last line counts.
+//! differs is printed; the last line counts. A line that begins with `#` and a space is a heading, which says what the
+//! rows below it show. With an argument it measures instead: see `measure`.
 #![tactic(auto)]
 
 mod calls;
+mod measure;
 
 use bitflags::Flags;
 use msvc_demangler::{DemangleFlags, demangle};
 use std::alloc::{AllocError, Global};
-use std::io;
+use std::{env, io};
 
 fn main(rt: HostRuntime) -> io::Result<()> {
+    if let Some(rounds) = env::args(&rt)?.nth(1) {
+        return measure::measure(&rt, rounds.as_str().parse().unwrap_or(1));
+    }
     let mut agree = 0u64;
     let mut differ = 0u64;
     for line in rt.lines(rt.alloc()) {
         let line = line?;
+        if line.starts_with("# ") {
+            continue;
+        }
         if agrees(rt.alloc(), line.as_str())? {
             agree = agree.saturating_add(1);
         } else {

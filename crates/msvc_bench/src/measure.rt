@@ -1,0 +1,49 @@
+//! How long the demangler takes for names, within one process: `msvc_bench ROUNDS` with the names as lines of standard
+//! input. `tools/measure/run` runs it beside LLVM's library.
+
+use msvc_demangler::{DemangleFlags, demangle};
+use std::alloc::Global;
+use std::io;
+use std::time::{Duration, Instant};
+
+/// Demangles all names in each of so many rounds, and prints the nanoseconds of the fastest round and the bytes of its
+/// texts. With no round, prints the names that are demangled: those to measure.
+pub fn measure(rt: &HostRuntime, rounds: u64) -> io::Result<()> {
+    let mut names = Vec::new(rt.alloc());
+    for line in rt.lines(rt.alloc()) {
+        names.push(line?)?;
+    }
+    if rounds == 0 {
+        return print_demangled(rt, &names);
+    }
+    let mut fastest = Duration::MAX;
+    let mut bytes = 0;
+    for _ in 0..rounds {
+        let start = Instant::now(rt)?;
+        bytes = length_of_texts(rt.alloc(), &names);
+        fastest = fastest.min(start.elapsed(rt)?);
+    }
+    let nanoseconds = fastest.as_nanos();
+    println!(rt; "{nanoseconds} {bytes}")
+}
+
+/// The names that have a text, a line each.
+fn print_demangled(rt: &HostRuntime, names: &[String]) -> io::Result<()> {
+    for name in names {
+        if demangle(rt.alloc(), name.as_str(), DemangleFlags::llvm()).is_ok() {
+            println!(rt; "{name}")?;
+        }
+    }
+    Ok(())
+}
+
+/// How many bytes the texts of the names have together: one round.
+fn length_of_texts(alloc: Global, names: &[String]) -> u64 {
+    let mut bytes = 0u64;
+    for name in names {
+        if let Ok(text) = demangle(alloc, name.as_str(), DemangleFlags::llvm()) {
+            bytes = bytes.wrapping_add(text.len() as u64);
+        }
+    }
+    bytes
+}

@@ -1,0 +1,67 @@
+// How long LLVM's library takes for names, within one process: `llvm ROUNDS` with the names as lines of standard input
+// does what `msvc_bench ROUNDS` does with our library.
+
+#include <algorithm>
+#include <chrono>
+#include <cstdio>
+#include <cstdlib>
+#include <cstring>
+#include <iostream>
+#include <llvm/Demangle/Demangle.h>
+#include <string>
+#include <vector>
+
+using Names = std::vector<std::string>;
+
+// The text of a name, which the caller frees, or null.
+static char *demangle(const std::string &name) {
+  int status;
+  return llvm::microsoftDemangle(name.c_str(), nullptr, nullptr, nullptr, &status);
+}
+
+// The names that have a text, a line each.
+static void print_demangled(const Names &names) {
+  for (const std::string &name : names) {
+    if (char *text = demangle(name)) {
+      std::puts(name.c_str());
+      std::free(text);
+    }
+  }
+}
+
+// How many bytes the texts of the names have together: one round.
+static std::size_t length_of_texts(const Names &names) {
+  std::size_t bytes = 0;
+  for (const std::string &name : names) {
+    if (char *text = demangle(name)) {
+      bytes += std::strlen(text);
+      std::free(text);
+    }
+  }
+  return bytes;
+}
+
+// Demangles all names in each round; prints the nanoseconds of the fastest round and the bytes of its texts.
+static void measure(const Names &names, long rounds) {
+  using Clock = std::chrono::steady_clock;
+  auto fastest = Clock::duration::max();
+  std::size_t bytes = 0;
+  for (long round = 0; round < rounds; round++) {
+    auto start = Clock::now();
+    bytes = length_of_texts(names);
+    fastest = std::min(fastest, Clock::now() - start);
+  }
+  auto nanoseconds = std::chrono::nanoseconds(fastest).count();
+  std::cout << nanoseconds << ' ' << bytes << '\n';
+}
+
+int main(int count, char **words) {
+  Names names;
+  for (std::string name; std::getline(std::cin, name);)
+    names.push_back(name);
+  long rounds = count > 1 ? std::atol(words[1]) : 0;
+  if (rounds == 0)
+    print_demangled(names);
+  else
+    measure(names, rounds);
+}
