@@ -1,5 +1,5 @@
 //! The public calls on errors and sets, each once, with ample memory: its answer is compared with what the documents
-//! say. Those on trees stand in `.ci/trees`, where they run without a proof.
+//! say. Those on trees stand in `.ci/trees.rs`, and run without a proof.
 
 #[cfg(test)]
 mod tests {

@@ -1,5 +1,6 @@
-//! `undname [symbols]` prints the declaration of each symbol, as `llvm-undname` spells it. A symbol that is refused is
-//! printed as it came, and why on standard error.
+//! `undname [symbols]` prints the declaration of each symbol on a line, as `llvm-undname` spells it: of `?x@ns@@3HA`,
+//! `int ns::x`. A symbol that is refused is printed as it came, and why on standard error. The status is 0, and 1 where
+//! memory is refused or a line can't be written; then standard error says which, and the symbols behind are left out.
 #![tactic(auto)]
 
 use msvc_demangler::{DemangleFlags, demangle};
@@ -24,7 +25,7 @@ fn main(rt: HostRuntime) -> ExitCode {
     ExitCode::FAILURE
 }
 
-/// Each argument behind the program's name.
+/// Each argument behind the program's name, until one can't be answered.
 fn run(rt: &HostRuntime) -> Result<(), Fault> {
     let Ok(words) = env::args(rt) else {
         return Err(Fault::Memory);

@@ -1,0 +1,15 @@
+//! A tree that outlives the text that its names borrow: no program may do this.
+
+use msvc_demangler::{Error, ParseResult, parse};
+use std::alloc::Global;
+
+pub fn outlives<'a>(alloc: Global) -> Result<ParseResult<'a>, Error> {
+    let text = String::from_str(alloc, "?x@@3HA")?;
+    parse(alloc, text.as_str())
+}
+
+#[cfg(test)]
+mod tests {
+    #[test]
+    fn nothing() {}
+}
