@@ -31,8 +31,10 @@ mod tests {
         assert_eq!(rt; text.as_str(), "int (*x)[3500][6]");
         assert!(rt; same(rt.alloc(), "?x@@3PEAY1NKM@5HEA", "?x@@3PEAY1NKM@5HEA")?);
         assert!(rt; !same(rt.alloc(), "?x@@3PEAY1NKM@5HEA", "?x@@3PEAY1NKM@5DEA")?);
-        assert!(rt; shown(rt.alloc(), "?x@@3PEBVA@@EB")?.as_str().contains("Var(Ptr(Class(Symbol"));
-        assert!(rt; shown(rt.alloc(), "?f@@YAXHZZ")?.as_str().contains("NonMemberFunction(Cdecl, Params { types: [Int("));
+        let variable = shown(rt.alloc(), "?x@@3PEBVA@@EB")?;
+        assert!(rt; variable.as_str().contains("Var(Ptr(Class(Symbol"));
+        let function = shown(rt.alloc(), "?f@@YAXHZZ")?;
+        assert!(rt; function.as_str().contains("NonMemberFunction(Cdecl, Params { types: [Int("));
         Ok(())
     }
 }
