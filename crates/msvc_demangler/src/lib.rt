@@ -3,10 +3,10 @@
 //! [`parse`] reads a symbol into a tree, [`serialize`] prints a tree, and [`demangle`] does both.
 #![tactic(auto)]
 
-ghost use Rattle.std.specs.Prelude.{◌≡◌, ◌∷◌, [], ℕ, List, IfOk, IfErr, bit_and, string_bytes};
+ghost use Rattle.std.specs.Prelude.{◌≡◌, codes, ℕ, List, IfOk, IfErr, bit_and, string_bytes};
 ghost use Rattle.msvc_tree.specs.Trees.{SymbolTree};
-ghost use Rattle.msvc_read.specs.Grammar.{Derives, begins_with};
-ghost use Rattle.msvc_read.specs.Refusals.{IsRefusedRightly, IsAtOrMemory};
+ghost use Rattle.msvc_read.specs.Reads.{Derives};
+ghost use Rattle.msvc_read.specs.Refusals.{IsRefusedRightly, IsRefusalAt, begins_with};
 ghost use Rattle.msvc_read.specs.State.{Note};
 ghost use Rattle.msvc_write.specs.Declaration.{declaration};
 ghost use Rattle.msvc_write.specs.Flags.{obeyed_flags};
@@ -26,10 +26,13 @@ use std::alloc::Global;
 /// A refusal has an offset into `input`, in bytes; one for want of memory has none.
 pub fn demangle(alloc: Global, input: &str, flags: DemangleFlags) -> Result<String, Error>
     ensures declared { IfOk result (λ text. (tree : SymbolTree) × (rest : List ℕ) × (notes : List Note)
-        × Derives input.now tree rest notes × (string_bytes text ≡ declaration tree (bit_and flags.0 obeyed_flags))) }
+        × Derives input.now tree rest notes
+        × ((other : SymbolTree) (behind : List ℕ) (others : List Note) → Derives input.now other behind others
+        → (other ≡ tree) × (behind ≡ rest) × (others ≡ notes))
+        × (string_bytes text ≡ declaration tree (bit_and flags.0 obeyed_flags))) }
     ensures refused { IfErr result (λ e. IsRefusedRightly input.now e) }
-    ensures begins { (begins_with (63 ∷ []) input.now → ⊥) → IfErr result (λ e. IsAtOrMemory 0 e) }
-    ensures begins_ok { IfOk result (λ text. begins_with (63 ∷ []) input.now) }
+    ensures begins { (begins_with (codes "?") input.now → ⊥) → IfErr result (λ e. IsRefusalAt input.now 0 e) }
+    ensures begins_ok { IfOk result (λ text. begins_with (codes "?") input.now) }
 {
     match parse(alloc, input) {
         Ok(symbol) => {

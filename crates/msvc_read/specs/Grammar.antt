@@ -1,216 +1,307 @@
--- The grammar of symbols, as a relation: what bytes a rule reads, with which tables, and what they are a tree of.
--- A rule relates the bytes left and the state before it, a value, and the bytes left and the state behind it. The
--- bytes of a rule's own stand in it as numbers, with the letters in the comment.
-use Rattle.std.specs.Prelude.{ℕ, ℤ, pos, suc, List, [], ◌∷◌, ◌++◌, Some, None, All, ◌≡◌, ◌≢◌, ◌≤◌, ◌+◌, ◌-◌, ◌*◌, ◌%◌, ◌^◌, length, slice_get, bit_or, unwrap_or, if◌then◌else◌, nat_lt}
+-- The grammar of symbols. A production has the name that docs/grammar.md gives it, and that of the function that
+-- reads it. Texts stand in it as such, and a table has its letters in one text and what they stand for behind it.
+use Rattle.std.specs.Prelude.{ℕ, ℤ, pos, List, [], ◌∷◌, ◌++◌, ◌==◌, ◌+◌, ◌*◌, ◌%◌, ◌^◌, Bool, true, false, Some, None}
+use Rattle.std.specs.Prelude.{bit_and, bit_or, suc, zero, codes, unwrap_or}
 use Rattle.std.specs.Int.{cast_signed, int_wrapping_neg, w32}
 use Rattle.msvc_tree.specs.declared.tree.CallingConv.{CallingConv}
-use Rattle.msvc_tree.specs.Trees.{NameTree, TypeTree, SymbolTree, spelled, source, plain, no_type, variadic, base, void, tagged, enum, numbered, template_parameter, pointing, rvalue_reference, array, function, member_function, variable, name_trees, type_trees}
-use Rattle.msvc_read.specs.Letters.{lookup, has_bit, digits, qualifiers, storage_classes, qualifiers_of_returns, qualifiers_of_arrays, pointer_sizes, restricts, alignments, reference_qualifiers, conventions, type_letters, based, extended, named, points, arrayed, indexed, referred, extended_types, encoding_letters, variable_of, untyped, plain_function, member, literals}
-use Rattle.msvc_read.specs.State.{State, Entry, Note, place, beginning, remember_name, remember_type, take_note}
+use Rattle.msvc_tree.specs.declared.tree.CallingConv.TheVariants.{Cdecl, Pascal, Thiscall, Stdcall, Fastcall}
+use Rattle.msvc_tree.specs.declared.tree.VarStorageKind.TheVariants.{PrivateStatic, ProtectedStatic, PublicStatic}
+use Rattle.msvc_tree.specs.declared.tree.VarStorageKind.TheVariants.{Global, FunctionLocalStatic}
+use Rattle.msvc_tree.specs.Trees as tree
+use Rattle.msvc_tree.specs.declared.kinds.Tag.TheVariants as tag_kind
+use Rattle.msvc_tree.specs.declared.kinds.BaseType.{BaseType}
+use Rattle.msvc_tree.specs.declared.kinds.BaseType.TheVariants as base_kind
+use Rattle.msvc_tree.specs.declared.kinds.Mark.TheVariants as mark_kind
+use Rattle.msvc_tree.specs.declared.kinds.NumberedType.TheVariants as number_kind
+use Rattle.msvc_tree.specs.declared.kinds.PlainType.TheVariants as plain_kind
+use Rattle.msvc_tree.specs.declared.kinds.Spelling.TheVariants as spelling_kind
+use Rattle.msvc_tree.specs.Trees.{NameTree, TypeTree, spelled, plain}
+use Rattle.msvc_tree.specs.Trees.{base, tagged, numbered, pointing, function}
+use Rattle.msvc_tree.specs.Trees.{member_function, variable, name_trees, type_trees}
+use Rattle.msvc_read.specs.Sorts.{TypeLetter, based, extended, named, points, arrayed, indexed, referred}
+use Rattle.msvc_read.specs.Sorts.{EncodingLetter, variable_of, untyped, plain_function, member_of, Sort, bits, integer}
+use Rattle.msvc_read.specs.Sorts.{name_tree, base_type, type_letter, encoding_letter, convention, symbol_tree}
+use Rattle.msvc_read.specs.Rules.{Production, symbol, encoding, encoding_behind, thunk_number, own_qualifiers}
+use Rattle.msvc_read.specs.Rules.{function_qualifiers, signature, return_qualifiers, returned, function_parameters}
+use Rattle.msvc_read.specs.Rules.{parameters, parameter, any_type, plain_type, type_behind, pointee, array, dimension}
+use Rattle.msvc_read.specs.Rules.{positive, lengths, qualified_name, scope, simple_name, source_name, number, magnitude}
+use Rattle.msvc_read.specs.Rules.{letters, none_of, at_end, Rule, give, letter, literal, up_to, here, ◌>>=◌, ◌>>◌, ◌or◌}
+use Rattle.msvc_read.specs.Rules.{call, known_name, remember, known_type, noted, entering, begins_of, letter_or}
+use Rattle.msvc_read.specs.Rules.{literal_or, optional, never}
 
--- Parts over a table of letters
+-- Tables
 
--- a part that stands where the next byte is a letter of the table, with its bits
-pub data IsOptional (table : List (ℕ × ℕ)) : List ℕ → ℕ → List ℕ → Type 0 where
-  present : {b bits : ℕ} {rest : List ℕ} → lookup b table ≡ Some bits → IsOptional table (b ∷ rest) bits rest
-  absent : {b : ℕ} {rest : List ℕ} → lookup b table ≡ None → IsOptional table (b ∷ rest) 0 (b ∷ rest)
-  absent_at_end : IsOptional table [] 0 []
+-- letters, and what each stands for
+abbrev pub rows : {A : Type 0} → List ℕ → List A → List (ℕ × A)
+rows [] values = []
+rows (b ∷ bs) [] = []
+rows (b ∷ bs) (v ∷ values) = (b, v) ∷ rows bs values
 
--- Numbers
+-- the rows of a table, each for what f makes of its value, and those of another table behind them
+abbrev pub rows_of : {A B : Type 0} → (A → B) → List (ℕ × A) → List (ℕ × B) → List (ℕ × B)
+rows_of f [] others = others
+rows_of f (row ∷ table) others = (row.0, f row.1) ∷ rows_of f table others
 
--- letters A to P are the digits to base 16, behind a value that others had, and an @ ends them
-pub data IsLetters : ℕ → List ℕ → ℕ → List ℕ → Type 0 where
-  letters_end : {value : ℕ} {rest : List ℕ} → IsLetters value (64 ∷ rest) value rest
-  letters_more : {value b total : ℕ} {left rest : List ℕ} → 65 ≤ b → b ≤ 80
-      → IsLetters (value * 16 + (b - 65)) left total rest → IsLetters value (b ∷ left) total rest
+-- the digits, which stand for entries of tables
+abbrev pub digits : List (ℕ × ℕ)
+digits = rows (codes "0123456789") (0 ∷ 1 ∷ 2 ∷ 3 ∷ 4 ∷ 5 ∷ 6 ∷ 7 ∷ 8 ∷ 9 ∷ [])
 
--- one digit stands for one more than itself
-pub data IsMagnitude : List ℕ → ℕ → List ℕ → Type 0 where
-  one_digit : {b d : ℕ} {rest : List ℕ} → lookup b digits ≡ Some d → IsMagnitude (b ∷ rest) (d + 1) rest
-  many_letters : {value : ℕ} {left rest : List ℕ} → IsLetters 0 left value rest → IsMagnitude left value rest
+-- the digits to base 16
+abbrev pub hexadecimal : List (ℕ × ℕ)
+hexadecimal = rows (codes "ABCDEFGHIJKLMNOP")
+    (0 ∷ 1 ∷ 2 ∷ 3 ∷ 4 ∷ 5 ∷ 6 ∷ 7 ∷ 8 ∷ 9 ∷ 10 ∷ 11 ∷ 12 ∷ 13 ∷ 14 ∷ 15 ∷ [])
+
+-- The bits of qualifiers: CONST 1, VOLATILE 2, FAR 4, UNALIGNED 16, RESTRICT 32, PTR64 64, LVALUE_QUAL 128,
+-- RVALUE_QUAL 256.
+
+abbrev pub qualifiers : List (ℕ × ℕ)
+qualifiers = rows (codes "ABCDQRST") (0 ∷ 1 ∷ 2 ∷ 3 ∷ 0 ∷ 1 ∷ 2 ∷ 3 ∷ [])
+
+abbrev pub storage_classes : List (ℕ × ℕ)
+storage_classes = rows (codes "ABCDEFGHQRST") (0 ∷ 1 ∷ 2 ∷ 3 ∷ 4 ∷ 5 ∷ 6 ∷ 7 ∷ 0 ∷ 1 ∷ 2 ∷ 3 ∷ [])
+
+-- of what a function returns
+abbrev pub qualifiers_of_returns : List (ℕ × ℕ)
+qualifiers_of_returns = rows (codes "ABCD") (0 ∷ 1 ∷ 2 ∷ 3 ∷ [])
+
+-- of the elements of an array: none is VOLATILE alone
+abbrev pub qualifiers_of_arrays : List (ℕ × ℕ)
+qualifiers_of_arrays = rows (codes "ABCD") (0 ∷ 1 ∷ 3 ∷ 3 ∷ [])
+
+abbrev pub pointer_sizes : List (ℕ × ℕ)
+pointer_sizes = rows (codes "E") (64 ∷ [])
+
+abbrev pub restricts : List (ℕ × ℕ)
+restricts = rows (codes "I") (32 ∷ [])
+
+abbrev pub alignments : List (ℕ × ℕ)
+alignments = rows (codes "F") (16 ∷ [])
+
+abbrev pub reference_qualifiers : List (ℕ × ℕ)
+reference_qualifiers = rows (codes "GH") (128 ∷ 256 ∷ [])
+
+abbrev pub conventions : List (ℕ × CallingConv)
+conventions = rows (codes "ABCEGI") (Cdecl ∷ Cdecl ∷ Pascal ∷ Thiscall ∷ Stdcall ∷ Fastcall ∷ [])
+
+abbrev pub base_types : List (ℕ × BaseType)
+base_types = rows (codes "XCDEFGHIJKMNO")
+    (base_kind.Void ∷ base_kind.Schar ∷ base_kind.Char ∷ base_kind.Uchar ∷ base_kind.Short ∷ base_kind.Ushort
+    ∷ base_kind.Int ∷ base_kind.Uint ∷ base_kind.Long ∷ base_kind.Ulong ∷ base_kind.Float ∷ base_kind.Double
+    ∷ base_kind.Ldouble ∷ [])
+
+-- the base types of a second letter, behind _
+abbrev pub extended_types : List (ℕ × BaseType)
+extended_types = rows (codes "NWQSUJKLM")
+    (base_kind.Bool ∷ base_kind.Wchar ∷ base_kind.Char8 ∷ base_kind.Char16 ∷ base_kind.Char32
+    ∷ base_kind.Int64 ∷ base_kind.Uint64 ∷ base_kind.Int128 ∷ base_kind.Uint128 ∷ [])
+
+-- what is no base type of one letter
+abbrev pub compound_letters : List (ℕ × TypeLetter)
+compound_letters = rows (codes "_TUVABPQRSY?")
+    (extended ∷ named tag_kind.Union ∷ named tag_kind.Struct ∷ named tag_kind.Class
+    ∷ points mark_kind.Reference None ∷ points mark_kind.Reference (Some 2)
+    ∷ points mark_kind.Pointer None ∷ points mark_kind.Pointer (Some 1) ∷ points mark_kind.Pointer (Some 2)
+    ∷ points mark_kind.Pointer (Some 3)
+    ∷ arrayed ∷ indexed ∷ [])
+    ++ rows_of referred digits []
+
+abbrev pub type_letters : List (ℕ × TypeLetter)
+type_letters = rows_of based base_types compound_letters
+
+-- The bits of function classes: PUBLIC 1, PROTECTED 2, PRIVATE 4, GLOBAL 8, STATIC 16, VIRTUAL 32, FAR 64, THUNK 128.
+
+-- The second of a pair is FAR, but C D E F have no FAR. G H O P W X are thunks. Y is never read here: as the first
+-- byte of a symbol's type it stands for a plain function.
+abbrev pub function_classes : List (ℕ × ℕ)
+function_classes = rows (codes "ABCDEFGHIJKLMNOPQRSTUVWXYZ")
+    (4 ∷ 68 ∷ 20 ∷ 20 ∷ 36 ∷ 36 ∷ 164 ∷ 228
+    ∷ 2 ∷ 66 ∷ 18 ∷ 82 ∷ 34 ∷ 98 ∷ 162 ∷ 226
+    ∷ 1 ∷ 65 ∷ 17 ∷ 81 ∷ 33 ∷ 97 ∷ 161 ∷ 225
+    ∷ 8 ∷ 72 ∷ [])
+
+abbrev pub encoding_letters : List (ℕ × EncodingLetter)
+encoding_letters = rows (codes "012349Y")
+    (variable_of PrivateStatic ∷ variable_of ProtectedStatic ∷ variable_of PublicStatic ∷ variable_of Global
+    ∷ variable_of FunctionLocalStatic ∷ untyped ∷ plain_function ∷ [])
+    ++ rows_of member_of function_classes []
+
+-- What values are made of
+
+-- whether a class has a bit
+abbrev pub has : ℕ → ℕ → Bool
+has class bit = bit_and class bit == bit
 
 -- a value modulo 2 ^ 32, signed
 abbrev pub signed : ℕ → ℤ
 signed value = cast_signed w32 (value % 2 ^ 32)
 
--- a ? negates
-pub data IsNumber : List ℕ → ℤ → List ℕ → Type 0 where
-  positive : {value : ℕ} {left rest : List ℕ} → IsMagnitude left value rest → IsNumber left (signed value) rest
-  negative : {value : ℕ} {left rest : List ℕ} → IsMagnitude left value rest
-      → IsNumber (63 ∷ left) (int_wrapping_neg w32 (signed value)) rest
-
--- Names
-
--- the bytes up to the first @, which is eaten
-pub record IsSourceName (left name rest : List ℕ) : Type 0 where
-  pub whole : left ≡ name ++ 64 ∷ rest
-  pub no_at : All (λ b. b ≢ 64) name
-
--- a digit is an entry of the table; a source name enters the table
-pub data IsName : List ℕ → State → NameTree → List ℕ → State → Type 0 where
-  name_reference : {b i : ℕ} {rest : List ℕ} {s : State} {n : NameTree} → lookup b digits ≡ Some i → slice_get s.names i ≡ Some n
-      → IsName (b ∷ rest) s n rest s
-  source_name : {b : ℕ} {left name rest : List ℕ} {s : State} → lookup b digits ≡ None → b ≢ 63
-      → IsSourceName (b ∷ left) name rest → IsName (b ∷ left) s (spelled source name) rest (remember_name (spelled source name) s)
-
--- names up to an @
-pub data IsScope : List ℕ → State → List NameTree → List ℕ → State → Type 0 where
-  scope_end : {rest : List ℕ} {s : State} → IsScope (64 ∷ rest) s [] rest s
-  scope_more : {b : ℕ} {left l rest : List ℕ} {s t u : State} {n : NameTree} {ns : List NameTree} → b ≢ 64
-      → IsName (b ∷ left) s n l t → IsScope l t ns rest u → IsScope (b ∷ left) s (n ∷ ns) rest u
-
-pub data IsQualifiedName : List ℕ → State → NameTree → List NameTree → List ℕ → State → Type 0 where
-  qualified_name : {left l rest : List ℕ} {s t u : State} {n : NameTree} {ns : List NameTree}
-      → IsName left s n l t → IsScope l t ns rest u → IsQualifiedName left s n ns rest u
-
--- Types
-
--- as many numbers
-pub data IsLengths : ℕ → List ℕ → List ℤ → List ℕ → Type 0 where
-  lengths_end : {rest : List ℕ} → IsLengths 0 rest [] rest
-  lengths_more : {n : ℕ} {left l rest : List ℕ} {z : ℤ} {zs : List ℤ} → IsNumber left z l → IsLengths n l zs rest
-      → IsLengths (suc n) left (z ∷ zs) rest
-
--- what literal begins with these bytes: no other form begins so
-abbrev pub begins_with : List ℕ → List ℕ → Type 0
-begins_with literal left = (rest : List ℕ) × (left ≡ literal ++ rest)
-
--- $$C and a letter, or nothing
-pub data IsArrayClass : List ℕ → ℕ → List ℕ → Type 0 where
-  array_class : {b q : ℕ} {rest : List ℕ} → lookup b qualifiers_of_arrays ≡ Some q → IsArrayClass (36 ∷ 36 ∷ 67 ∷ b ∷ rest) q rest
-  no_array_class : {left : List ℕ} → (begins_with (36 ∷ 36 ∷ 67 ∷ []) left → ⊥) → IsArrayClass left 0 left
-
 -- an array of these lengths, the outermost first, with the same qualifiers at each level
-abbrev pub arrays : List ℤ → TypeTree → ℕ → TypeTree
+unfoldable pub arrays : List ℤ → TypeTree → ℕ → TypeTree
 arrays [] t q = t
-arrays (n ∷ ns) t q = array n (arrays ns t q) q
+arrays (n ∷ ns) t q = tree.array n (arrays ns t q) q
 
-mutual
-  -- a type with qualifiers: a literal and its form, or a plain type where no literal begins
-  pub data IsType : ℕ → List ℕ → State → TypeTree → List ℕ → State → Type 0 where
-    -- W4
-    enumeration : {q : ℕ} {left rest : List ℕ} {s t : State} {n : NameTree} {ns : List NameTree} → IsQualifiedName left s n ns rest t
-        → IsType q (87 ∷ 52 ∷ left) s (tagged enum n (name_trees ns) q) rest t
-    -- $$Q
-    rvalue : {q : ℕ} {left rest : List ℕ} {s t : State} {x : TypeTree} → IsPointee left s x rest t
-        → IsType q (36 ∷ 36 ∷ 81 ∷ left) s (pointing rvalue_reference x q) rest t
-    plain_type : {q : ℕ} {left rest : List ℕ} {s t : State} {x : TypeTree} → All (λ literal. begins_with literal left → ⊥) literals
-        → IsPlainType q left s x rest t → IsType q left s x rest t
+-- Parts of productions
 
-  -- by the first byte
-  pub data IsPlainType : ℕ → List ℕ → State → TypeTree → List ℕ → State → Type 0 where
-    base_type : {q b : ℕ} {rest : List ℕ} {s : State} {x : _} → lookup b type_letters ≡ Some (based x)
-        → IsPlainType q (b ∷ rest) s (base x q) rest s
-    extended_type : {q b c : ℕ} {rest : List ℕ} {s : State} {x : _} → lookup b type_letters ≡ Some extended → lookup c extended_types ≡ Some x
-        → IsPlainType q (b ∷ c ∷ rest) s (base x q) rest s
-    class_type : {q b : ℕ} {left rest : List ℕ} {s t : State} {tag : _} {n : NameTree} {ns : List NameTree}
-        → lookup b type_letters ≡ Some (named tag) → IsQualifiedName left s n ns rest t
-        → IsPlainType q (b ∷ left) s (tagged tag n (name_trees ns) q) rest t
-    pointer_type : {q b : ℕ} {left rest : List ℕ} {s t : State} {mark : _} {own : _} {x : TypeTree}
-        → lookup b type_letters ≡ Some (points mark own) → IsPointee left s x rest t
-        → IsPlainType q (b ∷ left) s (pointing mark x (unwrap_or own q)) rest t
-    array_type : {q b : ℕ} {left rest : List ℕ} {s t : State} {x : TypeTree} → lookup b type_letters ≡ Some arrayed → IsArray left s x rest t
-        → IsPlainType q (b ∷ left) s x rest t
-    indexed_type : {q b : ℕ} {left rest : List ℕ} {s : State} {z : ℤ} → lookup b type_letters ≡ Some indexed → IsNumber left z rest
-        → IsPlainType q (b ∷ left) s (numbered template_parameter (int_wrapping_neg w32 z)) rest s
-    -- whatever the qualifiers are
-    type_reference : {q b i : ℕ} {rest : List ℕ} {s : State} {e : Entry} → lookup b type_letters ≡ Some (referred i) → slice_get s.types i ≡ Some e
-        → IsPlainType q (b ∷ rest) s e.entered rest s
+-- a source name, which enters the table
+abbrev pub new_source_name : Rule name_tree
+new_source_name = do
+  n ← call source_name
+  remember (spelled spelling_kind.Source n)
+  give (spelled spelling_kind.Source n)
 
-  -- an optional E, an optional storage class, and a type with both
-  pub data IsPointee : List ℕ → State → TypeTree → List ℕ → State → Type 0 where
-    pointee : {far class : ℕ} {left l m rest : List ℕ} {s t : State} {x : TypeTree}
-        → IsOptional pointer_sizes left far l → IsOptional storage_classes l class m → IsType (bit_or far class) m s x rest t
-        → IsPointee left s x rest t
+-- letters to base 16, as a number of 32 bits
+abbrev pub signed_letters : Rule integer
+signed_letters = do
+  v ← call (letters 0)
+  give (signed v)
 
-  -- a number above 0, as many lengths, the qualifiers of each level, and the type of the elements
-  pub data IsArray : List ℕ → State → TypeTree → List ℕ → State → Type 0 where
-    array_of : {n q : ℕ} {left l m k rest : List ℕ} {s t : State} {zs : List ℤ} {x : TypeTree}
-        → IsNumber left (pos (suc n)) l → IsLengths (suc n) l zs m → IsArrayClass m q k → IsType 0 k s x rest t
-        → IsArray left s (arrays zs x q) rest t
+-- the qualifiers of each level of an array
+abbrev pub array_class : Rule bits
+array_class = literal_or (codes "$$C") (letter bits qualifiers_of_arrays) (give 0)
 
--- Functions
+-- what follows the ? of a symbol; its name is none of a guard
+abbrev pub named_symbol : Rule symbol_tree
+named_symbol = do
+  n ← call qualified_name
+  t ← call (encoding false)
+  give (record { name = n.0; scope = name_trees n.1; symbol_type = t })
 
--- what the type of a parameter enters into the table: nothing, if it was one byte
-abbrev pub entered : TypeTree → List ℕ → List ℕ → State → State
-entered x left rest s =
-    if nat_lt 1 (length left - length rest)
-    then remember_type (record { entered = x; start = place left s; end = place rest s }) s
-    else s
+-- The productions
 
-pub data IsParameter : List ℕ → State → TypeTree → List ℕ → State → Type 0 where
-  -- a digit is the type of an entry, and is noted
-  parameter_reference : {b i : ℕ} {rest : List ℕ} {s : State} {e : Entry} → lookup b digits ≡ Some i → slice_get s.types i ≡ Some e
-      → IsParameter (b ∷ rest) s e.entered rest (take_note (record { at = place (b ∷ rest) s; start = e.start; end = e.end }) s)
-  parameter_type : {b : ℕ} {left rest : List ℕ} {s t : State} {x : TypeTree} → lookup b digits ≡ None → IsType 0 (b ∷ left) s x rest t
-      → IsParameter (b ∷ left) s x rest (entered x (b ∷ left) rest t)
-
--- parameters up to an @, a Z, which adds an ellipsis, or the end of the text
-pub data IsParameters : List ℕ → State → List TypeTree → List ℕ → State → Type 0 where
-  parameters_end : {s : State} → IsParameters [] s [] [] s
-  parameters_at : {rest : List ℕ} {s : State} → IsParameters (64 ∷ rest) s [] rest s
-  parameters_variadic : {rest : List ℕ} {s : State} → IsParameters (90 ∷ rest) s (plain variadic ∷ []) rest s
-  parameters_more : {b : ℕ} {left l rest : List ℕ} {s t u : State} {x : TypeTree} {xs : List TypeTree} → b ≢ 64 → b ≢ 90
-      → IsParameter (b ∷ left) s x l t → IsParameters l t xs rest u → IsParameters (b ∷ left) s (x ∷ xs) rest u
-
--- X for one void, or parameters; and a Z
-pub data IsFunctionParameters : List ℕ → State → List TypeTree → List ℕ → State → Type 0 where
-  no_parameters : {rest : List ℕ} {s : State} → IsFunctionParameters (88 ∷ 90 ∷ rest) s (base void 0 ∷ []) rest s
-  some_parameters : {left rest : List ℕ} {s t : State} {xs : List TypeTree} → (begins_with (88 ∷ []) left → ⊥)
-      → IsParameters left s xs (90 ∷ rest) t → IsFunctionParameters left s xs rest t
-
--- a ? and a letter, or nothing
-pub data IsReturnQualifiers : List ℕ → ℕ → List ℕ → Type 0 where
-  return_qualifiers : {b q : ℕ} {rest : List ℕ} → lookup b qualifiers_of_returns ≡ Some q → IsReturnQualifiers (63 ∷ b ∷ rest) q rest
-  no_return_qualifiers : {left : List ℕ} → (begins_with (63 ∷ []) left → ⊥) → IsReturnQualifiers left 0 left
-
+unfoldable pub grammar : {a : Sort} → Production a → Rule a
+-- A ?, a name in its scope, and a type. What has ?@ or $ behind the ? is not built yet.
+grammar symbol = do
+  literal (codes "?")
+  here (none_of (codes "?@" ∷ codes "$" ∷ [])) named_symbol
+-- The type of a symbol, by its first byte; at the end of the text none. Behind the name of a guard (true) stands a
+-- marker, which is not built yet.
+grammar (encoding true) = never
+grammar (encoding false) =
+    here at_end (give (plain plain_kind.None))
+    or (do l ← letter encoding_letter encoding_letters; call (encoding_behind l))
+grammar (encoding_behind (variable_of kind)) = do
+  t ← call (any_type 0)
+  class ← optional storage_classes
+  give (variable t kind class)
+grammar (encoding_behind untyped) = give (plain plain_kind.None)
+grammar (encoding_behind plain_function) = do
+  f ← call (signature false)
+  give (function f.0 (type_trees f.1.1) 0 f.1.0)
+grammar (encoding_behind (member_of class)) = do
+  call (thunk_number (has class 128))
+  own ← call (own_qualifiers (has class 16))
+  f ← call (signature true)
+  give (member_function class f.0 (type_trees f.1.1) own f.1.0)
+-- a thunk has a number, which is dropped
+grammar (thunk_number true) = do
+  z ← call number
+  give tt
+grammar (thunk_number false) = give tt
+-- a static function has no qualifiers of its own
+grammar (own_qualifiers true) = give 0
+grammar (own_qualifiers false) = call function_qualifiers
+grammar function_qualifiers = do
+  size ← optional pointer_sizes
+  restrict ← optional restricts
+  alignment ← optional alignments
+  reference ← optional reference_qualifiers
+  qualifier ← optional qualifiers
+  give (bit_or size (bit_or restrict (bit_or alignment (bit_or reference qualifier))))
+-- a convention, what is returned and the parameters; of a member function, or of another
+grammar (signature member) = do
+  c ← letter convention conventions
+  q ← call return_qualifiers
+  t ← call (returned member q)
+  ts ← call function_parameters
+  give (c, (t, ts))
+grammar return_qualifiers = literal_or (codes "?") (letter bits qualifiers_of_returns) (give 0)
 -- an @ for no type, as a constructor has none, or a type
-pub data IsReturned : ℕ → List ℕ → State → TypeTree → List ℕ → State → Type 0 where
-  returns_nothing : {q : ℕ} {rest : List ℕ} {s : State} → IsReturned q (64 ∷ rest) s (plain no_type) rest s
-  returns : {q : ℕ} {left rest : List ℕ} {s t : State} {x : TypeTree} → (begins_with (64 ∷ []) left → ⊥) → IsType q left s x rest t
-      → IsReturned q left s x rest t
-
--- E, I, F, then G or H, then a qualifier, each optional
-pub data IsFunctionQualifiers : List ℕ → ℕ → List ℕ → Type 0 where
-  function_qualifiers : {size restrict alignment reference qualifier : ℕ} {left l m k j rest : List ℕ}
-      → IsOptional pointer_sizes left size l → IsOptional restricts l restrict m → IsOptional alignments m alignment k
-      → IsOptional reference_qualifiers k reference j → IsOptional qualifiers j qualifier rest
-      → IsFunctionQualifiers left (bit_or size (bit_or restrict (bit_or alignment (bit_or reference qualifier)))) rest
-
--- THUNK 128: a number, which is dropped
-pub data IsThunkNumber (class : ℕ) : List ℕ → List ℕ → Type 0 where
-  thunk_number : {left rest : List ℕ} {z : ℤ} → has_bit class 128 → IsNumber left z rest → IsThunkNumber class left rest
-  no_thunk : {left : List ℕ} → (has_bit class 128 → ⊥) → IsThunkNumber class left left
-
--- STATIC 16: no qualifiers of the function's own
-pub data IsOwnQualifiers (class : ℕ) : List ℕ → ℕ → List ℕ → Type 0 where
-  own_qualifiers : {own : ℕ} {left rest : List ℕ} → (has_bit class 16 → ⊥) → IsFunctionQualifiers left own rest → IsOwnQualifiers class left own rest
-  no_own_qualifiers : {left : List ℕ} → has_bit class 16 → IsOwnQualifiers class left 0 left
-
--- Symbols
-
--- the type of a symbol, by its first byte; at the end of the text none
-pub data IsEncoding : List ℕ → State → TypeTree → List ℕ → State → Type 0 where
-  no_encoding : {s : State} → IsEncoding [] s (plain no_type) [] s
-  variable_encoding : {b class : ℕ} {left l rest : List ℕ} {s t : State} {kind : _} {x : TypeTree} → lookup b encoding_letters ≡ Some (variable_of kind)
-      → IsType 0 left s x l t → IsOptional storage_classes l class rest → IsEncoding (b ∷ left) s (variable x kind class) rest t
-  untyped_encoding : {b : ℕ} {rest : List ℕ} {s : State} → lookup b encoding_letters ≡ Some untyped
-      → IsEncoding (b ∷ rest) s (plain no_type) rest s
-  function_encoding : {b c q : ℕ} {left l m rest : List ℕ} {s t u : State} {convention : CallingConv} {x : TypeTree} {xs : List TypeTree}
-      → lookup b encoding_letters ≡ Some plain_function → lookup c conventions ≡ Some convention → IsReturnQualifiers left q l
-      → IsType q l s x m t → IsFunctionParameters m t xs rest u
-      → IsEncoding (b ∷ c ∷ left) s (function convention (type_trees xs) 0 x) rest u
-  member_encoding : {b c class own q : ℕ} {left l m k j rest : List ℕ} {s t u : State} {convention : CallingConv} {x : TypeTree} {xs : List TypeTree}
-      → lookup b encoding_letters ≡ Some (member class) → IsThunkNumber class left l → IsOwnQualifiers class l own (c ∷ m)
-      → lookup c conventions ≡ Some convention → IsReturnQualifiers m q k → IsReturned q k s x j t → IsFunctionParameters j t xs rest u
-      → IsEncoding (b ∷ left) s (member_function class convention (type_trees xs) own x) rest u
-
--- a ?, a name in its scope, and a type; no $ behind the ?
-pub data IsSymbol : List ℕ → State → SymbolTree → List ℕ → State → Type 0 where
-  symbol : {left l rest : List ℕ} {s t u : State} {n : NameTree} {ns : List NameTree} {x : TypeTree} → (begins_with (36 ∷ []) left → ⊥)
-      → IsQualifiedName left s n ns l t → IsEncoding l t x rest u
-      → IsSymbol (63 ∷ left) s (record { name = n; scope = name_trees ns; symbol_type = x }) rest u
-
--- A beginning of the text is a symbol: its tree, the bytes behind it, and the digits that were read as parameters.
-abbrev pub Derives : List ℕ → SymbolTree → List ℕ → List Note → Type 0
-Derives text tree rest notes = (s : State) × IsSymbol text (beginning text) tree rest s × (s.notes ≡ notes)
+grammar (returned true q) = literal_or (codes "@") (give (plain plain_kind.None)) (call (any_type q))
+grammar (returned false q) = call (any_type q)
+-- X for one void, or parameters; and a Z
+grammar function_parameters =
+    literal_or (codes "X")
+    (do literal (codes "Z"); give (base base_kind.Void 0 ∷ []))
+    (do ts ← call parameters; literal (codes "Z"); give ts)
+-- parameters up to an @, a Z, which adds an ellipsis, or the end of the text
+grammar parameters =
+    here at_end (give [])
+    or (do literal (codes "@"); give [])
+    or (do literal (codes "Z"); give (plain plain_kind.Variadic ∷ []))
+    or here (none_of (codes "@" ∷ codes "Z" ∷ [])) (do t ← call parameter; ts ← call parameters; give (t ∷ ts))
+-- a digit is the type of an entry, and is noted; a type that was read enters the table
+grammar parameter =
+    noted digits
+    or here (none_of (begins_of digits)) (entering (call (any_type 0)))
+-- A type with qualifiers. A text of two bytes or a $ is tried before a plain type; A6, P6, P8 and what else begins
+-- with $ is not built yet.
+grammar (any_type q) =
+    literal_or (codes "W4")
+    (do n ← call qualified_name; give (tagged tag_kind.Enum n.0 (name_trees n.1) q))
+    (literal_or (codes "$$Q")
+    (do t ← call pointee; give (pointing mark_kind.RValueReference t q))
+    (here (none_of (codes "A6" ∷ codes "P6" ∷ codes "P8" ∷ codes "$" ∷ [])) (call (plain_type q))))
+grammar (plain_type q) = do
+  l ← letter type_letter type_letters
+  call (type_behind q l)
+grammar (type_behind q (based b)) = give (base b q)
+grammar (type_behind q extended) = do
+  b ← letter base_type extended_types
+  give (base b q)
+grammar (type_behind q (named tag)) = do
+  n ← call qualified_name
+  give (tagged tag n.0 (name_trees n.1) q)
+grammar (type_behind q (points mark own)) = do
+  t ← call pointee
+  give (pointing mark t (unwrap_or own q))
+grammar (type_behind q arrayed) = call array
+grammar (type_behind q indexed) = do
+  z ← call number
+  give (numbered number_kind.TemplateParameter (int_wrapping_neg w32 z))
+-- whatever the qualifiers are
+grammar (type_behind q (referred i)) = known_type i
+-- an optional E, an optional storage class, and a type with both
+grammar pointee = do
+  size ← optional pointer_sizes
+  class ← optional storage_classes
+  call (any_type (bit_or size class))
+-- A number above 0, as many lengths, the qualifiers of each level behind $$C, and the type of the elements. The type
+-- stands in both alternatives, since it is its bytes that tell where $$C does not begin.
+grammar array = do
+  n ← call dimension
+  zs ← call (lengths n)
+  literal_or (codes "$$C")
+      (do q ← letter bits qualifiers_of_arrays; t ← call (any_type 0); give (arrays zs t q))
+      (do t ← call (any_type 0); give (arrays zs t 0))
+grammar dimension = do
+  z ← call number
+  call (positive z)
+grammar (positive (pos (suc n))) = give (suc n)
+grammar (positive _) = never
+-- as many numbers
+grammar (lengths zero) = give []
+grammar (lengths (suc n)) = do
+  z ← call number
+  zs ← call (lengths n)
+  give (z ∷ zs)
+grammar qualified_name = do
+  n ← call simple_name
+  ns ← call scope
+  give (n, ns)
+-- names up to an @
+grammar scope = literal_or (codes "@") (give []) (do n ← call simple_name; ns ← call scope; give (n ∷ ns))
+-- A digit is an entry of the table; a source name enters the table. What begins with ? is not built yet.
+grammar simple_name =
+    letter_or digits
+    (λ i. known_name i)
+    (here (none_of (codes "?" ∷ [])) new_source_name)
+-- the bytes up to the first @
+grammar source_name = up_to 64
+-- a ? negates
+grammar number = literal_or (codes "?") (do z ← call magnitude; give (int_wrapping_neg w32 z)) (call magnitude)
+-- one digit stands for one more than itself
+grammar magnitude = letter_or digits (λ d. give (cast_signed w32 (d + 1))) signed_letters
+-- letters are the digits to base 16 behind a value that others had, and an @ ends them
+grammar (letters value) =
+    (do literal (codes "@"); give value)
+    or (do d ← letter bits hexadecimal; call (letters (value * 16 + d)))

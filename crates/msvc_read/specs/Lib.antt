@@ -1,7 +1,8 @@
 pub mod Grammar
-pub mod Letters
 pub mod Parser
 pub mod Parts
-pub mod Reading
+pub mod Reads
 pub mod Refusals
+pub mod Rules
+pub mod Sorts
 pub mod State

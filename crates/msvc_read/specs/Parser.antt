@@ -1,10 +1,18 @@
--- The state that a parser of the program stands for.
-use Rattle.std.specs.Prelude.{map}
+-- The state that a parser of the program stands for, and what its readers give.
+use Rattle.std.specs.Prelude.{ℕ, List, [], ◌∷◌, Option, Some, None, Result, Ok, Err, Bool, true, false, ◌≡◌, ◌==◌, ◌+◌}
+use Rattle.std.specs.Prelude.{map, position, take, drop, if◌then◌else◌}
+use Rattle.msvc_tree.specs.declared.kinds.PlainType.TheVariants as plain_kind
+use Rattle.msvc_tree.specs.Trees.{TypeTree, plain}
 use Rattle.msvc_tree.specs.View.{name_of, type_of}
+use Rattle.msvc_read.specs.Reads.{Found, read_name}
+use Rattle.msvc_read.specs.Rules.{encoding_behind, type_behind}
+use Rattle.msvc_read.specs.Sorts.{EncodingLetter, TypeLetter, member_of}
 use Rattle.msvc_read.specs.State as state
 use Rattle.msvc_read.specs.declared.parser.BackReference.{BackReference}
 use Rattle.msvc_read.specs.declared.parser.Entry.{Entry}
 use Rattle.msvc_read.specs.declared.parser.Parser.{Parser}
+use Rattle.msvc_read.specs.declared.refusal.Refusal.{Refusal}
+use Rattle.msvc_read.specs.declared.refusal.Refusal.TheVariants as refusal
 
 abbrev pub entry_of : Entry → state.Entry
 entry_of e = record { entered = type_of e.entered; start = e.start; end = e.end }
@@ -13,4 +21,57 @@ abbrev pub note_of : BackReference → state.Note
 note_of n = record { at = n.at; start = n.start; end = n.end }
 
 abbrev pub state_of : Parser → state.State
-state_of p = record { whole = p.whole; names = map name_of p.names.items; types = map entry_of p.types.items; notes = map note_of p.notes.items }
+state_of p =
+    record {
+      whole = p.whole;
+      names = map name_of p.names.items;
+      types = map entry_of p.types.items;
+      notes = map note_of p.notes.items;
+    }
+
+-- a refusal that isn't for want of memory says that nothing is read
+abbrev pub Refuses : {Y : Type 0} → Refusal → Option Y → Type 0
+Refuses refusal.Memory read = Unit {0}
+Refuses (refusal.Unread message left) read = read ≡ None
+
+-- what a reader of the program returned, seen by view, is what is read
+abbrev pub Gives : {X Y : Type 0} → (X → Y) → Result X Refusal → Option Y → Type 0
+Gives view (Ok x) read = read ≡ Some (view x)
+Gives view (Err e) read = Refuses e read
+
+-- the next byte
+unfoldable pub byte_here : List ℕ → state.State → Found ℕ
+byte_here [] s = None
+byte_here (b ∷ bs) s = Some (b, bs, s)
+
+-- what is read behind the first letter of a type, of the type of a symbol, and of that of a member function
+unfoldable pub type_by : ℕ → Option TypeLetter → List ℕ → state.State → Found TypeTree
+type_by q None left s = None
+type_by q (Some l) left s = read_name (type_behind q l) left s
+
+unfoldable pub encoding_by : Option EncodingLetter → List ℕ → state.State → Found TypeTree
+encoding_by None left s = None
+encoding_by (Some l) left s = read_name (encoding_behind l) left s
+
+unfoldable pub member_by : Option ℕ → List ℕ → state.State → Found TypeTree
+member_by None left s = None
+member_by (Some class) left s = read_name (encoding_behind (member_of class)) left s
+
+-- how many bytes stand before the first @
+unfoldable pub name_length : List ℕ → Option ℕ
+name_length left = position (λ b. b == 64) left
+
+-- the bytes before a place and those behind the byte there, if there is one
+abbrev pub cut_at : Option ℕ → List ℕ → state.State → Found (List ℕ)
+cut_at None left s = None
+cut_at (Some i) left s = Some (take i left, drop (i + 1) left, s)
+
+-- where a list of parameters stops, whether at a Z, and the bytes behind it
+unfoldable pub parameters_stop : List ℕ → Option (Bool × List ℕ)
+parameters_stop [] = Some (false, [])
+parameters_stop (b ∷ bs) = if b == 64 then Some (false, bs) else (if b == 90 then Some (true, bs) else None)
+
+-- what a list of parameters has behind its last one
+abbrev pub ellipsis : Bool → List TypeTree
+ellipsis true = plain plain_kind.Variadic ∷ []
+ellipsis false = []

@@ -27,6 +27,10 @@ pub record State : Type 0 where
 abbrev pub place : List ℕ → State → ℕ
 place left s = s.whole - length left
 
+-- the entry of a type whose bytes begin at left and end where behind is left
+abbrev pub span_of : TypeTree → List ℕ → List ℕ → State → Entry
+span_of t left behind s = record { entered = t; start = place left s; end = place behind s }
+
 -- the state in which the reading of a text begins
 abbrev pub beginning : List ℕ → State
 beginning text = record { whole = length text; names = []; types = []; notes = [] }

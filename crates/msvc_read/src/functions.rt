@@ -1,10 +1,13 @@
 //! Functions, and the functions of classes.
 
-ghost use Rattle.std.specs.Prelude.{◌≡◌, ◌≤◌, length};
+ghost use Rattle.std.specs.Prelude.{◌≡◌, Some, map};
 ghost use Rattle.msvc_tree.specs.View.{type_of};
-ghost use Rattle.msvc_read.specs.Letters.{conventions};
-ghost use Rattle.msvc_read.specs.Parser.{state_of};
-ghost use Rattle.msvc_read.specs.Reading.{Gives, letter_at, function_at, function_qualifiers_at, member_at, member_function_at, return_qualifiers_at, returned_at};
+ghost use Rattle.msvc_read.specs.Grammar.{conventions, has};
+ghost use Rattle.msvc_read.specs.Parser.{Gives, state_of};
+ghost use Rattle.msvc_read.specs.Reads.{read_name, letter_here};
+ghost use Rattle.msvc_read.specs.Rules.{encoding_behind, function_qualifiers, own_qualifiers, return_qualifiers};
+ghost use Rattle.msvc_read.specs.Rules.{returned, signature, thunk_number};
+ghost use Rattle.msvc_read.specs.Sorts.{member_of, plain_function};
 
 use crate::letters;
 use crate::parser::Parser;
@@ -12,54 +15,94 @@ use crate::refusal::{Message, Refusal};
 use bitflags::Flags;
 use msvc_tree::flags::{FuncClass, StorageClass};
 use msvc_tree::made::boxed_made;
-use msvc_tree::tree::{CallingConv, Type};
+use msvc_tree::tree::{CallingConv, Params, Type};
+
+/// What a function of either kind is made of.
+#[derive(Drop)]
+struct Signature<'a> {
+    convention: CallingConv,
+    returned: Box<Type<'a>>,
+    parameters: Params<'a>,
+}
 
 impl<'a> Parser<'a> {
-    /// `FUNCTION = convention RETURN_QUALIFIERS TYPE FUNCTION_PARAMETERS`: a function outside of any class.
-    #[tactic(auto, using(crate::proofs::Signatures::function_split), unfolding(crate::specs::Reading::function_at))]
+    /// `FUNCTION = SIGNATURE`: a function outside of any class.
+    #[tactic(auto, using(crate::proofs::Readers::function_split))]
     pub fn function(&mut self) -> Result<Type<'a>, Refusal>
-        ensures { Gives (λ t. (type_of t, self.new.rest.now, state_of self.new)) result (function_at self.old.rest.now (state_of self.old)) }
+        ensures { Gives (λ t. (type_of t, self.new.rest.now, state_of self.new)) result
+            (read_name (encoding_behind plain_function) self.old.rest.now (state_of self.old)) }
     {
-        let convention = self.convention()?;
-        let q = self.return_qualifiers()?;
-        let returned = self.boxed_type(q)?;
-        let parameters = self.function_parameters()?;
-        Ok(Type::NonMemberFunction(convention, parameters, StorageClass::empty(), returned))
+        let f = self.signature(false)?;
+        Ok(Type::NonMemberFunction(
+            f.convention,
+            f.parameters,
+            StorageClass::empty(),
+            f.returned,
+        ))
     }
 
-    /// `MEMBER = [NUMBER] [FUNCTION_QUALIFIERS] MEMBER_FUNCTION`: a thunk has the number, which is dropped, and a
-    /// static function has no qualifiers of its own.
-    #[tactic(auto, unfolding(crate::specs::Reading::member_at))]
+    /// `MEMBER = [THUNK_NUMBER] [OWN_QUALIFIERS] SIGNATURE`.
+    #[tactic(auto, using(crate::proofs::Readers::member_split))]
     pub fn member(&mut self, class: FuncClass) -> Result<Type<'a>, Refusal>
-        ensures { Gives (λ t. (type_of t, self.new.rest.now, state_of self.new)) result (member_at class.0 self.old.rest.now (state_of self.old)) }
+        ensures { Gives (λ t. (type_of t, self.new.rest.now, state_of self.new)) result
+            (read_name (encoding_behind (member_of class.0)) self.old.rest.now (state_of self.old)) }
+    {
+        self.thunk_number(class)?;
+        let own = self.own_qualifiers(class);
+        let f = self.signature(true)?;
+        Ok(Type::MemberFunction(class, f.convention, f.parameters, own, f.returned))
+    }
+
+    /// `THUNK_NUMBER = NUMBER`: a thunk has a number, which is dropped.
+    #[tactic(auto, using(crate::proofs::Steps::thunk_number_is))]
+    fn thunk_number(&mut self, class: FuncClass) -> Result<(), Refusal>
+        ensures { Gives (λ _. (tt, self.new.rest.now, state_of self.new)) result
+            (read_name (thunk_number (has class.0 128)) self.old.rest.now (state_of self.old)) }
     {
         if class.contains(FuncClass::THUNK) {
             self.number()?;
         }
-        let own = if class.contains(FuncClass::STATIC) {
-            StorageClass::empty()
-        } else {
-            self.function_qualifiers()
-        };
-        self.member_function(class, own)
+        Ok(())
     }
 
-    /// `MEMBER_FUNCTION = convention RETURN_QUALIFIERS RETURNED FUNCTION_PARAMETERS`.
-    #[tactic(auto, using(crate::proofs::Signatures::function_split), unfolding(crate::specs::Reading::member_function_at))]
-    fn member_function(&mut self, class: FuncClass, own: StorageClass) -> Result<Type<'a>, Refusal>
-        ensures { Gives (λ t. (type_of t, self.new.rest.now, state_of self.new)) result (member_function_at class.0 own.0 self.old.rest.now (state_of self.old)) }
+    /// `OWN_QUALIFIERS = FUNCTION_QUALIFIERS`: a static function has no qualifiers of its own.
+    #[tactic(auto, using(crate::proofs::Steps::own_qualifiers_is))]
+    fn own_qualifiers(&mut self, class: FuncClass) -> StorageClass
+        ensures { read_name (own_qualifiers (has class.0 16)) self.old.rest.now (state_of self.old)
+            ≡ Some (result.0, self.new.rest.now, state_of self.new) }
+    {
+        if class.contains(FuncClass::STATIC) {
+            return StorageClass::empty();
+        }
+        self.function_qualifiers()
+    }
+
+    /// `SIGNATURE = convention RETURN_QUALIFIERS RETURNED FUNCTION_PARAMETERS`.
+    #[tactic(auto, using(crate::proofs::Steps::signature_is))]
+    fn signature(&mut self, member: bool) -> Result<Signature<'a>, Refusal>
+        ensures { Gives (λ f. (
+          (f.convention, (type_of f.returned.value, map type_of f.parameters.types.items)),
+          self.new.rest.now,
+          state_of self.new,
+        )) result
+            (read_name (signature member) self.old.rest.now (state_of self.old)) }
     {
         let convention = self.convention()?;
         let q = self.return_qualifiers()?;
-        let returned = self.returned(q)?;
+        let returned = self.returned(member, q)?;
         let parameters = self.function_parameters()?;
-        Ok(Type::MemberFunction(class, convention, parameters, own, returned))
+        Ok(Signature {
+            convention,
+            returned,
+            parameters,
+        })
     }
 
     /// How a function is called.
-    #[tactic(auto, unfolding(crate::specs::Reading::letter_at, crate::specs::Reading::byte_at))]
+    #[tactic(auto, using(crate::proofs::Steps::letter_is))]
     fn convention(&mut self) -> Result<CallingConv, Refusal>
-        ensures { Gives (λ c. (c, self.new.rest.now, state_of self.new)) result (letter_at conventions self.old.rest.now (state_of self.old)) }
+        ensures { Gives (λ c. (c, self.new.rest.now, state_of self.new)) result
+            (letter_here conventions self.old.rest.now (state_of self.old)) }
     {
         let letter = self.byte()?;
         match letters::convention(letter) {
@@ -69,9 +112,10 @@ impl<'a> Parser<'a> {
     }
 
     /// `RETURN_QUALIFIERS = ["?" qualifier of what is returned]`.
-    #[tactic(auto, unfolding(crate::specs::Reading::return_qualifiers_at, crate::specs::Reading::letter_at, crate::specs::Reading::byte_at))]
+    #[tactic(auto, using(crate::proofs::Steps::return_qualifiers_is))]
     fn return_qualifiers(&mut self) -> Result<StorageClass, Refusal>
-        ensures { Gives (λ q. (q.0, self.new.rest.now, state_of self.new)) result (return_qualifiers_at self.old.rest.now (state_of self.old)) }
+        ensures { Gives (λ q. (q.0, self.new.rest.now, state_of self.new)) result
+            (read_name return_qualifiers self.old.rest.now (state_of self.old)) }
     {
         let Some(behind) = self.after(b"?") else {
             return Ok(StorageClass::empty());
@@ -84,11 +128,15 @@ impl<'a> Parser<'a> {
         }
     }
 
-    /// `RETURNED = "@" | TYPE`: an `@` stands for no type, as a constructor has none.
-    #[tactic(auto, unfolding(crate::specs::Reading::returned_at, msvc_tree::specs::View::type_of))]
-    fn returned(&mut self, q: StorageClass) -> Result<Box<Type<'a>>, Refusal>
-        ensures { Gives (λ b. (type_of b.value, self.new.rest.now, state_of self.new)) result (returned_at q.0 self.old.rest.now (state_of self.old)) }
+    /// `RETURNED = "@" | TYPE`: of a member function, an `@` stands for no type, as a constructor has none.
+    #[tactic(auto, using(crate::proofs::Readers::returned_split))]
+    fn returned(&mut self, member: bool, q: StorageClass) -> Result<Box<Type<'a>>, Refusal>
+        ensures { Gives (λ b. (type_of b.value, self.new.rest.now, state_of self.new)) result
+            (read_name (returned member q.0) self.old.rest.now (state_of self.old)) }
     {
+        if !member {
+            return self.boxed_type(q);
+        }
         match self.after(b"@") {
             Some(behind) => {
                 self.rest = behind;
@@ -99,11 +147,10 @@ impl<'a> Parser<'a> {
     }
 
     /// `FUNCTION_QUALIFIERS = ["E"] ["I"] ["F"] ["G" | "H"] [qualifier]`.
-    #[tactic(auto, unfolding(crate::specs::Reading::function_qualifiers_at))]
+    #[tactic(auto, using(crate::proofs::Steps::function_qualifiers_is))]
     fn function_qualifiers(&mut self) -> StorageClass
-        ensures bits { result.0 ≡ (function_qualifiers_at self.old.rest.now).0 }
-        ensures rest { self.new.rest.now ≡ (function_qualifiers_at self.old.rest.now).1 }
-        ensures state { state_of self.new ≡ state_of self.old }
+        ensures { read_name function_qualifiers self.old.rest.now (state_of self.old)
+            ≡ Some (result.0, self.new.rest.now, state_of self.new) }
     {
         let size = self.optional_mark(b'E', StorageClass::PTR64);
         let restrict = self.optional_mark(b'I', StorageClass::RESTRICT);

@@ -4,7 +4,10 @@ ghost use Rattle.std.specs.Prelude.{◌≡◌};
 ghost use Rattle.std.specs.Option.{option_map};
 ghost use Rattle.msvc_tree.specs.View.{type_of};
 ghost use Rattle.msvc_tree.specs.Trees.{base};
-ghost use Rattle.msvc_read.specs.Letters.{lookup, digits, qualifiers, storage_classes, qualifiers_of_returns, qualifiers_of_arrays, reference_qualifiers, conventions, base_types, extended_types, function_classes};
+ghost use Rattle.msvc_read.specs.Grammar.{digits, hexadecimal, qualifiers, storage_classes};
+ghost use Rattle.msvc_read.specs.Grammar.{qualifiers_of_returns, qualifiers_of_arrays, reference_qualifiers};
+ghost use Rattle.msvc_read.specs.Grammar.{conventions, base_types, extended_types, function_classes};
+ghost use Rattle.msvc_read.specs.Rules.{lookup};
 
 use bitflags::Flags;
 use msvc_tree::flags::{FuncClass, StorageClass};
@@ -16,6 +19,16 @@ pub fn digit(letter: u8) -> Option<u8>
 {
     match letter {
         b'0'..=b'9' => Some(letter - b'0'),
+        _ => None,
+    }
+}
+
+/// A digit to base 16.
+pub fn hexadecimal(letter: u8) -> Option<u8>
+    ensures { result ≡ lookup letter hexadecimal }
+{
+    match letter {
+        b'A'..=b'P' => Some(letter - b'A'),
         _ => None,
     }
 }

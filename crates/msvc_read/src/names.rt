@@ -1,15 +1,15 @@
 //! Names, and the table of names.
 
-ghost use Rattle.std.specs.Prelude.{◌≡◌, ◌<◌, ◌∷◌, length, map, slice_get, IfOk, IfSome};
+ghost use Rattle.std.specs.Prelude.{◌≡◌, ◌<◌, length, map, slice_get, IfOk, IfSome};
 ghost use Rattle.std.specs.List.{list_any};
 ghost use Rattle.msvc_tree.specs.Equality.{same_name};
-ghost use Rattle.msvc_tree.specs.Trees.{spelled, source};
 ghost use Rattle.msvc_tree.specs.View.{name_of};
-ghost use Rattle.msvc_read.specs.Parser.{state_of};
-ghost use Rattle.msvc_read.specs.Reading.{Gives, source_name_at, new_source_name_at, simple_name_at, scope_at, entry_of, qualified_name_at, name_length};
+ghost use Rattle.msvc_read.specs.Grammar.{new_source_name};
+ghost use Rattle.msvc_read.specs.Parser.{Gives, state_of, cut_at, name_length};
+ghost use Rattle.msvc_read.specs.Reads.{read, read_name, with_value};
+ghost use Rattle.msvc_read.specs.Rules.{qualified_name, scope, simple_name};
 ghost use Rattle.msvc_read.specs.State.{remember_name};
 
-use crate::letters;
 use crate::parser::Parser;
 use crate::refusal::{Message, Refusal};
 use msvc_tree::made::{made_as, push_made};
@@ -18,9 +18,9 @@ use std::alloc::AllocError;
 
 impl<'a> Parser<'a> {
     /// `SOURCE_NAME = {byte} "@"`: the bytes up to the next `@`, possibly none.
-    #[tactic(auto, unfolding(crate::specs::Reading::source_name_at))]
     fn source_name(&mut self) -> Result<&'a [u8], Refusal>
-        ensures value { Gives (λ n. (n.now, self.new.rest.now, state_of self.new)) result (source_name_at self.old.rest.now (state_of self.old)) }
+        ensures value { Gives (λ n. (n.now, self.new.rest.now, state_of self.new)) result
+            (cut_at (name_length self.old.rest.now) self.old.rest.now (state_of self.old)) }
         ensures shorter { IfOk result (λ _. length self.new.rest.now < length self.old.rest.now) }
     {
         let bytes = self.rest;
@@ -32,9 +32,10 @@ impl<'a> Parser<'a> {
     }
 
     /// A source name, which enters the table of names.
-    #[tactic(auto, unfolding(crate::specs::Reading::new_source_name_at, msvc_tree::specs::View::name_of))]
+    #[tactic(auto, using(crate::proofs::Steps::new_source_name_is), unfolding(msvc_tree::specs::View::name_of))]
     fn new_source_name(&mut self) -> Result<Name<'a>, Refusal>
-        ensures value { Gives (λ n. (name_of n, self.new.rest.now, state_of self.new)) result (new_source_name_at self.old.rest.now (state_of self.old)) }
+        ensures value { Gives (λ n. (name_of n, self.new.rest.now, state_of self.new)) result
+            (read new_source_name self.old.rest.now (state_of self.old)) }
         ensures shorter { IfOk result (λ _. length self.new.rest.now < length self.old.rest.now) }
     {
         let text = self.source_name()?;
@@ -44,20 +45,17 @@ impl<'a> Parser<'a> {
     }
 
     /// `SIMPLE_NAME = digit | SOURCE_NAME`: a digit stands for an entry of the table.
-    #[tactic(auto, unfolding(crate::specs::Reading::simple_name_at))]
+    #[tactic(auto, using(crate::proofs::Steps::simple_name_is))]
     pub fn simple_name(&mut self) -> Result<Name<'a>, Refusal>
-        ensures value { Gives (λ n. (name_of n, self.new.rest.now, state_of self.new)) result (simple_name_at self.old.rest.now (state_of self.old)) }
+        ensures value { Gives (λ n. (name_of n, self.new.rest.now, state_of self.new)) result
+            (read_name simple_name self.old.rest.now (state_of self.old)) }
         ensures shorter { IfOk result (λ _. length self.new.rest.now < length self.old.rest.now) }
     {
-        let [first, behind @ ..] = self.rest else {
-            return Err(self.refuse(Message::MissingAt));
-        };
-        if let Some(index) = letters::digit(*first) {
-            self.rest = behind;
+        if let Some(index) = self.digit() {
             return self.name_entry(index);
         }
-        if *first == b'?' {
-            return Err(self.not_built());
+        if self.after(b"?").is_some() {
+            return Err(self.refuse(Message::NotBuilt));
         }
         self.new_source_name()
     }
@@ -65,7 +63,7 @@ impl<'a> Parser<'a> {
     /// The entry of the table of names that a digit stands for.
     fn name_entry(&self, index: u8) -> Result<Name<'a>, Refusal>
         ensures { Gives (λ n. (name_of n, self.now.rest.now, state_of self.now)) result
-            (entry_of (slice_get (map name_of self.now.names.items) index) self.now.rest.now (state_of self.now)) }
+            (with_value (slice_get (map name_of self.now.names.items) index) self.now.rest.now (state_of self.now)) }
     {
         match self.names.get(usize::from(index)) {
             Some(name) => made_as(name.clone(self.alloc)),
@@ -85,9 +83,10 @@ impl<'a> Parser<'a> {
     }
 
     /// `SCOPE = {SIMPLE_NAME} "@"`, the innermost name first.
-    #[tactic(auto, using(crate::proofs::Onward::scope_goes_on))]
+    #[tactic(auto, using(crate::proofs::Steps::scope_goes_on))]
     fn scope(&mut self) -> Result<NameSequence<'a>, Refusal>
-        ensures value { Gives (λ n. (map name_of n.names.items, self.new.rest.now, state_of self.new)) result (scope_at self.old.rest.now (state_of self.old)) }
+        ensures value { Gives (λ n. (map name_of n.names.items, self.new.rest.now, state_of self.new)) result
+            (read_name scope self.old.rest.now (state_of self.old)) }
         ensures shorter { IfOk result (λ _. length self.new.rest.now < length self.old.rest.now) }
     {
         let mut names = Vec::new(self.alloc);
@@ -102,9 +101,11 @@ impl<'a> Parser<'a> {
     }
 
     /// `QUALIFIED_NAME = SIMPLE_NAME SCOPE`.
-    #[tactic(auto, unfolding(crate::specs::Reading::qualified_name_at))]
+    #[tactic(auto, using(crate::proofs::Steps::qualified_name_is))]
     pub fn qualified_name(&mut self) -> Result<Symbol<'a>, Refusal>
-        ensures value { Gives (λ n. ((name_of n.name, map name_of n.scope.names.items), self.new.rest.now, state_of self.new)) result (qualified_name_at self.old.rest.now (state_of self.old)) }
+        ensures value { Gives
+            (λ n. ((name_of n.name, map name_of n.scope.names.items), self.new.rest.now, state_of self.new)) result
+            (read_name qualified_name self.old.rest.now (state_of self.old)) }
         ensures shorter { IfOk result (λ _. length self.new.rest.now < length self.old.rest.now) }
     {
         let name = self.simple_name()?;
@@ -114,7 +115,7 @@ impl<'a> Parser<'a> {
 }
 
 /// How many bytes stand before the first `@`.
-#[tactic(auto, unfolding(crate::specs::Reading::name_length))]
+#[tactic(auto, unfolding(crate::specs::Parser::name_length))]
 fn name_length(bytes: &[u8]) -> Option<usize>
     ensures value { result ≡ name_length bytes.now }
     ensures inside { IfSome result (λ n. n < length bytes.now) }

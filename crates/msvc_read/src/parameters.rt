@@ -1,16 +1,17 @@
 //! Parameters, and the table of types that they enter.
 
-ghost use Rattle.std.specs.Prelude.{◌≡◌, ◌<◌, ◌∷◌, ◌++◌, [], length, map, slice_get, IfOk, Ok};
+ghost use Rattle.std.specs.Prelude.{◌≡◌, ◌<◌, ◌∷◌, ◌++◌, [], codes, length, map, slice_get, IfOk, Ok};
 ghost use Rattle.std.specs.Option.{option_map};
 ghost use Rattle.std.specs.List.{list_any};
 ghost use Rattle.msvc_tree.specs.Equality.{same_type};
-ghost use Rattle.msvc_tree.specs.Trees.{base, void};
+ghost use Rattle.msvc_tree.specs.Trees.{base};
+ghost use Rattle.msvc_tree.specs.declared.kinds.BaseType.TheVariants as base_kind;
 ghost use Rattle.msvc_tree.specs.View.{type_of};
-ghost use Rattle.msvc_read.specs.Parser.{state_of, entry_of};
-ghost use Rattle.msvc_read.specs.Reading.{Gives, after, ellipsis, function_parameters_at, new_parameter_at, noted_of, parameter_at, parameters_at, parameters_stop, span_of};
-ghost use Rattle.msvc_read.specs.State.{remember_type};
+ghost use Rattle.msvc_read.specs.Parser.{Gives, state_of, entry_of, ellipsis, parameters_stop};
+ghost use Rattle.msvc_read.specs.Reads.{read, read_name, entered_by, type_noted};
+ghost use Rattle.msvc_read.specs.Rules.{any_type, literal, function_parameters, parameter, parameters};
+ghost use Rattle.msvc_read.specs.State.{remember_type, span_of};
 
-use crate::letters;
 use crate::parser::{BackReference, Entry, Parser};
 use crate::refusal::{Message, Refusal};
 use bitflags::Flags;
@@ -21,17 +22,17 @@ use std::alloc::AllocError;
 
 impl<'a> Parser<'a> {
     /// `FUNCTION_PARAMETERS = ("X" | PARAMETERS) "Z"`: an `X` is one void.
-    #[tactic(auto, unfolding(crate::specs::Reading::function_parameters_at, msvc_tree::specs::View::type_of))]
+    #[tactic(auto, using(crate::proofs::Readers::parameters_closed))]
     pub fn function_parameters(&mut self) -> Result<Params<'a>, Refusal>
-        ensures { Gives (λ p. (map type_of p.types.items, self.new.rest.now, state_of self.new)) result (function_parameters_at self.old.rest.now (state_of self.old)) }
+        ensures { Gives (λ p. (map type_of p.types.items, self.new.rest.now, state_of self.new)) result
+            (read_name function_parameters self.old.rest.now (state_of self.old)) }
     {
-        let parameters = match self.after(b"X") {
-            Some(behind) => {
-                self.rest = behind;
-                self.no_parameters()?
-            }
-            None => self.parameters()?,
-        };
+        if let Some(behind) = self.after(b"X") {
+            self.rest = behind;
+            self.closing_z()?;
+            return Ok(self.no_parameters()?);
+        }
+        let parameters = self.parameters()?;
         self.closing_z()?;
         Ok(parameters)
     }
@@ -39,7 +40,7 @@ impl<'a> Parser<'a> {
     /// One void.
     #[tactic(auto, unfolding(msvc_tree::specs::View::type_of))]
     fn no_parameters(&self) -> Result<Params<'a>, AllocError>
-        ensures { IfOk result (λ p. map type_of p.types.items ≡ base void 0 ∷ []) }
+        ensures { IfOk result (λ p. map type_of p.types.items ≡ base base_kind.Void 0 ∷ []) }
     {
         let mut types = Vec::new(self.alloc);
         push_item(&mut types, Type::Void(StorageClass::empty()))?;
@@ -47,9 +48,10 @@ impl<'a> Parser<'a> {
     }
 
     /// The `Z` behind the parameters of a function.
+    #[tactic(auto, unfolding(crate::specs::Reads::read, crate::specs::Reads::read_by))]
     fn closing_z(&mut self) -> Result<(), Refusal>
-        ensures value { Gives (λ _. self.new.rest.now) result (after (90 ∷ []) self.old.rest.now) }
-        ensures state { state_of self.new ≡ state_of self.old }
+        ensures { Gives (λ _. (tt, self.new.rest.now, state_of self.new)) result
+            (read (literal (codes "Z")) self.old.rest.now (state_of self.old)) }
     {
         let Some(behind) = self.after(b"Z") else {
             return Err(self.refuse(Message::ZExpected));
@@ -59,9 +61,10 @@ impl<'a> Parser<'a> {
     }
 
     /// `PARAMETERS = {PARAMETER} ("@" | "Z" | end)`: a `Z` adds an ellipsis.
-    #[tactic(auto, using(crate::proofs::Signatures::parameters_go_on))]
+    #[tactic(auto, using(crate::proofs::Steps::parameters_go_on))]
     fn parameters(&mut self) -> Result<Params<'a>, Refusal>
-        ensures { Gives (λ p. (map type_of p.types.items, self.new.rest.now, state_of self.new)) result (parameters_at self.old.rest.now (state_of self.old)) }
+        ensures { Gives (λ p. (map type_of p.types.items, self.new.rest.now, state_of self.new)) result
+            (read_name parameters self.old.rest.now (state_of self.old)) }
     {
         let mut types = Vec::new(self.alloc);
         'parameters: loop {
@@ -75,20 +78,15 @@ impl<'a> Parser<'a> {
     }
 
     /// `PARAMETER = digit | TYPE`: a digit stands for an entry of the table of types.
-    #[tactic(auto, unfolding(crate::specs::Reading::parameter_at))]
+    #[tactic(auto, using(crate::proofs::Steps::parameter_is))]
     fn parameter(&mut self) -> Result<Type<'a>, Refusal>
-        ensures value { Gives (λ t. (type_of t, self.new.rest.now, state_of self.new)) result (parameter_at self.old.rest.now (state_of self.old)) }
+        ensures value { Gives (λ t. (type_of t, self.new.rest.now, state_of self.new)) result
+            (read_name parameter self.old.rest.now (state_of self.old)) }
         ensures shorter { IfOk result (λ _. length self.new.rest.now < length self.old.rest.now) }
     {
         let left = self.rest;
-        let [first, behind @ ..] = left else {
-            return Err(self.refuse(Message::EndOfInput));
-        };
-        match letters::digit(*first) {
-            Some(index) => {
-                self.rest = behind;
-                self.noted_entry(index, left)
-            }
+        match self.digit() {
+            Some(index) => self.noted_entry(index, left),
             None => self.new_parameter(),
         }
     }
@@ -96,7 +94,8 @@ impl<'a> Parser<'a> {
     /// The entry of the table of types that a digit stands for. The digit, with which `left` begins, is noted.
     fn noted_entry(&mut self, index: u8, left: &[u8]) -> Result<Type<'a>, Refusal>
         ensures value { Gives (λ t. (type_of t, self.new.rest.now, state_of self.new)) result
-            (noted_of (slice_get (map entry_of self.old.types.items) index) left.now self.old.rest.now (state_of self.old)) }
+            (type_noted (slice_get (map entry_of self.old.types.items) index) left.now self.old.rest.now
+            (state_of self.old)) }
         ensures rest { self.new.rest.now ≡ self.old.rest.now }
     {
         let Some(entry) = self.types.get(usize::from(index)) else {
@@ -114,7 +113,8 @@ impl<'a> Parser<'a> {
 
     /// A type that enters the table if more than one byte is read for it.
     fn new_parameter(&mut self) -> Result<Type<'a>, Refusal>
-        ensures value { Gives (λ t. (type_of t, self.new.rest.now, state_of self.new)) result (new_parameter_at self.old.rest.now (state_of self.old)) }
+        ensures value { Gives (λ t. (type_of t, self.new.rest.now, state_of self.new)) result
+            (entered_by self.old.rest.now (read_name (any_type 0) self.old.rest.now (state_of self.old))) }
         ensures shorter { IfOk result (λ _. length self.new.rest.now < length self.old.rest.now) }
     {
         let left = self.rest;
@@ -130,7 +130,9 @@ impl<'a> Parser<'a> {
 
     /// Enters the type of the bytes from `left` up to those left into the table, if there is room and no equal type.
     fn remember_type(&mut self, entered: &Type<'a>, left: &[u8]) -> Result<(), AllocError>
-        ensures value { IfOk result (λ _. state_of self.new ≡ remember_type (span_of (type_of entered.now) left.now self.old.rest.now (state_of self.old)) (state_of self.old)) }
+        ensures value { IfOk result (λ _. state_of self.new
+            ≡ remember_type (span_of (type_of entered.now) left.now self.old.rest.now (state_of self.old))
+            (state_of self.old)) }
         ensures rest { self.new.rest.now ≡ self.old.rest.now }
     {
         if self.types.len() < 10 && !is_known(&self.types, entered) {
@@ -158,7 +160,7 @@ fn entry<'a>(
 }
 
 /// Where parameters stop: whether at a `Z`, and what is behind.
-#[tactic(auto, unfolding(crate::specs::Reading::parameters_stop))]
+#[tactic(auto, unfolding(crate::specs::Parser::parameters_stop))]
 fn parameters_stop<'a>(left: &'a [u8]) -> Option<(bool, &'a [u8])>
     ensures { option_map (λ stop. (stop.0, stop.1.now)) result ≡ parameters_stop left.now }
 {
@@ -171,7 +173,7 @@ fn parameters_stop<'a>(left: &'a [u8]) -> Option<(bool, &'a [u8])>
 }
 
 /// A list of parameters, with an ellipsis behind them if there is one.
-#[tactic(auto, using(crate::proofs::Signatures::parameters_go_on))]
+#[tactic(auto, using(crate::proofs::Readers::parameters_end))]
 fn with_ellipsis<'a>(mut types: Vec<Type<'a>>, variadic: bool) -> Result<Params<'a>, AllocError>
     ensures { IfOk result (λ p. map type_of p.types.items ≡ map type_of types.entry.items ++ ellipsis variadic) }
 {

@@ -1,9 +1,11 @@
 //! The bytes left and the tables, and the steps that read a byte or a few.
 
-ghost use Rattle.std.specs.Prelude.{◌≡◌, ◌≤◌, ◌+◌, ◌∷◌, [], length, IfSome};
+ghost use Rattle.std.specs.Prelude.{◌≡◌, ◌≤◌, ◌<◌, ◌+◌, ◌∷◌, [], Some, length, IfOk, IfSome, MatchOption};
 ghost use Rattle.std.specs.Option.{option_map};
-ghost use Rattle.msvc_read.specs.Letters.{qualifiers, storage_classes, reference_qualifiers};
-ghost use Rattle.msvc_read.specs.Reading.{Gives, after, byte_at, optional_at};
+ghost use Rattle.msvc_read.specs.Grammar.{digits, qualifiers, storage_classes, reference_qualifiers};
+ghost use Rattle.msvc_read.specs.Parser.{Gives, byte_here};
+ghost use Rattle.msvc_read.specs.Reads.{read, letter_here};
+ghost use Rattle.msvc_read.specs.Rules.{after, optional};
 ghost use Rattle.msvc_read.specs.State.{place};
 
 use crate::letters;
@@ -74,13 +76,6 @@ impl<'a> Parser<'a> {
         Refusal::Unread(message, self.rest.len())
     }
 
-    /// That only a rule which isn't built yet could read on from here.
-    pub fn not_built(&self) -> Refusal
-        ensures { result ≡ Refusal.NotBuilt (length self.now.rest.now) }
-    {
-        Refusal::NotBuilt(self.rest.len())
-    }
-
     /// The place in the text where the bytes left begin with these.
     pub fn place_of(&self, left: &[u8]) -> usize
         ensures { result ≡ place left.now (state_of self.now) }
@@ -88,18 +83,49 @@ impl<'a> Parser<'a> {
         self.whole.saturating_sub(left.len())
     }
 
-    /// The next byte.
-    #[tactic(auto, unfolding(crate::specs::Reading::byte_at))]
-    pub fn byte(&mut self) -> Result<u8, Refusal>
-        ensures { Gives (λ b. (b, self.new.rest.now, state_of self.new)) result (byte_at self.old.rest.now (state_of self.old)) }
+    /// The next byte, if one is left.
+    #[tactic(auto, unfolding(crate::specs::Parser::byte_here))]
+    pub fn next_byte(&mut self) -> Option<u8>
+        ensures value { option_map (λ b. (b, self.new.rest.now, state_of self.new)) result
+            ≡ byte_here self.old.rest.now (state_of self.old) }
+        ensures shorter { IfSome result (λ b. length self.new.rest.now < length self.old.rest.now) }
+        ensures still { MatchOption result (self.new.rest.now ≡ self.old.rest.now) (λ b. Unit {0}) }
+        ensures state { state_of self.new ≡ state_of self.old }
     {
-        match self.rest {
-            [first, rest @ ..] => {
-                self.rest = rest;
-                Ok(*first)
-            }
-            [] => Err(self.refuse(Message::EndOfInput)),
+        let [first, behind @ ..] = self.rest else {
+            return None;
+        };
+        self.rest = behind;
+        Some(*first)
+    }
+
+    /// The next byte.
+    pub fn byte(&mut self) -> Result<u8, Refusal>
+        ensures value { Gives (λ b. (b, self.new.rest.now, state_of self.new)) result
+            (byte_here self.old.rest.now (state_of self.old)) }
+        ensures shorter { IfOk result (λ b. length self.new.rest.now < length self.old.rest.now) }
+    {
+        match self.next_byte() {
+            Some(byte) => Ok(byte),
+            None => Err(self.refuse(Message::EndOfInput)),
         }
+    }
+
+    /// The entry of a table that the next byte stands for, if it is a digit.
+    pub fn digit(&mut self) -> Option<u8>
+        ensures value { option_map (λ d. (d, self.new.rest.now, state_of self.new)) result
+            ≡ letter_here digits self.old.rest.now (state_of self.old) }
+        ensures shorter { IfSome result (λ d. length self.new.rest.now < length self.old.rest.now) }
+        ensures still { MatchOption result (self.new.rest.now ≡ self.old.rest.now) (λ d. Unit {0}) }
+        ensures state { state_of self.new ≡ state_of self.old }
+    {
+        if let [first, behind @ ..] = self.rest {
+            if let Some(digit) = letters::digit(*first) {
+                self.rest = behind;
+                return Some(digit);
+            }
+        }
+        None
     }
 
     /// What follows a literal, if the bytes left begin with it.
@@ -111,12 +137,11 @@ impl<'a> Parser<'a> {
     }
 
     /// A storage class, if the next byte is the letter of one; else no bits.
-    #[tactic(auto, unfolding(crate::specs::Reading::optional_at))]
+    #[tactic(auto, unfolding(crate::specs::Reads::read, crate::specs::Reads::read_by))]
     pub fn optional_storage_class(&mut self) -> StorageClass
-        ensures bits { result.0 ≡ (optional_at storage_classes self.old.rest.now).0 }
-        ensures rest { self.new.rest.now ≡ (optional_at storage_classes self.old.rest.now).1 }
+        ensures value { read (optional storage_classes) self.old.rest.now (state_of self.old)
+            ≡ Some (result.0, self.new.rest.now, state_of self.new) }
         ensures shorter { length self.new.rest.now ≤ length self.old.rest.now }
-        ensures state { state_of self.new ≡ state_of self.old }
     {
         if let [first, rest @ ..] = self.rest {
             if let Some(class) = letters::storage_class(*first) {
@@ -128,12 +153,11 @@ impl<'a> Parser<'a> {
     }
 
     /// `const` and `volatile` of a member function, if the next byte is the letter of these; else no bits.
-    #[tactic(auto, unfolding(crate::specs::Reading::optional_at))]
+    #[tactic(auto, unfolding(crate::specs::Reads::read, crate::specs::Reads::read_by))]
     pub fn optional_qualifier(&mut self) -> StorageClass
-        ensures bits { result.0 ≡ (optional_at qualifiers self.old.rest.now).0 }
-        ensures rest { self.new.rest.now ≡ (optional_at qualifiers self.old.rest.now).1 }
+        ensures value { read (optional qualifiers) self.old.rest.now (state_of self.old)
+            ≡ Some (result.0, self.new.rest.now, state_of self.new) }
         ensures shorter { length self.new.rest.now ≤ length self.old.rest.now }
-        ensures state { state_of self.new ≡ state_of self.old }
     {
         if let [first, rest @ ..] = self.rest {
             if let Some(qualifier) = letters::qualifier(*first) {
@@ -145,12 +169,11 @@ impl<'a> Parser<'a> {
     }
 
     /// `&` or `&&` behind a member function, if the next byte is the letter of one; else no bits.
-    #[tactic(auto, unfolding(crate::specs::Reading::optional_at))]
+    #[tactic(auto, unfolding(crate::specs::Reads::read, crate::specs::Reads::read_by))]
     pub fn optional_reference(&mut self) -> StorageClass
-        ensures bits { result.0 ≡ (optional_at reference_qualifiers self.old.rest.now).0 }
-        ensures rest { self.new.rest.now ≡ (optional_at reference_qualifiers self.old.rest.now).1 }
+        ensures value { read (optional reference_qualifiers) self.old.rest.now (state_of self.old)
+            ≡ Some (result.0, self.new.rest.now, state_of self.new) }
         ensures shorter { length self.new.rest.now ≤ length self.old.rest.now }
-        ensures state { state_of self.new ≡ state_of self.old }
     {
         if let [first, rest @ ..] = self.rest {
             if let Some(reference) = letters::reference_qualifier(*first) {
@@ -162,12 +185,11 @@ impl<'a> Parser<'a> {
     }
 
     /// The bits of a single letter, if the next byte is that letter; else none.
-    #[tactic(auto, unfolding(crate::specs::Reading::optional_at))]
+    #[tactic(auto, unfolding(crate::specs::Reads::read, crate::specs::Reads::read_by))]
     pub fn optional_mark(&mut self, letter: u8, bits: StorageClass) -> StorageClass
-        ensures bits { result.0 ≡ (optional_at ((letter, bits.0) ∷ []) self.old.rest.now).0 }
-        ensures rest { self.new.rest.now ≡ (optional_at ((letter, bits.0) ∷ []) self.old.rest.now).1 }
+        ensures value { read (optional ((letter, bits.0) ∷ [])) self.old.rest.now (state_of self.old)
+            ≡ Some (result.0, self.new.rest.now, state_of self.new) }
         ensures shorter { length self.new.rest.now ≤ length self.old.rest.now }
-        ensures state { state_of self.new ≡ state_of self.old }
     {
         match self.rest {
             [first, rest @ ..] if *first == letter => {

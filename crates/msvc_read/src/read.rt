@@ -1,14 +1,16 @@
 //! The reading of a whole text.
 
-ghost use Rattle.std.specs.Prelude.{◌≡◌, ◌∷◌, [], ℕ, List, length, IfOk, IfErr, None, Err};
+ghost use Rattle.std.specs.Prelude.{◌≡◌, codes, ℕ, List, length, IfOk, IfErr, None, Err};
+ghost use Rattle.std.specs.Option.{option_map};
 ghost use Rattle.std.specs.Str.{IsUtf8};
 ghost use Rattle.msvc_tree.specs.EachName.{EachName};
 ghost use Rattle.msvc_tree.specs.Trees.{SymbolTree};
 ghost use Rattle.msvc_tree.specs.View.{tree_of};
-ghost use Rattle.msvc_read.specs.Grammar.{Derives, begins_with};
+ghost use Rattle.msvc_read.specs.Parser.{Gives};
 ghost use Rattle.msvc_read.specs.Parts.{NamesAreParts};
-ghost use Rattle.msvc_read.specs.Reading.{Gives, after, symbol_at, symbol_tree_of};
-ghost use Rattle.msvc_read.specs.Refusals.{IsRefusedRightly, IsAtOrMemory};
+ghost use Rattle.msvc_read.specs.Reads.{Derives, read_name};
+ghost use Rattle.msvc_read.specs.Refusals.{IsRefusedRightly, IsRefusalAt, begins_with};
+ghost use Rattle.msvc_read.specs.Rules.{after, symbol};
 ghost use Rattle.msvc_read.specs.State.{Note, beginning};
 
 use crate::parser::Parser;
@@ -23,13 +25,15 @@ use std::alloc::Global;
 /// A refusal has an offset into `input`, in bytes; one for want of memory has none, and leaves nothing behind. Forms
 /// that only a later rule reads are refused with the message `form not built yet`.
 pub fn parse<'a>(alloc: Global, input: &'a str) -> Result<ParseResult<'a>, Error>
-    ensures derived { IfOk result (λ r. (rest : List ℕ) × (notes : List Note) × Derives input.now (tree_of r) rest notes) }
-    ensures only { IfOk result (λ r. (tree : SymbolTree) (rest : List ℕ) (notes : List Note) → Derives input.now tree rest notes → tree ≡ tree_of r) }
+    ensures derived { IfOk result (λ r. (rest : List ℕ) × (notes : List Note)
+        × Derives input.now (tree_of r) rest notes
+        × ((tree : SymbolTree) (behind : List ℕ) (others : List Note) → Derives input.now tree behind others
+        → (tree ≡ tree_of r) × (behind ≡ rest) × (others ≡ notes))) }
     ensures parts { IfOk result (λ r. NamesAreParts input.now (tree_of r)) }
     ensures texts { IfOk result (λ r. EachName IsUtf8 (tree_of r)) }
     ensures refused { IfErr result (λ e. IsRefusedRightly input.now e) }
-    ensures begins { (begins_with (63 ∷ []) input.now → ⊥) → IfErr result (λ e. IsAtOrMemory 0 e) }
-    ensures begins_ok { IfOk result (λ r. begins_with (63 ∷ []) input.now) }
+    ensures begins { (begins_with (codes "?") input.now → ⊥) → IfErr result (λ e. IsRefusalAt input.now 0 e) }
+    ensures begins_ok { IfOk result (λ r. begins_with (codes "?") input.now) }
 {
     match read(alloc, input) {
         Ok(symbol) => Ok(symbol),
@@ -39,8 +43,10 @@ pub fn parse<'a>(alloc: Global, input: &'a str) -> Result<ParseResult<'a>, Error
 
 /// The symbol at the beginning of a text.
 fn read<'a>(alloc: Global, input: &'a str) -> Result<ParseResult<'a>, Refusal>
-    ensures value { Gives (λ r. tree_of r) result (symbol_tree_of (symbol_at input.now (beginning input.now))) }
-    ensures start { after (63 ∷ []) input.now ≡ None → result ≡ Err (Refusal.Unread Message.NoQuestionMark (length input.now)) }
+    ensures value { Gives (λ r. tree_of r) result
+        (option_map (λ r. r.0) (read_name symbol input.now (beginning input.now))) }
+    ensures start { after (codes "?") input.now ≡ None
+        → result ≡ Err (Refusal.Unread Message.NoQuestionMark (length input.now)) }
 {
     let mut parser = Parser::new(alloc, input.as_bytes());
     parser.symbol()

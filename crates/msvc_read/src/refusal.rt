@@ -23,6 +23,8 @@ pub enum Message {
     UnknownCallingConv,
     UnknownFuncClass,
     ZExpected,
+    /// Only a rule that isn't built yet could read on.
+    NotBuilt,
 }
 
 impl Message {
@@ -39,6 +41,7 @@ impl Message {
             Message::UnknownCallingConv => "unknown calling conv",
             Message::UnknownFuncClass => "unknown func class",
             Message::ZExpected => "Z expected",
+            Message::NotBuilt => "form not built yet",
             Message::InvalidBackReference(index) => {
                 return Ok(CowStr::Owned(format!(in alloc; "invalid backreference: {index}")?));
             }
@@ -59,8 +62,6 @@ pub enum Refusal {
     Memory,
     /// No rule reads on where this many bytes are left.
     Unread(Message, usize),
-    /// Only a rule that isn't built yet could read on where this many bytes are left.
-    NotBuilt(usize),
 }
 
 impl Refusal {
@@ -74,10 +75,6 @@ impl Refusal {
                 Ok(message) => parse_error(alloc, message, text, text.len().saturating_sub(left)),
                 Err(refused) => Error::from(refused),
             },
-            Refusal::NotBuilt(left) => {
-                let message = CowStr::Borrowed("form not built yet");
-                parse_error(alloc, message, text, text.len().saturating_sub(left))
-            }
         }
     }
 }

@@ -1,11 +1,16 @@
 //! Types, and the table of types.
 
-ghost use Rattle.std.specs.Prelude.{◌≡◌, ◌<◌, ◌≤◌, ◌∷◌, length, map, slice_get, IfOk};
-ghost use Rattle.std.specs.Option.{option_map};
+ghost use Rattle.std.specs.Prelude.{◌≡◌, ◌<◌, ◌≤◌, ◌∷◌, [], Some, codes, length, map, slice_get, IfOk};
+ghost use Rattle.std.specs.Int.{int_wrapping_neg, w32};
+ghost use Rattle.msvc_tree.specs.Trees.{numbered};
+ghost use Rattle.msvc_tree.specs.declared.kinds.NumberedType.TheVariants as number_kind;
 ghost use Rattle.msvc_tree.specs.View.{type_of};
-ghost use Rattle.msvc_read.specs.Letters.{lookup, compound_letters, digits};
-ghost use Rattle.msvc_read.specs.Parser.{state_of, entry_of};
-ghost use Rattle.msvc_read.specs.Reading.{Gives, type_at, plain_type_with, plain_of, pointee_with, array_with, array_class_at, lengths_at, nested_arrays, extended_at, indexed_at, type_entry_of, dimension_at, begins_literal};
+ghost use Rattle.msvc_read.specs.Grammar.{compound_letters, digits, array_class, arrays};
+ghost use Rattle.msvc_read.specs.Parser.{Gives, state_of, entry_of, type_by};
+ghost use Rattle.msvc_read.specs.Reads.{read, read_name, and_then, with_value, type_known};
+ghost use Rattle.msvc_read.specs.Rules.{lookup, any_type, array, dimension, lengths, number, plain_type, pointee};
+ghost use Rattle.msvc_read.specs.Rules.{some_of, begins, type_behind};
+ghost use Rattle.msvc_read.specs.Sorts.{extended};
 
 use crate::letters;
 use crate::parser::Parser;
@@ -19,14 +24,12 @@ use std::alloc::AllocError;
 impl<'a> Parser<'a> {
     /// `TYPE = "W4" QUALIFIED_NAME | "$$Q" POINTEE | PLAIN_TYPE`.
     #[cycle(types)]
-    #[tactic(auto, using(crate::proofs::Onward::type_split), unfolding(crate::specs::Reading::type_with, crate::specs::Reading::tagged_at, crate::specs::Reading::pointing_with))]
+    #[tactic(auto, using(crate::proofs::Readers::type_split))]
     pub fn any_type(&mut self, q: StorageClass) -> Result<Type<'a>, Refusal>
-        ensures value { Gives (λ t. (type_of t, self.new.rest.now, state_of self.new)) result (type_at q.0 self.old.rest.now (state_of self.old)) }
+        ensures value { Gives (λ t. (type_of t, self.new.rest.now, state_of self.new)) result
+            (read_name (any_type q.0) self.old.rest.now (state_of self.old)) }
         ensures shorter { IfOk result (λ _. length self.new.rest.now < length self.old.rest.now) }
     {
-        if !self.begins_literal() {
-            return self.plain_type(q);
-        }
         if let Some(behind) = self.after(b"W4") {
             self.rest = behind;
             let name = self.qualified_name()?;
@@ -37,25 +40,29 @@ impl<'a> Parser<'a> {
             let pointee = self.pointee()?;
             return Ok(Type::RValueRef(pointee, q));
         }
-        Err(self.not_built())
+        if self.begins_later_type() {
+            return Err(self.refuse(Message::NotBuilt));
+        }
+        self.plain_type(q)
     }
 
-    /// Whether the bytes left begin with what is no plain type.
-    #[tactic(auto, unfolding(crate::specs::Reading::begins_literal))]
-    fn begins_literal(&self) -> bool
-        ensures { result ≡ begins_literal self.now.rest.now }
+    /// Whether the bytes left begin with what a type that isn't built yet begins with.
+    fn begins_later_type(&self) -> bool
+        ensures { result ≡ some_of (begins self.now.rest.now)
+            (codes "A6" ∷ codes "P6" ∷ codes "P8" ∷ codes "$" ∷ []) }
     {
         matches!(
             self.rest,
-            [b'$', ..] | [b'W', b'4', ..] | [b'A', b'6', ..] | [b'P', b'6' | b'8', ..]
+            [b'$', ..] | [b'A', b'6', ..] | [b'P', b'6' | b'8', ..]
         )
     }
 
     /// `PLAIN_TYPE = base letter | COMPOUND_TYPE`.
     #[cycle(types)]
-    #[tactic(auto, using(crate::proofs::Onward::letters_split), unfolding(crate::specs::Reading::plain_type_with, crate::specs::Reading::byte_at, crate::specs::Reading::plain_of))]
+    #[tactic(auto, using(crate::proofs::Steps::plain_type_is))]
     fn plain_type(&mut self, q: StorageClass) -> Result<Type<'a>, Refusal>
-        ensures value { Gives (λ t. (type_of t, self.new.rest.now, state_of self.new)) result (plain_type_with type_at q.0 self.old.rest.now (state_of self.old)) }
+        ensures value { Gives (λ t. (type_of t, self.new.rest.now, state_of self.new)) result
+            (read_name (plain_type q.0) self.old.rest.now (state_of self.old)) }
         ensures shorter { IfOk result (λ _. length self.new.rest.now < length self.old.rest.now) }
     {
         let letter = self.byte()?;
@@ -67,9 +74,10 @@ impl<'a> Parser<'a> {
 
     /// What follows the first letter of a type that isn't one of the base types.
     #[cycle(types)]
-    #[tactic(auto, using(crate::proofs::Onward::compound_split), unfolding(crate::specs::Reading::plain_of, crate::specs::Reading::tagged_at, crate::specs::Reading::pointing_with))]
+    #[tactic(auto, using(crate::proofs::Readers::compound_split), unfolding(crate::specs::Parser::type_by))]
     fn compound_type(&mut self, letter: u8, q: StorageClass) -> Result<Type<'a>, Refusal>
-        ensures value { Gives (λ t. (type_of t, self.new.rest.now, state_of self.new)) result (plain_of type_at q.0 (lookup letter compound_letters) self.old.rest.now (state_of self.old)) }
+        ensures value { Gives (λ t. (type_of t, self.new.rest.now, state_of self.new)) result
+            (type_by q.0 (lookup letter compound_letters) self.old.rest.now (state_of self.old)) }
         ensures shorter { IfOk result (λ _. length self.new.rest.now ≤ length self.old.rest.now) }
     {
         let both = StorageClass::CONST.union(StorageClass::VOLATILE);
@@ -92,9 +100,10 @@ impl<'a> Parser<'a> {
 
     /// `POINTEE = ["E"] [storage class] TYPE`.
     #[cycle(types)]
-    #[tactic(auto, unfolding(crate::specs::Reading::pointee_with))]
+    #[tactic(auto, using(crate::proofs::Steps::pointee_is))]
     fn pointee(&mut self) -> Result<Box<Type<'a>>, Refusal>
-        ensures value { Gives (λ b. (type_of b.value, self.new.rest.now, state_of self.new)) result (pointee_with type_at self.old.rest.now (state_of self.old)) }
+        ensures value { Gives (λ b. (type_of b.value, self.new.rest.now, state_of self.new)) result
+            (read_name pointee self.old.rest.now (state_of self.old)) }
         ensures shorter { IfOk result (λ _. length self.new.rest.now < length self.old.rest.now) }
     {
         let size = self.optional_mark(b'E', StorageClass::PTR64);
@@ -105,7 +114,8 @@ impl<'a> Parser<'a> {
     /// A type in a box of its own.
     #[cycle(types)]
     pub fn boxed_type(&mut self, q: StorageClass) -> Result<Box<Type<'a>>, Refusal>
-        ensures value { Gives (λ b. (type_of b.value, self.new.rest.now, state_of self.new)) result (type_at q.0 self.old.rest.now (state_of self.old)) }
+        ensures value { Gives (λ b. (type_of b.value, self.new.rest.now, state_of self.new)) result
+            (read_name (any_type q.0) self.old.rest.now (state_of self.old)) }
         ensures shorter { IfOk result (λ _. length self.new.rest.now < length self.old.rest.now) }
     {
         let made = self.any_type(q);
@@ -114,10 +124,11 @@ impl<'a> Parser<'a> {
 
     /// `ARRAY = NUMBER {NUMBER} ["$$C" plain qualifier] TYPE`: the first number says how many lengths follow.
     #[cycle(types)]
-    #[tactic(auto, unfolding(crate::specs::Reading::array_with))]
+    #[tactic(auto, using(crate::proofs::Steps::array_is))]
     #[inline(never)]
     fn array(&mut self) -> Result<Type<'a>, Refusal>
-        ensures value { Gives (λ t. (type_of t, self.new.rest.now, state_of self.new)) result (array_with type_at self.old.rest.now (state_of self.old)) }
+        ensures value { Gives (λ t. (type_of t, self.new.rest.now, state_of self.new)) result
+            (read_name array self.old.rest.now (state_of self.old)) }
         ensures shorter { IfOk result (λ _. length self.new.rest.now < length self.old.rest.now) }
     {
         let dimension = self.dimension()?;
@@ -130,9 +141,10 @@ impl<'a> Parser<'a> {
 
 impl<'a> Parser<'a> {
     /// A number above 0.
-    #[tactic(auto, unfolding(crate::specs::Reading::dimension_at))]
+    #[tactic(auto, using(crate::proofs::Steps::dimension_is))]
     fn dimension(&mut self) -> Result<u32, Refusal>
-        ensures value { Gives (λ n. (n, self.new.rest.now, state_of self.new)) result (dimension_at self.old.rest.now (state_of self.old)) }
+        ensures value { Gives (λ n. (n, self.new.rest.now, state_of self.new)) result
+            (read_name dimension self.old.rest.now (state_of self.old)) }
         ensures shorter { IfOk result (λ _. length self.new.rest.now < length self.old.rest.now) }
     {
         let dimension = self.number()?;
@@ -143,9 +155,10 @@ impl<'a> Parser<'a> {
     }
 
     /// As many numbers.
-    #[tactic(auto, using(crate::proofs::Onward::lengths_go_on))]
+    #[tactic(auto, using(crate::proofs::Steps::lengths_go_on))]
     fn lengths(&mut self, count: u32) -> Result<Vec<i32>, Refusal>
-        ensures value { Gives (λ v. (v.items, self.new.rest.now, state_of self.new)) result (lengths_at count self.old.rest.now (state_of self.old)) }
+        ensures value { Gives (λ v. (v.items, self.new.rest.now, state_of self.new)) result
+            (read_name (lengths count) self.old.rest.now (state_of self.old)) }
         ensures shorter { IfOk result (λ _. length self.new.rest.now ≤ length self.old.rest.now) }
     {
         let mut lengths = Vec::new(self.alloc);
@@ -156,34 +169,35 @@ impl<'a> Parser<'a> {
     }
 
     /// The qualifiers of each level of an array.
-    #[tactic(auto, unfolding(crate::specs::Reading::array_class_at, crate::specs::Reading::letter_at))]
+    #[tactic(auto, using(crate::proofs::Steps::array_class_is))]
     fn array_class(&mut self) -> Result<StorageClass, Refusal>
-        ensures value { Gives (λ q. (q.0, self.new.rest.now, state_of self.new)) result (array_class_at self.old.rest.now (state_of self.old)) }
+        ensures value { Gives (λ q. (q.0, self.new.rest.now, state_of self.new)) result
+            (read array_class self.old.rest.now (state_of self.old)) }
         ensures shorter { IfOk result (λ _. length self.new.rest.now ≤ length self.old.rest.now) }
     {
         let Some(behind) = self.after(b"$$C") else {
             return Ok(StorageClass::empty());
         };
         self.rest = behind;
-        let [letter, behind @ ..] = self.rest else {
-            return Err(self.refuse(Message::UnknownStorageClass));
+        let refusal = self.refuse(Message::UnknownStorageClass);
+        let Some(letter) = self.next_byte() else {
+            return Err(refusal);
         };
-        let Some(class) = letters::array_qualifier(*letter) else {
-            return Err(self.refuse(Message::UnknownStorageClass));
-        };
-        self.rest = behind;
-        Ok(class)
+        match letters::array_qualifier(letter) {
+            Some(class) => Ok(class),
+            None => Err(refusal),
+        }
     }
 
     /// An array of these lengths, the outermost first, with qualifiers at each level.
-    #[tactic(auto, using(crate::proofs::Onward::arrays_nest), unfolding(crate::specs::Reading::nested_arrays))]
+    #[tactic(auto, using(crate::proofs::Readers::arrays_nest), unfolding(crate::specs::Grammar::arrays))]
     fn nested_arrays(
         &self,
         mut lengths: Vec<i32>,
         element: Type<'a>,
         class: StorageClass,
     ) -> Result<Type<'a>, AllocError>
-        ensures { IfOk result (λ t. type_of t ≡ nested_arrays lengths.items (type_of element.entry) class.0) }
+        ensures { IfOk result (λ t. type_of t ≡ arrays lengths.items (type_of element.entry) class.0) }
     {
         let mut array = element;
         while let Some(length) = lengths.pop() {
@@ -193,10 +207,11 @@ impl<'a> Parser<'a> {
     }
 
     /// The base type of a second letter.
-    #[tactic(auto, unfolding(crate::specs::Reading::extended_at, crate::specs::Reading::letter_at, crate::specs::Reading::byte_at))]
+    #[tactic(auto, using(crate::proofs::Steps::extended_is))]
     #[inline(never)]
     fn extended_type(&mut self, q: StorageClass) -> Result<Type<'a>, Refusal>
-        ensures value { Gives (λ t. (type_of t, self.new.rest.now, state_of self.new)) result (extended_at q.0 self.old.rest.now (state_of self.old)) }
+        ensures value { Gives (λ t. (type_of t, self.new.rest.now, state_of self.new)) result
+            (read_name (type_behind q.0 extended) self.old.rest.now (state_of self.old)) }
         ensures shorter { IfOk result (λ _. length self.new.rest.now < length self.old.rest.now) }
     {
         let letter = self.byte()?;
@@ -207,10 +222,12 @@ impl<'a> Parser<'a> {
     }
 
     /// The number of a template's parameter, negated.
-    #[tactic(auto, unfolding(crate::specs::Reading::indexed_at, msvc_tree::specs::View::type_of))]
+    #[tactic(auto, using(crate::proofs::Readers::compound_split))]
     #[inline(never)]
     fn template_parameter(&mut self) -> Result<Type<'a>, Refusal>
-        ensures value { Gives (λ t. (type_of t, self.new.rest.now, state_of self.new)) result (indexed_at self.old.rest.now (state_of self.old)) }
+        ensures value { Gives (λ t. (type_of t, self.new.rest.now, state_of self.new)) result
+            (and_then (read_name number self.old.rest.now (state_of self.old))
+            (λ z left s. Some (numbered number_kind.TemplateParameter (int_wrapping_neg w32 z), left, s))) }
         ensures shorter { IfOk result (λ _. length self.new.rest.now < length self.old.rest.now) }
     {
         let number = self.number()?;
@@ -221,7 +238,8 @@ impl<'a> Parser<'a> {
     #[inline(never)]
     fn type_entry(&self, letter: u8) -> Result<Type<'a>, Refusal>
         ensures { Gives (λ t. (type_of t, self.now.rest.now, state_of self.now)) result
-            (type_entry_of (lookup letter digits) self.now.rest.now (state_of self.now)) }
+            (and_then (with_value (lookup letter digits) self.now.rest.now (state_of self.now))
+            (λ i left s. type_known (slice_get s.types i) left s)) }
     {
         let Some(index) = letters::digit(letter) else {
             return Err(self.refuse(Message::UnknownPrimitiveType));

@@ -3,10 +3,14 @@ use Rattle.std.proofs.Common.{◌≡◌, List, [], ◌∷◌, ◌++◌, map, Res
 use Rattle.std.proofs.lemmas.List.{map-append}
 use Rattle.msvc_tree.specs.Made.{IsBoxed, IsPushed}
 
-pub boxed-seen : {A B E F V : Type 0} (refused : F → E → Type 0) (value : B → A) (f : A → V) (made : Result A E) (b : B) (v : V) → IsBoxed refused value made (Ok b) → IfOk made (λ x. f x ≡ v) → f (value b) ≡ v
+pub boxed-seen : {A B E F V : Type 0} (refused : F → E → Type 0) (value : B → A) (f : A → V) (made : Result A E) (b : B)
+    (v : V) → IsBoxed refused value made (Ok b) → IfOk made (λ x. f x ≡ v) → f (value b) ≡ v
 boxed-seen refused value f (Ok x) b v e h = ap f e ∙ h
 boxed-seen refused value f (Err x) b v e h = absurd (cc)
 
-pub pushed-seen : {A B E F V : Type 0} (refused : F → E → Type 0) (f : A → V) (items new : List A) (made : Result A E) (u : B) (v : V) → IsPushed {B = B} refused items made new (Ok u) → IfOk made (λ x. f x ≡ v) → map f new ≡ map f items ++ v ∷ []
-pushed-seen refused f items new (Ok x) u v e h = ap (map f) e ∙ map-append f items (x ∷ []) ∙ ap (λ y. map f items ++ y ∷ []) h
+pub pushed-seen : {A B E F V : Type 0} (refused : F → E → Type 0) (f : A → V) (items new : List A) (made : Result A E)
+    (u : B) (v : V) → IsPushed {B = B} refused items made new (Ok u) → IfOk made (λ x. f x ≡ v)
+    → map f new ≡ map f items ++ v ∷ []
+pushed-seen refused f items new (Ok x) u v e h =
+    ap (map f) e ∙ map-append f items (x ∷ []) ∙ ap (λ y. map f items ++ y ∷ []) h
 pushed-seen refused f items new (Err x) u v e h = absurd (cc)

@@ -1,8 +1,7 @@
 pub mod Contexts
 pub mod CopiedLists
-pub mod Copies
-pub mod Heads
 pub mod Kept
 pub mod Lists
+pub mod Nodes
 pub mod Tests
 pub mod Views

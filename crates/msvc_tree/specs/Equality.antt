@@ -2,7 +2,8 @@
 -- same tree, with the laws that `PartialEq` and `Eq` ask for.
 use Rattle.std.specs.Prelude.{◌≡◌, ◌↔◌, IsTrue, Bool}
 use Rattle.std.specs.Cmp.{IsEquivalence, IsPartialEquivalence, partial_equiv_from_equiv}
-use Rattle.msvc_tree.specs.Decided.{name_discrete, names_discrete, type_discrete, types_discrete, symbol_discrete, whole_discrete, is_yes, is_yes-is, equivalence}
+use Rattle.msvc_tree.specs.Decided.{name_discrete, names_discrete, type_discrete, types_discrete, symbol_discrete}
+use Rattle.msvc_tree.specs.Decided.{whole_discrete, is_yes, is_yes-is, equivalence}
 use Rattle.msvc_tree.specs.Trees.{NameTree, NameTrees, TypeTree}
 use Rattle.msvc_tree.specs.View.{name_of, operator_of, type_of, scope_of, params_of, tree_of}
 use Rattle.msvc_tree.specs.declared.tree.Name.{Name}

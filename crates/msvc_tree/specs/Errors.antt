@@ -1,5 +1,6 @@
 -- What an error says, and the part of an input that a refusal shows.
-use Rattle.std.specs.Prelude.{◌≡◌, ℕ, List, ◌++◌, Option, Some, None, length, take, drop, nat_le, if◌then◌else◌, codes, string_bytes}
+use Rattle.std.specs.Prelude.{◌≡◌, ℕ, List, ◌++◌, Option, Some, None, length, take, drop, nat_le, if◌then◌else◌}
+use Rattle.std.specs.Prelude.{codes, string_bytes}
 use Rattle.std.specs.Cow.{cow_str_bytes}
 use Rattle.std.specs.Fmt.{◌++?◌, debug_str, decimal}
 use Rattle.std.specs.Str.{encode_utf8_all}

@@ -2,7 +2,8 @@ pub mod Decided
 pub mod EachName
 pub mod Equality
 pub mod Errors
-pub mod Heads
 pub mod Made
+pub mod Nodes
+pub mod Sizes
 pub mod Trees
 pub mod View

@@ -2,67 +2,17 @@
 -- An integer is a number, a set is its bits, a name or a text is its bytes. Variants with the same fields stand
 -- under one constructor, which says by an enumeration of its own which one it is.
 use Rattle.std.specs.Prelude.{ℕ, ℤ, List, [], ◌∷◌, Option}
+use Rattle.msvc_tree.specs.declared.kinds.BaseType.{BaseType}
+use Rattle.msvc_tree.specs.declared.kinds.Guard.{Guard}
+use Rattle.msvc_tree.specs.declared.kinds.Mark.{Mark}
+use Rattle.msvc_tree.specs.declared.kinds.NumberedType.{NumberedType}
+use Rattle.msvc_tree.specs.declared.kinds.PlainOperator.{PlainOperator}
+use Rattle.msvc_tree.specs.declared.kinds.PlainType.{PlainType}
+use Rattle.msvc_tree.specs.declared.kinds.Spelling.{Spelling}
+use Rattle.msvc_tree.specs.declared.kinds.Table.{Table}
+use Rattle.msvc_tree.specs.declared.kinds.Tag.{Tag}
 use Rattle.msvc_tree.specs.declared.tree.CallingConv.{CallingConv}
 use Rattle.msvc_tree.specs.declared.tree.VarStorageKind.{VarStorageKind}
-
--- a name that is a part of the text: as the source spells it, of an interface, or the digits of a hash
-pub data Spelling : Type 0 where
-  source interface md5 : Spelling
-  deriving Discrete as Spelling-discrete
-
--- the operators with nothing in them
-pub data PlainOperator : Type 0 where
-  ctor dtor new delete equal : PlainOperator
-  r_shift l_shift bang equal_equal bang_equal : PlainOperator
-  subscript conversion arrow star plus_plus : PlainOperator
-  minus_minus minus plus amp arrow_star : PlainOperator
-  slash percent less less_equal greater : PlainOperator
-  greater_equal comma call tilde caret : PlainOperator
-  pipe amp_amp pipe_pipe star_equal plus_equal : PlainOperator
-  minus_equal slash_equal percent_equal greater_greater_equal less_less_equal : PlainOperator
-  amp_equal pipe_equal caret_equal vf_table vb_table : PlainOperator
-  v_call typeof string v_base_dtor vector_deleting_dtor : PlainOperator
-  default_ctor_closure scalar_deleting_dtor vector_ctor_iterator vector_dtor_iterator vector_v_base_ctor_iterator : PlainOperator
-  virtual_displacement_map eh_vector_ctor_iterator eh_vector_dtor_iterator eh_vector_v_base_ctor_iterator copy_ctor_closure : PlainOperator
-  local_vf_table local_vf_table_ctor_closure array_new array_delete placement_delete_closure : PlainOperator
-  placement_array_delete_closure rtti_base_class_array rtti_class_hierarchy_descriptor rtti_class_complete_object_locator dynamic_initializer : PlainOperator
-  dynamic_atexit_dtor literal_operator_name coroutine_await : PlainOperator
-
--- the guards of static variables in functions
-pub data Guard : Type 0 where
-  static_guard thread_guard : Guard
-  deriving Discrete as Guard-discrete
-
--- what stands in the place of a type and has nothing in it
-pub data PlainType : Type 0 where
-  no_type empty_pack rtti variadic nullptr : PlainType
-  deriving Discrete as PlainType-discrete
-
--- the types that are one word of the language, or a few
-pub data BaseType : Type 0 where
-  void char schar uchar short ushort int uint : BaseType
-  long ulong float double ldouble bool wchar char8 : BaseType
-  char16 char32 int64 uint64 int128 uint128 : BaseType
-  deriving Discrete as BaseType-discrete
-
--- the types that are named
-pub data Tag : Type 0 where
-  class struct union enum alias : Tag
-  deriving Discrete as Tag-discrete
-
--- what stands in the place of a type and has one number
-pub data NumberedType : Type 0 where
-  constant template_parameter thread_safe_guard : NumberedType
-  deriving Discrete as NumberedType-discrete
-
-pub data Mark : Type 0 where
-  pointer reference rvalue_reference : Mark
-  deriving Discrete as Mark-discrete
-
--- the tables of virtual functions and of virtual bases
-pub data Table : Type 0 where
-  functions bases : Table
-  deriving Discrete as Table-discrete
 
 mutual
   pub data NameTree : Type 0 where

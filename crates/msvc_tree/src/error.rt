@@ -6,7 +6,8 @@ ghost use Rattle.std.specs.Cow.{cow_str_bytes};
 ghost use Rattle.std.specs.Str.{IsAscii};
 ghost use Rattle.msvc_tree.specs.declared.error.ErrorRepr.{ErrorRepr};
 ghost use Rattle.msvc_tree.specs.declared.error.ErrorRepr.TheVariants.{FromUtf8, Memory, Utf8};
-ghost use Rattle.msvc_tree.specs.Errors.{IsMessageOrMemory, IsRefusalOrMemory, context_of, context_text_of, error_text, offset_of, shortened_text};
+ghost use Rattle.msvc_tree.specs.Errors.{IsMessageOrMemory, IsRefusalOrMemory, context_of, context_text_of};
+ghost use Rattle.msvc_tree.specs.Errors.{error_text, offset_of, shortened_text};
 
 use bstr::ByteSlice;
 use std::alloc::{AllocError, AllocFailed, Global};

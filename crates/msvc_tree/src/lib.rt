@@ -4,5 +4,7 @@
 
 pub mod error;
 pub mod flags;
+pub mod kinds;
 pub mod made;
+pub mod node;
 pub mod tree;

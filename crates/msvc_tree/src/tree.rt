@@ -1,9 +1,7 @@
 //! The tree of a symbol: its name with its scope, and its type. Names borrow the text that was read.
 
 mod clone;
-mod debug;
 mod equality;
-mod head;
 
 use crate::flags::{FuncClass, StorageClass};
 
@@ -32,7 +30,7 @@ pub enum Name<'a> {
 }
 
 /// The names that the compiler gives, each with what it is printed as.
-#[derive(Drop)]
+#[derive(Debug, Drop)]
 #[cycle(ast)]
 pub enum Operator<'a> {
     /// A constructor: printed as the innermost name of its scope.
@@ -266,7 +264,7 @@ pub enum VarStorageKind {
 /// A type, or what stands in the place of one. A `StorageClass` is the last field but where a comment says otherwise,
 /// and holds the type's own qualifiers: those of a pointer are the pointer's, not those of what it points to. Trees
 /// inside are owned; of the text only names are borrowed.
-#[derive(Drop)]
+#[derive(Debug, Drop)]
 #[cycle(ast)]
 pub enum Type<'a> {
     /// No type: of a symbol that is a name alone, and where a constructor or a destructor returns nothing.

@@ -1,6 +1,6 @@
 pub mod Settling
 pub mod Stack
-pub mod Shapes
+pub mod Printed
 pub mod Names
 pub mod Parameters
 pub mod Whole

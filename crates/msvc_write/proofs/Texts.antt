@@ -1,20 +1,36 @@
 -- The declaration of a tree whose names are UTF-8 is UTF-8, under any flags.
-use Rattle.std.proofs.Common.{ℕ, zero, suc, ◌+◌, ◌<◌, ◌/◌, ◌%◌, ℤ, pos, negsuc, List, [], ◌∷◌, ◌++◌, Bool, true, false, cond, ◌==◌, refl, arith, codes}
+use Rattle.std.proofs.Common.{ℕ, zero, suc, ◌+◌, ◌<◌, ◌/◌, ◌%◌, ℤ, pos, negsuc, List, [], ◌∷◌, ◌++◌, Bool, true}
+use Rattle.std.proofs.Common.{false, cond, ◌==◌, refl, arith, codes}
 use Rattle.std.proofs.lemmas.Str.{IsUtf8-append, IsUtf8-from_ascii, IsUtf8-nil}
 use Rattle.std.proofs.lemmas.Str.Ascii.{IsAscii-cons, IsAscii-nil}
 use Rattle.std.specs.Fmt.{decimal, digit_glyph, digits, digits_onto, signed_decimal}
 use Rattle.std.specs.Str.{IsAscii, IsUtf8}
 use Rattle.msvc_tree.specs.EachName.{EachName, EachNameOfName, EachNameOfNames, EachNameOfType, EachNameOfTypes}
-use Rattle.msvc_tree.specs.Trees.{BaseType, Mark, NameTree, NameTrees, SymbolTree, Tag, TypeTree, TypeTrees, spelled, source, no_names, names, no_types, types, plain, variadic, base, tagged, numbered, constant, template_parameter, pointing, array, function, member_function, variable, alias, pointer, int64, uint64, int128, uint128}
+use Rattle.msvc_tree.specs.declared.kinds.BaseType.{BaseType}
+use Rattle.msvc_tree.specs.declared.kinds.Mark.{Mark}
+use Rattle.msvc_tree.specs.declared.kinds.Tag.{Tag}
+use Rattle.msvc_tree.specs.declared.kinds.BaseType.TheVariants as base_kind
+use Rattle.msvc_tree.specs.declared.kinds.Mark.TheVariants as mark_kind
+use Rattle.msvc_tree.specs.declared.kinds.NumberedType.TheVariants as number_kind
+use Rattle.msvc_tree.specs.declared.kinds.PlainType.TheVariants as plain_kind
+use Rattle.msvc_tree.specs.declared.kinds.Spelling.TheVariants as spelling_kind
+use Rattle.msvc_tree.specs.declared.kinds.Tag.TheVariants as tag_kind
+use Rattle.msvc_tree.specs.Trees.{NameTree, NameTrees, SymbolTree, TypeTree, TypeTrees, spelled, no_names, names}
+use Rattle.msvc_tree.specs.Trees.{no_types, types, plain, base, tagged, numbered, pointing, array, function}
+use Rattle.msvc_tree.specs.Trees.{member_function, variable}
 use Rattle.msvc_tree.specs.declared.tree.CallingConv.{CallingConv}
 use Rattle.msvc_tree.specs.declared.tree.CallingConv.TheVariants.{Cdecl}
 use Rattle.msvc_tree.specs.declared.tree.VarStorageKind.{VarStorageKind}
 use Rattle.msvc_tree.specs.declared.tree.VarStorageKind.TheVariants.{PrivateStatic}
-use Rattle.msvc_write.specs.Declaration.{after, around, before, declaration, inner_name, is_empty_pack, parameters, pieces, scope_prefix, symbol_name}
+use Rattle.msvc_write.specs.Declaration.{after, around, before, declaration, inner_name, is_empty_pack, parameters}
+use Rattle.msvc_write.specs.Declaration.{pieces, scope_prefix, symbol_name}
 use Rattle.msvc_write.specs.Flags.{has}
-use Rattle.msvc_write.specs.Functions.{calling, convention_word, function_end, member_start, member_words, own_qualifier, own_qualifiers, separator}
-use Rattle.msvc_write.specs.Pieces.{Piece, blank, text, space, name_begins, name_ends, settle, settle_all, is_written_after, last_byte}
-use Rattle.msvc_write.specs.Words.{base_word, closing, mark_space, mark_word, marked, opening, qualifiers, tag_word, variable_word}
+use Rattle.msvc_write.specs.Functions.{calling, convention_word, function_end, member_start, member_words}
+use Rattle.msvc_write.specs.Functions.{own_qualifier, own_qualifiers, separator}
+use Rattle.msvc_write.specs.Pieces.{Piece, blank, text, space, name_begins, name_ends, settle, settle_all}
+use Rattle.msvc_write.specs.Pieces.{is_written_after, last_byte}
+use Rattle.msvc_write.specs.Words.{base_word, closing, mark_space, mark_word, marked, opening, qualifiers, tag_word}
+use Rattle.msvc_write.specs.Words.{variable_word}
 use Rattle.msvc_write.specs.declared.text.Space.{Space}
 use Rattle.msvc_write.specs.declared.text.Space.TheVariants.{AfterPointer}
 
@@ -65,7 +81,8 @@ IsUtf8-choice false xs ys h h' = h'
 settle-utf8 : (out : List ℕ) (x : Piece) → IsUtf8 out → IsText x → IsUtf8 (settle out x)
 unfolding lib.Utf8.encode
 settle-utf8 out (text bytes) h h' = IsUtf8-append out bytes h h'
-settle-utf8 out (space s) h h' = IsUtf8-choice (is_written_after s (last_byte out)) (out ++ blank ∷ []) out (IsUtf8-append out (blank ∷ []) h (blank ∷ [], (refl, refl))) h
+settle-utf8 out (space s) h h' = IsUtf8-choice (is_written_after s (last_byte out)) (out ++ blank ∷ []) out
+    (IsUtf8-append out (blank ∷ []) h (blank ∷ [], (refl, refl))) h
 settle-utf8 out name_begins h h' = h
 settle-utf8 out name_ends h h' = h
 
@@ -89,8 +106,10 @@ IsAscii-choice false xs ys h h' = h'
 digits_onto-ascii : (k n : ℕ) (later : List ℕ) → IsAscii later → IsAscii (digits_onto k 10 false n later)
 digits_onto-ascii zero n later h = h
 digits_onto-ascii (suc k) n later h =
-    let more : IsAscii (digit_glyph false (n % 10) ∷ later) = IsAscii-cons (digit_glyph false (n % 10)) later (digit-ascii n) h in
-    IsAscii-choice (n / 10 == 0) (digit_glyph false (n % 10) ∷ later) (digits_onto k 10 false (n / 10) (digit_glyph false (n % 10) ∷ later))
+    let more : IsAscii (digit_glyph false (n % 10) ∷ later) = IsAscii-cons (digit_glyph false (n % 10)) later
+    (digit-ascii n) h in
+    IsAscii-choice (n / 10 == 0) (digit_glyph false (n % 10) ∷ later)
+    (digits_onto k 10 false (n / 10) (digit_glyph false (n % 10) ∷ later))
     more (digits_onto-ascii k (n / 10) (digit_glyph false (n % 10) ∷ later) more)
 
 decimal-ascii : (n : ℕ) → IsAscii (decimal n)
@@ -99,15 +118,22 @@ decimal-ascii n = digits_onto-ascii 64 n [] IsAscii-nil
 
 signed_decimal-utf8 : (z : ℤ) → IsUtf8 (signed_decimal z)
 signed_decimal-utf8 (pos n) = IsUtf8-from_ascii (decimal n) (decimal-ascii n)
-signed_decimal-utf8 (negsuc n) = IsUtf8-from_ascii (45 ∷ decimal (suc n)) (IsAscii-cons 45 (decimal (suc n)) (omega arith) (decimal-ascii (suc n)))
+signed_decimal-utf8 (negsuc n) =
+    IsUtf8-from_ascii (45 ∷ decimal (suc n)) (IsAscii-cons 45 (decimal (suc n)) (omega arith) (decimal-ascii (suc n)))
 
 -- words
 base_word-utf8 : (b : BaseType) (flags : ℕ) → IsUtf8 (base_word b flags)
 unfolding lib.Utf8.encode
-base_word-utf8 int64 flags = IsUtf8-choice _ (codes "__int64") (codes "int64_t") (codes "__int64", (refl, refl)) (codes "int64_t", (refl, refl))
-base_word-utf8 uint64 flags = IsUtf8-choice _ (codes "unsigned __int64") (codes "uint64_t") (codes "unsigned __int64", (refl, refl)) (codes "uint64_t", (refl, refl))
-base_word-utf8 int128 flags = IsUtf8-choice _ (codes "__int128") (codes "int128_t") (codes "__int128", (refl, refl)) (codes "int128_t", (refl, refl))
-base_word-utf8 uint128 flags = IsUtf8-choice _ (codes "unsigned __int128") (codes "uint128_t") (codes "unsigned __int128", (refl, refl)) (codes "uint128_t", (refl, refl))
+base_word-utf8 base_kind.Int64 flags =
+    IsUtf8-choice _ (codes "__int64") (codes "int64_t") (codes "__int64", (refl, refl))
+    (codes "int64_t", (refl, refl))
+base_word-utf8 base_kind.Uint64 flags = IsUtf8-choice _ (codes "unsigned __int64") (codes "uint64_t")
+    (codes "unsigned __int64", (refl, refl)) (codes "uint64_t", (refl, refl))
+base_word-utf8 base_kind.Int128 flags =
+    IsUtf8-choice _ (codes "__int128") (codes "int128_t") (codes "__int128", (refl, refl))
+    (codes "int128_t", (refl, refl))
+base_word-utf8 base_kind.Uint128 flags = IsUtf8-choice _ (codes "unsigned __int128") (codes "uint128_t")
+    (codes "unsigned __int128", (refl, refl)) (codes "uint128_t", (refl, refl))
 base_word-utf8 b flags = (base_word b flags, (refl, refl))
 
 variable_word-utf8 : (kind : VarStorageKind) → IsUtf8 (variable_word kind)
@@ -117,12 +143,12 @@ variable_word-utf8 kind = (variable_word kind, (refl, refl))
 
 tag_word-utf8 : (tag : Tag) → IsUtf8 (tag_word tag)
 unfolding lib.Utf8.encode
-tag_word-utf8 alias = (tag_word alias, (refl, refl))
+tag_word-utf8 tag_kind.Alias = (tag_word tag_kind.Alias, (refl, refl))
 tag_word-utf8 tag = (tag_word tag, (refl, refl))
 
 mark_word-utf8 : (mark : Mark) → IsUtf8 (mark_word mark)
 unfolding lib.Utf8.encode
-mark_word-utf8 pointer = (mark_word pointer, (refl, refl))
+mark_word-utf8 mark_kind.Pointer = (mark_word mark_kind.Pointer, (refl, refl))
 mark_word-utf8 mark = (mark_word mark, (refl, refl))
 
 convention_word-utf8 : (convention : CallingConv) → IsUtf8 (convention_word convention)
@@ -132,7 +158,8 @@ convention_word-utf8 convention = (convention_word convention, (refl, refl))
 
 -- a word with its space, or nothing
 AreTexts-spaced : (b : Bool) (s : Space) (word : List ℕ) → IsUtf8 word → AreTexts (cond b (space s ∷ text word ∷ []) [])
-AreTexts-spaced b s word h = AreTexts-choice b (space s ∷ text word ∷ []) [] (AreTexts-space s (text word ∷ []) (AreTexts-text word [] h AreTexts-none)) AreTexts-none
+AreTexts-spaced b s word h = AreTexts-choice b (space s ∷ text word ∷ []) []
+    (AreTexts-space s (text word ∷ []) (AreTexts-text word [] h AreTexts-none)) AreTexts-none
 
 -- a word, or nothing
 AreTexts-word : (b : Bool) (word : List ℕ) → IsUtf8 word → AreTexts (cond b (text word ∷ []) [])
@@ -151,7 +178,8 @@ mark_space-texts flags = AreTexts-choice _ _ _
 
 marked-texts : (word : List ℕ) (set flags : ℕ) → IsUtf8 word → AreTexts (marked word set flags)
 unfolding marked
-marked-texts word set flags h = AreTexts-append _ _ (mark_space-texts flags) (AreTexts-text word _ h (qualifiers-texts set flags))
+marked-texts word set flags h =
+    AreTexts-append _ _ (mark_space-texts flags) (AreTexts-text word _ h (qualifiers-texts set flags))
 
 opening-texts : (pointed : Bool) → AreTexts (opening pointed)
 unfolding opening lib.Utf8.encode
@@ -173,7 +201,8 @@ member_words-texts class =
 
 member_start-texts : (pointed : Bool) (class : ℕ) → AreTexts (member_start pointed class)
 unfolding member_start
-member_start-texts pointed class = AreTexts-choice pointed [] (member_words class) AreTexts-none (member_words-texts class)
+member_start-texts pointed class = AreTexts-choice pointed [] (member_words class) AreTexts-none
+    (member_words-texts class)
 
 own_qualifier-texts : (bit : ℕ) (word : List ℕ) (set : ℕ) → IsUtf8 word → AreTexts (own_qualifier bit word set)
 own_qualifier-texts bit word set h = AreTexts-spaced (has set bit) AfterPointer word h
@@ -192,7 +221,8 @@ unfolding calling
 calling-texts pointed convention = AreTexts-append _ _ (opening-texts pointed)
     (AreTexts-space _ _ (AreTexts-text _ _ (convention_word-utf8 convention) AreTexts-none))
 
-function_end-texts : (pointed : Bool) (inside : List Piece) (set : ℕ) (returned : List Piece) → AreTexts inside → AreTexts returned → AreTexts (function_end pointed inside set returned)
+function_end-texts : (pointed : Bool) (inside : List Piece) (set : ℕ) (returned : List Piece) → AreTexts inside →
+    AreTexts returned → AreTexts (function_end pointed inside set returned)
 unfolding lib.Utf8.encode
 function_end-texts pointed inside set returned h h' = AreTexts-append _ _ (closing-texts pointed)
     (AreTexts-text (codes "(") _ (codes "(", (refl, refl)) (AreTexts-append _ _ h
@@ -201,38 +231,53 @@ function_end-texts pointed inside set returned h h' = AreTexts-append _ _ (closi
 separator-texts : (first : Bool) (flags : ℕ) → AreTexts (separator first flags)
 unfolding separator lib.Utf8.encode
 separator-texts first flags = AreTexts-choice first [] _ AreTexts-none
-    (AreTexts-text _ _ (IsUtf8-choice _ (codes ", ") (codes ",") (codes ", ", (refl, refl)) (codes ",", (refl, refl))) AreTexts-none)
+    (AreTexts-text _ _ (IsUtf8-choice _ (codes ", ") (codes ",") (codes ", ", (refl, refl)) (codes ",", (refl, refl)))
+    AreTexts-none)
 
 -- names
 inner_name-texts : (n : NameTree) (flags : ℕ) → EachNameOfName IsUtf8 n → AreTexts (inner_name n flags)
 unfolding inner_name
-inner_name-texts (spelled source bytes) flags h = AreTexts-text bytes [] h AreTexts-none
+inner_name-texts (spelled spelling_kind.Source bytes) flags h = AreTexts-text bytes [] h AreTexts-none
 inner_name-texts _ flags h = AreTexts-none
 
 scope_prefix-texts : (ns : NameTrees) (flags : ℕ) → EachNameOfNames IsUtf8 ns → AreTexts (scope_prefix ns flags)
 unfolding scope_prefix lib.Utf8.encode
 scope_prefix-texts no_names flags h = AreTexts-none
 scope_prefix-texts (names n ns) flags h = AreTexts-append _ _ (scope_prefix-texts ns flags h.1)
-    (AreTexts-append _ _ (inner_name-texts n flags h.0) (AreTexts-text (codes "::") [] (codes "::", (refl, refl)) AreTexts-none))
+    (AreTexts-append _ _ (inner_name-texts n flags h.0)
+    (AreTexts-text (codes "::") [] (codes "::", (refl, refl)) AreTexts-none))
 
-symbol_name-texts : (n : NameTree) (scope : NameTrees) (flags : ℕ) → EachNameOfName IsUtf8 n → EachNameOfNames IsUtf8 scope → AreTexts (symbol_name n scope flags)
-symbol_name-texts n scope flags h h' = AreTexts-space _ _ (AreTexts-append _ _ (scope_prefix-texts scope flags h') (inner_name-texts n flags h))
+symbol_name-texts : (n : NameTree) (scope : NameTrees) (flags : ℕ) → EachNameOfName IsUtf8 n →
+    EachNameOfNames IsUtf8 scope → AreTexts (symbol_name n scope flags)
+symbol_name-texts n scope flags h h' =
+    AreTexts-space _ _ (AreTexts-append _ _ (scope_prefix-texts scope flags h') (inner_name-texts n flags h))
 
 -- types
 before-texts : (t : TypeTree) (pointed : Bool) (flags : ℕ) → EachNameOfType IsUtf8 t → AreTexts (before t pointed flags)
 unfolding before lib.Utf8.encode
 before-texts (base b set) pointed flags h = AreTexts-text _ _ (base_word-utf8 b flags) (qualifiers-texts set flags)
-before-texts (tagged tag n scope set) pointed flags h = AreTexts-text _ _ (tag_word-utf8 tag) (AreTexts-append _ _ (symbol_name-texts n scope flags h.0 h.1) (qualifiers-texts set flags))
-before-texts (numbered constant n) pointed flags h = AreTexts-text _ _ (signed_decimal-utf8 n) AreTexts-none
-before-texts (numbered template_parameter n) pointed flags h =
-    AreTexts-text (codes "`template-parameter") _ (codes "`template-parameter", (refl, refl)) (AreTexts-text _ _ (signed_decimal-utf8 n)
+before-texts (tagged tag n scope set) pointed flags h =
+    AreTexts-text _ _ (tag_word-utf8 tag) (AreTexts-append _ _ (symbol_name-texts n scope flags h.0 h.1)
+    (qualifiers-texts set flags))
+before-texts (numbered number_kind.Constant n) pointed flags h = AreTexts-text _ _ (signed_decimal-utf8 n) AreTexts-none
+before-texts (numbered number_kind.TemplateParameter n) pointed flags h =
+    AreTexts-text (codes "`template-parameter") _ (codes "`template-parameter", (refl, refl))
+    (AreTexts-text _ _ (signed_decimal-utf8 n)
     (AreTexts-text (codes "'") _ (codes "'", (refl, refl)) AreTexts-none))
-before-texts (pointing m t set) pointed flags h = AreTexts-append _ _ (before-texts t true flags h) (marked-texts _ set flags (mark_word-utf8 m))
-before-texts (array n t set) pointed flags h = AreTexts-append _ _ (before-texts t false flags h) (AreTexts-append _ _ (qualifiers-texts set flags) (opening-texts pointed))
-before-texts (function convention ts set t) pointed flags h = AreTexts-append _ _ (before-texts t false flags h.1) (calling-texts pointed convention)
-before-texts (member_function class convention ts set t) pointed flags h = AreTexts-append _ _ (member_start-texts pointed class) (AreTexts-append _ _ (before-texts t false flags h.1) (calling-texts pointed convention))
-before-texts (plain variadic) pointed flags h = AreTexts-text (codes "...") [] (codes "...", (refl, refl)) AreTexts-none
-before-texts (variable t kind set) pointed flags h = AreTexts-text _ _ (variable_word-utf8 kind) (AreTexts-append _ _ (before-texts t false flags h) (qualifiers-texts set flags))
+before-texts (pointing m t set) pointed flags h = AreTexts-append _ _ (before-texts t true flags h)
+    (marked-texts _ set flags (mark_word-utf8 m))
+before-texts (array n t set) pointed flags h = AreTexts-append _ _ (before-texts t false flags h)
+    (AreTexts-append _ _ (qualifiers-texts set flags) (opening-texts pointed))
+before-texts (function convention ts set t) pointed flags h = AreTexts-append _ _ (before-texts t false flags h.1)
+    (calling-texts pointed convention)
+before-texts (member_function class convention ts set t) pointed flags h =
+    AreTexts-append _ _ (member_start-texts pointed class)
+    (AreTexts-append _ _ (before-texts t false flags h.1) (calling-texts pointed convention))
+before-texts (plain plain_kind.Variadic) pointed flags h =
+    AreTexts-text (codes "...") [] (codes "...", (refl, refl)) AreTexts-none
+before-texts (variable t kind set) pointed flags h =
+    AreTexts-text _ _ (variable_word-utf8 kind)
+    (AreTexts-append _ _ (before-texts t false flags h) (qualifiers-texts set flags))
 before-texts _ pointed flags h = AreTexts-none
 
 mutual
@@ -243,18 +288,23 @@ mutual
   after-texts (array n t set) pointed flags h = AreTexts-append _ _ (closing-texts pointed)
       (AreTexts-text (codes "[") _ (codes "[", (refl, refl)) (AreTexts-text _ _ (signed_decimal-utf8 n)
       (AreTexts-text (codes "]") _ (codes "]", (refl, refl)) (after-texts t false flags h))))
-  after-texts (function convention ts set t) pointed flags h = function_end-texts pointed _ set _ (parameters-texts ts true flags h.0) (after-texts t false flags h.1)
-  after-texts (member_function class convention ts set t) pointed flags h = function_end-texts pointed _ set _ (parameters-texts ts true flags h.0) (after-texts t false flags h.1)
+  after-texts (function convention ts set t) pointed flags h =
+      function_end-texts pointed _ set _ (parameters-texts ts true flags h.0) (after-texts t false flags h.1)
+  after-texts (member_function class convention ts set t) pointed flags h =
+      function_end-texts pointed _ set _ (parameters-texts ts true flags h.0) (after-texts t false flags h.1)
   after-texts (variable t kind set) pointed flags h = after-texts t false flags h
   after-texts _ pointed flags h = AreTexts-none
 
-  parameters-texts : (ts : TypeTrees) (first : Bool) (flags : ℕ) → EachNameOfTypes IsUtf8 ts → AreTexts (parameters ts first flags)
+  parameters-texts : (ts : TypeTrees) (first : Bool) (flags : ℕ) → EachNameOfTypes IsUtf8 ts →
+      AreTexts (parameters ts first flags)
   parameters-texts no_types first flags h = AreTexts-none
-  parameters-texts (types t ts) first flags h = AreTexts-choice (is_empty_pack t) _ _ (parameters-texts ts first flags h.1)
+  parameters-texts (types t ts) first flags h =
+      AreTexts-choice (is_empty_pack t) _ _ (parameters-texts ts first flags h.1)
       (AreTexts-append _ _ (separator-texts first flags) (AreTexts-append _ _ (before-texts t false flags h.0)
       (AreTexts-append _ _ (after-texts t false flags h.0) (parameters-texts ts false flags h.1))))
 
-around-texts : (t : TypeTree) (inside : List Piece) (flags : ℕ) → EachNameOfType IsUtf8 t → AreTexts inside → AreTexts (around t inside flags)
+around-texts : (t : TypeTree) (inside : List Piece) (flags : ℕ) → EachNameOfType IsUtf8 t → AreTexts inside →
+    AreTexts (around t inside flags)
 around-texts t inside flags h h' = AreTexts-append (before t false flags ++ inside) (after t false flags)
     (AreTexts-append (before t false flags) inside (before-texts t false flags h) h') (after-texts t false flags h)
 
@@ -262,7 +312,9 @@ pub declaration-utf8 : (tree : SymbolTree) (flags : ℕ) → EachName IsUtf8 tre
 unfolding declaration
 declaration-utf8 tree flags h =
     let name : AreTexts (symbol_name tree.name tree.scope flags ++ name_ends ∷ []) =
-    AreTexts-append (symbol_name tree.name tree.scope flags) (name_ends ∷ []) (symbol_name-texts tree.name tree.scope flags h.0 h.1) (AreTexts-ends [] AreTexts-none) in
-    let all : AreTexts (pieces tree flags) = around-texts tree.symbol_type (name_begins ∷ (symbol_name tree.name tree.scope flags ++ name_ends ∷ [])) flags h.2
+    AreTexts-append (symbol_name tree.name tree.scope flags) (name_ends ∷ [])
+    (symbol_name-texts tree.name tree.scope flags h.0 h.1) (AreTexts-ends [] AreTexts-none) in
+    let all : AreTexts (pieces tree flags) =
+    around-texts tree.symbol_type (name_begins ∷ (symbol_name tree.name tree.scope flags ++ name_ends ∷ [])) flags h.2
     (AreTexts-begins (symbol_name tree.name tree.scope flags ++ name_ends ∷ []) name) in
     settle_all-utf8 [] (pieces tree flags) IsUtf8-nil all.each

@@ -4,5 +4,4 @@ pub mod Words
 pub mod Functions
 pub mod Declaration
 pub mod Weights
-pub mod Shapes
 pub mod Work

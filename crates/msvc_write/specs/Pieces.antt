@@ -2,7 +2,8 @@
 use Rattle.std.specs.Prelude.{ℕ, List, [], ◌∷◌, ◌++◌, ◌-◌, Bool, cond, not, ◌==◌, ◌||◌, fold, length, slice_index}
 use Rattle.std.specs.Char.{is_ascii_alphabetic}
 use Rattle.msvc_write.specs.declared.text.Space.{Space}
-use Rattle.msvc_write.specs.declared.text.Space.TheVariants.{AfterPointer, AfterReference, AfterWord, UnlessOpen, AfterAngle}
+use Rattle.msvc_write.specs.declared.text.Space.TheVariants.{AfterPointer, AfterReference, AfterWord, UnlessOpen}
+use Rattle.msvc_write.specs.declared.text.Space.TheVariants.{AfterAngle}
 
 pub data Piece : Type 0 where
   text : List ℕ → Piece

@@ -1,6 +1,8 @@
--- How much work a tree is to print, as a number that falls with each step. The printer's own: no public contract speaks of it.
+-- How much work a tree is to print, as a number that falls with each step. The printer's own: no public contract
+-- speaks of it.
 use Rattle.std.specs.Prelude.{ℕ, ◌+◌}
-use Rattle.msvc_tree.specs.Trees.{NameTree, NameTrees, TypeTree, TypeTrees, no_names, names, no_types, types, tagged, pointing, array, function, member_function, variable}
+use Rattle.msvc_tree.specs.Trees.{NameTree, NameTrees, TypeTree, TypeTrees, no_names, names, no_types, types, tagged}
+use Rattle.msvc_tree.specs.Trees.{pointing, array, function, member_function, variable}
 
 unfoldable pub name_weight : NameTree → ℕ
 name_weight _ = 1

@@ -1,36 +1,42 @@
 -- The words of a declaration that no recursion needs.
 use Rattle.std.specs.Prelude.{ℕ, List, [], ◌∷◌, ◌++◌, Bool, cond, codes}
-use Rattle.msvc_tree.specs.Trees.{BaseType, Mark, Tag, class, struct, union, enum, alias, pointer, reference, rvalue_reference, void, char, schar, uchar, short, ushort, int, uint, long, ulong, float, double, ldouble, bool, wchar, char8, char16, char32, int64, uint64, int128, uint128}
+use Rattle.msvc_tree.specs.declared.kinds.BaseType.{BaseType}
+use Rattle.msvc_tree.specs.declared.kinds.Mark.{Mark}
+use Rattle.msvc_tree.specs.declared.kinds.Tag.{Tag}
+use Rattle.msvc_tree.specs.declared.kinds.BaseType.TheVariants as base_kind
+use Rattle.msvc_tree.specs.declared.kinds.Mark.TheVariants as mark_kind
+use Rattle.msvc_tree.specs.declared.kinds.Tag.TheVariants as tag_kind
 use Rattle.msvc_tree.specs.declared.tree.VarStorageKind.{VarStorageKind}
-use Rattle.msvc_tree.specs.declared.tree.VarStorageKind.TheVariants.{PrivateStatic, ProtectedStatic, PublicStatic, Global, FunctionLocalStatic}
+use Rattle.msvc_tree.specs.declared.tree.VarStorageKind.TheVariants.{PrivateStatic, ProtectedStatic, PublicStatic}
+use Rattle.msvc_tree.specs.declared.tree.VarStorageKind.TheVariants.{Global, FunctionLocalStatic}
 use Rattle.msvc_write.specs.Flags.{has, hug_type, ms_type_names, space_before_pointer}
 use Rattle.msvc_write.specs.Pieces.{Piece, text, space}
 use Rattle.msvc_write.specs.declared.text.Space.{Space}
 use Rattle.msvc_write.specs.declared.text.Space.TheVariants.{AfterPointer, AfterReference, AfterWord}
 
 abbrev pub base_word : BaseType → ℕ → List ℕ
-base_word void flags = codes "void"
-base_word char flags = codes "char"
-base_word schar flags = codes "signed char"
-base_word uchar flags = codes "unsigned char"
-base_word short flags = codes "short"
-base_word ushort flags = codes "unsigned short"
-base_word int flags = codes "int"
-base_word uint flags = codes "unsigned int"
-base_word long flags = codes "long"
-base_word ulong flags = codes "unsigned long"
-base_word float flags = codes "float"
-base_word double flags = codes "double"
-base_word ldouble flags = codes "long double"
-base_word bool flags = codes "bool"
-base_word wchar flags = codes "wchar_t"
-base_word char8 flags = codes "char8_t"
-base_word char16 flags = codes "char16_t"
-base_word char32 flags = codes "char32_t"
-base_word int64 flags = cond (has flags ms_type_names) (codes "__int64") (codes "int64_t")
-base_word uint64 flags = cond (has flags ms_type_names) (codes "unsigned __int64") (codes "uint64_t")
-base_word int128 flags = cond (has flags ms_type_names) (codes "__int128") (codes "int128_t")
-base_word uint128 flags = cond (has flags ms_type_names) (codes "unsigned __int128") (codes "uint128_t")
+base_word base_kind.Void flags = codes "void"
+base_word base_kind.Char flags = codes "char"
+base_word base_kind.Schar flags = codes "signed char"
+base_word base_kind.Uchar flags = codes "unsigned char"
+base_word base_kind.Short flags = codes "short"
+base_word base_kind.Ushort flags = codes "unsigned short"
+base_word base_kind.Int flags = codes "int"
+base_word base_kind.Uint flags = codes "unsigned int"
+base_word base_kind.Long flags = codes "long"
+base_word base_kind.Ulong flags = codes "unsigned long"
+base_word base_kind.Float flags = codes "float"
+base_word base_kind.Double flags = codes "double"
+base_word base_kind.Ldouble flags = codes "long double"
+base_word base_kind.Bool flags = codes "bool"
+base_word base_kind.Wchar flags = codes "wchar_t"
+base_word base_kind.Char8 flags = codes "char8_t"
+base_word base_kind.Char16 flags = codes "char16_t"
+base_word base_kind.Char32 flags = codes "char32_t"
+base_word base_kind.Int64 flags = cond (has flags ms_type_names) (codes "__int64") (codes "int64_t")
+base_word base_kind.Uint64 flags = cond (has flags ms_type_names) (codes "unsigned __int64") (codes "uint64_t")
+base_word base_kind.Int128 flags = cond (has flags ms_type_names) (codes "__int128") (codes "int128_t")
+base_word base_kind.Uint128 flags = cond (has flags ms_type_names) (codes "unsigned __int128") (codes "uint128_t")
 
 -- what stands before a variable, by who may name it
 abbrev pub variable_word : VarStorageKind → List ℕ
@@ -58,16 +64,16 @@ qualifiers set flags = qualifier 1 (codes "const") set flags ++ qualifier 2 (cod
 
 -- the word before a name that stands for a type
 abbrev pub tag_word : Tag → List ℕ
-tag_word class = codes "class "
-tag_word struct = codes "struct "
-tag_word union = codes "union "
-tag_word enum = codes "enum "
-tag_word alias = []
+tag_word tag_kind.Class = codes "class "
+tag_word tag_kind.Struct = codes "struct "
+tag_word tag_kind.Union = codes "union "
+tag_word tag_kind.Enum = codes "enum "
+tag_word tag_kind.Alias = []
 
 abbrev pub mark_word : Mark → List ℕ
-mark_word pointer = codes "*"
-mark_word reference = codes "&"
-mark_word rvalue_reference = codes "&&"
+mark_word mark_kind.Pointer = codes "*"
+mark_word mark_kind.Reference = codes "&"
+mark_word mark_kind.RValueReference = codes "&&"
 
 -- the space before a mark, if there is one
 abbrev pub mark_space : ℕ → List Piece

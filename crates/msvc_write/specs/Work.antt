@@ -1,40 +1,37 @@
 -- What the printer's stack of work means, and how much it is. The printer's own: no public contract speaks of it.
-use Rattle.std.specs.Prelude.{ℕ, ◌+◌, ◌<◌, ◌≡◌, List, [], ◌∷◌, ◌++◌, codes}
-use Rattle.msvc_tree.specs.View.{name_of, names_in, scope_of, type_of, types_in}
-use Rattle.msvc_write.specs.Declaration.{inner_name, scope_prefix, symbol_name, before, after, parameters}
+use Rattle.std.specs.Prelude.{ℕ, ◌+◌, ◌<◌, ◌≡◌, List, [], ◌∷◌, ◌++◌, Bool, codes, drop}
+use Rattle.msvc_tree.specs.View.{type_of, types_in}
+use Rattle.msvc_tree.specs.declared.tree.Params.{Params}
+use Rattle.msvc_write.specs.Declaration.{before, after, parameters}
 use Rattle.msvc_write.specs.Functions.{calling, own_qualifiers}
 use Rattle.msvc_write.specs.Pieces.{Piece, text, settle_all}
-use Rattle.msvc_write.specs.Weights.{name_weight, scope_weight, symbol_weight, type_weight, types_weight}
+use Rattle.msvc_write.specs.Weights.{type_weight, types_weight}
 use Rattle.msvc_write.specs.Words.{qualifiers, marked, opening}
 use Rattle.msvc_write.specs.declared.item.Item.{Item}
-use Rattle.msvc_write.specs.declared.item.Item.TheVariants.{Text, Qualifiers, Mark, ArrayLevel, Calling, Parameters, FunctionQualifiers, Name, Scope, Symbol, Before, After}
+use Rattle.msvc_write.specs.declared.item.Item.TheVariants.{Qualifiers, Mark, ArrayLevel, Calling, Parameters, Before}
+use Rattle.msvc_write.specs.declared.item.Item.TheVariants.{After}
+
+-- the parameters of a function from a place on, and what stands after them
+unfoldable pub rest_of_parameters : Params → ℕ → Bool → ℕ → ℕ → List Piece
+rest_of_parameters p place first set flags =
+    parameters (types_in (drop place p.types.items)) first flags ++ (text (codes ")") ∷ own_qualifiers set)
 
 -- the pieces that an item stands for
 abbrev pub item_pieces : Item → ℕ → List Piece
-item_pieces (Text bytes) flags = text bytes.now ∷ []
 item_pieces (Qualifiers set) flags = qualifiers set.0 flags
 item_pieces (Mark word set) flags = marked word.now set.0 flags
 item_pieces (ArrayLevel set pointed) flags = qualifiers set.0 flags ++ opening pointed
 item_pieces (Calling pointed convention) flags = calling pointed convention
-item_pieces (Parameters ts first) flags = parameters (types_in ts.now) first flags
-item_pieces (FunctionQualifiers set) flags = text (codes ")") ∷ own_qualifiers set.0
-item_pieces (Name n) flags = inner_name (name_of n.now) flags
-item_pieces (Scope ns) flags = scope_prefix (names_in ns.now) flags
-item_pieces (Symbol s) flags = symbol_name (name_of s.now.name) (scope_of s.now.scope) flags
+item_pieces (Parameters p place first set) flags = rest_of_parameters p.now place first set.0 flags
 item_pieces (Before t pointed) flags = before (type_of t.now) pointed flags
 item_pieces (After t pointed) flags = after (type_of t.now) pointed flags
 
 abbrev pub item_weight : Item → ℕ
-item_weight (Text bytes) = 1
 item_weight (Qualifiers set) = 1
 item_weight (Mark word set) = 1
 item_weight (ArrayLevel set pointed) = 1
 item_weight (Calling pointed convention) = 1
-item_weight (Parameters ts first) = types_weight (types_in ts.now)
-item_weight (FunctionQualifiers set) = 1
-item_weight (Name n) = 1 + name_weight (name_of n.now)
-item_weight (Scope ns) = scope_weight (names_in ns.now)
-item_weight (Symbol s) = symbol_weight (name_of s.now.name) (scope_of s.now.scope)
+item_weight (Parameters p place first set) = types_weight (types_in (drop place p.now.types.items))
 item_weight (Before t pointed) = type_weight (type_of t.now)
 item_weight (After t pointed) = type_weight (type_of t.now)
 

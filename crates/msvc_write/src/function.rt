@@ -1,7 +1,8 @@
 //! What the declaration of a function has beside its types: words, how it is called, its own qualifiers, commas.
 
 ghost use Rattle.std.specs.Prelude.{◌≡◌, ◌∷◌, OnOk, codes};
-ghost use Rattle.msvc_write.specs.Functions.{calling, convention_word, member_start, member_word, member_words, own_qualifier, own_qualifiers, separator};
+ghost use Rattle.msvc_write.specs.Functions.{calling, convention_word, member_start, member_word, member_words};
+ghost use Rattle.msvc_write.specs.Functions.{own_qualifier, own_qualifiers, separator};
 ghost use Rattle.msvc_write.specs.Pieces.{settle_all, text};
 
 use crate::text::{Space, has, write_opening, write_space, write_text};
@@ -99,6 +100,9 @@ fn write_own_qualifier(
 fn write_own_qualifiers(out: &mut Vec<u8>, set: StorageClass) -> Result<(), AllocError>
     ensures { OnOk result (out.new.items ≡ settle_all out.old.items (own_qualifiers set.0)) }
 {
+    if set.is_empty() {
+        return Ok(());
+    }
     write_own_qualifier(out, StorageClass::CONST, b"const", set)?;
     write_own_qualifier(out, StorageClass::VOLATILE, b"volatile", set)?;
     write_own_qualifier(out, StorageClass::RESTRICT, b"__restrict", set)?;

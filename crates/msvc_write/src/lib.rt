@@ -4,9 +4,10 @@
 
 mod function;
 mod item;
+mod name;
 mod printer;
-mod shape;
 mod steps;
 mod text;
+mod words;
 
 pub use printer::serialize;

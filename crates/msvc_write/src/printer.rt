@@ -1,6 +1,6 @@
 //! The loop over the stack, and its bytes as a text.
 
-ghost use Rattle.std.specs.Prelude.{◌≡◌, IfOk, IfErr, bit_and, string_bytes};
+ghost use Rattle.std.specs.Prelude.{◌≡◌, [], OnOk, IfOk, IfErr, bit_and, string_bytes};
 ghost use Rattle.std.specs.Str.{IsUtf8};
 ghost use Rattle.std.specs.Str.Lossy.{utf8_lossy};
 ghost use Rattle.msvc_tree.specs.EachName.{EachName};
@@ -8,12 +8,15 @@ ghost use Rattle.msvc_tree.specs.View.{tree_of};
 ghost use Rattle.msvc_tree.specs.declared.error.ErrorRepr.TheVariants.{Memory};
 ghost use Rattle.msvc_write.specs.Declaration.{declaration};
 ghost use Rattle.msvc_write.specs.Flags.{obeyed_flags};
+ghost use Rattle.msvc_write.specs.Work.{finished};
 
-use crate::item::{Item, push};
-use crate::steps::step;
+use crate::item::Item;
+use crate::name::write_symbol;
+use crate::steps::{print_after, print_before, step};
 use bitflags::Flags;
 use msvc_tree::error::Error;
 use msvc_tree::flags::DemangleFlags;
+use msvc_tree::node::type_node;
 use msvc_tree::tree::ParseResult;
 use std::alloc::{AllocError, Global};
 
@@ -22,6 +25,21 @@ const FIRST_BYTES: usize = 128;
 
 /// How many items the stack has room for before it grows: more than most symbols need.
 const FIRST_ITEMS: usize = 16;
+
+/// Prints all items of the stack, the last first.
+fn empty<'t, 'a>(
+    stack: &mut Vec<Item<'t, 'a>>,
+    out: &mut Vec<u8>,
+    flags: DemangleFlags,
+) -> Result<(), AllocError>
+    ensures text { OnOk result (out.new.items ≡ finished stack.old.items out.old.items flags.0) }
+    ensures none_left { OnOk result (stack.new.items ≡ []) }
+{
+    while let Some(item) = stack.pop() {
+        step(stack, out, item, flags)?;
+    }
+    Ok(())
+}
 
 /// The bytes of the declaration of a tree.
 fn print(
@@ -34,12 +52,12 @@ fn print(
     let flags = flags.intersection(DemangleFlags::llvm());
     let mut out = Vec::with_capacity(alloc, FIRST_BYTES)?;
     let mut stack = Vec::with_capacity(alloc, FIRST_ITEMS)?;
-    push(&mut stack, Item::After(&input.symbol_type, false))?;
-    push(&mut stack, Item::Symbol(&input.symbol))?;
-    push(&mut stack, Item::Before(&input.symbol_type, false))?;
-    while let Some(item) = stack.pop() {
-        step(&mut stack, &mut out, item, flags)?;
-    }
+    let node = type_node(&input.symbol_type);
+    print_before(&mut stack, &mut out, node, false, flags)?;
+    empty(&mut stack, &mut out, flags)?;
+    write_symbol(&mut out, &input.symbol, flags)?;
+    print_after(&mut stack, &mut out, node, false, flags)?;
+    empty(&mut stack, &mut out, flags)?;
     Ok(out)
 }
 
@@ -51,8 +69,10 @@ pub fn serialize(
     input: &ParseResult<'_>,
     flags: DemangleFlags,
 ) -> Result<String, Error>
-    ensures declared { IfOk result (λ text. EachName IsUtf8 (tree_of input.now) → string_bytes text ≡ declaration (tree_of input.now) (bit_and flags.0 obeyed_flags)) }
-    ensures lossy { IfOk result (λ text. string_bytes text ≡ utf8_lossy (declaration (tree_of input.now) (bit_and flags.0 obeyed_flags))) }
+    ensures declared { IfOk result (λ text. EachName IsUtf8 (tree_of input.now) →
+        string_bytes text ≡ declaration (tree_of input.now) (bit_and flags.0 obeyed_flags)) }
+    ensures lossy { IfOk result (λ text.
+        string_bytes text ≡ utf8_lossy (declaration (tree_of input.now) (bit_and flags.0 obeyed_flags))) }
     ensures memory { IfErr result (λ e. e ≡ Memory) }
 {
     let bytes = print(alloc, input, flags)?;

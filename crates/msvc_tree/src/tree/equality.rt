@@ -1,17 +1,20 @@
 //! Equality of trees: two trees are equal where every name, number, set and list in them is.
 
-#![tactic(auto, using(crate::proofs::Views::views))]
+#![tactic(auto, using(crate::proofs::Nodes::nodes))]
 
 ghost use Rattle.std.specs.Prelude.{◌≡◌, ◌↔◌, IsTrue, option_map, string_bytes};
 ghost use Rattle.msvc_tree.specs.View.{name_of, operator_of, type_of, scope_of, params_of, tree_of};
-ghost use Rattle.msvc_tree.specs.Heads.{name_inside, name_parts_of, operator_inside, operator_parts_of, type_inside, type_parts_of};
+ghost use Rattle.msvc_tree.specs.Nodes.{name_in, operator_in, type_in};
+ghost use Rattle.msvc_tree.specs.Trees.{NameTree, NameTrees};
 ghost use Rattle.msvc_tree.specs.Equality.{name_eq, operator_eq, type_eq, scope_eq, params_eq, symbol_eq, result_eq};
-ghost use Rattle.msvc_tree.specs.Equality.{name_eq-laws, operator_eq-laws, type_eq-laws, scope_eq-laws, params_eq-laws, symbol_eq-laws, result_eq-laws};
-ghost use Rattle.msvc_tree.specs.Equality.{name_eq-partial_laws, operator_eq-partial_laws, type_eq-partial_laws, scope_eq-partial_laws, params_eq-partial_laws, symbol_eq-partial_laws, result_eq-partial_laws};
+ghost use Rattle.msvc_tree.specs.Equality.{name_eq-laws, operator_eq-laws, type_eq-laws, scope_eq-laws};
+ghost use Rattle.msvc_tree.specs.Equality.{params_eq-laws, symbol_eq-laws, result_eq-laws};
+ghost use Rattle.msvc_tree.specs.Equality.{name_eq-partial_laws, operator_eq-partial_laws, type_eq-partial_laws};
+ghost use Rattle.msvc_tree.specs.Equality.{scope_eq-partial_laws, params_eq-partial_laws, symbol_eq-partial_laws};
+ghost use Rattle.msvc_tree.specs.Equality.{result_eq-partial_laws};
 
-use crate::tree::head::{
-    NameParts, OperatorParts, TypeParts, head_of_operator, head_of_type, name_parts, name_variant,
-    parts_of_operator, parts_of_type, same_operator_head, same_type_head,
+use crate::node::{
+    NameNode, OperatorNode, TypeNode, name_node, operator_node, pointed_class, type_node,
 };
 use crate::tree::{Name, NameSequence, Operator, Params, ParseResult, Symbol, Type};
 
@@ -90,7 +93,8 @@ impl<'a> PartialEq for Symbol<'a> {
 
     fn eq(&self, other: &Symbol<'a>) -> bool
         ensures value { result ≡ symbol_eq self.now other.now }
-        ensures same { IsTrue result ↔ ((name_of self.now.name ≡ name_of other.now.name) × (scope_of self.now.scope ≡ scope_of other.now.scope)) }
+        ensures same { IsTrue result ↔
+            ((name_of self.now.name ≡ name_of other.now.name) × (scope_of self.now.scope ≡ scope_of other.now.scope)) }
     {
         same_symbol(self, other)
     }
@@ -140,12 +144,6 @@ fn same_text(left: &[u8], right: &[u8]) -> bool
     left == right
 }
 
-fn same_bytes(left: &Vec<u8>, right: &Vec<u8>) -> bool
-    ensures { IsTrue result ↔ (left.now.items ≡ right.now.items) }
-{
-    same_text(left.as_slice(), right.as_slice())
-}
-
 fn same_digits(left: &Option<String>, right: &Option<String>) -> bool
     ensures { IsTrue result ↔ (option_map string_bytes left.now ≡ option_map string_bytes right.now) }
 {
@@ -159,66 +157,75 @@ fn same_digits(left: &Option<String>, right: &Option<String>) -> bool
 }
 
 #[cycle(equality)]
-#[tactic(auto, using(crate::proofs::Heads::heads))]
 fn same_name<'a>(left: &Name<'a>, right: &Name<'a>) -> bool
     ensures { IsTrue result ↔ (name_of left.now ≡ name_of right.now) }
 {
-    name_variant(left) == name_variant(right) && same_name_parts(left, name_parts(right))
+    same_name_node(name_node(left), name_node(right))
 }
 
 #[cycle(equality)]
-#[tactic(auto, using(crate::proofs::Views::views, crate::proofs::Heads::heads))]
-fn same_name_parts<'a>(left: &Name<'a>, right: NameParts<'_, 'a>) -> bool
-    ensures { IsTrue result ↔ (name_inside (name_of left.now) ≡ name_parts_of right.entry) }
+fn same_operator<'a>(left: &Operator<'a>, right: &Operator<'a>) -> bool
+    ensures { IsTrue result ↔ (operator_of left.now ≡ operator_of right.now) }
+{
+    same_operator_node(operator_node(left), operator_node(right))
+}
+
+#[cycle(equality)]
+fn same_operator_node<'a>(left: OperatorNode<'_, 'a>, right: OperatorNode<'_, 'a>) -> bool
+    ensures { IsTrue result ↔ (operator_in left.entry ≡ operator_in right.entry) }
 {
     match left {
-        Name::Operator(operator) => match right {
-            NameParts::AnOperator(other) => same_operator(operator, other),
+        OperatorNode::Plain(operator) => match right {
+            OperatorNode::Plain(other) => operator == other,
             _ => false,
         },
-        Name::NonTemplate(text) | Name::AsInterface(text) | Name::Md5(text) => match right {
-            NameParts::Text(other) => same_text(text, other),
+        OperatorNode::Guard(guard, number) => match right {
+            OperatorNode::Guard(other, others) => guard == other && number == others,
             _ => false,
         },
-        Name::Template(name, arguments) => match right {
-            NameParts::Template(other, others) => same_name(name, other)
-                && same_params(arguments, others),
+        OperatorNode::TypeDescriptor(set, described) => match right {
+            OperatorNode::TypeDescriptor(others, other) => set == others
+                && same_type(described, other),
             _ => false,
         },
-        Name::Discriminator(number) => match right {
-            NameParts::Number(other) => *number == other,
-            _ => false,
-        },
-        Name::ParsedName(symbol) => match right {
-            NameParts::Whole(other) => same_result(symbol, other),
-            _ => false,
-        },
-        Name::AnonymousNamespace(digits) => match right {
-            NameParts::Digits(others) => same_digits(digits, others),
+        OperatorNode::BaseClassDescriptor(a, b, c, d) => match right {
+            OperatorNode::BaseClassDescriptor(e, f, g, h) => a == e && b == f && c == g && d == h,
             _ => false,
         },
     }
 }
 
 #[cycle(equality)]
-#[tactic(auto, using(crate::proofs::Heads::heads))]
-fn same_operator<'a>(left: &Operator<'a>, right: &Operator<'a>) -> bool
-    ensures { IsTrue result ↔ (operator_of left.now ≡ operator_of right.now) }
-{
-    same_operator_head(head_of_operator(left), head_of_operator(right))
-        && same_described(left, parts_of_operator(right))
-}
-
-#[cycle(equality)]
-fn same_described<'a>(left: &Operator<'a>, right: OperatorParts<'_, 'a>) -> bool
-    ensures { IsTrue result ↔ (operator_inside (operator_of left.now) ≡ operator_parts_of right.entry) }
+fn same_name_node<'a>(left: NameNode<'_, 'a>, right: NameNode<'_, 'a>) -> bool
+    ensures { IsTrue result ↔ (name_in left.entry ≡ name_in right.entry) }
 {
     match left {
-        Operator::RTTITypeDescriptor(_, inner) => match right {
-            OperatorParts::Described(other) => same_type(inner, other),
-            OperatorParts::Nothing => false,
+        NameNode::Spelled(how, text) => match right {
+            NameNode::Spelled(other, others) => how == other && same_text(text, others),
+            _ => false,
         },
-        _ => matches!(right, OperatorParts::Nothing),
+        NameNode::Operator(operator) => match right {
+            NameNode::Operator(other) => same_operator(operator, other),
+            _ => false,
+        },
+        NameNode::Template(name, arguments) => match right {
+            NameNode::Template(other, others) => {
+                same_name(name, other) && same_params(arguments, others)
+            }
+            _ => false,
+        },
+        NameNode::Discriminator(number) => match right {
+            NameNode::Discriminator(other) => number == other,
+            _ => false,
+        },
+        NameNode::Nested(symbol) => match right {
+            NameNode::Nested(other) => same_result(symbol, other),
+            _ => false,
+        },
+        NameNode::Anonymous(digits) => match right {
+            NameNode::Anonymous(others) => same_digits(digits, others),
+            _ => false,
+        },
     }
 }
 
@@ -253,15 +260,14 @@ fn same_params<'a>(left: &Params<'a>, right: &Params<'a>) -> bool
 }
 
 #[cycle(equality)]
-#[tactic(auto)]
 fn same_symbol<'a>(left: &Symbol<'a>, right: &Symbol<'a>) -> bool
-    ensures { IsTrue result ↔ ((name_of left.now.name ≡ name_of right.now.name) × (scope_of left.now.scope ≡ scope_of right.now.scope)) }
+    ensures { IsTrue result ↔ ((name_of left.now.name ≡ name_of right.now.name)
+        × (scope_of left.now.scope ≡ scope_of right.now.scope)) }
 {
     same_name(&left.name, &right.name) && same_scope(&left.scope, &right.scope)
 }
 
 #[cycle(equality)]
-#[tactic(auto)]
 fn same_result<'a>(left: &ParseResult<'a>, right: &ParseResult<'a>) -> bool
     ensures { IsTrue result ↔ (tree_of left.now ≡ tree_of right.now) }
 {
@@ -269,85 +275,111 @@ fn same_result<'a>(left: &ParseResult<'a>, right: &ParseResult<'a>) -> bool
 }
 
 #[cycle(equality)]
-#[tactic(auto, using(crate::proofs::Heads::heads))]
 fn same_type<'a>(left: &Type<'a>, right: &Type<'a>) -> bool
     ensures { IsTrue result ↔ (type_of left.now ≡ type_of right.now) }
 {
-    same_type_head(head_of_type(left), head_of_type(right))
-        && same_type_parts(left, parts_of_type(right))
+    same_class(pointed_class(left), pointed_class(right))
+        && same_type_node(type_node(left), type_node(right))
 }
 
 #[cycle(equality)]
-fn same_type_parts<'a>(left: &Type<'a>, right: TypeParts<'_, 'a>) -> bool
-    ensures { IsTrue result ↔ (type_inside (type_of left.now) ≡ type_parts_of right.entry) }
+fn same_class<'a>(left: Option<&Symbol<'a>>, right: Option<&Symbol<'a>>) -> bool
+    ensures { IsTrue result ↔ (option_map {U = NameTree × NameTrees} (λ s. (name_of s.now.name, scope_of s.now.scope))
+        left.entry ≡ option_map {U = NameTree × NameTrees} (λ s. (name_of s.now.name, scope_of s.now.scope))
+        right.entry) }
 {
     match left {
-        Type::ConstantString(text) => match right {
-            TypeParts::Text(other) => same_bytes(text, other),
+        None => right.is_none(),
+        Some(class) => match right {
+            None => false,
+            Some(other) => same_symbol(class, other),
+        },
+    }
+}
+
+#[cycle(equality)]
+fn same_type_node<'a>(left: TypeNode<'_, 'a>, right: TypeNode<'_, 'a>) -> bool
+    ensures { IsTrue result ↔ (type_in left.entry ≡ type_in right.entry) }
+{
+    match left {
+        TypeNode::Plain(plain) => match right {
+            TypeNode::Plain(other) => plain == other,
             _ => false,
         },
-        Type::Ptr(inner, _)
-        | Type::Ref(inner, _)
-        | Type::RValueRef(inner, _)
-        | Type::Array(_, inner, _)
-        | Type::Var(inner, _, _) => match right {
-            TypeParts::Inner(other) => same_type(inner, other),
+        TypeNode::Base(base, set) => match right {
+            TypeNode::Base(other, others) => base == other && set == others,
             _ => false,
         },
-        Type::Class(symbol, _)
-        | Type::Struct(symbol, _)
-        | Type::Union(symbol, _)
-        | Type::Enum(symbol, _)
-        | Type::Alias(symbol, _) => match right {
-            TypeParts::Named(other) => same_symbol(symbol, other),
+        TypeNode::Tagged(tag, symbol, set) => match right {
+            TypeNode::Tagged(mark, other, others) => {
+                tag == mark && set == others && same_symbol(symbol, other)
+            }
             _ => false,
         },
-        Type::NonMemberFunction(_, parameters, _, inner)
-        | Type::MemberFunction(_, _, parameters, _, inner) => match right {
-            TypeParts::Function(others, other) => same_params(parameters, others)
-                && same_type(inner, other),
+        TypeNode::Numbered(kind, number) => match right {
+            TypeNode::Numbered(other, others) => kind == other && number == others,
             _ => false,
         },
-        Type::MemberFunctionPointer(symbol, _, _, parameters, _, inner) => match right {
-            TypeParts::Member(owner, others, other) => same_symbol(symbol, owner)
-                && same_params(parameters, others)
-                && same_type(inner, other),
+        TypeNode::ConstantString(text) => match right {
+            TypeNode::ConstantString(other) => same_text(text, other),
             _ => false,
         },
-        Type::CXXVFTable(scope, _) | Type::CXXVBTable(scope, _) => match right {
-            TypeParts::Scope(other) => same_scope(scope, other),
+        TypeNode::Pointing(mark, inner, set) => match right {
+            TypeNode::Pointing(sign, other, others) => {
+                mark == sign && set == others && same_type(inner, other)
+            }
             _ => false,
         },
-        Type::None
-        | Type::EmptyParameterPack
-        | Type::RTTIType
-        | Type::VarArgs
-        | Type::Nullptr
-        | Type::Constant(_)
-        | Type::TemplateParameterWithIndex(_)
-        | Type::ThreadSafeStaticGuard(_)
-        | Type::VCallThunk(_, _) => matches!(right, TypeParts::Nothing),
-        Type::Void(_)
-        | Type::Char(_)
-        | Type::Schar(_)
-        | Type::Uchar(_)
-        | Type::Short(_)
-        | Type::Ushort(_)
-        | Type::Int(_)
-        | Type::Uint(_)
-        | Type::Long(_)
-        | Type::Ulong(_)
-        | Type::Float(_)
-        | Type::Double(_)
-        | Type::Ldouble(_)
-        | Type::Bool(_)
-        | Type::Wchar(_)
-        | Type::Char8(_)
-        | Type::Char16(_)
-        | Type::Char32(_)
-        | Type::Int64(_)
-        | Type::Uint64(_)
-        | Type::Int128(_)
-        | Type::Uint128(_) => matches!(right, TypeParts::Nothing),
+        TypeNode::Array(length, inner, set) => match right {
+            TypeNode::Array(count, other, others) => {
+                length == count && set == others && same_type(inner, other)
+            }
+            _ => false,
+        },
+        TypeNode::Function(convention, parameters, set, returned) => match right {
+            TypeNode::Function(call, items, others, other) => {
+                convention == call
+                    && set == others
+                    && same_params(parameters, items)
+                    && same_type(returned, other)
+            }
+            _ => false,
+        },
+        TypeNode::MemberFunction(class, convention, parameters, set, returned) => match right {
+            TypeNode::MemberFunction(kind, call, items, others, other) => {
+                class == kind
+                    && convention == call
+                    && set == others
+                    && same_params(parameters, items)
+                    && same_type(returned, other)
+            }
+            _ => false,
+        },
+        TypeNode::MemberPointer(class, convention, parameters, set, returned) => match right {
+            TypeNode::MemberPointer(kind, call, items, others, other) => {
+                class == kind
+                    && convention == call
+                    && set == others
+                    && same_params(parameters, items)
+                    && same_type(returned, other)
+            }
+            _ => false,
+        },
+        TypeNode::Variable(inner, kind, set) => match right {
+            TypeNode::Variable(other, storage, others) => {
+                kind == storage && set == others && same_type(inner, other)
+            }
+            _ => false,
+        },
+        TypeNode::Table(table, scope, set) => match right {
+            TypeNode::Table(other, names, others) => {
+                table == other && set == others && same_scope(scope, names)
+            }
+            _ => false,
+        },
+        TypeNode::VcallThunk(number, convention) => match right {
+            TypeNode::VcallThunk(other, call) => number == other && convention == call,
+            _ => false,
+        },
     }
 }

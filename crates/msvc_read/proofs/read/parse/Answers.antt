@@ -1,12 +1,9 @@
 use Rattle.msvc_tree.specs.View.{tree_of}
-use Rattle.msvc_read.proofs.Whole.{read-derived, read-only, read-parts, read-texts, error-refused}
+use Rattle.msvc_read.proofs.Whole.{read-derived, read-parts, read-texts, error-refused}
 use Rattle.msvc_read.proofs.read.parse.Goals as goal
 
 pub returns-in-Ok-clause-derived : goal.returns-in-Ok-clause-derived
 returns-in-Ok-clause-derived c = read-derived c.args.input.now (tree_of c.in-Ok.symbol) c.in-Ok.ensures.value
-
-pub returns-in-Ok-clause-only : goal.returns-in-Ok-clause-only
-returns-in-Ok-clause-only c = read-only c.args.input.now (tree_of c.in-Ok.symbol) c.in-Ok.ensures.value
 
 pub returns-in-Ok-clause-parts : goal.returns-in-Ok-clause-parts
 returns-in-Ok-clause-parts c = read-parts c.args.input.now (tree_of c.in-Ok.symbol) c.in-Ok.ensures.value
@@ -16,4 +13,5 @@ returns-in-Ok-clause-texts c = read-texts c.args.input.now (tree_of c.in-Ok.symb
 
 pub returns-in-Err-clause-refused : goal.returns-in-Err-clause-refused
 returns-in-Err-clause-refused c =
-    error-refused c.args.input.now c.in-Err.refusal c.error.result c.in-Err.ensures.value (rw c.as_bytes.ensures.value at c.error.ensures)
+    error-refused c.args.input.now c.in-Err.refusal c.error.result c.in-Err.ensures.value
+    (rw c.as_bytes.ensures.value at c.error.ensures)

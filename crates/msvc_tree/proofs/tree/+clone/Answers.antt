@@ -1,56 +1,138 @@
-use Rattle.std.proofs.Common.{rules, [], ◌∷◌, ◌++◌, sym, ap, ◌∙◌, map, take, arith}
 use mir.Val.{to_z, of_z}
-use Rattle.std.specs.Int.{w32}
+use Rattle.std.proofs.Common.{◌≡◌, ◌<◌, rules, [], ◌∷◌, ◌++◌, get_or, refl, sym, ap, ◌∙◌, subst, map, take, arith}
 use Rattle.std.proofs.lemmas.List.{map_more, take_all}
-use Rattle.msvc_tree.specs.View.{name_of, type_of}
+use Rattle.std.specs.Int.{w32}
+use Rattle.msvc_tree.specs.Sizes.{name_size, names_size, type_size, types_size}
+use Rattle.msvc_tree.specs.Trees.{array, function, member_function, member_pointer, pointing, template, variable}
+use Rattle.msvc_tree.specs.View.{name_of, type_of, scope_of, params_of}
 use Rattle.msvc_tree.proofs.CopiedLists.{names_in-from_map, types_in-from_map}
-use Rattle.msvc_tree.proofs.Copies.{same_template, same_array, same_function, same_member_function, same_member_pointer, same_variable}
 use Rattle.msvc_tree.proofs.Kept.{boxed-seen, pushed-seen}
+use Rattle.msvc_tree.proofs.Lists.{names_in-size, types_in-size}
+use Rattle.msvc_tree.proofs.Nodes.{without-is, pointer-is}
+use Rattle.msvc_tree.proofs.Views.{name_of-Template, operator_of-RTTIBaseClassDescriptor, type_of-Array}
+use Rattle.msvc_tree.proofs.Views.{type_of-NonMemberFunction, type_of-MemberFunction, type_of-MemberFunctionPointer}
+use Rattle.msvc_tree.proofs.Views.{type_of-Var}
 use Rattle.msvc_tree.proofs.tree.+clone.Goals as goal
 
-pub Name::clone-returns-in_ok-clone-in-Template : goal.Name::clone-returns-in_ok-clone-in-Template
-Name::clone-returns-in_ok-clone-in-Template t c =
+pub Name::clone-returns-in_ok-boxed_made-in-Template : goal.Name::clone-returns-in_ok-boxed_made-in-Template
+Name::clone-returns-in_ok-boxed_made-in-Template t c =
     let w = c.in-Template in
-    same_template _ w.name _ w.arguments (boxed-seen _ _ name_of _ _ _ c.in_ok-boxed_made-in-Template.ensures c.clone-in-Template.ensures ∙ ap name_of c.deref.ensures) c.in_ok-clone-in-Template.ensures ∙ sym (ap name_of w.is)
+    let p = c.in_ok-arguments-in-Template in
+    let b = c.in_ok-boxed_made-in-Template in
+    name_of-Template b.field-0 p.arguments
+    ∙ ap (λ n. template n (params_of p.arguments))
+    (boxed-seen _ _ name_of _ _ _ b.ensures c.clone-in-Template-2.ensures)
+    ∙ ap (template (name_of w.name.now)) p.ensures ∙ w.ensures
+
+pub NameSequence::clone-clone-requires : goal.NameSequence::clone-clone-requires
+NameSequence::clone-clone-requires t c =
+    let l = c.name-item.result in
+    let items = c.args.self.now.names.items in
+    let here : name_of (get_or items c.loop-name.name-index l) ≡ name_of l =
+    sym (ap name_of (c.name-item.is
+    ∙ ap (λ xs. get_or xs c.loop-name.name-index l) c.deref-name-items.ensures.value)) in
+    let small : name_size (name_of l) < names_size (scope_of c.args.self.now) =
+    subst (λ x. name_size x < names_size (scope_of c.args.self.now)) here
+    (names_in-size items l c.loop-name.name-index (omega arith)) in
+    omega (arith, c.decreases)
 
 pub NameSequence::clone-returns : goal.NameSequence::clone-returns
 NameSequence::clone-returns t c =
-    names_in-from_map _ _ (c.loop-name.invariant ∙ ap (map name_of) (take_all c.loop-name.name-index c.deref-name-items.result.now (search (rules, arith)) ∙ c.deref-name-items.ensures.value))
+    names_in-from_map _ _ (c.loop-name.invariant
+    ∙ ap (map name_of) (take_all c.loop-name.name-index c.deref-name-items.result.now (search (rules, arith))
+    ∙ c.deref-name-items.ensures.value))
+
+pub Params::clone-clone-requires : goal.Params::clone-clone-requires
+Params::clone-clone-requires t c =
+    let l = c.item-item.result in
+    let items = c.args.self.now.types.items in
+    let here : type_of (get_or items c.loop-item.item-index l) ≡ type_of l =
+    sym (ap type_of (c.item-item.is
+    ∙ ap (λ xs. get_or xs c.loop-item.item-index l) c.deref-item-items.ensures.value)) in
+    let small : type_size (type_of l) < types_size (params_of c.args.self.now) =
+    subst (λ x. type_size x < types_size (params_of c.args.self.now)) here
+    (types_in-size items l c.loop-item.item-index (omega arith)) in
+    omega (arith, c.decreases)
 
 pub Params::clone-loop-item-preserved : goal.Params::clone-loop-item-preserved
 Params::clone-loop-item-preserved t c =
     let x = c.item-item.result in
     let items = c.deref-item-items.result.now in
     let before = take c.loop-item.item-index items in
-    pushed-seen _ type_of _ _ _ _ (type_of x) c.in_ok-push_made.ensures c.clone.ensures ∙ ap (λ ts. ts ++ type_of x ∷ []) c.loop-item.invariant ∙ ap (λ y. map type_of before ++ type_of y ∷ []) c.item-item.is ∙ sym (map_more type_of items c.loop-item.item-index x (omega arith))
+    pushed-seen _ type_of _ _ _ _ (type_of x) c.in_ok-push_made.ensures c.clone.ensures
+    ∙ ap (λ ts. ts ++ type_of x ∷ []) c.loop-item.invariant
+    ∙ ap (λ y. map type_of before ++ type_of y ∷ []) c.item-item.is
+    ∙ sym (map_more type_of items c.loop-item.item-index x (omega arith))
 
 pub Params::clone-returns : goal.Params::clone-returns
 Params::clone-returns t c =
-    types_in-from_map _ _ (c.loop-item.invariant ∙ ap (map type_of) (take_all c.loop-item.item-index c.deref-item-items.result.now (search (rules, arith)) ∙ c.deref-item-items.ensures.value))
+    types_in-from_map _ _ (c.loop-item.invariant
+    ∙ ap (map type_of) (take_all c.loop-item.item-index c.deref-item-items.result.now (search (rules, arith))
+    ∙ c.deref-item-items.ensures.value))
+
+pub Operator::clone-returns-in-BaseClassDescriptor : goal.Operator::clone-returns-in-BaseClassDescriptor
+Operator::clone-returns-in-BaseClassDescriptor t c =
+    let w = c.in-BaseClassDescriptor in
+    let first : to_z w32 (of_z w32 w.a) ≡ w.a = search rules in
+    let second : to_z w32 (of_z w32 w.b) ≡ w.b = search rules in
+    let third : to_z w32 (of_z w32 w.c) ≡ w.c = search rules in
+    let fourth : to_z w32 (of_z w32 w.d) ≡ w.d = search rules in
+    rw (first, second, third, fourth) (operator_of-RTTIBaseClassDescriptor w.a w.b w.c w.d ∙ w.ensures)
+
+pub Type::clone-returns-in_ok-clone_boxed-in-Pointing : goal.Type::clone-returns-in_ok-clone_boxed-in-Pointing
+Type::clone-returns-in_ok-clone_boxed-in-Pointing t c =
+    let w = c.in-Pointing in
+    c.pointing_type.ensures ∙ ap (λ i. pointing w.mark i w.set.0) c.in_ok-clone_boxed-in-Pointing.ensures
+    ∙ without-is (type_of c.args.self.now) _ refl w.ensures
 
 pub Type::clone-returns-in_ok-clone_boxed-in-Array : goal.Type::clone-returns-in_ok-clone_boxed-in-Array
 Type::clone-returns-in_ok-clone_boxed-in-Array t c =
-    same_array (to_z w32 (of_z w32 c.in-Array.number)) c.in-Array.number _ c.in-Array.inner _ (search rules) (c.in_ok-clone_boxed-in-Array.ensures ∙ ap type_of c.deref-in-Array.ensures) ∙ sym (ap type_of c.in-Array.is)
+    let w = c.in-Array in
+    let n : to_z w32 (of_z w32 w.length) ≡ w.length = search rules in
+    rw n (type_of-Array w.length c.in_ok-clone_boxed-in-Array.field-0 w.set
+    ∙ ap (λ i. array w.length i w.set.0) c.in_ok-clone_boxed-in-Array.ensures
+    ∙ without-is (type_of c.args.self.now) _ refl w.ensures)
 
-pub Type::clone-returns-in_ok-clone_boxed-in-NonMemberFunction :
-    goal.Type::clone-returns-in_ok-clone_boxed-in-NonMemberFunction
-Type::clone-returns-in_ok-clone_boxed-in-NonMemberFunction t c =
-    let w = c.in-NonMemberFunction in
-    same_function w.convention _ w.parameters w.qualifiers _ w.inner c.in_ok-clone-in-NonMemberFunction.ensures (c.in_ok-clone_boxed-in-NonMemberFunction.ensures ∙ ap type_of c.deref-in-NonMemberFunction.ensures) ∙ sym (ap type_of w.is)
+pub Type::clone-returns-in_ok-returned-in-Function : goal.Type::clone-returns-in_ok-returned-in-Function
+Type::clone-returns-in_ok-returned-in-Function t c =
+    let w = c.in-Function in
+    let p = c.in_ok-parameters-in-Function in
+    let r = c.in_ok-returned-in-Function in
+    type_of-NonMemberFunction w.convention p.parameters w.set r.returned
+    ∙ ap (λ ts. function w.convention ts w.set.0 (type_of r.returned.value)) p.ensures
+    ∙ ap (function w.convention (params_of w.parameters.now) w.set.0) r.ensures
+    ∙ without-is (type_of c.args.self.now) _ refl w.ensures
 
-pub Type::clone-returns-in_ok-clone_boxed-in-MemberFunction :
-    goal.Type::clone-returns-in_ok-clone_boxed-in-MemberFunction
-Type::clone-returns-in_ok-clone_boxed-in-MemberFunction t c =
+pub Type::clone-returns-in_ok-returned-in-MemberFunction : goal.Type::clone-returns-in_ok-returned-in-MemberFunction
+Type::clone-returns-in_ok-returned-in-MemberFunction t c =
     let w = c.in-MemberFunction in
-    same_member_function w.class w.convention _ w.parameters w.qualifiers _ w.inner c.in_ok-clone-in-MemberFunction.ensures (c.in_ok-clone_boxed-in-MemberFunction.ensures ∙ ap type_of c.deref-in-MemberFunction.ensures) ∙ sym (ap type_of w.is)
+    let p = c.in_ok-parameters-in-MemberFunction in
+    let r = c.in_ok-returned-in-MemberFunction in
+    type_of-MemberFunction w.class w.convention p.parameters w.set r.returned
+    ∙ ap (λ ts. member_function w.class.0 w.convention ts w.set.0 (type_of r.returned.value)) p.ensures
+    ∙ ap (member_function w.class.0 w.convention (params_of w.parameters.now) w.set.0) r.ensures
+    ∙ without-is (type_of c.args.self.now) _ refl w.ensures
 
-pub Type::clone-returns-in_ok-clone_boxed-in-MemberFunctionPointer :
-    goal.Type::clone-returns-in_ok-clone_boxed-in-MemberFunctionPointer
-Type::clone-returns-in_ok-clone_boxed-in-MemberFunctionPointer t c =
-    let w = c.in-MemberFunctionPointer in
-    same_member_pointer _ w.symbol w.class w.convention _ w.parameters w.qualifiers _ w.inner c.in_ok-clone-in-MemberFunctionPointer.ensures.name c.in_ok-clone-in-MemberFunctionPointer.ensures.scope c.in_ok-clone-in-MemberFunctionPointer-2.ensures (c.in_ok-clone_boxed-in-MemberFunctionPointer.ensures ∙ ap type_of c.deref-in-MemberFunctionPointer.ensures) ∙ sym (ap type_of w.is)
+pub Type::clone-returns-in_ok-pointed-in-MemberPointer : goal.Type::clone-returns-in_ok-pointed-in-MemberPointer
+Type::clone-returns-in_ok-pointed-in-MemberPointer t c =
+    let w = c.in-MemberPointer in
+    let p = c.in_ok-parameters-in-MemberPointer in
+    let r = c.in_ok-returned-in-MemberPointer in
+    let s = c.in_ok-pointed-in-MemberPointer in
+    type_of-MemberFunctionPointer s.pointed w.class w.convention p.parameters w.set r.returned
+    ∙ ap (λ n. member_pointer n (scope_of s.pointed.scope) w.class.0 w.convention (params_of p.parameters) w.set.0
+    (type_of r.returned.value)) s.ensures.name
+    ∙ ap (λ ns. member_pointer (name_of c.in-Some.pointed.now.name) ns w.class.0 w.convention (params_of p.parameters)
+    w.set.0 (type_of r.returned.value)) s.ensures.scope
+    ∙ ap (λ ts. member_pointer (name_of c.in-Some.pointed.now.name) (scope_of c.in-Some.pointed.now.scope) w.class.0
+    w.convention ts w.set.0 (type_of r.returned.value)) p.ensures
+    ∙ ap (member_pointer (name_of c.in-Some.pointed.now.name) (scope_of c.in-Some.pointed.now.scope) w.class.0
+    w.convention (params_of w.parameters.now) w.set.0) r.ensures
+    ∙ pointer-is (type_of c.args.self.now) _ _ _ _ _ _ _ c.in-Some.ensures w.ensures
 
-pub Type::clone-returns-in_ok-clone_boxed-in-Var : goal.Type::clone-returns-in_ok-clone_boxed-in-Var
-Type::clone-returns-in_ok-clone_boxed-in-Var t c =
-    let w = c.in-Var in
-    same_variable _ w.inner w.kind w.qualifiers (c.in_ok-clone_boxed-in-Var.ensures ∙ ap type_of c.deref-in-Var.ensures) ∙ sym (ap type_of w.is)
+pub Type::clone-returns-in_ok-clone_boxed-in-Variable : goal.Type::clone-returns-in_ok-clone_boxed-in-Variable
+Type::clone-returns-in_ok-clone_boxed-in-Variable t c =
+    let w = c.in-Variable in
+    type_of-Var c.in_ok-clone_boxed-in-Variable.field-0 w.kind w.set
+    ∙ ap (λ i. variable i w.kind w.set.0) c.in_ok-clone_boxed-in-Variable.ensures
+    ∙ without-is (type_of c.args.self.now) _ refl w.ensures

@@ -4,6 +4,8 @@ use Rattle.msvc_write.proofs.function.write_member_words.Goals as goal
 
 pub returns : goal.returns
 unfolding member_words
-returns c = settled_two _ _ _ _ _ c.in_ok-write_member_word.ensures (settled_two _ _ _ _ _ c.in_ok-write_member_word-2.ensures
-    (settled_two _ _ _ _ _ c.in_ok-write_member_word-3.ensures (settled_two _ _ _ _ _ c.in_ok-write_member_word-4.ensures
+returns c = settled_two _ _ _ _ _ c.in_ok-write_member_word.ensures
+    (settled_two _ _ _ _ _ c.in_ok-write_member_word-2.ensures
+    (settled_two _ _ _ _ _ c.in_ok-write_member_word-3.ensures
+    (settled_two _ _ _ _ _ c.in_ok-write_member_word-4.ensures
     (settled_two _ _ _ _ _ c.in_ok-write_member_word-5.ensures c.in_ok-write_member_word-6.ensures))))

@@ -1,26 +1,60 @@
-use Rattle.std.proofs.Common.{arith, sym, ◌∙◌}
-use Rattle.msvc_write.proofs.Parameters.{parameters-dropped, parameters-empty, parameters-kept, types_weight-first, types_weight-positive}
-use Rattle.msvc_write.proofs.Stack.{printed_none, pushed_one, pushed_three, same_pieces, work_one, work_three, wrote_first}
+use Rattle.std.proofs.Common.{arith, ap, sym, ◌∙◌, false, drop, rules, ◌++◌, ◌+◌}
+use Rattle.msvc_write.proofs.Parameters.{rest-dropped, rest-end, rest-kept, settled_four, types_weight-next}
+use Rattle.msvc_write.proofs.Parameters.{types_weight-positive}
+use Rattle.msvc_write.proofs.Printed.{before-node, weight-node}
+use Rattle.msvc_write.proofs.Stack.{pushed_one, same_pieces, work_one}
+use Rattle.msvc_write.specs.Pieces.{settle_all}
+use Rattle.msvc_tree.specs.View.{type_of}
+use Rattle.msvc_write.specs.Declaration.{after}
+use Rattle.msvc_write.specs.Functions.{separator}
+use Rattle.msvc_write.specs.Work.{finished, rest_of_parameters}
 use Rattle.msvc_write.proofs.steps.print_parameters.Goals as goal
 
-pub returns-in_default-clause-text : goal.returns-in_default-clause-text
-returns-in_default-clause-text c = printed_none _ _ _ _ (parameters-empty _ _ _ c.in_default.len_below)
+pub returns-then-place-len-clause-text : goal.returns-then-place-len-clause-text
+returns-then-place-len-clause-text c =
+    ap (λ x. finished c.args.stack.now.items x c.args.flags.0) (c.in_ok-write_function_qualifiers.ensures
+    ∙ ap (settle_all c.args.out.now.items)
+    (sym (rest-end c.args.params.now c.args.place c.args.first c.args.set.0 c.args.flags.0 (search rules))))
 
-pub returns-in_default-clause-lighter : goal.returns-in_default-clause-lighter
-returns-in_default-clause-lighter c = omega (arith, types_weight-positive c.args.types.now)
+pub returns-then-place-len-clause-lighter : goal.returns-then-place-len-clause-lighter
+returns-then-place-len-clause-lighter c =
+    omega (arith, types_weight-positive (drop c.args.place c.args.params.now.types.items))
 
 pub returns-then-is_empty_pack-clause-text : goal.returns-then-is_empty_pack-clause-text
 returns-then-is_empty_pack-clause-text c =
     pushed_one _ _ _ _ _ c.in_ok-push.ensures
-    ∙ same_pieces _ _ _ _ _ (sym (parameters-dropped _ _ _ _ c.in-len1-up.len_at_least c.t-item.is (sym c.is_empty_pack.ensures ∙ c.if-is_empty_pack.true)))
+    ∙ same_pieces _ _ _ _ _
+    (sym (rest-dropped _ c.index-t.result.now _ _ _ _ (search rules) (search rules)
+    (sym c.is_empty_pack.ensures ∙ c.if-is_empty_pack.true)))
 
 pub returns-then-is_empty_pack-clause-lighter : goal.returns-then-is_empty_pack-clause-lighter
-returns-then-is_empty_pack-clause-lighter c = omega (arith, work_one _ _ _ c.in_ok-push.ensures, types_weight-first _ _ c.in-len1-up.len_at_least c.t-item.is)
+returns-then-is_empty_pack-clause-lighter c =
+    omega (
+      arith,
+      work_one _ _ _ c.in_ok-push.ensures,
+      types_weight-next c.args.params.now.types.items
+          c.index-t.result.now c.args.place (search rules) (search rules),
+    )
 
 pub returns-clause-text : goal.returns-clause-text
 returns-clause-text c =
-    wrote_first _ _ _ _ _ _ _ c.in_ok-write_separator.ensures (pushed_three _ _ _ _ _ _ _ _ _ c.in_ok-push-2.ensures c.in_ok-push-3.ensures c.in_ok-push-4.ensures)
-    ∙ same_pieces _ _ _ _ _ (sym (parameters-kept _ _ _ _ c.in-len1-up.len_at_least c.t-item.is (sym c.is_empty_pack.ensures ∙ c.if-is_empty_pack.false)))
+    c.in_ok-print_before.ensures.text ∙ c.in_ok-push_after.ensures.text _ ∙ pushed_one _ _ _ _ _ c.in_ok-push-2.ensures
+    ∙ ap (λ x. finished c.args.stack.now.items x c.args.flags.0)
+    (settled_four _ _ _ _ _ _ c.in_ok-write_separator.ensures
+    ∙ ap (settle_all c.args.out.now.items)
+    (ap (λ x. separator c.args.first c.args.flags.0 ++ (x ++ (after (type_of c.index-t.result.now) false c.args.flags.0
+    ++ rest_of_parameters c.args.params.now (c.args.place + 1) false c.args.set.0 c.args.flags.0)))
+    (sym (before-node _ _ false _ c.type_node.ensures))
+    ∙ sym (rest-kept c.args.params.now c.index-t.result.now c.args.place c.args.first c.args.set.0 c.args.flags.0
+    (search rules) (search rules)
+    (sym c.is_empty_pack.ensures ∙ c.if-is_empty_pack.false))))
 
 pub returns-clause-lighter : goal.returns-clause-lighter
-returns-clause-lighter c = omega (arith, work_three _ _ _ _ _ _ _ c.in_ok-push-2.ensures c.in_ok-push-3.ensures c.in_ok-push-4.ensures, types_weight-first _ _ c.in-len1-up.len_at_least c.t-item.is)
+returns-clause-lighter c = omega (
+  arith,
+  c.in_ok-print_before.ensures.lighter,
+  c.in_ok-push_after.ensures.lighter,
+  weight-node _ _ c.type_node.ensures,
+  work_one _ _ _ c.in_ok-push-2.ensures,
+  types_weight-next c.args.params.now.types.items c.index-t.result.now c.args.place (search rules) (search rules),
+)

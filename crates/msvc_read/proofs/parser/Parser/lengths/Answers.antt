@@ -1,18 +1,26 @@
 use Rattle.std.proofs.Common.{rules, ◌≡◌, ◌∷◌, ◌+◌, ◌-◌, suc, List, [], ◌++◌, Some, sym, ap, ◌∙◌, arith, ℤ}
 use Rattle.std.proofs.lemmas.Grind.{common_steps}
-use Rattle.msvc_read.proofs.Onward.{lengths-more}
+use Rattle.msvc_read.proofs.Steps.{lengths_more, with_front}
 use Rattle.msvc_read.specs.Parser.{state_of}
-use Rattle.msvc_read.specs.Reading.{with_front, number_at, lengths_at}
+use Rattle.msvc_read.specs.Reads.{read_name}
+use Rattle.msvc_read.specs.Rules.{lengths, number}
 use Rattle.msvc_read.proofs.parser.Parser.lengths.Goals as goal
 
 -- the new length goes behind those so far
 pub loop-preserved : goal.loop-preserved
 loop-preserved c =
-    let items : c.push.new.self.items ≡ c.loop.lengths.items ++ c.in_ok-number.field-0 ∷ [] = grind (arith, common_steps) in
-    let read : number_at c.loop.self.rest.now (state_of c.loop.self) ≡ Some (c.in_ok-number.field-0, c.number.new.self.rest.now, state_of c.number.new.self) = search rules in
+    let items : c.push.new.self.items ≡ c.loop.lengths.items ++ c.in_ok-number.field-0 ∷ [] =
+    grind (arith, common_steps) in
+    let read : read_name number c.loop.self.rest.now (state_of c.loop.self)
+    ≡ Some (c.in_ok-number.field-0, c.number.new.self.rest.now, state_of c.number.new.self) = search rules in
     let one_less : c.args.count - c.loop.counter ≡ suc (c.args.count - (c.loop.counter + 1)) = omega arith in (
-      ap (λ (zs : List ℤ). with_front zs (lengths_at (c.args.count - (c.loop.counter + 1)) c.number.new.self.rest.now (state_of c.number.new.self))) items
-          ∙ sym (lengths-more c.loop.lengths.items (c.args.count - c.loop.counter) (c.args.count - (c.loop.counter + 1)) c.loop.self.rest.now c.number.new.self.rest.now (state_of c.loop.self) (state_of c.number.new.self) c.in_ok-number.field-0 one_less read)
+      ap (λ (zs : List ℤ). with_front zs
+          (read_name (lengths (c.args.count - (c.loop.counter + 1))) c.number.new.self.rest.now
+          (state_of c.number.new.self)))
+          items
+          ∙ sym (lengths_more c.loop.lengths.items (c.args.count - c.loop.counter) (c.args.count - (c.loop.counter + 1))
+          c.loop.self.rest.now c.number.new.self.rest.now (state_of c.loop.self) (state_of c.number.new.self)
+          c.in_ok-number.field-0 one_less read)
           ∙ c.loop.invariant.0,
       omega (arith, c.in_ok-number.ensures.shorter),
     )

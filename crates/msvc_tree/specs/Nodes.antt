@@ -1,0 +1,58 @@
+-- Nodes as trees.
+use Rattle.std.specs.Prelude.{Option, Some, None, option_map, string_bytes}
+use Rattle.msvc_tree.specs.Trees.{NameTree, NameTrees, TypeTree, spelled, operator, guard, type_descriptor}
+use Rattle.msvc_tree.specs.Trees.{base_class_descriptor, template, discriminator, nested, anonymous, no_names, plain}
+use Rattle.msvc_tree.specs.Trees.{base, tagged, numbered, constant_string, pointing, array, function, member_function}
+use Rattle.msvc_tree.specs.Trees.{member_pointer, variable, table, vcall_thunk}
+use Rattle.msvc_tree.specs.View.{name_of, operator_of, type_of, scope_of, params_of}
+use Rattle.msvc_tree.specs.declared.node.NameNode.{NameNode}
+use Rattle.msvc_tree.specs.declared.node.NameNode.TheVariants as name
+use Rattle.msvc_tree.specs.declared.node.OperatorNode.{OperatorNode}
+use Rattle.msvc_tree.specs.declared.node.OperatorNode.TheVariants as operator_node
+use Rattle.msvc_tree.specs.declared.node.TypeNode.{TypeNode}
+use Rattle.msvc_tree.specs.declared.node.TypeNode.TheVariants as node
+
+-- the name that a node is of
+abbrev pub name_in : NameNode → NameTree
+name_in (name.Spelled how x) = spelled how x.now
+name_in (name.Operator o) = operator_of o.now
+name_in (name.Template n p) = template (name_of n.now) (params_of p.now)
+name_in (name.Discriminator n) = discriminator n
+name_in (name.Nested s) =
+    nested (name_of s.now.symbol.name) (scope_of s.now.symbol.scope) (type_of s.now.symbol_type)
+name_in (name.Anonymous x) = anonymous (option_map string_bytes x.now)
+
+-- the name of the operator that a node is of
+abbrev pub operator_in : OperatorNode → NameTree
+operator_in (operator_node.Plain o) = operator o
+operator_in (operator_node.Guard g n) = guard g n
+operator_in (operator_node.TypeDescriptor q t) = type_descriptor q.0 (type_of t.now)
+operator_in (operator_node.BaseClassDescriptor a b c d) = base_class_descriptor a b c d
+
+-- the class whose member function is pointed to, a name in its scope
+abbrev pub pointed_class : TypeTree → Option (NameTree × NameTrees)
+pointed_class (member_pointer n ns class convention ts q t) = Some (n, ns)
+pointed_class _ = None
+
+-- a type without that class
+abbrev pub without_class : TypeTree → TypeTree
+without_class (member_pointer n ns class convention ts q t) =
+    member_pointer (anonymous None) no_names class convention ts q t
+without_class t = t
+
+-- the type that a node is of, without the class
+abbrev pub type_in : TypeNode → TypeTree
+type_in (node.Plain p) = plain p
+type_in (node.Base b q) = base b q.0
+type_in (node.Tagged tag s q) = tagged tag (name_of s.now.name) (scope_of s.now.scope) q.0
+type_in (node.Numbered k n) = numbered k n
+type_in (node.ConstantString x) = constant_string x.now
+type_in (node.Pointing m i q) = pointing m (type_of i.now) q.0
+type_in (node.Array n i q) = array n (type_of i.now) q.0
+type_in (node.Function c p q i) = function c (params_of p.now) q.0 (type_of i.now)
+type_in (node.MemberFunction f c p q i) = member_function f.0 c (params_of p.now) q.0 (type_of i.now)
+type_in (node.MemberPointer f c p q i) =
+    member_pointer (anonymous None) no_names f.0 c (params_of p.now) q.0 (type_of i.now)
+type_in (node.Variable i k q) = variable (type_of i.now) k q.0
+type_in (node.Table k s q) = table k (scope_of s.now) q.0
+type_in (node.VcallThunk n c) = vcall_thunk n c
