@@ -1,28 +1,30 @@
 -- What names and scopes print, by their parts.
-use Rattle.std.proofs.Common.{◌≡◌, ℕ, zero, suc, ◌<◌, List, [], ◌∷◌, ◌++◌, length, get_or, take, refl, ap, sym, ◌∙◌}
-use Rattle.std.proofs.Common.{arith, codes}
+use Rattle.std.proofs.Common.{◌≡◌, ℕ, zero, suc, ◌+◌, ◌<◌, ◌≤◌, List, [], ◌∷◌, ◌++◌, Bool, true, false}
+use Rattle.std.proofs.Common.{length, get_or, take, drop}
+use Rattle.std.proofs.Common.{refl, ap, sym, ◌∙◌, ◌==◌, ◌-◌, arith, codes}
+use Rattle.std.proofs.lemmas.Bool.{false≢true}
 use Rattle.std.proofs.lemmas.List.{append-nil, append_assoc, take_all}
-use Rattle.msvc_tree.specs.Trees.{NameTree}
-use Rattle.msvc_tree.specs.View.{name_of, names_in, operator_of}
+use Rattle.msvc_tree.specs.Trees.{names}
+use Rattle.msvc_tree.specs.View.{name_of, names_in}
 use Rattle.msvc_tree.specs.declared.tree.Name.{Name}
-use Rattle.msvc_tree.specs.declared.tree.Operator as code_operator
-use Rattle.msvc_write.specs.Declaration.{inner_name, scope_prefix}
-use Rattle.msvc_write.specs.Pieces.{settle_all, text}
-use Rattle.msvc_write.proofs.Settling.{settle_all-none}
+use Rattle.msvc_tree.specs.declared.kinds.Table.TheVariants.{Functions}
+use Rattle.msvc_write.specs.Declaration.{name_pieces, scope_prefix, table_end}
+use Rattle.msvc_write.specs.Pieces.{Piece, text}
+use Rattle.msvc_write.specs.Weights.{name_weight, scope_weight}
 
 -- the names of a scope up to one begin with that one, and the others stand behind it
 pub scope_prefix-last : (ns : List Name) (n : Name) (k flags : ℕ) → k < length ns → n ≡ get_or ns k n →
     scope_prefix (names_in (take (suc k) ns)) flags
-    ≡ (inner_name (name_of n) flags ++ text (codes "::") ∷ []) ++ scope_prefix (names_in (take k ns)) flags
+    ≡ (name_pieces (name_of n) false flags ++ text (codes "::") ∷ []) ++ scope_prefix (names_in (take k ns)) flags
 unfolding scope_prefix
 scope_prefix-last [] n k flags in_range is = absurd (omega arith)
 scope_prefix-last (x ∷ xs) n zero flags in_range is =
-    simp (ap (λ y. inner_name (name_of y) flags ++ text (codes "::") ∷ []) (sym is), append-nil)
+    simp (ap (λ y. name_pieces (name_of y) false flags ++ text (codes "::") ∷ []) (sym is), append-nil)
 scope_prefix-last (x ∷ xs) n (suc k) flags in_range is =
-    ap (λ ps. ps ++ (inner_name (name_of x) flags ++ text (codes "::") ∷ []))
+    ap (λ ps. ps ++ (name_pieces (name_of x) false flags ++ text (codes "::") ∷ []))
     (scope_prefix-last xs n k flags (omega arith) is)
-    ∙ append_assoc (inner_name (name_of n) flags ++ text (codes "::") ∷ [])
-    (scope_prefix (names_in (take k xs)) flags) (inner_name (name_of x) flags ++ text (codes "::") ∷ [])
+    ∙ append_assoc (name_pieces (name_of n) false flags ++ text (codes "::") ∷ [])
+    (scope_prefix (names_in (take k xs)) flags) (name_pieces (name_of x) false flags ++ text (codes "::") ∷ [])
 
 pub scope_prefix-none : (ns : List Name) (flags : ℕ) → scope_prefix (names_in (take 0 ns)) flags ≡ []
 unfolding scope_prefix
@@ -32,14 +34,48 @@ pub scope_prefix-all : (ns : List Name) (flags : ℕ) → scope_prefix (names_in
     ≡ scope_prefix (names_in ns) flags
 scope_prefix-all ns flags = rw (take_all (length ns) ns (omega arith)) refl
 
--- these names print nothing yet
-pub inner_name-operator : (o : code_operator.Operator) (flags : ℕ) → inner_name (operator_of o) flags ≡ []
-unfolding inner_name operator_of
-inner_name-operator (code_operator.LocalStaticGuard n) flags = refl
-inner_name-operator _ flags = refl
+-- the last of some names of a scope weighs more than those before it
+pub scope_weight-last : (ns : List Name) (n : Name) (k : ℕ) → k < length ns → n ≡ get_or ns k n →
+    scope_weight (names_in (take (suc k) ns)) ≡ 3 + name_weight (name_of n) + scope_weight (names_in (take k ns))
+unfolding scope_weight
+scope_weight-last [] n k in_range is = absurd (omega arith)
+scope_weight-last (x ∷ xs) n zero in_range is = ap (λ y. 3 + name_weight (name_of y) + 1) (sym is)
+scope_weight-last (x ∷ xs) n (suc k) in_range is = omega (arith, scope_weight-last xs n k (omega arith) is)
 
--- a name that prints nothing
-pub unprinted : (out : List ℕ) (m n : NameTree) (flags : ℕ) → m ≡ n → inner_name m flags ≡ [] →
-    out ≡ settle_all out (inner_name n flags)
-unprinted out m n flags e none =
-    sym (ap (λ x. settle_all out (inner_name x flags)) (sym e) ∙ ap (settle_all out) none ∙ settle_all-none out)
+-- fewer names weigh no more
+pub scope_weight-fewer : (ns : List Name) (k : ℕ) → scope_weight (names_in (take k ns)) ≤ scope_weight (names_in ns)
+unfolding scope_weight
+scope_weight-fewer [] zero = omega arith
+scope_weight-fewer [] (suc k) = omega arith
+scope_weight-fewer (x ∷ xs) zero = omega arith
+scope_weight-fewer (x ∷ xs) (suc k) = omega (arith, scope_weight-fewer xs k)
+
+pub scope_weight-positive : (ns : List Name) → 0 < scope_weight (names_in ns)
+unfolding scope_weight
+scope_weight-positive [] = omega arith
+scope_weight-positive (x ∷ xs) = omega arith
+
+-- a scope is empty or not, as its length says
+pub no_names_left : (ns : List Name) (b : Bool) → b ≡ (length ns == 0) → b ≡ true → ns ≡ []
+no_names_left [] b is empty = refl
+no_names_left (x ∷ xs) b is empty = absurd (grind (arith, sym is ∙ empty))
+
+pub some_names_left : (ns : List Name) (b : Bool) → b ≡ (length ns == 0) → b ≡ false → 0 < length ns
+some_names_left [] b is filled = absurd (false≢true (sym filled ∙ is))
+some_names_left (x ∷ xs) b is filled = omega arith
+
+-- the names of a scope are the innermost and the others
+pub names_in-first : (ns : List Name) (n : Name) → 0 < length ns → n ≡ get_or ns 0 n →
+    names_in ns ≡ names (name_of n) (names_in (take (length ns - 1) (drop 1 ns)))
+names_in-first [] n some is = absurd (omega arith)
+names_in-first (x ∷ xs) n some is =
+    let one : suc (length xs) - 1 ≡ length xs = omega arith in
+    ap (λ y. names (name_of y) (names_in xs)) (sym is)
+    ∙ ap (λ ys. names (name_of n) (names_in ys)) (sym (ap (λ k. take k xs) one ∙ take_all (length xs) xs (omega arith)))
+
+-- a table of virtual functions that is for a scope says so
+pub table_end-some : (ns : List Name) (path : List Piece) → 0 < length ns →
+    table_end Functions (names_in ns) path ≡ text (codes "{for `") ∷ (path ++ text (codes "'}") ∷ [])
+unfolding table_end
+table_end-some [] path some = absurd (omega arith)
+table_end-some (x ∷ xs) path some = refl

@@ -1,6 +1,6 @@
 -- The declaration of a tree whose names are UTF-8 is UTF-8, under any flags.
 use Rattle.std.proofs.Common.{ℕ, zero, suc, ◌+◌, ◌<◌, ◌/◌, ◌%◌, ℤ, pos, negsuc, List, [], ◌∷◌, ◌++◌, Bool, true}
-use Rattle.std.proofs.Common.{false, cond, ◌==◌, refl, arith, codes}
+use Rattle.std.proofs.Common.{false, cond, ◌==◌, Option, Some, None, refl, arith, codes}
 use Rattle.std.proofs.lemmas.Str.{IsUtf8-append, IsUtf8-from_ascii, IsUtf8-nil}
 use Rattle.std.proofs.lemmas.Str.Ascii.{IsAscii-cons, IsAscii-nil}
 use Rattle.std.specs.Fmt.{decimal, digit_glyph, digits, digits_onto, signed_decimal}
@@ -13,31 +13,44 @@ use Rattle.msvc_tree.specs.declared.kinds.BaseType.TheVariants as base_kind
 use Rattle.msvc_tree.specs.declared.kinds.Mark.TheVariants as mark_kind
 use Rattle.msvc_tree.specs.declared.kinds.NumberedType.TheVariants as number_kind
 use Rattle.msvc_tree.specs.declared.kinds.PlainType.TheVariants as plain_kind
+use Rattle.msvc_tree.specs.declared.kinds.Spelling.{Spelling}
 use Rattle.msvc_tree.specs.declared.kinds.Spelling.TheVariants as spelling_kind
 use Rattle.msvc_tree.specs.declared.kinds.Tag.TheVariants as tag_kind
-use Rattle.msvc_tree.specs.Trees.{NameTree, NameTrees, SymbolTree, TypeTree, TypeTrees, spelled, no_names, names}
-use Rattle.msvc_tree.specs.Trees.{no_types, types, plain, base, tagged, numbered, pointing, array, function}
-use Rattle.msvc_tree.specs.Trees.{member_function, variable}
+use Rattle.msvc_tree.specs.declared.kinds.Guard.{Guard}
+use Rattle.msvc_tree.specs.declared.kinds.Guard.TheVariants as guard_kind
+use Rattle.msvc_tree.specs.declared.kinds.PlainOperator.{PlainOperator}
+use Rattle.msvc_tree.specs.declared.kinds.PlainOperator.TheVariants as plain_operator
+use Rattle.msvc_tree.specs.declared.kinds.Table.{Table}
+use Rattle.msvc_tree.specs.declared.kinds.Table.TheVariants as table_kind
+use Rattle.msvc_tree.specs.Trees.{NameTree, NameTrees, SymbolTree, TypeTree, TypeTrees, spelled, operator, guard}
+use Rattle.msvc_tree.specs.Trees.{type_descriptor, base_class_descriptor, template, discriminator, nested, anonymous}
+use Rattle.msvc_tree.specs.Trees.{no_names, names, no_types, types, plain, base, tagged, numbered, pointing, array}
+use Rattle.msvc_tree.specs.Trees.{function, member_function, member_pointer, variable, table, vcall_thunk}
 use Rattle.msvc_tree.specs.declared.tree.CallingConv.{CallingConv}
 use Rattle.msvc_tree.specs.declared.tree.CallingConv.TheVariants.{Cdecl}
 use Rattle.msvc_tree.specs.declared.tree.VarStorageKind.{VarStorageKind}
 use Rattle.msvc_tree.specs.declared.tree.VarStorageKind.TheVariants.{PrivateStatic}
-use Rattle.msvc_write.specs.Declaration.{after, around, before, declaration, inner_name, is_empty_pack, parameters}
-use Rattle.msvc_write.specs.Declaration.{pieces, scope_prefix, symbol_name}
+use Rattle.msvc_write.specs.Declaration.{after, angled, before, class_name, conversion, declaration, is_empty_pack}
+use Rattle.msvc_write.specs.Declaration.{member_pointer_end, name_pieces, parameters, quoted, quoted_unless, scope_path}
+use Rattle.msvc_write.specs.Declaration.{scope_prefix, spelled_name, symbol_pieces, table_end}
+use Rattle.msvc_write.specs.Operators.{base_class_pieces, guard_number, guard_pieces, guard_word, listed, operator_word}
+use Rattle.msvc_write.specs.Operators.{own_kind, own_name, scoped, spaced}
+use Rattle.msvc_write.specs.declared.operator.OwnName.{OwnName}
+use Rattle.msvc_write.specs.declared.operator.OwnName.TheVariants as own_kinds
 use Rattle.msvc_write.specs.Flags.{has}
 use Rattle.msvc_write.specs.Functions.{calling, convention_word, function_end, member_start, member_words}
 use Rattle.msvc_write.specs.Functions.{own_qualifier, own_qualifiers, separator}
-use Rattle.msvc_write.specs.Pieces.{Piece, blank, text, space, name_begins, name_ends, settle, settle_all}
+use Rattle.msvc_write.specs.Pieces.{Piece, blank, text, space, settle, settle_all}
 use Rattle.msvc_write.specs.Pieces.{is_written_after, last_byte}
-use Rattle.msvc_write.specs.Words.{base_word, closing, mark_space, mark_word, marked, opening, qualifiers, tag_word}
-use Rattle.msvc_write.specs.Words.{variable_word}
+use Rattle.msvc_write.specs.Words.{base_word, closing, mark_space, mark_word, marked, name_space, opening, qualifiers}
+use Rattle.msvc_write.specs.Words.{tag_word, variable_word}
 use Rattle.msvc_write.specs.declared.text.Space.{Space}
 use Rattle.msvc_write.specs.declared.text.Space.TheVariants.{AfterPointer}
 
 -- the bytes of a piece, if it has some, are UTF-8
 abbrev IsText : Piece → Type 0
 IsText (text bytes) = IsUtf8 bytes
-IsText _ = Unit {0}
+IsText (space s) = Unit {0}
 
 abbrev EachIsText : List Piece → Type 0
 EachIsText [] = Unit {0}
@@ -60,12 +73,6 @@ AreTexts-text bytes xs h hs = record { each = (h, hs.each) }
 AreTexts-space : (s : Space) (xs : List Piece) → AreTexts xs → AreTexts (space s ∷ xs)
 AreTexts-space s xs hs = record { each = (tt, hs.each) }
 
-AreTexts-begins : (xs : List Piece) → AreTexts xs → AreTexts (name_begins ∷ xs)
-AreTexts-begins xs hs = record { each = (tt, hs.each) }
-
-AreTexts-ends : (xs : List Piece) → AreTexts xs → AreTexts (name_ends ∷ xs)
-AreTexts-ends xs hs = record { each = (tt, hs.each) }
-
 AreTexts-append : (xs ys : List Piece) → AreTexts xs → AreTexts ys → AreTexts (xs ++ ys)
 AreTexts-append xs ys h h' = record { each = EachIsText-append xs ys h.each h'.each }
 
@@ -83,8 +90,6 @@ unfolding lib.Utf8.encode
 settle-utf8 out (text bytes) h h' = IsUtf8-append out bytes h h'
 settle-utf8 out (space s) h h' = IsUtf8-choice (is_written_after s (last_byte out)) (out ++ blank ∷ []) out
     (IsUtf8-append out (blank ∷ []) h (blank ∷ [], (refl, refl))) h
-settle-utf8 out name_begins h h' = h
-settle-utf8 out name_ends h h' = h
 
 settle_all-utf8 : (out : List ℕ) (xs : List Piece) → IsUtf8 out → EachIsText xs → IsUtf8 (settle_all out xs)
 unfolding settle_all
@@ -235,53 +240,206 @@ separator-texts first flags = AreTexts-choice first [] _ AreTexts-none
     AreTexts-none)
 
 -- names
-inner_name-texts : (n : NameTree) (flags : ℕ) → EachNameOfName IsUtf8 n → AreTexts (inner_name n flags)
-unfolding inner_name
-inner_name-texts (spelled spelling_kind.Source bytes) flags h = AreTexts-text bytes [] h AreTexts-none
-inner_name-texts _ flags h = AreTexts-none
+spelled_name-texts : (how : Spelling) (bytes : List ℕ) → IsUtf8 bytes → AreTexts (spelled_name how bytes)
+unfolding lib.Utf8.encode
+spelled_name-texts spelling_kind.Source bytes h = AreTexts-text bytes [] h AreTexts-none
+spelled_name-texts spelling_kind.Interface bytes h = AreTexts-text (codes "[") _ (codes "[", (refl, refl))
+    (AreTexts-text bytes _ h (AreTexts-text (codes "]") [] (codes "]", (refl, refl)) AreTexts-none))
+spelled_name-texts spelling_kind.Md5 bytes h = AreTexts-text (codes "??@") _ (codes "??@", (refl, refl))
+    (AreTexts-text bytes _ h (AreTexts-text (codes "@") [] (codes "@", (refl, refl)) AreTexts-none))
 
-scope_prefix-texts : (ns : NameTrees) (flags : ℕ) → EachNameOfNames IsUtf8 ns → AreTexts (scope_prefix ns flags)
-unfolding scope_prefix lib.Utf8.encode
-scope_prefix-texts no_names flags h = AreTexts-none
-scope_prefix-texts (names n ns) flags h = AreTexts-append _ _ (scope_prefix-texts ns flags h.1)
-    (AreTexts-append _ _ (inner_name-texts n flags h.0)
-    (AreTexts-text (codes "::") [] (codes "::", (refl, refl)) AreTexts-none))
+quoted-texts : (inside : List Piece) → AreTexts inside → AreTexts (quoted inside)
+unfolding lib.Utf8.encode
+quoted-texts inside h = AreTexts-text (codes "`") _ (codes "`", (refl, refl))
+    (AreTexts-append _ _ h (AreTexts-text (codes "'") [] (codes "'", (refl, refl)) AreTexts-none))
 
-symbol_name-texts : (n : NameTree) (scope : NameTrees) (flags : ℕ) → EachNameOfName IsUtf8 n →
-    EachNameOfNames IsUtf8 scope → AreTexts (symbol_name n scope flags)
-symbol_name-texts n scope flags h h' =
-    AreTexts-space _ _ (AreTexts-append _ _ (scope_prefix-texts scope flags h') (inner_name-texts n flags h))
+quoted_unless-texts : (own : Bool) (inside : List Piece) → AreTexts inside → AreTexts (quoted_unless own inside)
+unfolding quoted_unless
+quoted_unless-texts own inside h = AreTexts-choice own inside (quoted inside) h (quoted-texts inside h)
 
--- types
-before-texts : (t : TypeTree) (pointed : Bool) (flags : ℕ) → EachNameOfType IsUtf8 t → AreTexts (before t pointed flags)
-unfolding before lib.Utf8.encode
-before-texts (base b set) pointed flags h = AreTexts-text _ _ (base_word-utf8 b flags) (qualifiers-texts set flags)
-before-texts (tagged tag n scope set) pointed flags h =
-    AreTexts-text _ _ (tag_word-utf8 tag) (AreTexts-append _ _ (symbol_name-texts n scope flags h.0 h.1)
-    (qualifiers-texts set flags))
-before-texts (numbered number_kind.Constant n) pointed flags h = AreTexts-text _ _ (signed_decimal-utf8 n) AreTexts-none
-before-texts (numbered number_kind.TemplateParameter n) pointed flags h =
-    AreTexts-text (codes "`template-parameter") _ (codes "`template-parameter", (refl, refl))
-    (AreTexts-text _ _ (signed_decimal-utf8 n)
-    (AreTexts-text (codes "'") _ (codes "'", (refl, refl)) AreTexts-none))
-before-texts (pointing m t set) pointed flags h = AreTexts-append _ _ (before-texts t true flags h)
-    (marked-texts _ set flags (mark_word-utf8 m))
-before-texts (array n t set) pointed flags h = AreTexts-append _ _ (before-texts t false flags h)
-    (AreTexts-append _ _ (qualifiers-texts set flags) (opening-texts pointed))
-before-texts (function convention ts set t) pointed flags h = AreTexts-append _ _ (before-texts t false flags h.1)
-    (calling-texts pointed convention)
-before-texts (member_function class convention ts set t) pointed flags h =
-    AreTexts-append _ _ (member_start-texts pointed class)
-    (AreTexts-append _ _ (before-texts t false flags h.1) (calling-texts pointed convention))
-before-texts (plain plain_kind.Variadic) pointed flags h =
-    AreTexts-text (codes "...") [] (codes "...", (refl, refl)) AreTexts-none
-before-texts (variable t kind set) pointed flags h =
-    AreTexts-text _ _ (variable_word-utf8 kind)
-    (AreTexts-append _ _ (before-texts t false flags h) (qualifiers-texts set flags))
-before-texts _ pointed flags h = AreTexts-none
+operator_word-utf8 : (o : PlainOperator) → IsUtf8 (operator_word o)
+unfolding lib.Utf8.encode
+operator_word-utf8 plain_operator.Ctor = (codes "ctor", (refl, refl))
+operator_word-utf8 o = (operator_word o, (refl, refl))
 
+guard_word-utf8 : (g : Guard) → IsUtf8 (guard_word g)
+unfolding lib.Utf8.encode
+guard_word-utf8 guard_kind.Static = (guard_word guard_kind.Static, (refl, refl))
+guard_word-utf8 g = (guard_word g, (refl, refl))
+
+spaced-texts : (word : List ℕ) → IsUtf8 word → AreTexts (spaced word)
+spaced-texts word h = AreTexts-space _ _ (AreTexts-text word [] h AreTexts-none)
+
+guard_number-texts : (n : Option ℕ) → AreTexts (guard_number n)
+unfolding guard_number lib.Utf8.encode
+guard_number-texts None = AreTexts-none
+guard_number-texts (Some n) = AreTexts-text (codes "{") _ (codes "{", (refl, refl))
+    (AreTexts-text (decimal n) _ (IsUtf8-from_ascii (decimal n) (decimal-ascii n))
+    (AreTexts-text (codes "}") [] (codes "}", (refl, refl)) AreTexts-none))
+
+guard_pieces-texts : (g : Guard) (n : Option ℕ) → AreTexts (guard_pieces g n)
+unfolding guard_pieces
+guard_pieces-texts g n = AreTexts-space _ _ (AreTexts-text (guard_word g) _ (guard_word-utf8 g) (guard_number-texts n))
+
+listed-texts : (z : ℤ) (flags : ℕ) → AreTexts (listed z flags)
+listed-texts z flags =
+    AreTexts-append _ _ (separator-texts false flags) (AreTexts-text _ [] (signed_decimal-utf8 z) AreTexts-none)
+
+base_class_pieces-texts : (a b c d : ℤ) (flags : ℕ) → AreTexts (base_class_pieces a b c d flags)
+unfolding base_class_pieces lib.Utf8.encode
+base_class_pieces-texts a b c d flags = AreTexts-space _ _
+    (AreTexts-text (codes "`RTTI Base Class Descriptor at (") _
+    (codes "`RTTI Base Class Descriptor at (", (refl, refl)) (AreTexts-text _ _ (signed_decimal-utf8 a)
+    (AreTexts-append _ _ (listed-texts b flags) (AreTexts-append _ _ (listed-texts c flags)
+    (AreTexts-append _ _ (listed-texts d flags) (AreTexts-text (codes ")'") [] (codes ")'", (refl, refl))
+    AreTexts-none))))))
+
+own_name-texts : (kind : OwnName) (constructor destructor conversion name : List Piece) → AreTexts constructor →
+    AreTexts destructor → AreTexts conversion → AreTexts name →
+    AreTexts (own_name kind constructor destructor conversion name)
+unfolding lib.Utf8.encode
+own_name-texts own_kinds.Constructor _ _ _ _ a b c d = a
+own_name-texts own_kinds.Destructor _ _ _ _ a b c d = b
+own_name-texts own_kinds.Conversion _ _ _ _ a b c d = c
+own_name-texts own_kinds.BaseTable _ _ _ _ a b c d =
+    AreTexts-text (codes "`vbtable'{for `") [] (codes "`vbtable'{for `", (refl, refl)) AreTexts-none
+own_name-texts own_kinds.Literal _ _ _ _ a b c d = AreTexts-none
+own_name-texts own_kinds.Ordinary _ _ _ _ a b c d = d
+
+behind-texts : (prefix name : List Piece) (flags : ℕ) → AreTexts prefix → AreTexts name →
+    AreTexts (space (name_space flags) ∷ (prefix ++ name))
+behind-texts prefix name flags h h' = AreTexts-space _ _ (AreTexts-append prefix name h h')
+
+scoped-texts : (kind : OwnName) (prefix path name : List Piece) (flags : ℕ) → AreTexts prefix → AreTexts path →
+    AreTexts name → AreTexts (scoped kind prefix path name flags)
+unfolding scoped lib.Utf8.encode
+scoped-texts own_kinds.Literal prefix path name flags a b c = AreTexts-space _ _ (AreTexts-space _ _
+    (AreTexts-text (codes "operator \"\"") path (codes "operator \"\"", (refl, refl)) b))
+scoped-texts own_kinds.Ordinary prefix path name flags a b c = behind-texts prefix name flags a c
+scoped-texts _ prefix path name flags a b c = behind-texts prefix name flags a c
+
+table_end-texts : (k : Table) (scope : NameTrees) (path : List Piece) → AreTexts path →
+    AreTexts (table_end k scope path)
+unfolding table_end lib.Utf8.encode
+table_end-texts table_kind.Functions no_names path h = AreTexts-none
+table_end-texts table_kind.Functions (names n ns) path h = AreTexts-text (codes "{for `") _
+    (codes "{for `", (refl, refl)) (AreTexts-append _ _ h (AreTexts-text (codes "'}") [] (codes "'}", (refl, refl))
+    AreTexts-none))
+table_end-texts table_kind.Bases scope path h =
+    AreTexts-append _ _ h (AreTexts-text (codes "'}}") [] (codes "'}}", (refl, refl)) AreTexts-none)
+
+member_pointer_end-texts : (inside : List Piece) (set : ℕ) (returned : List Piece) → AreTexts inside →
+    AreTexts returned → AreTexts (member_pointer_end inside set returned)
+unfolding member_pointer_end lib.Utf8.encode
+member_pointer_end-texts inside set returned h h' = AreTexts-text (codes ")(") _ (codes ")(", (refl, refl))
+    (AreTexts-append _ _ h (AreTexts-text (codes ")") _ (codes ")", (refl, refl))
+    (AreTexts-append _ _ h' (own_qualifier-texts 1 (codes "const") set (codes "const", (refl, refl))))))
+
+angled-texts : (arguments : List Piece) → AreTexts arguments → AreTexts (angled arguments)
+unfolding lib.Utf8.encode
+angled-texts arguments h = AreTexts-text (codes "<") _ (codes "<", (refl, refl)) (AreTexts-append _ _ h
+    (AreTexts-space _ _ (AreTexts-text (codes ">") [] (codes ">", (refl, refl)) AreTexts-none)))
+
+-- names, scopes, types and their lists
 mutual
-  unfolding after parameters lib.Utf8.encode
+  unfolding name_pieces scope_prefix scope_path class_name conversion before after parameters lib.Utf8.encode
+
+  name_pieces-texts : (n : NameTree) (own : Bool) (flags : ℕ) → EachNameOfName IsUtf8 n →
+      AreTexts (name_pieces n own flags)
+  name_pieces-texts (spelled how bytes) own flags h = spelled_name-texts how bytes h
+  name_pieces-texts (template n ts) own flags h = AreTexts-append _ _ (name_pieces-texts n false flags h.0)
+      (angled-texts _ (parameters-texts ts true flags h.1))
+  name_pieces-texts (discriminator z) own flags h =
+      quoted-texts _ (AreTexts-text _ _ (signed_decimal-utf8 z) AreTexts-none)
+  name_pieces-texts (nested n ns t) own flags h = quoted_unless-texts own _
+      (AreTexts-append _ _ (before-texts t false flags h.2) (AreTexts-append _ _
+      (scoped-texts (own_kind n) _ _ _ flags (scope_prefix-texts ns flags h.1) (scope_path-texts ns flags h.1)
+      (own_name-texts (own_kind n) _ _ _ _ (class_name-texts ns [] flags h.1 AreTexts-none)
+      (class_name-texts ns (text (codes "~") ∷ []) flags h.1
+      (AreTexts-text (codes "~") [] (codes "~", (refl, refl)) AreTexts-none))
+      (conversion-texts t _ flags h.2 (name_pieces-texts n true flags h.0)) (name_pieces-texts n true flags h.0)))
+      (after-texts t false flags h.2)))
+  name_pieces-texts (anonymous digits) own flags h =
+      AreTexts-text (codes "`anonymous namespace'") [] (codes "`anonymous namespace'", (refl, refl)) AreTexts-none
+  name_pieces-texts (operator o) own flags h = spaced-texts _ (operator_word-utf8 o)
+  name_pieces-texts (guard g n) own flags h = guard_pieces-texts g n
+  name_pieces-texts (type_descriptor set t) own flags h = AreTexts-space _ _
+      (AreTexts-append _ _ (before-texts t false flags h) (AreTexts-text (codes "::`RTTI Type Descriptor'") []
+      (codes "::`RTTI Type Descriptor'", (refl, refl)) AreTexts-none))
+  name_pieces-texts (base_class_descriptor a b c d) own flags h = base_class_pieces-texts a b c d flags
+
+  scope_prefix-texts : (ns : NameTrees) (flags : ℕ) → EachNameOfNames IsUtf8 ns → AreTexts (scope_prefix ns flags)
+  scope_prefix-texts no_names flags h = AreTexts-none
+  scope_prefix-texts (names n ns) flags h = AreTexts-append _ _ (scope_prefix-texts ns flags h.1)
+      (AreTexts-append _ _ (name_pieces-texts n false flags h.0)
+      (AreTexts-text (codes "::") [] (codes "::", (refl, refl)) AreTexts-none))
+
+  scope_path-texts : (ns : NameTrees) (flags : ℕ) → EachNameOfNames IsUtf8 ns → AreTexts (scope_path ns flags)
+  scope_path-texts no_names flags h = AreTexts-none
+  scope_path-texts (names n ns) flags h =
+      AreTexts-append _ _ (scope_prefix-texts ns flags h.1) (name_pieces-texts n false flags h.0)
+
+  class_name-texts : (ns : NameTrees) (word : List Piece) (flags : ℕ) → EachNameOfNames IsUtf8 ns → AreTexts word →
+      AreTexts (class_name ns word flags)
+  class_name-texts no_names word flags h h' =
+      AreTexts-text (codes "[invalid]") [] (codes "[invalid]", (refl, refl)) AreTexts-none
+  class_name-texts (names n ns) word flags h h' = AreTexts-append _ _ h' (name_pieces-texts n false flags h.0)
+
+  conversion-texts : (t : TypeTree) (name : List Piece) (flags : ℕ) → EachNameOfType IsUtf8 t → AreTexts name →
+      AreTexts (conversion t name flags)
+  conversion-texts (member_function class convention ts set t) name flags h h' =
+      AreTexts-text (codes "operator ") _ (codes "operator ", (refl, refl))
+      (AreTexts-append _ _ (before-texts t false flags h.1) (after-texts t false flags h.1))
+  conversion-texts _ name flags h h' = h'
+
+  before-texts : (t : TypeTree) (pointed : Bool) (flags : ℕ) → EachNameOfType IsUtf8 t →
+      AreTexts (before t pointed flags)
+  before-texts (base b set) pointed flags h = AreTexts-text _ _ (base_word-utf8 b flags) (qualifiers-texts set flags)
+  before-texts (tagged tag n scope set) pointed flags h =
+      AreTexts-text _ _ (tag_word-utf8 tag) (AreTexts-append _ _
+      (scoped-texts (own_kind n) _ _ _ flags (scope_prefix-texts scope flags h.1) (scope_path-texts scope flags h.1)
+      (own_name-texts (own_kind n) _ _ _ _ (class_name-texts scope [] flags h.1 AreTexts-none)
+      (class_name-texts scope (text (codes "~") ∷ []) flags h.1
+      (AreTexts-text (codes "~") [] (codes "~", (refl, refl)) AreTexts-none))
+      (name_pieces-texts n true flags h.0) (name_pieces-texts n true flags h.0)))
+      (qualifiers-texts set flags))
+  before-texts (member_pointer n scope class convention ts set t) pointed flags h =
+      AreTexts-append _ _ (before-texts t false flags h.3) (AreTexts-append _ _ (calling-texts true convention)
+      (AreTexts-space _ _ (AreTexts-append _ _
+      (scoped-texts (own_kind n) _ _ _ flags (scope_prefix-texts scope flags h.1) (scope_path-texts scope flags h.1)
+      (own_name-texts (own_kind n) _ _ _ _ (class_name-texts scope [] flags h.1 AreTexts-none)
+      (class_name-texts scope (text (codes "~") ∷ []) flags h.1
+      (AreTexts-text (codes "~") [] (codes "~", (refl, refl)) AreTexts-none))
+      (name_pieces-texts n true flags h.0) (name_pieces-texts n true flags h.0)))
+      (AreTexts-text (codes "::*") [] (codes "::*", (refl, refl)) AreTexts-none))))
+  before-texts (numbered number_kind.ThreadSafeGuard n) pointed flags h = AreTexts-text (codes "TSS") _
+      (codes "TSS", (refl, refl)) (AreTexts-text _ _ (signed_decimal-utf8 n) AreTexts-none)
+  before-texts (plain plain_kind.Nullptr) pointed flags h =
+      AreTexts-text (codes "std::nullptr_t") [] (codes "std::nullptr_t", (refl, refl)) AreTexts-none
+  before-texts (table k scope set) pointed flags h = qualifiers-texts set flags
+  before-texts (vcall_thunk n convention) pointed flags h =
+      AreTexts-text (codes "[thunk]: ") _ (codes "[thunk]: ", (refl, refl)) (calling-texts false convention)
+  before-texts (numbered number_kind.Constant n) pointed flags h =
+      AreTexts-text _ _ (signed_decimal-utf8 n) AreTexts-none
+  before-texts (numbered number_kind.TemplateParameter n) pointed flags h =
+      AreTexts-text (codes "`template-parameter") _ (codes "`template-parameter", (refl, refl))
+      (AreTexts-text _ _ (signed_decimal-utf8 n)
+      (AreTexts-text (codes "'") _ (codes "'", (refl, refl)) AreTexts-none))
+  before-texts (pointing m t set) pointed flags h = AreTexts-append _ _ (before-texts t true flags h)
+      (marked-texts _ set flags (mark_word-utf8 m))
+  before-texts (array n t set) pointed flags h = AreTexts-append _ _ (before-texts t false flags h)
+      (AreTexts-append _ _ (qualifiers-texts set flags) (opening-texts pointed))
+  before-texts (function convention ts set t) pointed flags h = AreTexts-append _ _ (before-texts t false flags h.1)
+      (calling-texts pointed convention)
+  before-texts (member_function class convention ts set t) pointed flags h =
+      AreTexts-append _ _ (member_start-texts pointed class)
+      (AreTexts-append _ _ (before-texts t false flags h.1) (calling-texts pointed convention))
+  before-texts (plain plain_kind.Variadic) pointed flags h =
+      AreTexts-text (codes "...") [] (codes "...", (refl, refl)) AreTexts-none
+  before-texts (variable t kind set) pointed flags h =
+      AreTexts-text _ _ (variable_word-utf8 kind)
+      (AreTexts-append _ _ (before-texts t false flags h) (qualifiers-texts set flags))
+  before-texts _ pointed flags h = AreTexts-none
 
   after-texts : (t : TypeTree) (pointed : Bool) (flags : ℕ) → EachNameOfType IsUtf8 t → AreTexts (after t pointed flags)
   after-texts (pointing m t set) pointed flags h = after-texts t true flags h
@@ -292,7 +450,13 @@ mutual
       function_end-texts pointed _ set _ (parameters-texts ts true flags h.0) (after-texts t false flags h.1)
   after-texts (member_function class convention ts set t) pointed flags h =
       function_end-texts pointed _ set _ (parameters-texts ts true flags h.0) (after-texts t false flags h.1)
+  after-texts (member_pointer n scope class convention ts set t) pointed flags h =
+      member_pointer_end-texts _ set _ (parameters-texts ts true flags h.2) (after-texts t false flags h.3)
   after-texts (variable t kind set) pointed flags h = after-texts t false flags h
+  after-texts (table k scope set) pointed flags h = table_end-texts k scope _ (scope_path-texts scope flags h)
+  after-texts (vcall_thunk n convention) pointed flags h = AreTexts-text (codes "{") _ (codes "{", (refl, refl))
+      (AreTexts-text _ _ (signed_decimal-utf8 n) (AreTexts-append _ _ (separator-texts false flags)
+      (AreTexts-text (codes "{flat}}") [] (codes "{flat}}", (refl, refl)) AreTexts-none)))
   after-texts _ pointed flags h = AreTexts-none
 
   parameters-texts : (ts : TypeTrees) (first : Bool) (flags : ℕ) → EachNameOfTypes IsUtf8 ts →
@@ -303,18 +467,18 @@ mutual
       (AreTexts-append _ _ (separator-texts first flags) (AreTexts-append _ _ (before-texts t false flags h.0)
       (AreTexts-append _ _ (after-texts t false flags h.0) (parameters-texts ts false flags h.1))))
 
-around-texts : (t : TypeTree) (inside : List Piece) (flags : ℕ) → EachNameOfType IsUtf8 t → AreTexts inside →
-    AreTexts (around t inside flags)
-around-texts t inside flags h h' = AreTexts-append (before t false flags ++ inside) (after t false flags)
-    (AreTexts-append (before t false flags) inside (before-texts t false flags h) h') (after-texts t false flags h)
-
 pub declaration-utf8 : (tree : SymbolTree) (flags : ℕ) → EachName IsUtf8 tree → IsUtf8 (declaration tree flags)
-unfolding declaration
+unfolding declaration lib.Utf8.encode
 declaration-utf8 tree flags h =
-    let name : AreTexts (symbol_name tree.name tree.scope flags ++ name_ends ∷ []) =
-    AreTexts-append (symbol_name tree.name tree.scope flags) (name_ends ∷ [])
-    (symbol_name-texts tree.name tree.scope flags h.0 h.1) (AreTexts-ends [] AreTexts-none) in
-    let all : AreTexts (pieces tree flags) =
-    around-texts tree.symbol_type (name_begins ∷ (symbol_name tree.name tree.scope flags ++ name_ends ∷ [])) flags h.2
-    (AreTexts-begins (symbol_name tree.name tree.scope flags ++ name_ends ∷ []) name) in
-    settle_all-utf8 [] (pieces tree flags) IsUtf8-nil all.each
+    let n = tree.name in
+    let ns = tree.scope in
+    let t = tree.symbol_type in
+    let all : AreTexts (symbol_pieces n ns t flags) =
+    AreTexts-append _ _ (before-texts t false flags h.2) (AreTexts-append _ _
+    (scoped-texts (own_kind n) _ _ _ flags (scope_prefix-texts ns flags h.1) (scope_path-texts ns flags h.1)
+    (own_name-texts (own_kind n) _ _ _ _ (class_name-texts ns [] flags h.1 AreTexts-none)
+    (class_name-texts ns (text (codes "~") ∷ []) flags h.1
+    (AreTexts-text (codes "~") [] (codes "~", (refl, refl)) AreTexts-none))
+    (conversion-texts t _ flags h.2 (name_pieces-texts n true flags h.0)) (name_pieces-texts n true flags h.0)))
+    (after-texts t false flags h.2)) in
+    settle_all-utf8 [] (symbol_pieces n ns t flags) IsUtf8-nil all.each

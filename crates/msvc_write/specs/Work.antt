@@ -1,37 +1,107 @@
 -- What the printer's stack of work means, and how much it is. The printer's own: no public contract speaks of it.
-use Rattle.std.specs.Prelude.{ℕ, ◌+◌, ◌<◌, ◌≡◌, List, [], ◌∷◌, ◌++◌, Bool, codes, drop}
-use Rattle.msvc_tree.specs.View.{type_of, types_in}
+use Rattle.std.specs.Prelude.{ℕ, ◌+◌, ◌<◌, ◌≡◌, List, [], ◌∷◌, ◌++◌, Bool, true, false, Option, Some, None}
+use Rattle.std.specs.Prelude.{codes, drop}
+use Rattle.std.specs.Borrow.{Bor}
+use Rattle.msvc_tree.specs.View.{name_of, names_in, scope_of, type_of, types_in}
+use Rattle.msvc_tree.specs.Trees.{NameTree, NameTrees, TypeTree, plain, member_function, member_pointer}
+use Rattle.msvc_tree.specs.declared.kinds.PlainType.TheVariants as plain_kind
 use Rattle.msvc_tree.specs.declared.tree.Params.{Params}
-use Rattle.msvc_write.specs.Declaration.{before, after, parameters}
+use Rattle.msvc_tree.specs.declared.tree.Type.{«Type»}
+use Rattle.msvc_write.specs.Declaration.{after, before, name_pieces, parameters, scope_prefix, symbol_name}
 use Rattle.msvc_write.specs.Functions.{calling, own_qualifiers}
-use Rattle.msvc_write.specs.Pieces.{Piece, text, settle_all}
-use Rattle.msvc_write.specs.Weights.{type_weight, types_weight}
+use Rattle.msvc_write.specs.Operators.{spaced}
+use Rattle.msvc_write.specs.Pieces.{Piece, text, space, settle_all}
+use Rattle.msvc_write.specs.Weights.{name_weight, scope_weight, symbol_weight, type_weight, types_weight}
 use Rattle.msvc_write.specs.Words.{qualifiers, marked, opening}
 use Rattle.msvc_write.specs.declared.item.Item.{Item}
-use Rattle.msvc_write.specs.declared.item.Item.TheVariants.{Qualifiers, Mark, ArrayLevel, Calling, Parameters, Before}
-use Rattle.msvc_write.specs.declared.item.Item.TheVariants.{After}
+use Rattle.msvc_write.specs.declared.item.Item.TheVariants.{Text, Spaced, Name, Scope, Symbol, Class}
+use Rattle.msvc_write.specs.declared.item.Item.TheVariants.{Qualifiers, Mark, ArrayLevel, Calling, Parameters}
+use Rattle.msvc_write.specs.declared.item.Item.TheVariants.{Before, After}
+use Rattle.msvc_write.specs.declared.item.ListEnd.{ListEnd}
+use Rattle.msvc_write.specs.declared.item.ListEnd.TheVariants.{Round, Bare, Angle}
+use Rattle.msvc_write.specs.declared.text.Space.TheVariants.{AfterAngle, AfterPointer}
 
--- the parameters of a function from a place on, and what stands after them
-unfoldable pub rest_of_parameters : Params → ℕ → Bool → ℕ → ℕ → List Piece
-rest_of_parameters p place first set flags =
-    parameters (types_in (drop place p.types.items)) first flags ++ (text (codes ")") ∷ own_qualifiers set)
+-- the type of a symbol, or none
+abbrev pub own_type : Option (Bor «Type») → TypeTree
+own_type None = plain plain_kind.None
+own_type (Some t) = type_of t.now
+
+-- the class whose member function is pointed to, behind the calling convention
+abbrev pub pointed_name : NameTree → NameTrees → ℕ → List Piece
+pointed_name n scope flags =
+    space AfterPointer ∷ (symbol_name n scope (plain plain_kind.None) flags ++ text (codes "::*") ∷ [])
+
+unfoldable pub class_pieces : Option (NameTree × NameTrees) → ℕ → List Piece
+class_pieces None flags = []
+class_pieces (Some named) flags = pointed_name named.0 named.1 flags
+
+unfoldable pub class_weight : Option (NameTree × NameTrees) → ℕ
+class_weight None = 0
+class_weight (Some named) = 3 + symbol_weight named.0 named.1 (plain plain_kind.None)
+
+-- what stands before a type but for that class, which its node does not tell
+unfoldable pub node_before : TypeTree → Bool → ℕ → List Piece
+node_before (member_pointer n scope class convention ts set t) pointed flags =
+    before t false flags ++ calling true convention
+node_before t pointed flags = before t pointed flags
+
+unfoldable pub node_weight : TypeTree → ℕ
+node_weight (member_pointer n scope class convention ts set t) = 3 + types_weight ts + type_weight t
+node_weight t = type_weight t
+
+-- what a member function returns
+unfoldable pub member_return : TypeTree → Option TypeTree
+member_return (member_function class convention ts set t) = Some t
+member_return _ = None
+
+-- what a conversion operator of a symbol that returns this prints, or one that is no member function
+unfoldable pub conversion_to : Option TypeTree → List Piece → ℕ → List Piece
+conversion_to None name flags = name
+conversion_to (Some t) name flags = text (codes "operator ") ∷ (before t false flags ++ after t false flags)
+
+unfoldable pub return_weight : Option TypeTree → ℕ
+return_weight None = 0
+return_weight (Some t) = type_weight t
+
+-- what stands behind the last type of a list
+abbrev pub end_pieces : ListEnd → List Piece
+end_pieces (Round set) = text (codes ")") ∷ own_qualifiers set.0
+end_pieces Bare = text (codes ")") ∷ []
+end_pieces Angle = space AfterAngle ∷ text (codes ">") ∷ []
+
+-- the types of a list from a place on, and what stands after them
+unfoldable pub rest_of_parameters : Params → ℕ → Bool → ListEnd → ℕ → List Piece
+rest_of_parameters p place first end flags =
+    parameters (types_in (drop place p.types.items)) first flags ++ end_pieces end
 
 -- the pieces that an item stands for
 abbrev pub item_pieces : Item → ℕ → List Piece
+item_pieces (Text bytes) flags = text bytes.now ∷ []
+item_pieces (Name n own) flags = name_pieces (name_of n.now) own flags
+item_pieces (Scope ns) flags = scope_prefix (names_in ns.now) flags
+item_pieces (Symbol s own) flags = symbol_name (name_of s.now.name) (scope_of s.now.scope) (own_type own) flags
+item_pieces (Class s) flags = pointed_name (name_of s.now.name) (scope_of s.now.scope) flags
+item_pieces (Spaced word) flags = spaced word.now
 item_pieces (Qualifiers set) flags = qualifiers set.0 flags
 item_pieces (Mark word set) flags = marked word.now set.0 flags
 item_pieces (ArrayLevel set pointed) flags = qualifiers set.0 flags ++ opening pointed
 item_pieces (Calling pointed convention) flags = calling pointed convention
-item_pieces (Parameters p place first set) flags = rest_of_parameters p.now place first set.0 flags
+item_pieces (Parameters p place first end) flags = rest_of_parameters p.now place first end flags
 item_pieces (Before t pointed) flags = before (type_of t.now) pointed flags
 item_pieces (After t pointed) flags = after (type_of t.now) pointed flags
 
 abbrev pub item_weight : Item → ℕ
+item_weight (Text bytes) = 1
+item_weight (Name n own) = name_weight (name_of n.now)
+item_weight (Scope ns) = scope_weight (names_in ns.now)
+item_weight (Symbol s own) = symbol_weight (name_of s.now.name) (scope_of s.now.scope) (own_type own)
+item_weight (Class s) = 3 + symbol_weight (name_of s.now.name) (scope_of s.now.scope) (plain plain_kind.None)
+item_weight (Spaced word) = 1
 item_weight (Qualifiers set) = 1
 item_weight (Mark word set) = 1
 item_weight (ArrayLevel set pointed) = 1
 item_weight (Calling pointed convention) = 1
-item_weight (Parameters p place first set) = types_weight (types_in (drop place p.now.types.items))
+item_weight (Parameters p place first end) = types_weight (types_in (drop place p.now.types.items))
 item_weight (Before t pointed) = type_weight (type_of t.now)
 item_weight (After t pointed) = type_weight (type_of t.now)
 
@@ -47,6 +117,10 @@ work (item ∷ above) = item_weight item + work above
 -- a step printed these pieces: wrote some, and left the rest on the stack
 abbrev pub Prints : List Piece → ℕ → List Item → List ℕ → List Item → List ℕ → Type 0
 Prints pieces flags stack out stack' out' = finished stack' out' flags ≡ finished stack (settle_all out pieces) flags
+
+-- pushes stand for these pieces, whatever is written before them
+abbrev pub Pushes : List Piece → ℕ → List Item → List Item → Type 0
+Pushes pieces flags stack stack' = (out : List ℕ) → Prints pieces flags stack out stack' out
 
 -- a step on work of this weight left less
 abbrev pub Lightens : ℕ → List Item → List Item → Type 0

@@ -1,10 +1,12 @@
 //! What the declaration of a function has beside its types: words, how it is called, its own qualifiers, commas.
 
-ghost use Rattle.std.specs.Prelude.{◌≡◌, ◌∷◌, OnOk, codes};
+ghost use Rattle.std.specs.Prelude.{◌≡◌, OnOk};
 ghost use Rattle.msvc_write.specs.Functions.{calling, convention_word, member_start, member_word, member_words};
 ghost use Rattle.msvc_write.specs.Functions.{own_qualifier, own_qualifiers, separator};
-ghost use Rattle.msvc_write.specs.Pieces.{settle_all, text};
+ghost use Rattle.msvc_write.specs.Pieces.{settle_all};
+ghost use Rattle.msvc_write.specs.Work.{end_pieces};
 
+use crate::item::ListEnd;
 use crate::text::{Space, has, write_opening, write_space, write_text};
 use bitflags::Flags;
 use msvc_tree::flags::{DemangleFlags, FuncClass, StorageClass};
@@ -111,14 +113,22 @@ fn write_own_qualifiers(out: &mut Vec<u8>, set: StorageClass) -> Result<(), Allo
     Ok(())
 }
 
-/// Ends a list of parameters, and writes the qualifiers of the function itself.
+/// Ends a list of types, and writes the qualifiers of the function whose parameters they are.
 #[tactic(auto, using(crate::proofs::Settling::settling))]
-pub fn write_function_qualifiers(out: &mut Vec<u8>, set: StorageClass) -> Result<(), AllocError>
-    ensures { OnOk result (out.new.items ≡ settle_all out.old.items (text (codes ")") ∷ own_qualifiers set.0)) }
+pub fn write_list_end(out: &mut Vec<u8>, end: ListEnd) -> Result<(), AllocError>
+    ensures { OnOk result (out.new.items ≡ settle_all out.old.items (end_pieces end)) }
 {
-    write_text(out, b")")?;
-    write_own_qualifiers(out, set)?;
-    Ok(())
+    match end {
+        ListEnd::Round(set) => {
+            write_text(out, b")")?;
+            write_own_qualifiers(out, set)
+        }
+        ListEnd::Bare => write_text(out, b")"),
+        ListEnd::Angle => {
+            write_space(out, Space::AfterAngle)?;
+            write_text(out, b">")
+        }
+    }
 }
 
 /// Writes the comma before a parameter that is not the first.

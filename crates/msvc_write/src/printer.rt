@@ -11,12 +11,11 @@ ghost use Rattle.msvc_write.specs.Flags.{obeyed_flags};
 ghost use Rattle.msvc_write.specs.Work.{finished};
 
 use crate::item::Item;
-use crate::name::write_symbol;
-use crate::steps::{print_after, print_before, step};
+use crate::name::push_whole;
+use crate::steps::step;
 use bitflags::Flags;
 use msvc_tree::error::Error;
 use msvc_tree::flags::DemangleFlags;
-use msvc_tree::node::type_node;
 use msvc_tree::tree::ParseResult;
 use std::alloc::{AllocError, Global};
 
@@ -52,11 +51,7 @@ fn print(
     let flags = flags.intersection(DemangleFlags::llvm());
     let mut out = Vec::with_capacity(alloc, FIRST_BYTES)?;
     let mut stack = Vec::with_capacity(alloc, FIRST_ITEMS)?;
-    let node = type_node(&input.symbol_type);
-    print_before(&mut stack, &mut out, node, false, flags)?;
-    empty(&mut stack, &mut out, flags)?;
-    write_symbol(&mut out, &input.symbol, flags)?;
-    print_after(&mut stack, &mut out, node, false, flags)?;
+    push_whole(&mut stack, input, flags)?;
     empty(&mut stack, &mut out, flags)?;
     Ok(out)
 }

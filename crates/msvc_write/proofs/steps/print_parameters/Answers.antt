@@ -1,20 +1,17 @@
-use Rattle.std.proofs.Common.{arith, ap, sym, ◌∙◌, false, drop, rules, ◌++◌, ◌+◌}
+use Rattle.std.proofs.Common.{arith, ap, sym, ◌∙◌, drop, rules}
 use Rattle.msvc_write.proofs.Parameters.{rest-dropped, rest-end, rest-kept, settled_four, types_weight-next}
 use Rattle.msvc_write.proofs.Parameters.{types_weight-positive}
-use Rattle.msvc_write.proofs.Printed.{before-node, weight-node}
+use Rattle.msvc_write.proofs.Printed.{pack-node}
 use Rattle.msvc_write.proofs.Stack.{pushed_one, same_pieces, work_one}
 use Rattle.msvc_write.specs.Pieces.{settle_all}
-use Rattle.msvc_tree.specs.View.{type_of}
-use Rattle.msvc_write.specs.Declaration.{after}
-use Rattle.msvc_write.specs.Functions.{separator}
-use Rattle.msvc_write.specs.Work.{finished, rest_of_parameters}
+use Rattle.msvc_write.specs.Work.{finished}
 use Rattle.msvc_write.proofs.steps.print_parameters.Goals as goal
 
 pub returns-then-place-len-clause-text : goal.returns-then-place-len-clause-text
 returns-then-place-len-clause-text c =
-    ap (λ x. finished c.args.stack.now.items x c.args.flags.0) (c.in_ok-write_function_qualifiers.ensures
+    ap (λ x. finished c.args.stack.now.items x c.args.flags.0) (c.in_ok-write_list_end.ensures
     ∙ ap (settle_all c.args.out.now.items)
-    (sym (rest-end c.args.params.now c.args.place c.args.first c.args.set.0 c.args.flags.0 (search rules))))
+    (sym (rest-end c.args.params.now c.args.place c.args.first c.args.end c.args.flags.0 (search rules))))
 
 pub returns-then-place-len-clause-lighter : goal.returns-then-place-len-clause-lighter
 returns-then-place-len-clause-lighter c =
@@ -25,7 +22,7 @@ returns-then-is_empty_pack-clause-text c =
     pushed_one _ _ _ _ _ c.in_ok-push.ensures
     ∙ same_pieces _ _ _ _ _
     (sym (rest-dropped _ c.index-t.result.now _ _ _ _ (search rules) (search rules)
-    (sym c.is_empty_pack.ensures ∙ c.if-is_empty_pack.true)))
+    (sym (pack-node _ _ c.type_node.ensures) ∙ sym c.is_empty_pack.ensures ∙ c.if-is_empty_pack.true)))
 
 pub returns-then-is_empty_pack-clause-lighter : goal.returns-then-is_empty_pack-clause-lighter
 returns-then-is_empty_pack-clause-lighter c =
@@ -42,19 +39,15 @@ returns-clause-text c =
     ∙ ap (λ x. finished c.args.stack.now.items x c.args.flags.0)
     (settled_four _ _ _ _ _ _ c.in_ok-write_separator.ensures
     ∙ ap (settle_all c.args.out.now.items)
-    (ap (λ x. separator c.args.first c.args.flags.0 ++ (x ++ (after (type_of c.index-t.result.now) false c.args.flags.0
-    ++ rest_of_parameters c.args.params.now (c.args.place + 1) false c.args.set.0 c.args.flags.0)))
-    (sym (before-node _ _ false _ c.type_node.ensures))
-    ∙ sym (rest-kept c.args.params.now c.index-t.result.now c.args.place c.args.first c.args.set.0 c.args.flags.0
+    (sym (rest-kept c.args.params.now c.index-t.result.now c.args.place c.args.first c.args.end c.args.flags.0
     (search rules) (search rules)
-    (sym c.is_empty_pack.ensures ∙ c.if-is_empty_pack.false))))
+    (sym (pack-node _ _ c.type_node.ensures) ∙ sym c.is_empty_pack.ensures ∙ c.if-is_empty_pack.false))))
 
 pub returns-clause-lighter : goal.returns-clause-lighter
 returns-clause-lighter c = omega (
   arith,
   c.in_ok-print_before.ensures.lighter,
   c.in_ok-push_after.ensures.lighter,
-  weight-node _ _ c.type_node.ensures,
   work_one _ _ _ c.in_ok-push-2.ensures,
   types_weight-next c.args.params.now.types.items c.index-t.result.now c.args.place (search rules) (search rules),
 )
