@@ -13,10 +13,11 @@ use Rattle.msvc_read.specs.Reads.{a_known_type, a_noted_type, entered, set_apart
 use Rattle.msvc_tree.specs.Equality.{same_type}
 use Rattle.msvc_read.specs.Rules.{any_type, call, known_type, holds, Rule}
 use Rattle.msvc_read.specs.Grammar.{grammar}
-use Rattle.msvc_read.proofs.Checks.{some_value, rank, Local, locals, needs, Fine, Even, fine, eats, rank_small}
+use Rattle.msvc_read.proofs.Checks.{some_value, rank, Behind, anything, Local, locals, needs, asks, Fine, Even, fine}
+use Rattle.msvc_read.proofs.Checks.{eats, rank_small}
 use Rattle.msvc_read.proofs.Eats.{tail, shorter}
 use Rattle.msvc_read.proofs.Cut.{cut, before_cut, moved}
-use Rattle.msvc_read.proofs.Firsts.{holds_same}
+use Rattle.msvc_read.proofs.Firsts.{Follows, holds_same}
 use Rattle.msvc_read.proofs.Tables.{GoesOn, goes-refl, goes-trans, with_one, with_one-goes, trees, trees-with}
 use Rattle.msvc_read.proofs.Tables.{name-again, type-again, got-goes, got-tree, tree-got}
 use Rattle.std.proofs.lemmas.Bool.{ltb-false}
@@ -32,14 +33,14 @@ Alike s t = (s.names ≡ t.names) × (trees s.types ≡ trees t.types)
 abbrev pub Kept : State → State → Type 0
 Kept s t = (s.names ≡ t.names) × (s.types ≡ t.types)
 
-later-refl : (s : State) → Later s s
+pub later-refl : (s : State) → Later s s
 later-refl s = (goes-refl s.names, goes-refl (trees s.types))
 
-later-trans : (s t u : State) → Later s t → Later t u → Later s u
+pub later-trans : (s t u : State) → Later s t → Later t u → Later s u
 later-trans s t u h k =
     (goes-trans s.names t.names u.names h.0 k.0, goes-trans (trees s.types) (trees t.types) (trees u.types) h.1 k.1)
 
-later-type : (e : Entry) (s : State) → Later s (remember_type e s)
+pub later-type : (e : Entry) (s : State) → Later s (remember_type e s)
 later-type e s = (
   goes-refl s.names,
   subst (λ z. GoesOn (trees s.types) z) (sym (trees-with e s.types)) (with_one-goes _ e.entered (trees s.types)),
@@ -49,7 +50,7 @@ later-enter : (b : Bool) (e : Entry) (s : State) → Later s (cond b (remember_t
 later-enter true e s = later-type e s
 later-enter false e s = later-refl s
 
-grows : {a : Sort} {r : Rule a} {left : List ℕ} {s : State} {v : Value a} {rest : List ℕ} {t : State}
+pub grows : {a : Sort} {r : Rule a} {left : List ℕ} {s : State} {v : Value a} {rest : List ℕ} {t : State}
     → Reads a r left s v rest t → Later s t
 grows (where_it_holds e h) = grows h
 grows (in_a_row {s = s} {t = t} {u = u} h k) = later-trans s t u (grows h) (grows k)
@@ -107,7 +108,7 @@ done-name : (m : Bool) (n : NameTree) (s s' : State) → Ready m s (remember_nam
 done-name true n s s' h = (name-again n s.names s'.names h.0, refl)
 done-name false n s s' h = (ap (with_name n) h.0, h.1)
 
-done-type : (m b : Bool) (e e' : Entry) (s t s' t' : State) → e.entered ≡ e'.entered
+pub done-type : (m b : Bool) (e e' : Entry) (s t s' t' : State) → e.entered ≡ e'.entered
     → Ready m s (cond b (remember_type e t) t) s' → Done m s t s' t'
     → Done m s (cond b (remember_type e t) t) s' (cond b (remember_type e' t') t')
 done-type true true e e' s t s' t' same h d = (
@@ -146,18 +147,18 @@ type_there false s s' i e h k =
 abbrev pub Again : Bool → {a : Sort} → Rule a → List ℕ → List ℕ → Value a → State → State → State → Type 0
 Again m r left behind v s t s' = (t' : State) × Reads _ r left s' v behind t' × Done m s t s' t'
 
-abbrev pub Repeats : {a : Sort} → ℕ → Rule a → List ℕ → State → Value a → List ℕ → State → Type 0
-Repeats followed r found s v behind t =
-    (left rest w w' : List ℕ) → found ≡ left ++ w → behind ≡ rest ++ w → followed ≤ length rest
+abbrev pub Repeats : {a : Sort} → Behind → ℕ → Rule a → List ℕ → State → Value a → List ℕ → State → Type 0
+Repeats b followed r found s v behind t =
+    (left rest w w' : List ℕ) → Follows b w w' → found ≡ left ++ w → behind ≡ rest ++ w → followed ≤ length rest
     → (m : Bool) (s' : State) → Ready m s t s' → Again m r (left ++ w') (rest ++ w') v s t s'
 
 longer : (w' : List ℕ) (left p rest : List ℕ) → left ≡ p ++ rest → left ++ w' ≡ p ++ (rest ++ w')
 longer w' left p rest e = ap (λ z. z ++ w') e ∙ append_assoc p rest w'
 
-still : {a : Sort} (r : Rule a) (found : List ℕ) (s : State) (v : Value a) (t : State) (followed : ℕ)
+still : {a : Sort} (r : Rule a) (found : List ℕ) (s : State) (v : Value a) (t : State) (j : Behind) (followed : ℕ)
     → ((left : List ℕ) (m : Bool) (s' : State) → Ready m s t s' → Again m r left left v s t s')
-    → Repeats followed r found s v found t
-still r found s v t followed go left rest w w' h k some m s' ready =
+    → Repeats j followed r found s v found t
+still r found s v t j followed go left rest w w' y h k some m s' ready =
     let same : left ≡ rest = append_cancel_right left rest w (sym h ∙ k) in
     subst (λ z. Again m r (left ++ w') (z ++ w') v s t s') same (go (left ++ w') m s' ready)
 
@@ -189,39 +190,40 @@ done-enter m v found behind left rest w w' h k s t s' t' ready done =
 
 pub local : {a : Sort} {r : Rule a} {found : List ℕ} {s : State} {v : Value a} {behind : List ℕ} {t : State}
     → Reads a r found s v behind t
-    → (floor : ℕ) → Fine floor r → (followed : ℕ) → Local followed r → Repeats followed r found s v behind t
+    → (floor : ℕ) → Fine floor r → (j : Behind) (followed : ℕ) → Local j followed r
+    → Repeats j followed r found s v behind t
 unfolding Fine Local Even
-local (given {v = v} {left = found} {s = s}) floor f followed c left rest w w' h k some m s' ready =
-    still _ found s v s followed (λ l n u q. (u, given, done-still n s u q)) left rest w w' h k some m s' ready
-local (a_letter {b = b} {s = s} e) floor f followed c left rest w w' h k some m s' ready = (
+local (given {v = v} {left = found} {s = s}) floor f j followed c left rest w w' y h k some m s' ready =
+    still _ found s v s j followed (λ l n u q. (u, given, done-still n s u q)) left rest w w' y h k some m s' ready
+local (a_letter {b = b} {s = s} e) floor f j followed c left rest w w' y h k some m s' ready = (
   s',
   moved (longer w' left (b ∷ []) rest (before_cut (b ∷ []) left rest w (ap (λ z. b ∷ z) (sym k) ∙ h)))
       (a_letter e),
   done-still m s s' ready,
 )
-local (a_literal {l = l} {s = s} e) floor f followed c left rest w w' h k some m s' ready = (
+local (a_literal {l = l} {s = s} e) floor f j followed c left rest w w' y h k some m s' ready = (
   s',
   a_literal (longer w' left l rest (before_cut l left rest w (ap (λ z. l ++ z) (sym k) ∙ sym e ∙ h))),
   done-still m s s' ready,
 )
-local (a_part {b = b} {v = v} {s = s} e d) floor f followed c left rest w w' h k some m s' ready =
+local (a_part {b = b} {v = v} {s = s} e d) floor f j followed c left rest w w' y h k some m s' ready =
     let same : left ≡ v ++ b ∷ rest =
     before_cut (v ++ b ∷ []) left rest w
     (append_assoc v (b ∷ []) (rest ++ w) ∙ ap (λ z. v ++ b ∷ z) (sym k) ∙ sym e ∙ h)
     ∙ append_assoc v (b ∷ []) rest in
     (s', a_part (ap (λ z. z ++ w') same ∙ append_assoc v (b ∷ rest) w') d, done-still m s s' ready)
-local (where_it_holds {c = c} {r = r} {v = v} {left = found} {rest = behind} {s = s} {t = t} e d) floor f followed g
-    left rest w w' h k some
+local (where_it_holds {c = c} {r = r} {v = v} {left = found} {rest = behind} {s = s} {t = t} e d) floor f j followed g
+    left rest w w' y h k some
     m s' ready =
     let again : Again m r (left ++ w') (rest ++ w') v s t s' =
-    local d floor f followed g.1 left rest w w' h k some m s' ready in (
+    local d floor f j followed g.1 left rest w w' y h k some m s' ready in (
       again.0,
-      where_it_holds (holds_same c followed floor w w' g.0 some f (cut d floor f left rest w h k)
+      where_it_holds (holds_same j c followed floor w w' y g.0 some f (cut d floor f left rest w h k)
           (ap (holds c) (sym h) ∙ e)) again.1,
       again.2,
     )
-local (in_a_row {a = a} {r = r} {f = g} {v = v} {l = l} {rest = behind} {s = s} {t = t} {u = u} d e) floor f followed c
-    left rest w w' h k some m s' ready =
+local (in_a_row {a = a} {r = r} {f = g} {v = v} {l = l} {rest = behind} {s = s} {t = t} {u = u} d e) floor f j followed c
+    left rest w w' y h k some m s' ready =
     let p : List ℕ = (tail e).0 in
     let middle : l ≡ (p ++ rest) ++ w = (tail e).1 ∙ ap (λ z. p ++ z) k ∙ sym (append_assoc p rest w) in
     let less : length (rest ++ w) + eats (g (some_value a)) ≤ length l =
@@ -232,42 +234,42 @@ local (in_a_row {a = a} {r = r} {f = g} {v = v} {l = l} {rest = behind} {s = s} 
       ap length k,
     ) in
     let first : Again m r (left ++ w') ((p ++ rest) ++ w') v s t s' =
-    local d floor f.0 (followed + eats (g (some_value a))) c.0 left (p ++ rest) w w' h middle
+    local d floor f.0 j (followed + eats (g (some_value a))) c.0 left (p ++ rest) w w' y h middle
     (filled_next followed (eats (g (some_value a))) l rest w p some middle less) m s'
     (ready-first m s t u s' (grows e) ready) in
     let second : Again m (g v) ((p ++ rest) ++ w') (rest ++ w') _ t u first.0 =
-    local e (cond (nat_lt 0 (eats r)) ranks floor) (f.1 v) followed (c.1 v)
-    (p ++ rest) rest w w' middle k some m first.0 (ready-next m s t u s' first.0 ready first.2) in (
+    local e (cond (nat_lt 0 (eats r)) ranks floor) (f.1 v) j followed (c.1 v)
+    (p ++ rest) rest w w' y middle k some m first.0 (ready-next m s t u s' first.0 ready first.2) in (
       second.0,
       in_a_row {t = first.0} {u = second.0} first.1 second.1,
       done-both m s t u s' first.0 second.0 first.2 second.2,
     )
-local (the_first d) floor f followed c left rest w w' h k some m s' ready =
+local (the_first d) floor f j followed c left rest w w' y h k some m s' ready =
     let again : Again m _ (left ++ w') (rest ++ w') _ _ _ s' =
-    local d floor f.1 followed c.0 left rest w w' h k some m s' ready in (again.0, the_first again.1, again.2)
-local (the_second d) floor f followed c left rest w w' h k some m s' ready =
+    local d floor f.1 j followed c.0 left rest w w' y h k some m s' ready in (again.0, the_first again.1, again.2)
+local (the_second d) floor f j followed c left rest w w' y h k some m s' ready =
     let again : Again m _ (left ++ w') (rest ++ w') _ _ _ s' =
-    local d floor f.2 followed c.1 left rest w w' h k some m s' ready in (again.0, the_second again.1, again.2)
-local (called {n = n} d) floor f followed c left rest w w' h k some m s' ready =
+    local d floor f.2 j followed c.1 left rest w w' y h k some m s' ready in (again.0, the_second again.1, again.2)
+local (called {n = n} d) floor f j followed c left rest w w' y h k some m s' ready =
     let again : Again m (grammar n) (left ++ w') (rest ++ w') _ _ _ s' =
-    local d (rank n) (fine n) (needs n) (locals n) left rest w w' h k
-    (omega (arith, some, ltb-false followed (needs n) c)) m s' ready in
+    local d (rank n) (fine n) j (asks j n) (locals j n) left rest w w' y h k
+    (omega (arith, some, ltb-false followed (asks j n) c)) m s' ready in
     (again.0, called again.1, again.2)
-local (a_known_name {i = i} {n = n} {left = found} {s = s} e) floor f followed c left rest w w' h k some m s' ready =
-    still _ found s n s followed
-    (λ l o u q. (u, a_known_name (name_there o s u i n q e), done-still o s u q)) left rest w w' h k some m s' ready
-local (remembered {n = n} {left = found} {s = s}) floor f followed c left rest w w' h k some m s' ready =
-    still _ found s tt (remember_name n s) followed
-    (λ l o u q. (remember_name n u, remembered, done-name o n s u q)) left rest w w' h k some m s' ready
-local (a_known_type {i = i} {e = entry} {left = found} {s = s} e) floor f followed c left rest w w' h k some m s' ready
+local (a_known_name {i = i} {n = n} {left = found} {s = s} e) floor f j followed c left rest w w' y h k some m s' ready =
+    still _ found s n s j followed
+    (λ l o u q. (u, a_known_name (name_there o s u i n q e), done-still o s u q)) left rest w w' y h k some m s' ready
+local (remembered {n = n} {left = found} {s = s}) floor f j followed c left rest w w' y h k some m s' ready =
+    still _ found s tt (remember_name n s) j followed
+    (λ l o u q. (remember_name n u, remembered, done-name o n s u q)) left rest w w' y h k some m s' ready
+local (a_known_type {i = i} {e = entry} {left = found} {s = s} e) floor f j followed c left rest w w' y h k some m s' ready
     =
-    still (known_type i) found s entry.entered s followed
+    still (known_type i) found s entry.entered s j followed
     (λ l o u q. let there : (x : Entry) × (slice_get u.types i ≡ Some x) × (x.entered ≡ entry.entered) =
     type_there o s u i entry q e in
     (u, value_is there.2 (a_known_type there.1), done-still o s u q))
-    left rest w w' h k some m s' ready
-local (a_noted_type {table = table} {b = b} {i = i} {e = entry} {rest = behind} {s = s} e d) floor f followed c left
-    rest w w' h k some m s' ready =
+    left rest w w' y h k some m s' ready
+local (a_noted_type {table = table} {b = b} {i = i} {e = entry} {rest = behind} {s = s} e d) floor f j followed c left
+    rest w w' y h k some m s' ready =
     let there : (x : Entry) × (slice_get s'.types i ≡ Some x) × (x.entered ≡ entry.entered) =
     type_there m s s' i entry (ready-first m s s (note_digit entry (b ∷ behind) s) s' (later-refl s) ready) d in (
       note_digit there.0 (b ∷ rest ++ w') s',
@@ -276,20 +278,20 @@ local (a_noted_type {table = table} {b = b} {i = i} {e = entry} {rest = behind} 
       done-noted m s s' (record { at = place (b ∷ behind) s; start = entry.start; end = entry.end })
           (record { at = place (b ∷ rest ++ w') s'; start = there.0.start; end = there.0.end }) ready,
     )
-local (entered {r = r} {v = v} {left = found} {rest = behind} {s = s} {t = t} d) floor f followed c left rest w w' h k
+local (entered {r = r} {v = v} {left = found} {rest = behind} {s = s} {t = t} d) floor f j followed c left rest w w' y h k
     some m s' ready =
     let entry : Entry = record { entered = v; start = place found t; end = place behind t } in
     let again : Again m r (left ++ w') (rest ++ w') v s t s' =
-    local d floor f followed c left rest w w' h k some m s'
+    local d floor f j followed c left rest w w' y h k some m s'
     (ready-first m s t (enter v found behind t) s'
     (later-enter (nat_lt 1 (length found - length behind)) entry t) ready) in (
       enter v (left ++ w') (rest ++ w') again.0,
       entered again.1,
       done-enter m v found behind left rest w w' h k s t s' again.0 ready again.2,
     )
-local (set_apart {r = r} {v = v} {s = s} {t = t} d) floor f followed c left rest w w' h k some m s' ready =
+local (set_apart {r = r} {v = v} {s = s} {t = t} d) floor f j followed c left rest w w' y h k some m s' ready =
     let again : Again false r (left ++ w') (rest ++ w') v (emptied s) t (emptied s') =
-    local d floor f followed c left rest w w' h k some false (emptied s') (refl, refl) in
+    local d floor f j followed c left rest w w' y h k some false (emptied s') (refl, refl) in
     (put_back s' again.0, set_apart again.1, done-apart m s t s' again.0 ready)
 
 -- A type that was read with some tables is read again with later ones, whatever follows, and leaves these as they are.
@@ -299,4 +301,4 @@ pub type_again : (q : ℕ) (left rest : List ℕ) (s : State) (v : TypeTree) (t 
     → (t' : State) × Reads _ (call (any_type q)) (left ++ behind) s' v behind t' × Kept t' s'
 unfolding Fine Local needs
 type_again q left rest s v t d behind s' later =
-    local d ranks (rank_small (any_type q)) 0 refl left [] rest behind refl refl (omega arith) true s' later
+    local d ranks (rank_small (any_type q)) anything 0 refl left [] rest behind tt refl refl (omega arith) true s' later

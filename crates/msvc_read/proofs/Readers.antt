@@ -1,21 +1,35 @@
 -- What the readers of the program cite beside the steps: how their trees are seen, and what is known where they look
 -- for an entry of a table.
 use Rattle.std.proofs.Common.{ℕ, ℤ, suc, List, [], ◌∷◌, ◌++◌, length, Bool, true, false, ◌≡◌, ◌<◌, refl, sym, ap}
-use Rattle.std.proofs.Common.{drop, get_or, drop-cons}
+use Rattle.std.proofs.Common.{Box, Global, drop, get_or, drop-cons}
 use Rattle.std.specs.Prelude.{map, IsTrue}
 use Rattle.std.specs.List.{list_any}
 use Rattle.msvc_tree.specs.Equality.{same_name, same_name-is, same_type, same_type-is}
-use Rattle.msvc_tree.specs.Trees.{NameTree, TypeTree, array, names, name_trees, types, type_trees}
-use Rattle.msvc_tree.specs.View.{name_of, names_in, type_of, types_in, tree_of}
+use Rattle.msvc_tree.specs.Trees.{NameTree, TypeTree, array, names, name_trees, nested, numbered, plain, tagged, types}
+use Rattle.msvc_tree.specs.Trees.{type_trees}
+use Rattle.msvc_tree.specs.declared.flags.StorageClass.{StorageClass}
+use Rattle.msvc_tree.specs.declared.kinds.NumberedType.TheVariants as number_kind
+use Rattle.msvc_tree.specs.declared.kinds.PlainType.TheVariants as plain_kind
+use Rattle.msvc_tree.specs.declared.kinds.Tag.TheVariants as tag_kind
+use Rattle.msvc_tree.specs.declared.tree.Symbol.{Symbol}
+use Rattle.msvc_tree.specs.declared.tree.Type as code_type
+use Rattle.msvc_tree.specs.View.{name_of, names_in, scope_of, type_of, types_in, tree_of}
+use Rattle.msvc_tree.specs.declared.tree.Name as code
 use Rattle.msvc_tree.specs.declared.tree.Name.{Name}
 use Rattle.msvc_tree.specs.declared.tree.ParseResult.{ParseResult}
 use Rattle.msvc_tree.specs.declared.tree.Type.{«Type»}
+pub use Rattle.msvc_tree.proofs.Views.{name_of-Template, names_of-hidden}
 pub use Rattle.msvc_tree.proofs.Views.{type_of-Array, type_of-Class, type_of-Enum, type_of-MemberFunction}
 pub use Rattle.msvc_tree.proofs.Views.{type_of-NonMemberFunction, type_of-None, type_of-Ptr, type_of-Ref}
+pub use Rattle.msvc_tree.proofs.Views.{type_of-MemberFunctionPointer}
 pub use Rattle.msvc_tree.proofs.Views.{type_of-RValueRef, type_of-Struct, type_of-TemplateParameterWithIndex}
 pub use Rattle.msvc_tree.proofs.Views.{type_of-Union, type_of-Var, type_of-VarArgs, type_of-Void}
-use Rattle.msvc_read.proofs.Steps.{any_type_step, arrayed_step, encoding_step, function_parameters_step, function_step}
+use Rattle.msvc_read.proofs.SpecialSteps.{special_name_step}
+use Rattle.msvc_read.proofs.TypeSteps.{class_part_is, function_type_step, member_pointer_step, type_form_is}
+use Rattle.msvc_read.proofs.Steps.{arrayed_step, encoding_step, function_parameters_step, function_step, letter_step}
 use Rattle.msvc_read.proofs.Steps.{guarded_step, indexed_step, member_letter, member_step, named_step}
+use Rattle.msvc_read.proofs.Steps.{anonymous_namespace_step, marked_name_step, nested_symbol_step, new_interface_step}
+use Rattle.msvc_read.proofs.Steps.{symbol_body_step, template_inside_step, template_symbol_step}
 use Rattle.msvc_read.proofs.Steps.{named_symbol_step, points_step, referred_step, returned_member, returned_other}
 use Rattle.msvc_read.proofs.Steps.{symbol_step, untyped_step, variable_step}
 use Rattle.msvc_read.specs.Grammar.{arrays}
@@ -53,7 +67,45 @@ pub ruleset arrays_nest = (arrays-last, type_of-Array)
 
 pub ruleset symbol_split = (named_symbol_step, tree_of-is)
 
+pub name_of-ParsedName : (b : Box ParseResult Global)
+    → name_of (code.ParsedName b)
+    ≡ nested (name_of b.value.symbol.name) (scope_of b.value.symbol.scope) (type_of b.value.symbol_type)
+unfolding name_of
+name_of-ParsedName b =
+    ap (λ ns. nested (name_of b.value.symbol.name) ns (type_of b.value.symbol_type)) (names_of-hidden b.value.symbol.scope)
+
+pub type_of-Alias : (s : Symbol) (q : StorageClass)
+    → type_of (code_type.Alias s q) ≡ tagged tag_kind.Alias (name_of s.name) (scope_of s.scope) q.0
+unfolding type_of
+type_of-Alias s q = ap (λ ns. tagged tag_kind.Alias (name_of s.name) ns q.0) (names_of-hidden s.scope)
+
+pub type_of-Constant : (n : ℤ) → type_of (code_type.Constant n) ≡ numbered number_kind.Constant n
+unfolding type_of
+type_of-Constant n = refl
+
+pub type_of-EmptyParameterPack : type_of code_type.EmptyParameterPack ≡ plain plain_kind.EmptyPack
+unfolding type_of
+type_of-EmptyParameterPack = refl
+
+pub type_of-Nullptr : type_of code_type.Nullptr ≡ plain plain_kind.Nullptr
+unfolding type_of
+type_of-Nullptr = refl
+
 pub ruleset symbol_is = (symbol_step)
+
+pub ruleset symbol_body_split = (symbol_body_step)
+
+pub ruleset template_symbol_split = (template_symbol_step, type_of-None)
+
+pub ruleset template_split = (template_inside_step, types_in-is, name_of-Template)
+
+pub ruleset nested_symbol_split = (nested_symbol_step, name_of-ParsedName)
+
+pub ruleset marked_split = (marked_name_step)
+
+pub ruleset interface_split = (new_interface_step)
+
+pub ruleset anonymous_split = (anonymous_namespace_step)
 
 pub ruleset encoding_split = (guarded_step, encoding_step, untyped_step, member_letter, type_of-None)
 
@@ -69,7 +121,27 @@ pub ruleset parameters_end = (type_of-VarArgs)
 
 pub ruleset parameters_closed = (function_parameters_step, type_of-Void)
 
-pub ruleset type_split = (any_type_step, names_in-is, type_of-Enum, type_of-RValueRef)
+pub ruleset form_split = (
+  type_form_is,
+  names_in-is,
+  type_of-Alias,
+  type_of-Constant,
+  type_of-EmptyParameterPack,
+  type_of-Enum,
+  type_of-Nullptr,
+  type_of-Ptr,
+  type_of-Ref,
+  type_of-RValueRef,
+  type_of-TemplateParameterWithIndex,
+)
+
+pub ruleset function_type_split = (function_type_step, types_in-is, type_of-NonMemberFunction)
+
+pub ruleset member_pointer_split = (member_pointer_step, names_in-is, types_in-is, type_of-MemberFunctionPointer)
+
+pub ruleset class_part_split = (class_part_is, letter_step)
+
+pub ruleset special_split = (special_name_step)
 
 pub ruleset compound_split = (
   arrayed_step,

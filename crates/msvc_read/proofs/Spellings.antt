@@ -16,9 +16,11 @@ use Rattle.msvc_read.specs.State.{State, Entry, Note, place, remember_type}
 use Rattle.msvc_read.specs.Sorts.{Sort, bytes, name_tree, type_tree, symbol_tree, list, both, Value, based, extended}
 use Rattle.msvc_read.specs.Sorts.{named, points, arrayed, indexed, referred, variable_of, untyped, plain_function}
 use Rattle.msvc_read.specs.Sorts.{member_of}
-use Rattle.msvc_read.specs.Rules.{Production, symbol, encoding, encoding_behind, thunk_number, own_qualifiers, returned}
-use Rattle.msvc_read.specs.Rules.{any_type, type_behind, array, positive, lengths, every, lookup, Rule, give, letter}
+use Rattle.msvc_read.specs.Rules.{Production, symbol_body, encoding, encoding_behind, thunk_number, own_qualifiers, returned}
+use Rattle.msvc_read.specs.Rules.{any_type, type_behind, array, positive, lengths, template_name, unqualified_name, every, lookup, Rule, give, letter}
 use Rattle.msvc_read.specs.Rules.{literal, up_to, here, ◌>>=◌, ◌or◌, remember, noted, entering, apart}
+use Rattle.msvc_read.specs.Rules.{type_form, function_type, member_pointer, class_part}
+use Rattle.msvc_read.specs.declared.forms.TypeForm.TheVariants as form
 use Rattle.msvc_read.specs.Grammar.{grammar, arrays}
 use Rattle.msvc_read.specs.Reads.{Reads, given, a_letter, a_literal, a_part, where_it_holds, in_a_row, the_first}
 use Rattle.msvc_read.specs.Reads.{the_second, called, a_known_name, remembered, a_known_type, a_noted_type, entered}
@@ -100,8 +102,32 @@ module _ (P : List ℕ → Type 0) where
   gives (positive (negsuc n)) = search depth 60
   gives (lengths zero) = search depth 60
   gives (lengths (suc n)) = search depth 60
-  gives symbol = (refl, λ _ _. (tt, λ n h. (tt, λ t k. (h.0, in-names n.1 h.1, k))))
-  gives (any_type q) = ((refl, λ _ _. (tt, λ n h. (h.0, in-names n.1 h.1))), search)
+  gives symbol_body =
+      ((refl, λ _ _. (tt, λ n h. (h, tt, tt))), (tt, λ n h. (tt, λ t k. (h.0, in-names n.1 h.1, k))))
+  gives (unqualified_name true) = search depth 60
+  gives (unqualified_name false) = search depth 60
+  gives template_name = (tt, λ n h. (tt, λ ts k. (h, in-types ts k)))
+  gives (type_form q form.Enumeration) = (tt, λ n h. (h.0, in-names n.1 h.1))
+  gives (type_form q form.ReferenceToFunction) = search depth 60
+  gives (type_form q form.PointerToFunction) = search depth 60
+  gives (type_form q form.QualifiedMemberPointer) = search depth 60
+  gives (type_form q form.Constant) = search depth 60
+  gives (type_form q form.TemplateParameter) = search depth 60
+  gives (type_form q form.Array) = search depth 60
+  gives (type_form q form.RValueReference) = search depth 60
+  gives (type_form q form.EmptyPack) = search depth 60
+  gives (type_form q form.Nullptr) = search depth 60
+  gives (type_form q form.Function) = search depth 60
+  gives (type_form q form.QualifiedFunction) = search depth 60
+  gives (type_form q form.Alias) = (tt, λ n h. (h.0, in-names n.1 h.1))
+  gives (type_form q form.Requalified) = search depth 60
+  gives (type_form q form.MemberPointer) = search depth 60
+  gives (function_type bare) = (tt, λ _ _. (search, λ _ _. (search depth 60, λ _ _. (tt, λ t h. (tt, λ ts k. (in-types ts k, h))))))
+  gives (member_pointer qualified) =
+      (tt, λ n h. (search depth 60, λ _ _. (tt, λ _ _. (tt, λ f k. (h.0, in-names n.1 h.1, in-types f.1.1 k.1.1, k.1.0)))))
+  gives (class_part true) = search depth 60
+  gives (class_part false) = search depth 60
+  gives (any_type q) = search depth 200
   gives array = search in-arrays depth 60
   gives _ = search depth 60
 

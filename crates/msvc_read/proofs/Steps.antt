@@ -11,38 +11,42 @@ use Rattle.std.proofs.Math.Numerals.{one-add, add-one}
 use Rattle.std.specs.Int.{cast_signed, int_wrapping_neg, w32}
 use Rattle.msvc_tree.specs.declared.tree.VarStorageKind.{VarStorageKind}
 use Rattle.msvc_tree.specs.Trees as tree
-use Rattle.msvc_tree.specs.declared.kinds.Tag.TheVariants as tag_kind
 use Rattle.msvc_tree.specs.declared.kinds.BaseType.TheVariants as base_kind
 use Rattle.msvc_tree.specs.declared.kinds.BaseType.{BaseType}
 use Rattle.msvc_tree.specs.declared.kinds.Mark.{Mark}
 use Rattle.msvc_tree.specs.declared.kinds.Tag.{Tag}
-use Rattle.msvc_tree.specs.declared.kinds.Mark.TheVariants as mark_kind
 use Rattle.msvc_tree.specs.declared.kinds.NumberedType.TheVariants as number_kind
 use Rattle.msvc_tree.specs.declared.kinds.PlainType.TheVariants as plain_kind
 use Rattle.msvc_tree.specs.declared.kinds.Spelling.TheVariants as spelling_kind
 use Rattle.msvc_tree.specs.Trees.{NameTree, SymbolTree, TypeTree, function, member_function}
-use Rattle.msvc_tree.specs.Trees.{name_trees, numbered, plain, pointing, spelled}
+use Rattle.msvc_tree.specs.Trees.{anonymous, discriminator, name_trees, nested, numbered, plain, pointing, spelled}
+use Rattle.msvc_tree.specs.Trees.{template}
 use Rattle.msvc_tree.specs.Trees.{tagged, type_trees, variable}
-use Rattle.msvc_read.specs.Parser.{byte_here, cut_at, ellipsis, encoding_by, member_by, name_length, parameters_stop}
+use Rattle.msvc_read.specs.Parser.{byte_here, cut_at, ellipsis, encoding_by, kept_name, member_by, name_length}
+use Rattle.msvc_read.specs.Parser.{parameters_stop}
 use Rattle.msvc_read.specs.Parser.{type_by}
 use Rattle.msvc_read.specs.State.{State, remember_name}
-use Rattle.msvc_read.specs.Sorts.{Sort, bits, integer, name_tree, type_tree, list, EncodingLetter, TypeLetter}
+use Rattle.msvc_read.specs.Sorts.{Sort, bits, integer, name_tree, symbol_tree, type_tree, list}
+use Rattle.msvc_read.specs.Sorts.{EncodingLetter, TypeLetter}
 use Rattle.msvc_read.specs.Sorts.{arrayed, based, extended, indexed, member_of, named, plain_function, points, referred}
 use Rattle.msvc_read.specs.Sorts.{untyped, variable_of}
-use Rattle.msvc_read.specs.Rules.{symbol, encoding, encoding_behind, thunk_number, own_qualifiers}
+use Rattle.msvc_read.specs.Rules.{symbol, symbol_body, encoding, encoding_behind, thunk_number, own_qualifiers}
 use Rattle.msvc_read.specs.Rules.{function_qualifiers, signature, return_qualifiers, returned, function_parameters}
 use Rattle.msvc_read.specs.Rules.{parameters, parameter, any_type, plain_type, type_behind, pointee, array, dimension}
-use Rattle.msvc_read.specs.Rules.{positive, lengths, qualified_name, scope, simple_name, source_name, number, magnitude}
+use Rattle.msvc_read.specs.Rules.{positive, lengths, qualified_name, unqualified_name, template_name, scope, nested_name}
+use Rattle.msvc_read.specs.Rules.{marked_name, anonymous_namespace, hexadecimal_digits, source_name, number, magnitude}
 use Rattle.msvc_read.specs.Rules.{holds, none_of, some_of, begins, after, lookup, Rule, give, letter, literal}
-use Rattle.msvc_read.specs.Rules.{here, ◌>>=◌, ◌>>◌, known_name, call, begins_of, letter_or, literal_or}
-use Rattle.msvc_read.specs.Rules.{optional}
+use Rattle.msvc_read.specs.Rules.{◌>>=◌, ◌>>◌, known_name, call, begins_of, letter_or, literal_or}
+use Rattle.msvc_read.specs.Rules.{optional, special_name}
 use Rattle.msvc_read.specs.Grammar.{grammar, rows_of, digits, pointer_sizes, restricts, alignments}
 use Rattle.msvc_read.specs.Grammar.{reference_qualifiers, qualifiers, storage_classes, conventions}
 use Rattle.msvc_read.specs.Grammar.{qualifiers_of_returns, qualifiers_of_arrays, base_types, extended_types}
 use Rattle.msvc_read.specs.Grammar.{compound_letters, function_classes, encoding_letters, array_class, arrays, has}
-use Rattle.msvc_read.specs.Grammar.{named_symbol, new_source_name, signed_letters}
+use Rattle.msvc_read.specs.Grammar.{hexadecimal_codes, entering_name, named_symbol, nested_symbol, new_interface}
+use Rattle.msvc_read.specs.Grammar.{new_source_name, signed_letters, template_inside, template_kept, template_symbol}
 use Rattle.msvc_read.specs.Reads.{Found, read_name, read, read_by, letter_here, with_value, type_known, type_noted}
 use Rattle.msvc_read.specs.Reads.{noted_by, entered_by, with_byte, part_here, behind_literal, and_then, or_else}
+use Rattle.msvc_read.specs.Reads.{emptied, put_apart}
 use Rattle.msvc_read.proofs.Stable.{read_name-is}
 
 or_none : {A : Type 0} (o : Found A) → or_else o None ≡ o
@@ -160,33 +164,52 @@ lookup-rows f b (row ∷ table) others = go (b == row.0) (lookup-rows f b table 
     go true e = refl
     go false e = e
 
+-- elements that stand before those that are read
+abbrev pub with_front : {A : Type 0} → List A → Found (List A) → Found (List A)
+with_front xs None = None
+with_front xs (Some y) = Some (xs ++ y.0, y.1, y.2)
+
 -- Productions, as their readers go
 
 pub symbol_step : (left : List ℕ) (s : State) → read_name symbol left s
-    ≡ chosen (after (codes "?") left) (λ rest. cond (some_of (begins rest) (codes "?@" ∷ codes "$" ∷ [])) None
-    (read named_symbol rest s)) None
+    ≡ chosen (after (codes "?") left) (λ rest. read_name symbol_body rest s) None
 unfolding grammar read read_by
 symbol_step left s = read_name-is symbol left s ∙ go (after (codes "?") left)
+  where
+    go : (o : Option (List ℕ))
+        → and_then (behind_literal o s) (λ _. read_name symbol_body)
+        ≡ chosen o (λ rest. read_name symbol_body rest s) None
+    go None = refl
+    go (Some rest) = refl
+
+pub symbol_body_step : (left : List ℕ) (s : State) → read_name symbol_body left s
+    ≡ cond (some_of (begins left) (codes "?@" ∷ codes "$TSS" ∷ [])) None
+    (chosen (after (codes "$") left) (λ rest. read template_symbol rest s) (read named_symbol left s))
+unfolding grammar read read_by
+symbol_body_step left s =
+    read_name-is symbol_body left s
+    ∙ unless (some_of (begins left) (codes "?@" ∷ codes "$TSS" ∷ [])) _
+    ∙ ap (cond (some_of (begins left) (codes "?@" ∷ codes "$TSS" ∷ [])) None)
+    (literal_or-is {a = symbol_tree} (codes "$") template_symbol named_symbol left s)
   where
     unless : (stop : Bool) (x : Found SymbolTree) → cond (not stop) x None ≡ cond stop None x
     unless true x = refl
     unless false x = refl
 
-    go : (o : Option (List ℕ))
-        → and_then (behind_literal o s) (λ _. read (here (none_of (codes "?@" ∷ codes "$" ∷ [])) named_symbol))
-        ≡ chosen o (λ rest. cond (some_of (begins rest) (codes "?@" ∷ codes "$" ∷ [])) None
-        (read named_symbol rest s)) None
-    go None = refl
-    go (Some rest) = unless (some_of (begins rest) (codes "?@" ∷ codes "$" ∷ [])) (read named_symbol rest s)
+pub template_symbol_step : (left : List ℕ) (s : State) → read template_symbol left s
+    ≡ and_then (read_name template_name left s)
+    (λ n l t. Some (record { name = n; scope = tree.no_names; symbol_type = plain plain_kind.None }, l, t))
+unfolding read read_by
+template_symbol_step left s = refl
 
 pub named_symbol_is : (left l rest : List ℕ) (s t u : State) (n : NameTree) (ns : List NameTree) (x : TypeTree)
-    → read_name qualified_name left s ≡ Some ((n, ns), l, t) → read_name (encoding false) l t ≡ Some (x, rest, u)
+    → read_name (qualified_name true) left s ≡ Some ((n, ns), l, t) → read_name (encoding false) l t ≡ Some (x, rest, u)
     → read named_symbol left s ≡ Some (record { name = n; scope = name_trees ns; symbol_type = x }, rest, u)
 unfolding read read_by
 named_symbol_is left l rest s t u n ns x e f = rw (e, f)
 
 pub named_symbol_step : (left : List ℕ) (s : State) → read named_symbol left s
-    ≡ and_then (read_name qualified_name left s) (λ n l t. and_then (read_name (encoding false) l t)
+    ≡ and_then (read_name (qualified_name true) left s) (λ n l t. and_then (read_name (encoding false) l t)
     (λ x k u. Some (record { name = n.0; scope = name_trees n.1; symbol_type = x }, k, u)))
 unfolding read read_by
 named_symbol_step left s = refl
@@ -355,42 +378,6 @@ pub ruleset parameter_is = (parameter_step)
 
 -- types
 
-pub any_type_step : (q : ℕ) (left : List ℕ) (s : State) → read_name (any_type q) left s
-    ≡ chosen (after (codes "W4") left) (λ rest. and_then (read_name qualified_name rest s)
-    (λ n l t. Some (tagged tag_kind.Enum n.0 (name_trees n.1) q, l, t)))
-    (chosen (after (codes "$$Q") left) (λ rest. and_then (read_name pointee rest s)
-    (λ x l t. Some (pointing mark_kind.RValueReference x q, l, t)))
-    (cond (some_of (begins left) (codes "A6" ∷ codes "P6" ∷ codes "P8" ∷ codes "$" ∷ [])) None
-    (read_name (plain_type q) left s)))
-unfolding grammar read read_by
-any_type_step q left s =
-    read_name-is (any_type q) left s
-    ∙ literal_or-is {a = type_tree} (codes "W4") (do n ← call qualified_name; give (enumeration n)) others left s
-    ∙ ap (chosen (after (codes "W4") left) (λ rest. and_then (read_name qualified_name rest s)
-    (λ n l t. Some (enumeration n, l, t))))
-    (literal_or-is {a = type_tree} (codes "$$Q")
-    (do t ← call pointee; give (pointing mark_kind.RValueReference t q)) plain_one
-    left s
-    ∙ ap (chosen (after (codes "$$Q") left) (λ rest. and_then (read_name pointee rest s)
-    (λ x l t. Some (pointing mark_kind.RValueReference x q, l, t))))
-    (otherwise (some_of (begins left) (codes "A6" ∷ codes "P6" ∷ codes "P8" ∷ codes "$" ∷ []))))
-  where
-    enumeration : NameTree × List NameTree → TypeTree
-    enumeration n = tagged tag_kind.Enum n.0 (name_trees n.1) q
-
-    plain_one : Rule type_tree
-    plain_one = here (none_of (codes "A6" ∷ codes "P6" ∷ codes "P8" ∷ codes "$" ∷ [])) (call (plain_type q))
-
-    others : Rule type_tree
-    others = literal_or (codes "$$Q") (do t ← call pointee; give (pointing mark_kind.RValueReference t q)) plain_one
-
-    otherwise : (t : Bool) → cond (not t) (read_name (plain_type q) left s) None
-        ≡ cond t None (read_name (plain_type q) left s)
-    otherwise true = refl
-    otherwise false = refl
-
-pub ruleset any_type_is = (any_type_step)
-
 -- a base type where the first letter stands for one, else what the other letters stand for
 abbrev pub found_or : {A : Type 0} → Option A → List ℕ → State → Found A → Found A
 found_or (Some x) left s other = Some (x, left, s)
@@ -436,7 +423,7 @@ extended_step q (b ∷ bs) s = read_name-is (type_behind q extended) (b ∷ bs) 
 pub ruleset extended_is = (extended_step)
 
 pub named_step : (q : ℕ) (tag : Tag) (left : List ℕ) (s : State) → read_name (type_behind q (named tag)) left s
-    ≡ and_then (read_name qualified_name left s) (λ n l t. Some (tagged tag n.0 (name_trees n.1) q, l, t))
+    ≡ and_then (read_name (qualified_name false) left s) (λ n l t. Some (tagged tag n.0 (name_trees n.1) q, l, t))
 unfolding grammar read read_by
 named_step q tag left s = read_name-is (type_behind q (named tag)) left s
 
@@ -551,39 +538,178 @@ pub ruleset dimension_is = (dimension_step)
 
 -- names
 
-pub qualified_name_step : (left : List ℕ) (s : State) → read_name qualified_name left s
-    ≡ and_then (read_name simple_name left s)
+pub qualified_name_step : (own : Bool) (left : List ℕ) (s : State) → read_name (qualified_name own) left s
+    ≡ and_then (read_name (unqualified_name own) left s)
     (λ n l t. and_then (read_name scope l t) (λ ns k u. Some ((n, ns), k, u)))
 unfolding grammar read read_by
-qualified_name_step left s = read_name-is qualified_name left s
+qualified_name_step own left s = read_name-is (qualified_name own) left s
 
 pub ruleset qualified_name_is = (qualified_name_step)
-
-pub simple_name_step : (left : List ℕ) (s : State) → read_name simple_name left s
-    ≡ choose (letter_here digits left s) (λ i l t. with_value (slice_get t.names i) l t)
-    (chosen (after (codes "?") left) (λ _. None) (read new_source_name left s))
-unfolding grammar read read_by
-simple_name_step left s =
-    read_name-is simple_name left s
-    ∙ letter_or-is digits (λ i. known_name i) (here (none_of (codes "?" ∷ [])) new_source_name) left s
-    ∙ ap (choose (letter_here digits left s) (λ i l t. with_value (slice_get t.names i) l t))
-    (unless_literal (after (codes "?") left) _)
-
-pub ruleset simple_name_is = (simple_name_step)
 
 pub source_name_step : (left : List ℕ) (s : State)
     → read_name source_name left s ≡ cut_at (name_length left) left s
 unfolding grammar read read_by
 source_name_step left s = read_name-is source_name left s ∙ part_cut left s
 
+pub unqualified_name_step : (own : Bool) (left : List ℕ) (s : State) → read_name (unqualified_name own) left s
+    ≡ choose (letter_here digits left s) (λ i l t. with_value (slice_get t.names i) l t)
+    (chosen (after (codes "?$") left) (λ rest. read (template_kept own) rest s)
+    (chosen (after (codes "?") left) (λ rest. read_name special_name rest s) (read new_source_name left s)))
+unfolding grammar read read_by
+unqualified_name_step own left s =
+    read_name-is (unqualified_name own) left s
+    ∙ letter_or-is digits (λ i. known_name i)
+    (literal_or (codes "?$") (template_kept own) special_or_new) left s
+    ∙ ap (choose (letter_here digits left s) (λ i l t. with_value (slice_get t.names i) l t))
+    (literal_or-is {a = name_tree} (codes "?$") (template_kept own) special_or_new left s
+    ∙ ap (chosen (after (codes "?$") left) (λ rest. read (template_kept own) rest s))
+    (literal_or-is {a = name_tree} (codes "?") (call special_name) new_source_name left s))
+  where
+    special_or_new : Rule name_tree
+    special_or_new = literal_or (codes "?") (call special_name) new_source_name
+
+pub ruleset unqualified_name_is = (unqualified_name_step)
+
+pub template_kept_step : (own : Bool) (left : List ℕ) (s : State) → read (template_kept own) left s
+    ≡ and_then (read_name template_name left s) (λ n l t. Some (n, l, kept_name own n t))
+unfolding read read_by
+template_kept_step true left s = go (read_name template_name left s)
+  where
+    go : (o : Found NameTree) → o ≡ and_then o (λ n l t. Some (n, l, t))
+    go None = refl
+    go (Some x) = refl
+template_kept_step false left s = refl
+
+pub ruleset template_kept_is = (template_kept_step)
+
+pub template_name_step : (left : List ℕ) (s : State) → read_name template_name left s
+    ≡ put_apart s (read template_inside left (emptied s))
+unfolding grammar read read_by
+template_name_step left s = read_name-is template_name left s
+
+pub ruleset template_name_is = (template_name_step)
+
+pub template_inside_step : (left : List ℕ) (s : State) → read template_inside left s
+    ≡ and_then (read_name (unqualified_name false) left s)
+    (λ n l t. and_then (read_name parameters l t) (λ ts k u. Some (template n (type_trees ts), k, u)))
+unfolding read read_by
+template_inside_step left s = refl
+
+pub nested_name_step : (left : List ℕ) (s : State) → read_name nested_name left s
+    ≡ choose (letter_here digits left s) (λ i l t. with_value (slice_get t.names i) l t)
+    (chosen (after (codes "?") left) (λ rest. read_name marked_name rest s) (read new_source_name left s))
+unfolding grammar read read_by
+nested_name_step left s =
+    read_name-is nested_name left s
+    ∙ letter_or-is digits (λ i. known_name i) (literal_or (codes "?") (call marked_name) new_source_name) left s
+    ∙ ap (choose (letter_here digits left s) (λ i l t. with_value (slice_get t.names i) l t))
+    (literal_or-is {a = name_tree} (codes "?") (call marked_name) new_source_name left s)
+
+pub ruleset nested_name_is = (nested_name_step)
+
+pub marked_name_step : (left : List ℕ) (s : State) → read_name marked_name left s
+    ≡ chosen (after (codes "?") left) (λ rest. read nested_symbol rest s)
+    (chosen (after (codes "$") left) (λ rest. read (template_kept false) rest s)
+    (chosen (after (codes "A") left) (λ rest. read_name anonymous_namespace rest s)
+    (chosen (after (codes "Q") left) (λ rest. read new_interface rest s)
+    (and_then (read_name number left s) (λ z l t. Some (discriminator z, l, t))))))
+unfolding grammar read read_by
+marked_name_step left s =
+    read_name-is marked_name left s
+    ∙ literal_or-is {a = name_tree} (codes "?") nested_symbol from_template left s
+    ∙ ap (chosen (after (codes "?") left) (λ rest. read nested_symbol rest s))
+    (literal_or-is {a = name_tree} (codes "$") (template_kept false) from_anonymous left s
+    ∙ ap (chosen (after (codes "$") left) (λ rest. read (template_kept false) rest s))
+    (literal_or-is {a = name_tree} (codes "A") (call anonymous_namespace) from_interface left s
+    ∙ ap (chosen (after (codes "A") left) (λ rest. read_name anonymous_namespace rest s))
+    (literal_or-is {a = name_tree} (codes "Q") new_interface from_number left s)))
+  where
+    from_number : Rule name_tree
+    from_number = do z ← call number; give (discriminator z)
+
+    from_interface : Rule name_tree
+    from_interface = literal_or (codes "Q") new_interface from_number
+
+    from_anonymous : Rule name_tree
+    from_anonymous = literal_or (codes "A") (call anonymous_namespace) from_interface
+
+    from_template : Rule name_tree
+    from_template = literal_or (codes "$") (template_kept false) from_anonymous
+
+pub nested_symbol_step : (left : List ℕ) (s : State) → read nested_symbol left s
+    ≡ and_then (read_name symbol_body left s)
+    (λ x l t. Some (nested x.name x.scope x.symbol_type, l, t))
+unfolding read read_by
+nested_symbol_step left s = refl
+
+pub new_interface_step : (left : List ℕ) (s : State) → read new_interface left s
+    ≡ and_then (cut_at (name_length left) left s)
+    (λ n l t. and_then (read (literal (codes "@")) l t)
+    (λ _ k u. Some (spelled spelling_kind.Interface n, k, remember_name (spelled spelling_kind.Interface n) u)))
+unfolding read read_by
+new_interface_step left s =
+    ap (λ o. and_then (and_then o (λ n l t. and_then (behind_literal (after (codes "@") l) t)
+    (λ _ k u. Some (spelled spelling_kind.Interface n, k, u)))) (λ n l t. Some (n, l, remember_name n t)))
+    (source_name_step left s)
+    ∙ go (cut_at (name_length left) left s)
+  where
+    end : List ℕ → Option (List ℕ) → State → Found NameTree
+    end n o t = and_then (behind_literal o t)
+        (λ _ k u. Some (spelled spelling_kind.Interface n, k, remember_name (spelled spelling_kind.Interface n) u))
+
+    ended : (n : List ℕ) (o : Option (List ℕ)) (t : State)
+        → and_then (and_then (behind_literal o t) (λ _ k u. Some (spelled spelling_kind.Interface n, k, u)))
+        (λ m k u. Some (m, k, remember_name m u)) ≡ end n o t
+    ended n None t = refl
+    ended n (Some rest) t = refl
+
+    go : (o : Found (List ℕ))
+        → and_then (and_then o (λ n l t. and_then (behind_literal (after (codes "@") l) t)
+        (λ _ k u. Some (spelled spelling_kind.Interface n, k, u)))) (λ n l t. Some (n, l, remember_name n t))
+        ≡ and_then o (λ n l t. and_then (behind_literal (after (codes "@") l) t)
+        (λ _ k u. Some (spelled spelling_kind.Interface n, k, remember_name (spelled spelling_kind.Interface n) u)))
+    go None = refl
+    go (Some x) = ended x.0 (after (codes "@") x.1) x.2
+
+pub anonymous_namespace_step : (left : List ℕ) (s : State) → read_name anonymous_namespace left s
+    ≡ chosen (after (codes "0x") left)
+    (λ rest. and_then (and_then (read_name hexadecimal_digits rest s) (λ ds l t. Some (codes "0x" ++ ds, l, t)))
+    (λ ds l t. Some (anonymous (Some ds), l, remember_name (anonymous (Some ds)) t)))
+    (and_then (read (literal (codes "@")) left s) (λ _ l t. Some (anonymous None, l, t)))
+unfolding grammar read read_by
+anonymous_namespace_step left s =
+    read_name-is anonymous_namespace left s
+    ∙ literal_or-is {a = name_tree} (codes "0x")
+    (entering_name (do ds ← call hexadecimal_digits; give (anonymous (Some (codes "0x" ++ ds)))))
+    (do literal (codes "@"); give (anonymous None)) left s
+    ∙ ap (λ f. chosen (after (codes "0x") left) f
+    (and_then (read (literal (codes "@")) left s) (λ _ l t. Some (anonymous None, l, t))))
+    (λ i rest. go (read_name hexadecimal_digits rest s) i)
+  where
+    go : (o : Found (List ℕ))
+        → and_then (and_then o (λ ds l t. Some (anonymous (Some (codes "0x" ++ ds)), l, t)))
+        (λ n l t. Some (n, l, remember_name n t))
+        ≡ and_then (and_then o (λ ds l t. Some (codes "0x" ++ ds, l, t)))
+        (λ ds l t. Some (anonymous (Some ds), l, remember_name (anonymous (Some ds)) t))
+    go None = refl
+    go (Some x) = refl
+
 pub new_source_name_step : (left : List ℕ) (s : State) → read new_source_name left s
     ≡ and_then (cut_at (name_length left) left s)
     (λ n l t. Some (spelled spelling_kind.Source n, l, remember_name (spelled spelling_kind.Source n) t))
 unfolding read read_by
 new_source_name_step left s =
-    ap (λ o. and_then o
-    (λ n l t. Some (spelled spelling_kind.Source n, l, remember_name (spelled spelling_kind.Source n) t)))
-    (source_name_step left s)
+    ap (λ o. and_then (and_then o (λ n l t. Some (spelled spelling_kind.Source n, l, t)))
+    (λ n l t. Some (n, l, remember_name n t))) (source_name_step left s)
+    ∙ go (cut_at (name_length left) left s)
+  where
+    go : (o : Found (List ℕ))
+        → and_then (and_then o (λ n l t. Some (spelled spelling_kind.Source n, l, t)))
+        (λ n l t. Some (n, l, remember_name n t))
+        ≡ and_then o
+        (λ n l t. Some (spelled spelling_kind.Source n, l, remember_name (spelled spelling_kind.Source n) t))
+    go None = refl
+    go (Some x) = refl
 
 pub ruleset new_source_name_is = (new_source_name_step)
 
@@ -611,10 +737,6 @@ magnitude_step left s =
 pub ruleset magnitude_is = (magnitude_step)
 
 -- Rows
-
-abbrev pub with_front : {A : Type 0} → List A → Found (List A) → Found (List A)
-with_front xs None = None
-with_front xs (Some y) = Some (xs ++ y.0, y.1, y.2)
 
 pub front_none : {A : Type 0} (o : Found (List A)) → with_front [] o ≡ o
 front_none None = refl
@@ -657,19 +779,19 @@ scope_stop (Some rest) = Some ([], rest)
 
 pub scope_step : (left : List ℕ) (s : State)
     → read_name scope left s
-    ≡ row_by (read_name scope) (scope_stop (after (codes "@") left)) (read_name simple_name left s) s
+    ≡ row_by (read_name scope) (scope_stop (after (codes "@") left)) (read_name nested_name left s) s
 unfolding grammar read read_by
 scope_step left s =
     read_name-is scope left s
     ∙ literal_or-is {a =
-    list name_tree} (codes "@") (give []) (do n ← call simple_name; ns ← call scope; give (n ∷ ns)) left s
+    list name_tree} (codes "@") (give []) (do n ← call nested_name; ns ← call scope; give (n ∷ ns)) left s
     ∙ go (after (codes "@") left)
   where
     go : (o : Option (List ℕ))
         → chosen o (λ rest. Some ([], rest, s))
-        (and_then (read_name simple_name left s)
+        (and_then (read_name nested_name left s)
         (λ n l t. and_then (read_name scope l t) (λ ns k u. Some (n ∷ ns, k, u))))
-        ≡ row_by (read_name scope) (scope_stop o) (read_name simple_name left s) s
+        ≡ row_by (read_name scope) (scope_stop o) (read_name nested_name left s) s
     go None = refl
     go (Some rest) = refl
 
@@ -679,24 +801,78 @@ scope_starts left s = front_none (read_name scope left s)
 pub scope_ends : (xs : List NameTree) (left rest : List ℕ) (s : State) → after (codes "@") left ≡ Some rest
     → with_front xs (read_name scope left s) ≡ Some (xs, rest, s)
 scope_ends xs left rest s e =
-    row_ends (read_name scope) (read_name simple_name)
+    row_ends (read_name scope) (read_name nested_name)
     (λ l. scope_stop (after (codes "@") l)) scope_step xs [] left rest s (ap scope_stop e)
     ∙ ap (λ z. Some (z, rest, s)) (append-nil xs)
 
 pub scope_refused : (xs : List NameTree) (left : List ℕ) (s : State) → after (codes "@") left ≡ None
-    → read_name simple_name left s ≡ None → with_front xs (read_name scope left s) ≡ None
+    → read_name nested_name left s ≡ None → with_front xs (read_name scope left s) ≡ None
 scope_refused xs left s e none =
-    row_refused (read_name scope) (read_name simple_name)
+    row_refused (read_name scope) (read_name nested_name)
     (λ l. scope_stop (after (codes "@") l)) scope_step xs left s (ap scope_stop e) none
 
 pub scope_more : (xs : List NameTree) (left l : List ℕ) (s t : State) (x : NameTree) → after (codes "@") left ≡ None
-    → read_name simple_name left s ≡ Some (x, l, t)
+    → read_name nested_name left s ≡ Some (x, l, t)
     → with_front xs (read_name scope left s) ≡ with_front (xs ++ x ∷ []) (read_name scope l t)
 scope_more xs left l s t x e some =
-    row_more (read_name scope) (read_name simple_name)
+    row_more (read_name scope) (read_name nested_name)
     (λ m. scope_stop (after (codes "@") m)) scope_step xs left l s t x (ap scope_stop e) some
 
 pub ruleset scope_goes_on = (scope_starts, scope_ends, scope_refused)
+
+-- digits up to an @
+
+abbrev pub digits_stop : Option (List ℕ) → Option (List ℕ × List ℕ)
+digits_stop None = None
+digits_stop (Some rest) = Some ([], rest)
+
+pub hexadecimal_digits_step : (left : List ℕ) (s : State)
+    → read_name hexadecimal_digits left s
+    ≡ row_by (read_name hexadecimal_digits) (digits_stop (after (codes "@") left)) (letter_here hexadecimal_codes left s) s
+unfolding grammar read read_by
+hexadecimal_digits_step left s =
+    read_name-is hexadecimal_digits left s
+    ∙ literal_or-is {a = list bits} (codes "@") (give [])
+    (do d ← letter bits hexadecimal_codes; ds ← call hexadecimal_digits; give (d ∷ ds)) left s
+    ∙ go (after (codes "@") left)
+  where
+    go : (o : Option (List ℕ))
+        → chosen o (λ rest. Some ([], rest, s))
+        (and_then (letter_here hexadecimal_codes left s)
+        (λ d l t. and_then (read_name hexadecimal_digits l t) (λ ds k u. Some (d ∷ ds, k, u))))
+        ≡ row_by (read_name hexadecimal_digits) (digits_stop o) (letter_here hexadecimal_codes left s) s
+    go None = refl
+    go (Some rest) = refl
+
+pub digits_start : (xs left : List ℕ) (s : State) → with_front xs (read_name hexadecimal_digits left s)
+    ≡ and_then (read_name hexadecimal_digits left s) (λ ds l t. Some (xs ++ ds, l, t))
+digits_start xs left s = go (read_name hexadecimal_digits left s)
+  where
+    go : (o : Found (List ℕ)) → with_front xs o ≡ and_then o (λ ds l t. Some (xs ++ ds, l, t))
+    go None = refl
+    go (Some y) = refl
+
+pub digits_end : (xs : List ℕ) (left rest : List ℕ) (s : State) → after (codes "@") left ≡ Some rest
+    → with_front xs (read_name hexadecimal_digits left s) ≡ Some (xs, rest, s)
+digits_end xs left rest s e =
+    row_ends (read_name hexadecimal_digits) (letter_here hexadecimal_codes)
+    (λ l. digits_stop (after (codes "@") l)) hexadecimal_digits_step xs [] left rest s (ap digits_stop e)
+    ∙ ap (λ z. Some (z, rest, s)) (append-nil xs)
+
+pub digits_refused : (xs : List ℕ) (left : List ℕ) (s : State) → after (codes "@") left ≡ None
+    → letter_here hexadecimal_codes left s ≡ None → with_front xs (read_name hexadecimal_digits left s) ≡ None
+digits_refused xs left s e none =
+    row_refused (read_name hexadecimal_digits) (letter_here hexadecimal_codes)
+    (λ l. digits_stop (after (codes "@") l)) hexadecimal_digits_step xs left s (ap digits_stop e) none
+
+pub digits_more : (xs : List ℕ) (left l : List ℕ) (s t : State) (x : ℕ) → after (codes "@") left ≡ None
+    → letter_here hexadecimal_codes left s ≡ Some (x, l, t)
+    → with_front xs (read_name hexadecimal_digits left s) ≡ with_front (xs ++ x ∷ []) (read_name hexadecimal_digits l t)
+digits_more xs left l s t x e some =
+    row_more (read_name hexadecimal_digits) (letter_here hexadecimal_codes)
+    (λ m. digits_stop (after (codes "@") m)) hexadecimal_digits_step xs left l s t x (ap digits_stop e) some
+
+pub ruleset hexadecimal_digits_go_on = (digits_start, digits_end, digits_refused)
 
 -- parameters up to their end
 

@@ -13,21 +13,27 @@ use Rattle.msvc_tree.specs.declared.kinds.BaseType.{BaseType}
 use Rattle.msvc_tree.specs.declared.kinds.BaseType.TheVariants as base_kind
 use Rattle.msvc_tree.specs.declared.kinds.Mark.TheVariants as mark_kind
 use Rattle.msvc_tree.specs.declared.kinds.NumberedType.TheVariants as number_kind
+use Rattle.msvc_tree.specs.declared.kinds.PlainOperator.{PlainOperator}
+use Rattle.msvc_tree.specs.declared.kinds.PlainOperator.TheVariants as operator_kind
 use Rattle.msvc_tree.specs.declared.kinds.PlainType.TheVariants as plain_kind
 use Rattle.msvc_tree.specs.declared.kinds.Spelling.TheVariants as spelling_kind
-use Rattle.msvc_tree.specs.Trees.{NameTree, TypeTree, spelled, plain}
-use Rattle.msvc_tree.specs.Trees.{base, tagged, numbered, pointing, function}
+use Rattle.msvc_tree.specs.Trees.{NameTree, TypeTree, spelled, template, discriminator, nested, anonymous, no_names, plain}
+use Rattle.msvc_tree.specs.Trees.{operator, base, tagged, numbered, pointing, function}
 use Rattle.msvc_tree.specs.Trees.{member_function, variable, name_trees, type_trees}
+use Rattle.msvc_read.specs.declared.forms.TypeForm.{TypeForm}
+use Rattle.msvc_read.specs.declared.forms.TypeForm.TheVariants as form
 use Rattle.msvc_read.specs.Sorts.{TypeLetter, based, extended, named, points, arrayed, indexed, referred}
 use Rattle.msvc_read.specs.Sorts.{EncodingLetter, variable_of, untyped, plain_function, member_of, Sort, bits, integer}
 use Rattle.msvc_read.specs.Sorts.{name_tree, base_type, type_letter, encoding_letter, convention, symbol_tree}
-use Rattle.msvc_read.specs.Rules.{Production, symbol, encoding, encoding_behind, thunk_number, own_qualifiers}
+use Rattle.msvc_read.specs.Rules.{Production, symbol, symbol_body, encoding, encoding_behind, thunk_number, own_qualifiers}
 use Rattle.msvc_read.specs.Rules.{function_qualifiers, signature, return_qualifiers, returned, function_parameters}
 use Rattle.msvc_read.specs.Rules.{parameters, parameter, any_type, plain_type, type_behind, pointee, array, dimension}
-use Rattle.msvc_read.specs.Rules.{positive, lengths, qualified_name, scope, simple_name, source_name, number, magnitude}
+use Rattle.msvc_read.specs.Rules.{positive, lengths, qualified_name, unqualified_name, template_name, scope, nested_name}
+use Rattle.msvc_read.specs.Rules.{marked_name, anonymous_namespace, hexadecimal_digits, source_name, number, magnitude}
 use Rattle.msvc_read.specs.Rules.{letters, none_of, at_end, Rule, give, letter, literal, up_to, here, ◌>>=◌, ◌>>◌, ◌or◌}
-use Rattle.msvc_read.specs.Rules.{call, known_name, remember, known_type, noted, entering, begins_of, letter_or}
-use Rattle.msvc_read.specs.Rules.{literal_or, optional, never}
+use Rattle.msvc_read.specs.Rules.{call, known_name, remember, known_type, noted, entering, apart, begins_of, letter_or}
+use Rattle.msvc_read.specs.Rules.{literal_or, text_and, text_or, optional, never}
+use Rattle.msvc_read.specs.Rules.{type_form, function_type, member_pointer, class_part, special_name}
 
 -- Tables
 
@@ -50,6 +56,10 @@ digits = rows (codes "0123456789") (0 ∷ 1 ∷ 2 ∷ 3 ∷ 4 ∷ 5 ∷ 6 ∷ 7 
 abbrev pub hexadecimal : List (ℕ × ℕ)
 hexadecimal = rows (codes "ABCDEFGHIJKLMNOP")
     (0 ∷ 1 ∷ 2 ∷ 3 ∷ 4 ∷ 5 ∷ 6 ∷ 7 ∷ 8 ∷ 9 ∷ 10 ∷ 11 ∷ 12 ∷ 13 ∷ 14 ∷ 15 ∷ [])
+
+-- the digits of the number of an anonymous namespace, each for itself
+abbrev pub hexadecimal_codes : List (ℕ × ℕ)
+hexadecimal_codes = rows (codes "0123456789abcdefABCDEF") (codes "0123456789abcdefABCDEF")
 
 -- The bits of qualifiers: CONST 1, VOLATILE 2, FAR 4, UNALIGNED 16, RESTRICT 32, PTR64 64, LVALUE_QUAL 128,
 -- RVALUE_QUAL 256.
@@ -125,6 +135,36 @@ encoding_letters = rows (codes "012349Y")
     ∷ variable_of FunctionLocalStatic ∷ untyped ∷ plain_function ∷ [])
     ++ rows_of member_of function_classes []
 
+-- The texts that are tried before a plain type, and the form that each stands for. None begins another.
+abbrev pub type_texts : List (List ℕ × TypeForm)
+type_texts =
+    (codes "W4", form.Enumeration)
+    ∷ (codes "A6", form.ReferenceToFunction)
+    ∷ (codes "P6", form.PointerToFunction)
+    ∷ (codes "P8", form.QualifiedMemberPointer)
+    ∷ (codes "$0", form.Constant)
+    ∷ (codes "$D", form.TemplateParameter)
+    ∷ (codes "$$BY", form.Array)
+    ∷ (codes "$$Q", form.RValueReference)
+    ∷ (codes "$S", form.EmptyPack)
+    ∷ (codes "$$V", form.EmptyPack)
+    ∷ (codes "$$Z", form.EmptyPack)
+    ∷ (codes "$$$V", form.EmptyPack)
+    ∷ (codes "$$T", form.Nullptr)
+    ∷ (codes "$$A6", form.Function)
+    ∷ (codes "$$A8@@", form.QualifiedFunction)
+    ∷ (codes "$$Y", form.Alias)
+    ∷ (codes "$$C", form.Requalified)
+    ∷ (codes "$1", form.MemberPointer)
+    ∷ (codes "$H", form.MemberPointer)
+    ∷ (codes "$I", form.MemberPointer)
+    ∷ (codes "$J", form.MemberPointer)
+    ∷ []
+
+-- The codes of operators. What has another code is not built yet.
+abbrev pub operators : List (List ℕ × PlainOperator)
+operators = (codes "B", operator_kind.Conversion) ∷ []
+
 -- What values are made of
 
 -- whether a class has a bit
@@ -142,12 +182,41 @@ arrays (n ∷ ns) t q = tree.array n (arrays ns t q) q
 
 -- Parts of productions
 
+-- a name that enters the table
+abbrev pub entering_name : Rule name_tree → Rule name_tree
+entering_name r = do
+  n ← r
+  remember n
+  give n
+
 -- a source name, which enters the table
 abbrev pub new_source_name : Rule name_tree
-new_source_name = do
+new_source_name = entering_name (do n ← call source_name; give (spelled spelling_kind.Source n))
+
+-- a whole symbol inside a scope, behind its own ?
+abbrev pub nested_symbol : Rule name_tree
+nested_symbol = do
+  s ← call symbol_body
+  give (nested s.name s.scope s.symbol_type)
+
+-- an interface, behind its ?Q
+abbrev pub new_interface : Rule name_tree
+new_interface = entering_name (do
   n ← call source_name
-  remember (spelled spelling_kind.Source n)
-  give (spelled spelling_kind.Source n)
+  literal (codes "@")
+  give (spelled spelling_kind.Interface n))
+
+-- a name and arguments
+abbrev pub template_inside : Rule name_tree
+template_inside = do
+  n ← call (unqualified_name false)
+  ts ← call parameters
+  give (template n (type_trees ts))
+
+-- a template, which enters the table if it is not a symbol's own name
+abbrev pub template_kept : Bool → Rule name_tree
+template_kept true = call template_name
+template_kept false = entering_name (call template_name)
 
 -- letters to base 16, as a number of 32 bits
 abbrev pub signed_letters : Rule integer
@@ -155,24 +224,36 @@ signed_letters = do
   v ← call (letters 0)
   give (signed v)
 
+-- the qualifiers of what a function returns that is part of a type
+abbrev pub class_of_returned : Rule bits
+class_of_returned = literal_or (codes "?") (optional storage_classes) (give 0)
+
 -- the qualifiers of each level of an array
 abbrev pub array_class : Rule bits
 array_class = literal_or (codes "$$C") (letter bits qualifiers_of_arrays) (give 0)
 
--- what follows the ? of a symbol; its name is none of a guard
+-- what follows the ?$ of a symbol that is a template and nothing else
+abbrev pub template_symbol : Rule symbol_tree
+template_symbol = do
+  n ← call template_name
+  give (record { name = n; scope = no_names; symbol_type = plain plain_kind.None })
+
+-- what follows the ? of a symbol that has a scope; its name is none of a guard
 abbrev pub named_symbol : Rule symbol_tree
 named_symbol = do
-  n ← call qualified_name
+  n ← call (qualified_name true)
   t ← call (encoding false)
   give (record { name = n.0; scope = name_trees n.1; symbol_type = t })
 
 -- The productions
 
 unfoldable pub grammar : {a : Sort} → Production a → Rule a
--- A ?, a name in its scope, and a type. What has ?@ or $ behind the ? is not built yet.
+-- A ?, and a template behind a $, or a name in its scope and a type. What has ?@ or $TSS behind the ? is not built yet.
 grammar symbol = do
   literal (codes "?")
-  here (none_of (codes "?@" ∷ codes "$" ∷ [])) named_symbol
+  call symbol_body
+grammar symbol_body =
+    here (none_of (codes "?@" ∷ codes "$TSS" ∷ [])) (literal_or (codes "$") template_symbol named_symbol)
 -- The type of a symbol, by its first byte; at the end of the text none. Behind the name of a guard (true) stands a
 -- marker, which is not built yet.
 grammar (encoding true) = never
@@ -233,14 +314,9 @@ grammar parameters =
 grammar parameter =
     noted digits
     or here (none_of (begins_of digits)) (entering (call (any_type 0)))
--- A type with qualifiers. A text of two bytes or a $ is tried before a plain type; A6, P6, P8 and what else begins
--- with $ is not built yet.
+-- A type with qualifiers: by its text, or a plain type, before which a $ is dropped.
 grammar (any_type q) =
-    literal_or (codes "W4")
-    (do n ← call qualified_name; give (tagged tag_kind.Enum n.0 (name_trees n.1) q))
-    (literal_or (codes "$$Q")
-    (do t ← call pointee; give (pointing mark_kind.RValueReference t q))
-    (here (none_of (codes "A6" ∷ codes "P6" ∷ codes "P8" ∷ codes "$" ∷ [])) (call (plain_type q))))
+    text_or type_texts (λ f. call (type_form q f)) (literal_or (codes "$") (call (plain_type q)) (call (plain_type q)))
 grammar (plain_type q) = do
   l ← letter type_letter type_letters
   call (type_behind q l)
@@ -249,7 +325,7 @@ grammar (type_behind q extended) = do
   b ← letter base_type extended_types
   give (base b q)
 grammar (type_behind q (named tag)) = do
-  n ← call qualified_name
+  n ← call (qualified_name false)
   give (tagged tag n.0 (name_trees n.1) q)
 grammar (type_behind q (points mark own)) = do
   t ← call pointee
@@ -260,6 +336,62 @@ grammar (type_behind q indexed) = do
   give (numbered number_kind.TemplateParameter (int_wrapping_neg w32 z))
 -- whatever the qualifiers are
 grammar (type_behind q (referred i)) = known_type i
+grammar (type_form q form.Enumeration) = do
+  n ← call (qualified_name false)
+  give (tagged tag_kind.Enum n.0 (name_trees n.1) q)
+grammar (type_form q form.ReferenceToFunction) = do
+  t ← call (function_type true)
+  give (pointing mark_kind.Reference t q)
+grammar (type_form q form.PointerToFunction) = do
+  t ← call (function_type true)
+  give (pointing mark_kind.Pointer t q)
+grammar (type_form q form.QualifiedMemberPointer) = call (member_pointer true)
+grammar (type_form q form.Constant) = do
+  z ← call number
+  give (numbered number_kind.Constant z)
+grammar (type_form q form.TemplateParameter) = do
+  z ← call number
+  give (numbered number_kind.TemplateParameter z)
+grammar (type_form q form.Array) = call array
+grammar (type_form q form.RValueReference) = do
+  t ← call pointee
+  give (pointing mark_kind.RValueReference t q)
+grammar (type_form q form.EmptyPack) = give (plain plain_kind.EmptyPack)
+grammar (type_form q form.Nullptr) = give (plain plain_kind.Nullptr)
+grammar (type_form q form.Function) = call (function_type true)
+grammar (type_form q form.QualifiedFunction) = call (function_type false)
+grammar (type_form q form.Alias) = do
+  n ← call (qualified_name true)
+  give (tagged tag_kind.Alias n.0 (name_trees n.1) q)
+-- whatever the qualifiers before it are
+grammar (type_form q form.Requalified) = do
+  own ← optional qualifiers
+  call (plain_type own)
+grammar (type_form q form.MemberPointer) = do
+  literal (codes "?")
+  call (member_pointer false)
+-- what is returned has other qualifiers than those of a symbol's function
+grammar (function_type bare) = do
+  own ← call (own_qualifiers bare)
+  c ← letter convention conventions
+  q ← class_of_returned
+  t ← call (any_type q)
+  ts ← call function_parameters
+  give (function c (type_trees ts) own t)
+grammar (member_pointer qualified) = do
+  n ← call (qualified_name true)
+  size ← optional pointer_sizes
+  part ← call (class_part qualified)
+  f ← call (signature true)
+  give (tree.member_pointer n.0 (name_trees n.1) part.0 f.0 (type_trees f.1.1) (bit_or size part.1) f.1.0)
+-- a class, and qualifiers; there is one of the two
+grammar (class_part true) = do
+  q ← optional qualifiers
+  give (0, q)
+grammar (class_part false) = do
+  class ← letter bits function_classes
+  call (thunk_number (has class 128))
+  give (class, 0)
 -- an optional E, an optional storage class, and a type with both
 grammar pointee = do
   size ← optional pointer_sizes
@@ -284,17 +416,38 @@ grammar (lengths (suc n)) = do
   z ← call number
   zs ← call (lengths n)
   give (z ∷ zs)
-grammar qualified_name = do
-  n ← call simple_name
+grammar (qualified_name own) = do
+  n ← call (unqualified_name own)
   ns ← call scope
   give (n, ns)
--- names up to an @
-grammar scope = literal_or (codes "@") (give []) (do n ← call simple_name; ns ← call scope; give (n ∷ ns))
--- A digit is an entry of the table; a source name enters the table. What begins with ? is not built yet.
-grammar simple_name =
+-- A digit is an entry of the table. A template enters the table if it is not a symbol's own name, a source name always.
+-- A special name enters no table.
+grammar (unqualified_name own) =
     letter_or digits
     (λ i. known_name i)
-    (here (none_of (codes "?" ∷ [])) new_source_name)
+    (literal_or (codes "?$") (template_kept own) (literal_or (codes "?") (call special_name) new_source_name))
+grammar special_name = text_and operators (λ o. give (operator o))
+-- a name and arguments, which have tables of their own
+grammar template_name = apart template_inside
+-- names up to an @
+grammar scope = literal_or (codes "@") (give []) (do n ← call nested_name; ns ← call scope; give (n ∷ ns))
+grammar nested_name = letter_or digits (λ i. known_name i) (literal_or (codes "?") (call marked_name) new_source_name)
+-- What follows a ?: a whole symbol from a second ? on, a template, an anonymous namespace, an interface, or a number,
+-- which tells apart what one function declares.
+grammar marked_name =
+    literal_or (codes "?") nested_symbol
+    (literal_or (codes "$") (entering_name (call template_name))
+    (literal_or (codes "A") (call anonymous_namespace)
+    (literal_or (codes "Q") new_interface
+    (do z ← call number; give (discriminator z)))))
+-- 0x, any digits, and an @, of which there may be the @ alone; with the 0x the name enters the table
+grammar anonymous_namespace =
+    literal_or (codes "0x")
+    (entering_name (do ds ← call hexadecimal_digits; give (anonymous (Some (codes "0x" ++ ds)))))
+    (do literal (codes "@"); give (anonymous None))
+-- digits up to an @
+grammar hexadecimal_digits =
+    literal_or (codes "@") (give []) (do d ← letter bits hexadecimal_codes; ds ← call hexadecimal_digits; give (d ∷ ds))
 -- the bytes up to the first @
 grammar source_name = up_to 64
 -- a ? negates

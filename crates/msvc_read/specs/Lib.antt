@@ -6,3 +6,4 @@ pub mod Refusals
 pub mod Rules
 pub mod Sorts
 pub mod State
+pub mod Written

@@ -2,10 +2,12 @@
 use Rattle.std.specs.Prelude.{ℕ, List, [], ◌∷◌, Option, Some, None, Result, Ok, Err, Bool, true, false, ◌≡◌, ◌==◌, ◌+◌}
 use Rattle.std.specs.Prelude.{map, position, take, drop, if◌then◌else◌}
 use Rattle.msvc_tree.specs.declared.kinds.PlainType.TheVariants as plain_kind
-use Rattle.msvc_tree.specs.Trees.{TypeTree, plain}
+use Rattle.msvc_tree.specs.Trees.{NameTree, TypeTree, plain}
 use Rattle.msvc_tree.specs.View.{name_of, type_of}
+use Rattle.msvc_read.specs.Grammar.{type_texts}
 use Rattle.msvc_read.specs.Reads.{Found, read_name}
-use Rattle.msvc_read.specs.Rules.{encoding_behind, type_behind}
+use Rattle.msvc_read.specs.declared.forms.TypeForm.{TypeForm}
+use Rattle.msvc_read.specs.Rules.{after, encoding_behind, type_behind}
 use Rattle.msvc_read.specs.Sorts.{EncodingLetter, TypeLetter, member_of}
 use Rattle.msvc_read.specs.State as state
 use Rattle.msvc_read.specs.declared.parser.BackReference.{BackReference}
@@ -56,6 +58,35 @@ encoding_by (Some l) left s = read_name (encoding_behind l) left s
 unfoldable pub member_by : Option ℕ → List ℕ → state.State → Found TypeTree
 member_by None left s = None
 member_by (Some class) left s = read_name (encoding_behind (member_of class)) left s
+
+-- a template's name enters the table if it is not a symbol's own
+abbrev pub kept_name : Bool → NameTree → state.State → state.State
+kept_name own n s = if own then s else state.remember_name n s
+
+-- what a table has for the text that begins, and the bytes behind it
+abbrev pub this_or : {A : Type 0} → A → Option (List ℕ) → Option (A × List ℕ) → Option (A × List ℕ)
+this_or x None others = others
+this_or x (Some rest) others = Some (x, rest)
+
+unfoldable pub text_at : {A : Type 0} → List (List ℕ × A) → List ℕ → Option (A × List ℕ)
+text_at [] left = None
+text_at (row ∷ others) left = this_or row.1 (after row.0 left) (text_at others left)
+
+-- a row of a table without this first byte of its text, if it has it
+abbrev pub begun_by : {A : Type 0} → ℕ → List ℕ → A → List (List ℕ × A) → List (List ℕ × A)
+begun_by b [] x others = others
+begun_by b (l ∷ ls) x others = if l == b then (ls, x) ∷ others else others
+
+-- the rows of a table whose texts begin with a byte, without it
+abbrev pub one_less : {A : Type 0} → ℕ → List (List ℕ × A) → List (List ℕ × A)
+one_less b [] = []
+one_less b (row ∷ others) = begun_by b row.0 row.1 (one_less b others)
+
+abbrev pub dollar_texts : List (List ℕ × TypeForm)
+dollar_texts = one_less 36 type_texts
+
+abbrev pub double_dollar_texts : List (List ℕ × TypeForm)
+double_dollar_texts = one_less 36 dollar_texts
 
 -- how many bytes stand before the first @
 unfoldable pub name_length : List ℕ → Option ℕ

@@ -3,6 +3,7 @@
 -- at most one alternative reads on is no part of the language. It is proved of the grammar.
 use Rattle.std.specs.Prelude.{ℕ, ℤ, List, [], ◌∷◌, ◌==◌, Bool, true, false, not, Option, Some, None, if◌then◌else◌}
 use Rattle.std.specs.Prelude.{is_some}
+use Rattle.msvc_read.specs.declared.forms.TypeForm.{TypeForm}
 use Rattle.msvc_tree.specs.Trees.{NameTree}
 use Rattle.msvc_read.specs.Sorts.{TypeLetter, EncodingLetter, Sort, nothing, bits, integer, bytes, name_tree, type_tree}
 use Rattle.msvc_read.specs.Sorts.{symbol_tree, convention, list, both, Value}
@@ -12,6 +13,7 @@ use Rattle.msvc_read.specs.Sorts.{symbol_tree, convention, list, both, Value}
 pub data Production : Sort → Type 0 where
   -- symbols
   symbol : Production symbol_tree
+  symbol_body : Production symbol_tree
   encoding : Bool → Production type_tree
   encoding_behind : EncodingLetter → Production type_tree
   -- functions
@@ -29,15 +31,27 @@ pub data Production : Sort → Type 0 where
   any_type : ℕ → Production type_tree
   plain_type : ℕ → Production type_tree
   type_behind : ℕ → TypeLetter → Production type_tree
+  type_form : ℕ → TypeForm → Production type_tree
+  -- without (true) or with qualifiers of its own
+  function_type : Bool → Production type_tree
+  -- with qualifiers (true) or of a class
+  member_pointer : Bool → Production type_tree
+  class_part : Bool → Production (both bits bits)
   pointee : Production type_tree
   array : Production type_tree
   dimension : Production bits
   positive : ℤ → Production bits
   lengths : ℕ → Production (list integer)
-  -- names
-  qualified_name : Production (both name_tree (list name_tree))
+  -- names; of a symbol's own (true) or of another
+  qualified_name : Bool → Production (both name_tree (list name_tree))
+  unqualified_name : Bool → Production name_tree
+  special_name : Production name_tree
+  template_name : Production name_tree
   scope : Production (list name_tree)
-  simple_name : Production name_tree
+  nested_name : Production name_tree
+  marked_name : Production name_tree
+  anonymous_namespace : Production name_tree
+  hexadecimal_digits : Production (list bits)
   source_name : Production bytes
   -- numbers
   number : Production integer
@@ -120,6 +134,10 @@ holds at_end left = is_nil left
 
 -- Rules that are made of others
 
+-- no text is read
+abbrev pub never : {a : Sort} → Rule a
+never = letter _ []
+
 -- the texts of one byte that a table's letters are
 abbrev pub begins_of : {A : Type 0} → List (ℕ × A) → List (List ℕ)
 begins_of [] = []
@@ -133,10 +151,20 @@ letter_or table f q = (letter bits table >>= f) or here (none_of (begins_of tabl
 abbrev pub literal_or : {a : Sort} → List ℕ → Rule a → Rule a → Rule a
 literal_or text r q = (literal text >> r) or here (none_of (text ∷ [])) q
 
+-- the texts of a table
+abbrev pub texts_of : {A : Type 0} → List (List ℕ × A) → List (List ℕ)
+texts_of [] = []
+texts_of (row ∷ others) = row.0 ∷ texts_of others
+
+-- a text of a table and what follows it
+abbrev pub text_and : {a : Sort} {A : Type 0} → List (List ℕ × A) → (A → Rule a) → Rule a
+text_and [] f = never
+text_and (row ∷ others) f = (literal row.0 >> f row.1) or text_and others f
+
+-- a text of a table and what follows it, or another rule where none of them begins
+abbrev pub text_or : {a : Sort} {A : Type 0} → List (List ℕ × A) → (A → Rule a) → Rule a → Rule a
+text_or table f q = text_and table f or here (none_of (texts_of table)) q
+
 -- a part that stands where the next byte is a letter of the table; else no bits
 abbrev pub optional : List (ℕ × ℕ) → Rule bits
 optional table = letter_or table (λ x. give x) (give 0)
-
--- no text is read
-abbrev pub never : {a : Sort} → Rule a
-never = letter _ []

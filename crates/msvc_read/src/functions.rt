@@ -1,12 +1,12 @@
 //! Functions, and the functions of classes.
 
-ghost use Rattle.std.specs.Prelude.{◌≡◌, Some, map};
+ghost use Rattle.std.specs.Prelude.{◌≡◌, ◌<◌, ◌≤◌, Some, length, map, IfOk};
 ghost use Rattle.msvc_tree.specs.View.{type_of};
-ghost use Rattle.msvc_read.specs.Grammar.{conventions, has};
+ghost use Rattle.msvc_read.specs.Grammar.{class_of_returned, conventions, has};
 ghost use Rattle.msvc_read.specs.Parser.{Gives, state_of};
-ghost use Rattle.msvc_read.specs.Reads.{read_name, letter_here};
+ghost use Rattle.msvc_read.specs.Reads.{letter_here, read, read_name};
 ghost use Rattle.msvc_read.specs.Rules.{encoding_behind, function_qualifiers, own_qualifiers, return_qualifiers};
-ghost use Rattle.msvc_read.specs.Rules.{returned, signature, thunk_number};
+ghost use Rattle.msvc_read.specs.Rules.{class_part, function_type, member_pointer, returned, signature, thunk_number};
 ghost use Rattle.msvc_read.specs.Sorts.{member_of, plain_function};
 
 use crate::letters;
@@ -27,10 +27,12 @@ struct Signature<'a> {
 
 impl<'a> Parser<'a> {
     /// `FUNCTION = SIGNATURE`: a function outside of any class.
+    #[cycle(readers)]
     #[tactic(auto, using(crate::proofs::Readers::function_split))]
     pub fn function(&mut self) -> Result<Type<'a>, Refusal>
-        ensures { Gives (λ t. (type_of t, self.new.rest.now, state_of self.new)) result
+        ensures value { Gives (λ t. (type_of t, self.new.rest.now, state_of self.new)) result
             (read_name (encoding_behind plain_function) self.old.rest.now (state_of self.old)) }
+        ensures shorter { IfOk result (λ _. length self.new.rest.now ≤ length self.old.rest.now) }
     {
         let f = self.signature(false)?;
         Ok(Type::NonMemberFunction(
@@ -42,22 +44,96 @@ impl<'a> Parser<'a> {
     }
 
     /// `MEMBER = [THUNK_NUMBER] [OWN_QUALIFIERS] SIGNATURE`.
+    #[cycle(readers)]
     #[tactic(auto, using(crate::proofs::Readers::member_split))]
     pub fn member(&mut self, class: FuncClass) -> Result<Type<'a>, Refusal>
-        ensures { Gives (λ t. (type_of t, self.new.rest.now, state_of self.new)) result
+        ensures value { Gives (λ t. (type_of t, self.new.rest.now, state_of self.new)) result
             (read_name (encoding_behind (member_of class.0)) self.old.rest.now (state_of self.old)) }
+        ensures shorter { IfOk result (λ _. length self.new.rest.now ≤ length self.old.rest.now) }
     {
         self.thunk_number(class)?;
-        let own = self.own_qualifiers(class);
+        let own = self.own_qualifiers(class.contains(FuncClass::STATIC));
         let f = self.signature(true)?;
         Ok(Type::MemberFunction(class, f.convention, f.parameters, own, f.returned))
+    }
+
+    /// `FUNCTION_TYPE = [OWN_QUALIFIERS] convention [class of what is returned] TYPE FUNCTION_PARAMETERS`.
+    #[cycle(readers)]
+    #[tactic(auto, using(crate::proofs::Readers::function_type_split))]
+    pub fn function_type(&mut self, bare: bool) -> Result<Type<'a>, Refusal>
+        ensures value { Gives (λ t. (type_of t, self.new.rest.now, state_of self.new)) result
+            (read_name (function_type bare) self.old.rest.now (state_of self.old)) }
+        ensures shorter { IfOk result (λ _. length self.new.rest.now < length self.old.rest.now) }
+    {
+        let own = self.own_qualifiers(bare);
+        let convention = self.convention()?;
+        let q = self.class_of_returned();
+        let returned = self.boxed_type(q)?;
+        let parameters = self.function_parameters()?;
+        Ok(Type::NonMemberFunction(convention, parameters, own, returned))
+    }
+
+    /// The qualifiers of what a function returns that is part of a type.
+    #[tactic(auto, using(crate::proofs::TypeSteps::class_of_returned_is))]
+    fn class_of_returned(&mut self) -> StorageClass
+        ensures value { read class_of_returned self.old.rest.now (state_of self.old)
+            ≡ Some (result.0, self.new.rest.now, state_of self.new) }
+        ensures shorter { length self.new.rest.now ≤ length self.old.rest.now }
+    {
+        let Some(behind) = self.after(b"?") else {
+            return StorageClass::empty();
+        };
+        self.rest = behind;
+        self.optional_storage_class()
+    }
+
+    /// `MEMBER_POINTER = QUALIFIED_NAME ["E"] CLASS_PART SIGNATURE`.
+    #[cycle(readers)]
+    #[tactic(auto, using(crate::proofs::Readers::member_pointer_split))]
+    pub fn member_pointer(&mut self, qualified: bool) -> Result<Type<'a>, Refusal>
+        ensures value { Gives (λ t. (type_of t, self.new.rest.now, state_of self.new)) result
+            (read_name (member_pointer qualified) self.old.rest.now (state_of self.old)) }
+        ensures shorter { IfOk result (λ _. length self.new.rest.now < length self.old.rest.now) }
+    {
+        let symbol = self.qualified_name(true)?;
+        let size = self.optional_mark(b'E', StorageClass::PTR64);
+        let (class, own) = self.class_part(qualified)?;
+        let f = self.signature(true)?;
+        Ok(Type::MemberFunctionPointer(
+            symbol,
+            class,
+            f.convention,
+            f.parameters,
+            size.union(own),
+            f.returned,
+        ))
+    }
+
+    /// `CLASS_PART = [qualifier] | function class [THUNK_NUMBER]`: a pointer to a member function has qualifiers or a
+    /// class.
+    #[tactic(auto, using(crate::proofs::Readers::class_part_split))]
+    fn class_part(&mut self, qualified: bool) -> Result<(FuncClass, StorageClass), Refusal>
+        ensures value { Gives (λ c. ((c.0.0, c.1.0), self.new.rest.now, state_of self.new)) result
+            (read_name (class_part qualified) self.old.rest.now (state_of self.old)) }
+        ensures shorter { IfOk result (λ _. length self.new.rest.now ≤ length self.old.rest.now) }
+    {
+        if qualified {
+            return Ok((FuncClass::empty(), self.optional_qualifier()));
+        }
+        let letter = self.byte()?;
+        let Some(class) = letters::function_class(letter) else {
+            return Err(self.refuse(Message::UnknownFuncClass));
+        };
+        self.thunk_number(class)?;
+        Ok((class, StorageClass::empty()))
     }
 
     /// `THUNK_NUMBER = NUMBER`: a thunk has a number, which is dropped.
     #[tactic(auto, using(crate::proofs::Steps::thunk_number_is))]
     fn thunk_number(&mut self, class: FuncClass) -> Result<(), Refusal>
-        ensures { Gives (λ _. (tt, self.new.rest.now, state_of self.new)) result
+        ensures value { Gives (λ _. (tt, self.new.rest.now, state_of self.new)) result
             (read_name (thunk_number (has class.0 128)) self.old.rest.now (state_of self.old)) }
+        ensures shorter { IfOk result (λ _. length self.new.rest.now ≤ length self.old.rest.now) }
     {
         if class.contains(FuncClass::THUNK) {
             self.number()?;
@@ -65,27 +141,30 @@ impl<'a> Parser<'a> {
         Ok(())
     }
 
-    /// `OWN_QUALIFIERS = FUNCTION_QUALIFIERS`: a static function has no qualifiers of its own.
+    /// `OWN_QUALIFIERS = FUNCTION_QUALIFIERS`: a bare function, as a static one, has no qualifiers of its own.
     #[tactic(auto, using(crate::proofs::Steps::own_qualifiers_is))]
-    fn own_qualifiers(&mut self, class: FuncClass) -> StorageClass
-        ensures { read_name (own_qualifiers (has class.0 16)) self.old.rest.now (state_of self.old)
+    fn own_qualifiers(&mut self, bare: bool) -> StorageClass
+        ensures value { read_name (own_qualifiers bare) self.old.rest.now (state_of self.old)
             ≡ Some (result.0, self.new.rest.now, state_of self.new) }
+        ensures shorter { length self.new.rest.now ≤ length self.old.rest.now }
     {
-        if class.contains(FuncClass::STATIC) {
+        if bare {
             return StorageClass::empty();
         }
         self.function_qualifiers()
     }
 
     /// `SIGNATURE = convention RETURN_QUALIFIERS RETURNED FUNCTION_PARAMETERS`.
+    #[cycle(readers)]
     #[tactic(auto, using(crate::proofs::Steps::signature_is))]
     fn signature(&mut self, member: bool) -> Result<Signature<'a>, Refusal>
-        ensures { Gives (λ f. (
+        ensures value { Gives (λ f. (
           (f.convention, (type_of f.returned.value, map type_of f.parameters.types.items)),
           self.new.rest.now,
           state_of self.new,
         )) result
             (read_name (signature member) self.old.rest.now (state_of self.old)) }
+        ensures shorter { IfOk result (λ _. length self.new.rest.now ≤ length self.old.rest.now) }
     {
         let convention = self.convention()?;
         let q = self.return_qualifiers()?;
@@ -101,8 +180,9 @@ impl<'a> Parser<'a> {
     /// How a function is called.
     #[tactic(auto, using(crate::proofs::Steps::letter_is))]
     fn convention(&mut self) -> Result<CallingConv, Refusal>
-        ensures { Gives (λ c. (c, self.new.rest.now, state_of self.new)) result
+        ensures value { Gives (λ c. (c, self.new.rest.now, state_of self.new)) result
             (letter_here conventions self.old.rest.now (state_of self.old)) }
+        ensures shorter { IfOk result (λ _. length self.new.rest.now ≤ length self.old.rest.now) }
     {
         let letter = self.byte()?;
         match letters::convention(letter) {
@@ -114,8 +194,9 @@ impl<'a> Parser<'a> {
     /// `RETURN_QUALIFIERS = ["?" qualifier of what is returned]`.
     #[tactic(auto, using(crate::proofs::Steps::return_qualifiers_is))]
     fn return_qualifiers(&mut self) -> Result<StorageClass, Refusal>
-        ensures { Gives (λ q. (q.0, self.new.rest.now, state_of self.new)) result
+        ensures value { Gives (λ q. (q.0, self.new.rest.now, state_of self.new)) result
             (read_name return_qualifiers self.old.rest.now (state_of self.old)) }
+        ensures shorter { IfOk result (λ _. length self.new.rest.now ≤ length self.old.rest.now) }
     {
         let Some(behind) = self.after(b"?") else {
             return Ok(StorageClass::empty());
@@ -129,10 +210,12 @@ impl<'a> Parser<'a> {
     }
 
     /// `RETURNED = "@" | TYPE`: of a member function, an `@` stands for no type, as a constructor has none.
+    #[cycle(readers)]
     #[tactic(auto, using(crate::proofs::Readers::returned_split))]
     fn returned(&mut self, member: bool, q: StorageClass) -> Result<Box<Type<'a>>, Refusal>
-        ensures { Gives (λ b. (type_of b.value, self.new.rest.now, state_of self.new)) result
+        ensures value { Gives (λ b. (type_of b.value, self.new.rest.now, state_of self.new)) result
             (read_name (returned member q.0) self.old.rest.now (state_of self.old)) }
+        ensures shorter { IfOk result (λ _. length self.new.rest.now < length self.old.rest.now) }
     {
         if !member {
             return self.boxed_type(q);
@@ -149,8 +232,9 @@ impl<'a> Parser<'a> {
     /// `FUNCTION_QUALIFIERS = ["E"] ["I"] ["F"] ["G" | "H"] [qualifier]`.
     #[tactic(auto, using(crate::proofs::Steps::function_qualifiers_is))]
     fn function_qualifiers(&mut self) -> StorageClass
-        ensures { read_name function_qualifiers self.old.rest.now (state_of self.old)
+        ensures value { read_name function_qualifiers self.old.rest.now (state_of self.old)
             ≡ Some (result.0, self.new.rest.now, state_of self.new) }
+        ensures shorter { length self.new.rest.now ≤ length self.old.rest.now }
     {
         let size = self.optional_mark(b'E', StorageClass::PTR64);
         let restrict = self.optional_mark(b'I', StorageClass::RESTRICT);

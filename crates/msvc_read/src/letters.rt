@@ -1,16 +1,18 @@
 //! What the letters of a symbol stand for: one function a table of letters.
 
-ghost use Rattle.std.specs.Prelude.{◌≡◌};
+ghost use Rattle.std.specs.Prelude.{◌≡◌, ◌<◌, length, IfSome};
 ghost use Rattle.std.specs.Option.{option_map};
 ghost use Rattle.msvc_tree.specs.View.{type_of};
 ghost use Rattle.msvc_tree.specs.Trees.{base};
-ghost use Rattle.msvc_read.specs.Grammar.{digits, hexadecimal, qualifiers, storage_classes};
+ghost use Rattle.msvc_read.specs.Grammar.{digits, hexadecimal, hexadecimal_codes, qualifiers, storage_classes};
 ghost use Rattle.msvc_read.specs.Grammar.{qualifiers_of_returns, qualifiers_of_arrays, reference_qualifiers};
-ghost use Rattle.msvc_read.specs.Grammar.{conventions, base_types, extended_types, function_classes};
+ghost use Rattle.msvc_read.specs.Grammar.{conventions, base_types, extended_types, function_classes, operators};
+ghost use Rattle.msvc_read.specs.Parser.{text_at};
 ghost use Rattle.msvc_read.specs.Rules.{lookup};
 
 use bitflags::Flags;
 use msvc_tree::flags::{FuncClass, StorageClass};
+use msvc_tree::kinds::PlainOperator;
 use msvc_tree::tree::{CallingConv, Type};
 
 /// The entry of a table that a digit stands for.
@@ -29,6 +31,16 @@ pub fn hexadecimal(letter: u8) -> Option<u8>
 {
     match letter {
         b'A'..=b'P' => Some(letter - b'A'),
+        _ => None,
+    }
+}
+
+/// A digit of the number of an anonymous namespace, as it stands.
+pub fn hexadecimal_code(letter: u8) -> Option<u8>
+    ensures { result ≡ lookup letter hexadecimal_codes }
+{
+    match letter {
+        b'0'..=b'9' | b'a'..=b'f' | b'A'..=b'F' => Some(letter),
         _ => None,
     }
 }
@@ -145,6 +157,18 @@ pub fn extended_type<'a>(letter: u8, q: StorageClass) -> Option<Type<'a>>
         _ => return None,
     };
     Some(base)
+}
+
+/// The operator whose code the bytes begin with, and what is behind it.
+#[tactic(auto, unfolding(crate::specs::Parser::text_at))]
+pub fn operator<'a>(left: &'a [u8]) -> Option<(PlainOperator, &'a [u8])>
+    ensures value { option_map (λ x. (x.0, x.1.now)) result ≡ text_at operators left.now }
+    ensures shorter { IfSome result (λ x. length x.1.now < length left.now) }
+{
+    match left {
+        [b'B', behind @ ..] => Some((PlainOperator::Conversion, behind)),
+        _ => None,
+    }
 }
 
 /// How a function is called.

@@ -1,6 +1,7 @@
 //! Reads a symbol as Microsoft's C++ compiler mangles it into a tree. Nothing here knows how a tree is printed.
 #![tactic(auto)]
 
+mod forms;
 mod functions;
 mod letters;
 mod names;
@@ -8,8 +9,11 @@ mod numbers;
 mod parameters;
 mod parser;
 mod read;
+mod references;
 mod refusal;
 mod symbols;
 mod types;
 
+pub use parser::BackReference;
 pub use read::parse;
+pub use references::back_references;

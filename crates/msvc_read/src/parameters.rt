@@ -1,6 +1,6 @@
 //! Parameters, and the table of types that they enter.
 
-ghost use Rattle.std.specs.Prelude.{◌≡◌, ◌<◌, ◌∷◌, ◌++◌, [], codes, length, map, slice_get, IfOk, Ok};
+ghost use Rattle.std.specs.Prelude.{◌≡◌, ◌<◌, ◌≤◌, ◌-◌, nat_lt, ◌∷◌, ◌++◌, [], length, map, slice_get, IfOk, IfSome, Ok};
 ghost use Rattle.std.specs.Option.{option_map};
 ghost use Rattle.std.specs.List.{list_any};
 ghost use Rattle.msvc_tree.specs.Equality.{same_type};
@@ -8,8 +8,8 @@ ghost use Rattle.msvc_tree.specs.Trees.{base};
 ghost use Rattle.msvc_tree.specs.declared.kinds.BaseType.TheVariants as base_kind;
 ghost use Rattle.msvc_tree.specs.View.{type_of};
 ghost use Rattle.msvc_read.specs.Parser.{Gives, state_of, entry_of, ellipsis, parameters_stop};
-ghost use Rattle.msvc_read.specs.Reads.{read, read_name, entered_by, type_noted};
-ghost use Rattle.msvc_read.specs.Rules.{any_type, literal, function_parameters, parameter, parameters};
+ghost use Rattle.msvc_read.specs.Reads.{read_name, entered_by, type_noted};
+ghost use Rattle.msvc_read.specs.Rules.{any_type, function_parameters, parameter, parameters};
 ghost use Rattle.msvc_read.specs.State.{remember_type, span_of};
 
 use crate::parser::{BackReference, Entry, Parser};
@@ -22,18 +22,20 @@ use std::alloc::AllocError;
 
 impl<'a> Parser<'a> {
     /// `FUNCTION_PARAMETERS = ("X" | PARAMETERS) "Z"`: an `X` is one void.
+    #[cycle(readers)]
     #[tactic(auto, using(crate::proofs::Readers::parameters_closed))]
     pub fn function_parameters(&mut self) -> Result<Params<'a>, Refusal>
-        ensures { Gives (λ p. (map type_of p.types.items, self.new.rest.now, state_of self.new)) result
+        ensures value { Gives (λ p. (map type_of p.types.items, self.new.rest.now, state_of self.new)) result
             (read_name function_parameters self.old.rest.now (state_of self.old)) }
+        ensures shorter { IfOk result (λ _. length self.new.rest.now < length self.old.rest.now) }
     {
         if let Some(behind) = self.after(b"X") {
             self.rest = behind;
-            self.closing_z()?;
+            self.expected(b"Z", Message::ZExpected)?;
             return Ok(self.no_parameters()?);
         }
         let parameters = self.parameters()?;
-        self.closing_z()?;
+        self.expected(b"Z", Message::ZExpected)?;
         Ok(parameters)
     }
 
@@ -47,24 +49,13 @@ impl<'a> Parser<'a> {
         Ok(Params { types })
     }
 
-    /// The `Z` behind the parameters of a function.
-    #[tactic(auto, unfolding(crate::specs::Reads::read, crate::specs::Reads::read_by))]
-    fn closing_z(&mut self) -> Result<(), Refusal>
-        ensures { Gives (λ _. (tt, self.new.rest.now, state_of self.new)) result
-            (read (literal (codes "Z")) self.old.rest.now (state_of self.old)) }
-    {
-        let Some(behind) = self.after(b"Z") else {
-            return Err(self.refuse(Message::ZExpected));
-        };
-        self.rest = behind;
-        Ok(())
-    }
-
     /// `PARAMETERS = {PARAMETER} ("@" | "Z" | end)`: a `Z` adds an ellipsis.
+    #[cycle(readers)]
     #[tactic(auto, using(crate::proofs::Steps::parameters_go_on))]
-    fn parameters(&mut self) -> Result<Params<'a>, Refusal>
-        ensures { Gives (λ p. (map type_of p.types.items, self.new.rest.now, state_of self.new)) result
+    pub fn parameters(&mut self) -> Result<Params<'a>, Refusal>
+        ensures value { Gives (λ p. (map type_of p.types.items, self.new.rest.now, state_of self.new)) result
             (read_name parameters self.old.rest.now (state_of self.old)) }
+        ensures shorter { IfOk result (λ _. length self.new.rest.now ≤ length self.old.rest.now) }
     {
         let mut types = Vec::new(self.alloc);
         'parameters: loop {
@@ -78,6 +69,7 @@ impl<'a> Parser<'a> {
     }
 
     /// `PARAMETER = digit | TYPE`: a digit stands for an entry of the table of types.
+    #[cycle(readers)]
     #[tactic(auto, using(crate::proofs::Steps::parameter_is))]
     fn parameter(&mut self) -> Result<Type<'a>, Refusal>
         ensures value { Gives (λ t. (type_of t, self.new.rest.now, state_of self.new)) result
@@ -112,6 +104,7 @@ impl<'a> Parser<'a> {
     }
 
     /// A type that enters the table if more than one byte is read for it.
+    #[cycle(readers)]
     fn new_parameter(&mut self) -> Result<Type<'a>, Refusal>
         ensures value { Gives (λ t. (type_of t, self.new.rest.now, state_of self.new)) result
             (entered_by self.old.rest.now (read_name (any_type 0) self.old.rest.now (state_of self.old))) }
@@ -120,7 +113,7 @@ impl<'a> Parser<'a> {
         let left = self.rest;
         let parameter = self.any_type(StorageClass::empty());
         let entered: Result<(), Refusal> = match &parameter {
-            Ok(parameter) if left.len() - self.rest.len() > 1 => {
+            Ok(parameter) if is_long(left, self.rest) => {
                 made_as(self.remember_type(parameter, left))
             }
             _ => Ok(()),
@@ -162,7 +155,8 @@ fn entry<'a>(
 /// Where parameters stop: whether at a `Z`, and what is behind.
 #[tactic(auto, unfolding(crate::specs::Parser::parameters_stop))]
 fn parameters_stop<'a>(left: &'a [u8]) -> Option<(bool, &'a [u8])>
-    ensures { option_map (λ stop. (stop.0, stop.1.now)) result ≡ parameters_stop left.now }
+    ensures value { option_map (λ stop. (stop.0, stop.1.now)) result ≡ parameters_stop left.now }
+    ensures shorter { IfSome result (λ stop. length stop.1.now ≤ length left.now) }
 {
     match left {
         [] => Some((false, left)),
@@ -182,6 +176,13 @@ fn with_ellipsis<'a>(mut types: Vec<Type<'a>>, variadic: bool) -> Result<Params<
     }
     push_item(&mut types, Type::VarArgs)?;
     Ok(Params { types })
+}
+
+/// Whether more than one byte was read.
+fn is_long(left: &[u8], rest: &[u8]) -> bool
+    ensures { result ≡ nat_lt 1 (length left.now - length rest.now) }
+{
+    left.len().saturating_sub(rest.len()) > 1
 }
 
 /// Whether a table has an equal type.

@@ -5,7 +5,7 @@ ghost use Rattle.std.specs.Option.{option_map};
 ghost use Rattle.msvc_read.specs.Grammar.{digits, qualifiers, storage_classes, reference_qualifiers};
 ghost use Rattle.msvc_read.specs.Parser.{Gives, byte_here};
 ghost use Rattle.msvc_read.specs.Reads.{read, letter_here};
-ghost use Rattle.msvc_read.specs.Rules.{after, optional};
+ghost use Rattle.msvc_read.specs.Rules.{after, literal, optional};
 ghost use Rattle.msvc_read.specs.State.{place};
 
 use crate::letters;
@@ -14,6 +14,7 @@ use bitflags::Flags;
 use msvc_tree::flags::StorageClass;
 use msvc_tree::tree::{Name, Type};
 use std::alloc::Global;
+use std::mem::replace;
 
 /// A type of the table, with the places where its bytes start and end.
 #[derive(Drop)]
@@ -50,8 +51,18 @@ pub struct Parser<'a> {
     pub notes: Vec<BackReference>,
 }
 
+/// Tables that are put aside.
+#[derive(Drop)]
+pub struct Tables<'a> {
+    pub names: Vec<Name<'a>>,
+    pub types: Vec<Entry<'a>>,
+}
+
 impl<'a> Parser<'a> {
-    ghost use Rattle.msvc_read.specs.Parser.{state_of};
+    ghost use Rattle.std.specs.Prelude.{map};
+    ghost use Rattle.msvc_tree.specs.View.{name_of};
+    ghost use Rattle.msvc_read.specs.Parser.{entry_of, state_of};
+    ghost use Rattle.msvc_read.specs.Reads.{emptied};
     ghost use Rattle.msvc_read.specs.State.{beginning};
 
     /// A parser at the beginning of a text.
@@ -67,6 +78,31 @@ impl<'a> Parser<'a> {
             types: Vec::new(alloc),
             notes: Vec::new(alloc),
         }
+    }
+
+    /// Puts the tables aside: those in their place are empty.
+    pub fn empty_tables(&mut self) -> Tables<'a>
+        ensures state { state_of self.new ≡ emptied (state_of self.old) }
+        ensures rest { self.new.rest.now ≡ self.old.rest.now }
+        ensures names { map name_of result.names.items ≡ map name_of self.old.names.items }
+        ensures types { map entry_of result.types.items ≡ map entry_of self.old.types.items }
+    {
+        Tables {
+            names: replace(&mut self.names, Vec::new(self.alloc)),
+            types: replace(&mut self.types, Vec::new(self.alloc)),
+        }
+    }
+
+    /// Puts tables back in their place.
+    pub fn put_back(&mut self, outer: Tables<'a>)
+        ensures state { state_of self.new ≡ record (state_of self.old) {
+          names = map name_of outer.entry.names.items;
+          types = map entry_of outer.entry.types.items;
+        } }
+        ensures rest { self.new.rest.now ≡ self.old.rest.now }
+    {
+        self.names = outer.names;
+        self.types = outer.types;
     }
 
     /// That no rule reads on from here.
@@ -134,6 +170,20 @@ impl<'a> Parser<'a> {
         ensures shorter { IfSome result (λ behind. length literal.now + length behind.now ≡ length self.now.rest.now) }
     {
         bytes_after(self.rest, literal)
+    }
+
+    /// A text that has to stand here.
+    #[tactic(auto, unfolding(crate::specs::Reads::read, crate::specs::Reads::read_by))]
+    pub fn expected(&mut self, text: &[u8], message: Message) -> Result<(), Refusal>
+        ensures value { Gives (λ _. (tt, self.new.rest.now, state_of self.new)) result
+            (read (literal text.now) self.old.rest.now (state_of self.old)) }
+        ensures shorter { IfOk result (λ _. length text.now + length self.new.rest.now ≡ length self.old.rest.now) }
+    {
+        let Some(behind) = self.after(text) else {
+            return Err(self.refuse(message));
+        };
+        self.rest = behind;
+        Ok(())
     }
 
     /// A storage class, if the next byte is the letter of one; else no bits.

@@ -12,6 +12,7 @@ ghost use Rattle.msvc_read.specs.Reads.{Derives, read_name};
 ghost use Rattle.msvc_read.specs.Refusals.{IsRefusedRightly, IsRefusalAt, begins_with};
 ghost use Rattle.msvc_read.specs.Rules.{after, symbol};
 ghost use Rattle.msvc_read.specs.State.{Note, beginning};
+ghost use Rattle.msvc_read.specs.Written.{DigitsCanBeWrittenOut};
 
 use crate::parser::Parser;
 use crate::refusal::{Message, Refusal};
@@ -29,6 +30,7 @@ pub fn parse<'a>(alloc: Global, input: &'a str) -> Result<ParseResult<'a>, Error
         × Derives input.now (tree_of r) rest notes
         × ((tree : SymbolTree) (behind : List ℕ) (others : List Note) → Derives input.now tree behind others
         → (tree ≡ tree_of r) × (behind ≡ rest) × (others ≡ notes))) }
+    ensures written_out { DigitsCanBeWrittenOut input.now }
     ensures parts { IfOk result (λ r. NamesAreParts input.now (tree_of r)) }
     ensures texts { IfOk result (λ r. EachName IsUtf8 (tree_of r)) }
     ensures refused { IfErr result (λ e. IsRefusedRightly input.now e) }

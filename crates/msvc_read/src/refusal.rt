@@ -23,6 +23,8 @@ pub enum Message {
     UnknownCallingConv,
     UnknownFuncClass,
     ZExpected,
+    AtExpected,
+    QuestionMarkExpected,
     /// Only a rule that isn't built yet could read on.
     NotBuilt,
 }
@@ -41,6 +43,8 @@ impl Message {
             Message::UnknownCallingConv => "unknown calling conv",
             Message::UnknownFuncClass => "unknown func class",
             Message::ZExpected => "Z expected",
+            Message::AtExpected => "@ expected",
+            Message::QuestionMarkExpected => "? expected",
             Message::NotBuilt => "form not built yet",
             Message::InvalidBackReference(index) => {
                 return Ok(CowStr::Owned(format!(in alloc; "invalid backreference: {index}")?));

@@ -1,11 +1,11 @@
 //! Symbols, and the types behind their names.
 
-ghost use Rattle.std.specs.Prelude.{◌≡◌, codes, false, length, None, Err};
+ghost use Rattle.std.specs.Prelude.{◌≡◌, ◌<◌, ◌≤◌, codes, false, length, None, Err, IfOk};
 ghost use Rattle.msvc_tree.specs.View.{type_of, tree_of};
-ghost use Rattle.msvc_read.specs.Grammar.{encoding_letters, function_classes, named_symbol};
+ghost use Rattle.msvc_read.specs.Grammar.{encoding_letters, function_classes, named_symbol, template_symbol};
 ghost use Rattle.msvc_read.specs.Parser.{Gives, encoding_by, member_by, state_of};
 ghost use Rattle.msvc_read.specs.Reads.{read, read_name};
-ghost use Rattle.msvc_read.specs.Rules.{after, lookup, encoding, encoding_behind, symbol};
+ghost use Rattle.msvc_read.specs.Rules.{after, lookup, encoding, encoding_behind, symbol, symbol_body};
 ghost use Rattle.msvc_read.specs.Sorts.{member_of, variable_of};
 
 use crate::letters;
@@ -13,10 +13,10 @@ use crate::parser::Parser;
 use crate::refusal::{Message, Refusal};
 use bitflags::Flags;
 use msvc_tree::flags::StorageClass;
-use msvc_tree::tree::{ParseResult, Type, VarStorageKind};
+use msvc_tree::tree::{NameSequence, ParseResult, Symbol, Type, VarStorageKind};
 
 impl<'a> Parser<'a> {
-    /// `SYMBOL = "?" QUALIFIED_NAME ENCODING`.
+    /// `SYMBOL = "?" SYMBOL_BODY`.
     #[tactic(auto, using(crate::proofs::Readers::symbol_is))]
     pub fn symbol(&mut self) -> Result<ParseResult<'a>, Refusal>
         ensures value { Gives (λ r. (tree_of r, self.new.rest.now, state_of self.new)) result
@@ -28,19 +28,54 @@ impl<'a> Parser<'a> {
             return Err(self.refuse(Message::NoQuestionMark));
         };
         self.rest = behind;
-        if self.after(b"?@").is_some() || self.after(b"$").is_some() {
+        self.symbol_body()
+    }
+
+    /// `SYMBOL_BODY = "$" TEMPLATE_NAME | QUALIFIED_NAME ENCODING`: what follows the `?` of a symbol.
+    #[cycle(readers)]
+    #[tactic(auto, using(crate::proofs::Readers::symbol_body_split))]
+    pub fn symbol_body(&mut self) -> Result<ParseResult<'a>, Refusal>
+        ensures value { Gives (λ r. (tree_of r, self.new.rest.now, state_of self.new)) result
+            (read_name symbol_body self.old.rest.now (state_of self.old)) }
+        ensures shorter { IfOk result (λ _. length self.new.rest.now < length self.old.rest.now) }
+    {
+        if self.after(b"?@").is_some() || self.after(b"$TSS").is_some() {
             return Err(self.refuse(Message::NotBuilt));
+        }
+        if let Some(behind) = self.after(b"$") {
+            self.rest = behind;
+            return self.template_symbol();
         }
         self.named_symbol()
     }
 
-    /// What follows the `?` of a symbol.
+    /// A symbol that is a template and nothing else, behind its `?$`.
+    #[cycle(readers)]
+    #[tactic(auto, using(crate::proofs::Readers::template_symbol_split))]
+    fn template_symbol(&mut self) -> Result<ParseResult<'a>, Refusal>
+        ensures value { Gives (λ r. (tree_of r, self.new.rest.now, state_of self.new)) result
+            (read template_symbol self.old.rest.now (state_of self.old)) }
+        ensures shorter { IfOk result (λ _. length self.new.rest.now < length self.old.rest.now) }
+    {
+        let name = self.template_name()?;
+        let scope = NameSequence {
+            names: Vec::new(self.alloc),
+        };
+        Ok(ParseResult {
+            symbol: Symbol { name, scope },
+            symbol_type: Type::None,
+        })
+    }
+
+    /// A name in its scope, and a type.
+    #[cycle(readers)]
     #[tactic(auto, using(crate::proofs::Readers::symbol_split))]
     fn named_symbol(&mut self) -> Result<ParseResult<'a>, Refusal>
-        ensures { Gives (λ r. (tree_of r, self.new.rest.now, state_of self.new)) result
+        ensures value { Gives (λ r. (tree_of r, self.new.rest.now, state_of self.new)) result
             (read named_symbol self.old.rest.now (state_of self.old)) }
+        ensures shorter { IfOk result (λ _. length self.new.rest.now < length self.old.rest.now) }
     {
-        let symbol = self.qualified_name()?;
+        let symbol = self.qualified_name(true)?;
         let symbol_type = self.encoding()?;
         Ok(ParseResult {
             symbol,
@@ -49,10 +84,12 @@ impl<'a> Parser<'a> {
     }
 
     /// `ENCODING = end | letter of encodings, and what its row asks for`: at the end of the text there is no type.
+    #[cycle(readers)]
     #[tactic(auto, using(crate::proofs::Readers::encoding_split))]
     fn encoding(&mut self) -> Result<Type<'a>, Refusal>
-        ensures { Gives (λ t. (type_of t, self.new.rest.now, state_of self.new)) result
+        ensures value { Gives (λ t. (type_of t, self.new.rest.now, state_of self.new)) result
             (read_name (encoding false) self.old.rest.now (state_of self.old)) }
+        ensures shorter { IfOk result (λ _. length self.new.rest.now ≤ length self.old.rest.now) }
     {
         match self.next_byte() {
             Some(letter) => self.encoding_behind(letter),
@@ -62,10 +99,12 @@ impl<'a> Parser<'a> {
 
     /// What follows the first letter of an encoding: a variable behind `0` to `4`, nothing behind `9`, a function
     /// behind `Y`, else a member function.
+    #[cycle(readers)]
     #[tactic(auto, using(crate::proofs::Readers::encoding_split), unfolding(crate::specs::Parser::encoding_by))]
     fn encoding_behind(&mut self, letter: u8) -> Result<Type<'a>, Refusal>
-        ensures { Gives (λ t. (type_of t, self.new.rest.now, state_of self.new)) result
+        ensures value { Gives (λ t. (type_of t, self.new.rest.now, state_of self.new)) result
             (encoding_by (lookup letter encoding_letters) self.old.rest.now (state_of self.old)) }
+        ensures shorter { IfOk result (λ _. length self.new.rest.now ≤ length self.old.rest.now) }
     {
         match letter {
             b'0' => self.variable(VarStorageKind::PrivateStatic),
@@ -80,11 +119,13 @@ impl<'a> Parser<'a> {
     }
 
     /// `MEMBER_ENCODING = function class MEMBER`.
+    #[cycle(readers)]
     #[tactic(auto, unfolding(crate::specs::Parser::member_by))]
     fn member_encoding(&mut self, letter: u8) -> Result<Type<'a>, Refusal>
-        ensures { Gives (λ t. (type_of t, self.new.rest.now, state_of self.new)) result
+        ensures value { Gives (λ t. (type_of t, self.new.rest.now, state_of self.new)) result
             (member_by (lookup letter function_classes)
             self.old.rest.now (state_of self.old)) }
+        ensures shorter { IfOk result (λ _. length self.new.rest.now ≤ length self.old.rest.now) }
     {
         match letters::function_class(letter) {
             Some(class) => self.member(class),
@@ -94,10 +135,12 @@ impl<'a> Parser<'a> {
     }
 
     /// `VARIABLE = TYPE [storage class]`.
+    #[cycle(readers)]
     #[tactic(auto, using(crate::proofs::Readers::variable_split))]
     fn variable(&mut self, kind: VarStorageKind) -> Result<Type<'a>, Refusal>
-        ensures { Gives (λ t. (type_of t, self.new.rest.now, state_of self.new)) result
+        ensures value { Gives (λ t. (type_of t, self.new.rest.now, state_of self.new)) result
             (read_name (encoding_behind (variable_of kind)) self.old.rest.now (state_of self.old)) }
+        ensures shorter { IfOk result (λ _. length self.new.rest.now ≤ length self.old.rest.now) }
     {
         let variable = self.boxed_type(StorageClass::empty())?;
         let class = self.optional_storage_class();

@@ -1,17 +1,19 @@
 //! Types, and the table of types.
 
-ghost use Rattle.std.specs.Prelude.{◌≡◌, ◌<◌, ◌≤◌, ◌∷◌, [], Some, codes, length, map, slice_get, IfOk};
+ghost use Rattle.std.specs.Prelude.{◌≡◌, ◌<◌, ◌≤◌, Some, codes, false, length, map, slice_get, true};
+ghost use Rattle.std.specs.Prelude.{IfOk};
 ghost use Rattle.std.specs.Int.{int_wrapping_neg, w32};
 ghost use Rattle.msvc_tree.specs.Trees.{numbered};
 ghost use Rattle.msvc_tree.specs.declared.kinds.NumberedType.TheVariants as number_kind;
 ghost use Rattle.msvc_tree.specs.View.{type_of};
-ghost use Rattle.msvc_read.specs.Grammar.{compound_letters, digits, array_class, arrays};
+ghost use Rattle.msvc_read.specs.Grammar.{compound_letters, digits, array_class, arrays, qualifiers};
 ghost use Rattle.msvc_read.specs.Parser.{Gives, state_of, entry_of, type_by};
 ghost use Rattle.msvc_read.specs.Reads.{read, read_name, and_then, with_value, type_known};
 ghost use Rattle.msvc_read.specs.Rules.{lookup, any_type, array, dimension, lengths, number, plain_type, pointee};
-ghost use Rattle.msvc_read.specs.Rules.{some_of, begins, type_behind};
+ghost use Rattle.msvc_read.specs.Rules.{function_type, literal, member_pointer, optional, type_behind, type_form};
 ghost use Rattle.msvc_read.specs.Sorts.{extended};
 
+use crate::forms::{TypeForm, type_form};
 use crate::letters;
 use crate::parser::Parser;
 use crate::refusal::{Message, Refusal};
@@ -22,43 +24,79 @@ use msvc_tree::tree::Type;
 use std::alloc::AllocError;
 
 impl<'a> Parser<'a> {
-    /// `TYPE = "W4" QUALIFIED_NAME | "$$Q" POINTEE | PLAIN_TYPE`.
-    #[cycle(types)]
-    #[tactic(auto, using(crate::proofs::Readers::type_split))]
+    /// `TYPE = text of a form, and what the form asks for | ["$"] PLAIN_TYPE`.
+    #[cycle(readers)]
+    #[tactic(auto, using(crate::proofs::TypeSteps::any_type_is))]
     pub fn any_type(&mut self, q: StorageClass) -> Result<Type<'a>, Refusal>
         ensures value { Gives (λ t. (type_of t, self.new.rest.now, state_of self.new)) result
             (read_name (any_type q.0) self.old.rest.now (state_of self.old)) }
         ensures shorter { IfOk result (λ _. length self.new.rest.now < length self.old.rest.now) }
     {
-        if let Some(behind) = self.after(b"W4") {
+        if let Some((form, behind)) = type_form(self.rest) {
             self.rest = behind;
-            let name = self.qualified_name()?;
-            return Ok(Type::Enum(name, q));
+            return self.formed_type(form, q);
         }
-        if let Some(behind) = self.after(b"$$Q") {
-            self.rest = behind;
-            let pointee = self.pointee()?;
-            return Ok(Type::RValueRef(pointee, q));
-        }
-        if self.begins_later_type() {
-            return Err(self.refuse(Message::NotBuilt));
-        }
+        let Some(behind) = self.after(b"$") else {
+            return self.plain_type(q);
+        };
+        self.rest = behind;
         self.plain_type(q)
     }
 
-    /// Whether the bytes left begin with what a type that isn't built yet begins with.
-    fn begins_later_type(&self) -> bool
-        ensures { result ≡ some_of (begins self.now.rest.now)
-            (codes "A6" ∷ codes "P6" ∷ codes "P8" ∷ codes "$" ∷ []) }
+    /// What follows the text of a form.
+    #[cycle(readers)]
+    #[tactic(auto, using(crate::proofs::Readers::form_split))]
+    #[inline(never)]
+    fn formed_type(&mut self, form: TypeForm, q: StorageClass) -> Result<Type<'a>, Refusal>
+        ensures value { Gives (λ t. (type_of t, self.new.rest.now, state_of self.new)) result
+            (read_name (type_form q.0 form) self.old.rest.now (state_of self.old)) }
+        ensures shorter { IfOk result (λ _. length self.new.rest.now ≤ length self.old.rest.now) }
     {
-        matches!(
-            self.rest,
-            [b'$', ..] | [b'A', b'6', ..] | [b'P', b'6' | b'8', ..]
-        )
+        match form {
+            TypeForm::Enumeration => Ok(Type::Enum(self.qualified_name(false)?, q)),
+            TypeForm::Alias => Ok(Type::Alias(self.qualified_name(true)?, q)),
+            TypeForm::ReferenceToFunction => Ok(Type::Ref(self.boxed_function()?, q)),
+            TypeForm::PointerToFunction => Ok(Type::Ptr(self.boxed_function()?, q)),
+            TypeForm::RValueReference => Ok(Type::RValueRef(self.pointee()?, q)),
+            TypeForm::Constant => Ok(Type::Constant(self.number()?)),
+            TypeForm::TemplateParameter => Ok(Type::TemplateParameterWithIndex(self.number()?)),
+            TypeForm::EmptyPack => Ok(Type::EmptyParameterPack),
+            TypeForm::Nullptr => Ok(Type::Nullptr),
+            TypeForm::Array => self.array(),
+            TypeForm::Function => self.function_type(true),
+            TypeForm::QualifiedFunction => self.function_type(false),
+            TypeForm::Requalified => self.requalified_type(),
+            TypeForm::QualifiedMemberPointer => self.member_pointer(true),
+            TypeForm::MemberPointer => self.marked_member_pointer(),
+        }
+    }
+
+    /// A plain type with qualifiers of its own, whatever stands before.
+    #[cycle(readers)]
+    fn requalified_type(&mut self) -> Result<Type<'a>, Refusal>
+        ensures value { Gives (λ t. (type_of t, self.new.rest.now, state_of self.new)) result
+            (and_then (read (optional qualifiers) self.old.rest.now (state_of self.old))
+            (λ own left s. read_name (plain_type own) left s)) }
+        ensures shorter { IfOk result (λ _. length self.new.rest.now < length self.old.rest.now) }
+    {
+        let own = self.optional_qualifier();
+        self.plain_type(own)
+    }
+
+    /// A pointer to a member function, behind a `?`.
+    #[cycle(readers)]
+    fn marked_member_pointer(&mut self) -> Result<Type<'a>, Refusal>
+        ensures value { Gives (λ t. (type_of t, self.new.rest.now, state_of self.new)) result
+            (and_then (read (literal (codes "?")) self.old.rest.now (state_of self.old))
+            (λ _ left s. read_name (member_pointer false) left s)) }
+        ensures shorter { IfOk result (λ _. length self.new.rest.now < length self.old.rest.now) }
+    {
+        self.expected(b"?", Message::QuestionMarkExpected)?;
+        self.member_pointer(false)
     }
 
     /// `PLAIN_TYPE = base letter | COMPOUND_TYPE`.
-    #[cycle(types)]
+    #[cycle(readers)]
     #[tactic(auto, using(crate::proofs::Steps::plain_type_is))]
     fn plain_type(&mut self, q: StorageClass) -> Result<Type<'a>, Refusal>
         ensures value { Gives (λ t. (type_of t, self.new.rest.now, state_of self.new)) result
@@ -73,7 +111,7 @@ impl<'a> Parser<'a> {
     }
 
     /// What follows the first letter of a type that isn't one of the base types.
-    #[cycle(types)]
+    #[cycle(readers)]
     #[tactic(auto, using(crate::proofs::Readers::compound_split), unfolding(crate::specs::Parser::type_by))]
     fn compound_type(&mut self, letter: u8, q: StorageClass) -> Result<Type<'a>, Refusal>
         ensures value { Gives (λ t. (type_of t, self.new.rest.now, state_of self.new)) result
@@ -82,9 +120,9 @@ impl<'a> Parser<'a> {
     {
         let both = StorageClass::CONST.union(StorageClass::VOLATILE);
         match letter {
-            b'T' => Ok(Type::Union(self.qualified_name()?, q)),
-            b'U' => Ok(Type::Struct(self.qualified_name()?, q)),
-            b'V' => Ok(Type::Class(self.qualified_name()?, q)),
+            b'T' => Ok(Type::Union(self.qualified_name(false)?, q)),
+            b'U' => Ok(Type::Struct(self.qualified_name(false)?, q)),
+            b'V' => Ok(Type::Class(self.qualified_name(false)?, q)),
             b'A' => Ok(Type::Ref(self.pointee()?, q)),
             b'B' => Ok(Type::Ref(self.pointee()?, StorageClass::VOLATILE)),
             b'P' => Ok(Type::Ptr(self.pointee()?, q)),
@@ -99,7 +137,7 @@ impl<'a> Parser<'a> {
     }
 
     /// `POINTEE = ["E"] [storage class] TYPE`.
-    #[cycle(types)]
+    #[cycle(readers)]
     #[tactic(auto, using(crate::proofs::Steps::pointee_is))]
     fn pointee(&mut self) -> Result<Box<Type<'a>>, Refusal>
         ensures value { Gives (λ b. (type_of b.value, self.new.rest.now, state_of self.new)) result
@@ -112,7 +150,7 @@ impl<'a> Parser<'a> {
     }
 
     /// A type in a box of its own.
-    #[cycle(types)]
+    #[cycle(readers)]
     pub fn boxed_type(&mut self, q: StorageClass) -> Result<Box<Type<'a>>, Refusal>
         ensures value { Gives (λ b. (type_of b.value, self.new.rest.now, state_of self.new)) result
             (read_name (any_type q.0) self.old.rest.now (state_of self.old)) }
@@ -122,8 +160,19 @@ impl<'a> Parser<'a> {
         boxed_made(self.alloc, made)
     }
 
+    /// A function without qualifiers of its own, in a box.
+    #[cycle(readers)]
+    fn boxed_function(&mut self) -> Result<Box<Type<'a>>, Refusal>
+        ensures value { Gives (λ b. (type_of b.value, self.new.rest.now, state_of self.new)) result
+            (read_name (function_type true) self.old.rest.now (state_of self.old)) }
+        ensures shorter { IfOk result (λ _. length self.new.rest.now < length self.old.rest.now) }
+    {
+        let made = self.function_type(true);
+        boxed_made(self.alloc, made)
+    }
+
     /// `ARRAY = NUMBER {NUMBER} ["$$C" plain qualifier] TYPE`: the first number says how many lengths follow.
-    #[cycle(types)]
+    #[cycle(readers)]
     #[tactic(auto, using(crate::proofs::Steps::array_is))]
     #[inline(never)]
     fn array(&mut self) -> Result<Type<'a>, Refusal>

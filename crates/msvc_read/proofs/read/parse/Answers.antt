@@ -1,5 +1,6 @@
 use Rattle.msvc_tree.specs.View.{tree_of}
 use Rattle.msvc_read.proofs.Whole.{read-derived, read-parts, read-texts, error-refused}
+use Rattle.msvc_read.proofs.Written.{all_written_out}
 use Rattle.msvc_read.proofs.read.parse.Goals as goal
 
 pub returns-in-Ok-clause-derived : goal.returns-in-Ok-clause-derived
@@ -15,3 +16,9 @@ pub returns-in-Err-clause-refused : goal.returns-in-Err-clause-refused
 returns-in-Err-clause-refused c =
     error-refused c.args.input.now c.in-Err.refusal c.error.result c.in-Err.ensures.value
     (rw c.as_bytes.ensures.value at c.error.ensures)
+
+pub returns-in-Ok-clause-written_out : goal.returns-in-Ok-clause-written_out
+returns-in-Ok-clause-written_out c = all_written_out c.args.input.now
+
+pub returns-in-Err-clause-written_out : goal.returns-in-Err-clause-written_out
+returns-in-Err-clause-written_out c = all_written_out c.args.input.now

@@ -1,0 +1,144 @@
+use Rattle.std.proofs.Common.{ℕ, List, ◌≡◌, ◌≤◌, ◌+◌, ◌*◌, length}
+use Rattle.std.specs.Prelude.{map}
+use Rattle.msvc_tree.specs.View.{name_of, type_of}
+use Rattle.msvc_read.specs.Parser.{state_of}
+use Rattle.msvc_read.specs.Reads.{read_name}
+use Rattle.msvc_read.specs.Rules.{parameters, scope}
+use Rattle.msvc_read.proofs.Steps.{with_front}
+use Rattle.msvc_read.proofs.parser.Parser.+readers.Given as goal
+
+-- Where as many bytes are left, a reader calls only those with a smaller number.
+
+abbrev level : List ℕ → ℕ → ℕ
+level left n = 12 * length left + n
+
+abbrev pub decreases-any_type : goal.decreases-any_type
+decreases-any_type l = level l.self.now.rest.now 1
+
+abbrev pub decreases-array : goal.decreases-array
+decreases-array l = level l.self.now.rest.now 3
+
+abbrev pub decreases-boxed_type : goal.decreases-boxed_type
+decreases-boxed_type l = level l.self.now.rest.now 2
+
+abbrev pub decreases-boxed_name : goal.decreases-boxed_name
+decreases-boxed_name l = level l.self.now.rest.now 2
+
+abbrev pub decreases-compound_type : goal.decreases-compound_type
+decreases-compound_type l = level l.self.now.rest.now 4
+
+abbrev pub decreases-formed_type : goal.decreases-formed_type
+decreases-formed_type l = level l.self.now.rest.now 6
+
+abbrev pub decreases-requalified_type : goal.decreases-requalified_type
+decreases-requalified_type l = level l.self.now.rest.now 1
+
+abbrev pub decreases-marked_member_pointer : goal.decreases-marked_member_pointer
+decreases-marked_member_pointer l = level l.self.now.rest.now 5
+
+abbrev pub decreases-boxed_function : goal.decreases-boxed_function
+decreases-boxed_function l = level l.self.now.rest.now 5
+
+abbrev pub decreases-function_type : goal.decreases-function_type
+decreases-function_type l = level l.self.now.rest.now 4
+
+abbrev pub decreases-member_pointer : goal.decreases-member_pointer
+decreases-member_pointer l = level l.self.now.rest.now 4
+
+abbrev pub decreases-encoding : goal.decreases-encoding
+decreases-encoding l = level l.self.now.rest.now 10
+
+abbrev pub decreases-encoding_behind : goal.decreases-encoding_behind
+decreases-encoding_behind l = level l.self.now.rest.now 9
+
+abbrev pub decreases-function : goal.decreases-function
+decreases-function l = level l.self.now.rest.now 7
+
+abbrev pub decreases-function_parameters : goal.decreases-function_parameters
+decreases-function_parameters l = level l.self.now.rest.now 5
+
+abbrev pub decreases-marked_name : goal.decreases-marked_name
+decreases-marked_name l = level l.self.now.rest.now 7
+
+abbrev pub decreases-member : goal.decreases-member
+decreases-member l = level l.self.now.rest.now 7
+
+abbrev pub decreases-member_encoding : goal.decreases-member_encoding
+decreases-member_encoding l = level l.self.now.rest.now 8
+
+abbrev pub decreases-named_symbol : goal.decreases-named_symbol
+decreases-named_symbol l = level l.self.now.rest.now 4
+
+abbrev pub decreases-nested_name : goal.decreases-nested_name
+decreases-nested_name l = level l.self.now.rest.now 1
+
+abbrev pub decreases-nested_symbol : goal.decreases-nested_symbol
+decreases-nested_symbol l = level l.self.now.rest.now 6
+
+abbrev pub decreases-new_parameter : goal.decreases-new_parameter
+decreases-new_parameter l = level l.self.now.rest.now 2
+
+abbrev pub decreases-parameter : goal.decreases-parameter
+decreases-parameter l = level l.self.now.rest.now 3
+
+abbrev pub decreases-parameters : goal.decreases-parameters
+decreases-parameters l = level l.self.now.rest.now 4
+
+abbrev pub decreases-plain_type : goal.decreases-plain_type
+decreases-plain_type l = level l.self.now.rest.now 0
+
+abbrev pub decreases-pointee : goal.decreases-pointee
+decreases-pointee l = level l.self.now.rest.now 3
+
+abbrev pub decreases-qualified_name : goal.decreases-qualified_name
+decreases-qualified_name l = level l.self.now.rest.now 3
+
+abbrev pub decreases-returned : goal.decreases-returned
+decreases-returned l = level l.self.now.rest.now 3
+
+abbrev pub decreases-scope : goal.decreases-scope
+decreases-scope l = level l.self.now.rest.now 2
+
+abbrev pub decreases-signature : goal.decreases-signature
+decreases-signature l = level l.self.now.rest.now 6
+
+abbrev pub decreases-symbol_body : goal.decreases-symbol_body
+decreases-symbol_body l = level l.self.now.rest.now 5
+
+abbrev pub decreases-template : goal.decreases-template
+decreases-template l = level l.self.now.rest.now 5
+
+abbrev pub decreases-template_kept : goal.decreases-template_kept
+decreases-template_kept l = level l.self.now.rest.now 7
+
+abbrev pub decreases-template_name : goal.decreases-template_name
+decreases-template_name l = level l.self.now.rest.now 6
+
+abbrev pub decreases-template_symbol : goal.decreases-template_symbol
+decreases-template_symbol l = level l.self.now.rest.now 8
+
+abbrev pub decreases-unqualified_name : goal.decreases-unqualified_name
+decreases-unqualified_name l = level l.self.now.rest.now 1
+
+abbrev pub decreases-variable : goal.decreases-variable
+decreases-variable l = level l.self.now.rest.now 8
+
+-- the names so far, before what is read of the rest, are what is read of all
+abbrev pub invariant-scope-names : goal.invariant-scope-names
+invariant-scope-names l =
+    (with_front (map name_of l.names.items) (read_name scope l.self.rest.now (state_of l.self))
+    ≡ read_name scope l.initial.self.rest.now (state_of l.initial.self))
+    × (length l.self.rest.now ≤ length l.initial.self.rest.now)
+
+abbrev pub decreases-scope-names : goal.decreases-scope-names
+decreases-scope-names l = length l.self.rest.now
+
+-- the parameters so far, before what is read of the rest, are what is read of all
+abbrev pub invariant-parameters-parameters : goal.invariant-parameters-parameters
+invariant-parameters-parameters l =
+    (with_front (map type_of l.types.items) (read_name parameters l.self.rest.now (state_of l.self))
+    ≡ read_name parameters l.initial.self.rest.now (state_of l.initial.self))
+    × (length l.self.rest.now ≤ length l.initial.self.rest.now)
+
+abbrev pub decreases-parameters-parameters : goal.decreases-parameters-parameters
+decreases-parameters-parameters l = length l.self.rest.now
