@@ -5,7 +5,10 @@
 #![tactic(auto)]
 
 mod calls;
+mod lines;
 mod measure;
+mod references;
+mod streams;
 
 use bitflags::Flags;
 use msvc_demangler::{DemangleFlags, demangle};
@@ -44,7 +47,11 @@ fn agrees(alloc: Global, row: &str) -> Result<bool, AllocError> {
     let Ok(bits) = u32::from_str_radix(flags, 16) else {
         return Ok(false);
     };
-    match demangle(alloc, symbol, DemangleFlags::from_bits_retain(bits)) {
+    let flags = DemangleFlags::from_bits_retain(bits);
+    if !references::agrees(alloc, symbol, flags).unwrap_or(false) {
+        return Ok(false);
+    }
+    match demangle(alloc, symbol, flags) {
         Ok(text) => Ok(kind == "ok" && text.as_str() == first),
         Err(refusal) => {
             let shown = format!(in alloc; "{refusal}")?;

@@ -1,0 +1,6 @@
+pub mod Answers
+pub mod Faults
+pub mod Lines
+pub mod Runs
+pub mod Streams
+pub mod Taking

@@ -8,10 +8,16 @@ ghost use Rattle.msvc_tree.specs.Trees.{SymbolTree};
 ghost use Rattle.msvc_read.specs.Reads.{Derives};
 ghost use Rattle.msvc_read.specs.Refusals.{IsRefusedRightly, IsRefusalAt, begins_with};
 ghost use Rattle.msvc_read.specs.State.{Note};
+ghost use Rattle.msvc_read.specs.Written.{DigitsCanBeWrittenOut};
 ghost use Rattle.msvc_write.specs.Declaration.{declaration};
 ghost use Rattle.msvc_write.specs.Flags.{obeyed_flags};
 
-pub use msvc_read::parse;
+mod debug;
+mod lines;
+mod watched;
+
+pub use lines::{undname_lines, undname_one, undname_run};
+pub use msvc_read::{BackReference, back_references, parse};
 pub use msvc_tree::error::{Error, ErrorRepr};
 pub use msvc_tree::flags::{DemangleFlags, FuncClass, StorageClass};
 use msvc_tree::tree::discard;
@@ -20,6 +26,7 @@ pub use msvc_tree::tree::{
 };
 pub use msvc_write::serialize;
 use std::alloc::Global;
+pub use watched::{Fault, Watched};
 
 /// The declaration of the symbol that `input` begins with, under the flags of printing: `parse`, then `serialize`.
 ///
@@ -30,6 +37,7 @@ pub fn demangle(alloc: Global, input: &str, flags: DemangleFlags) -> Result<Stri
         × ((other : SymbolTree) (behind : List ℕ) (others : List Note) → Derives input.now other behind others
         → (other ≡ tree) × (behind ≡ rest) × (others ≡ notes))
         × (string_bytes text ≡ declaration tree (bit_and flags.0 obeyed_flags))) }
+    ensures written_out { DigitsCanBeWrittenOut input.now }
     ensures refused { IfErr result (λ e. IsRefusedRightly input.now e) }
     ensures begins { (begins_with (codes "?") input.now → ⊥) → IfErr result (λ e. IsRefusalAt input.now 0 e) }
     ensures begins_ok { IfOk result (λ text. begins_with (codes "?") input.now) }

@@ -1,0 +1,203 @@
+-- A run over lines, on its way.
+use Rattle.std.proofs.Common.{◌≡◌, ◌≢◌, ◌++◌, ◌∷◌, [], ℕ, List, Bool, true, false, Result, Ok, Err, Some, None, OnSome}
+use Rattle.std.proofs.Common.{ap, sym, subst, refl, ◌∙◌, append_assoc, append-nil, inl, inr, length, arith}
+use Rattle.std.specs.declared.option.Option.{Option}
+use Rattle.std.specs.Io.KnownBytes.{Appends, Consumes, IsAtEnd}
+use Rattle.std.proofs.KnownBytes.{Appends-nil, Appends-trans, Consumes-nil, Consumes-trans}
+use Rattle.std.proofs.lemmas.List.Elements.{All-nil, All-append}
+use Rattle.msvc_demangler.specs.Answers.{IsFilterText, IsText, nothing}
+use Rattle.msvc_demangler.specs.Faults.{HasFailed}
+use Rattle.msvc_demangler.specs.Lines.{line_of, lines_of}
+use Rattle.msvc_demangler.specs.Runs.{IsLines, IsOfOneLine, LeavesOff, Writes, WritesLines, WritesPart}
+use Rattle.msvc_demangler.specs.Taking.{IsWithoutEnd, IsWithEnd}
+use Rattle.msvc_demangler.specs.declared.watched.Fault.{Fault}
+use Rattle.msvc_demangler.specs.declared.watched.Fault.TheVariants.{Read, Write, Memory}
+use Rattle.msvc_demangler.proofs.Pieces.{IsLines-append, lines_of-append, lines_of-nil}
+use Rattle.msvc_demangler.proofs.Texts.{IsFilterText-of, IsText-append}
+
+-- Some lines are finished and their text is written, and a part of the next was taken.
+pub record Going (reader reads writer writes : Option (List ℕ)) (part : List ℕ) : Type 0 where
+  pub finished : List ℕ
+  pub text : List ℕ
+  pub taken : Consumes reader reads (finished ++ part)
+  pub written : Appends writer writes text
+  pub lines : IsLines finished
+  pub unended : IsWithoutEnd part
+  pub is : IsText (lines_of finished) text
+
+pub Going-start : (reader writer : Option (List ℕ)) → Going reader reader writer writer []
+Going-start reader writer = record {
+  finished = [];
+  text = [];
+  taken = Consumes-nil reader;
+  written = Appends-nil writer;
+  lines = inl refl;
+  unended = All-nil (λ b. b ≢ 10);
+  is = rw lines_of-nil nothing;
+}
+
+-- more of the line was taken
+pub Going-part : (reader reads later writer writes : Option (List ℕ)) (part more : List ℕ)
+    → Going reader reads writer writes part → Consumes reads later more → IsWithoutEnd more → Going reader later writer writes (part ++ more)
+Going-part reader reads later writer writes part more so taken unended = record {
+  finished = so.finished;
+  text = so.text;
+  taken = rw (← append_assoc so.finished part more) (Consumes-trans _ _ _ _ _ so.taken taken);
+  written = so.written;
+  lines = so.lines;
+  unended = All-append (λ b. b ≢ 10) part more so.unended unended;
+  is = so.is;
+}
+
+-- the text with that of one line more
+pub IsText-line : (finished part text more : List ℕ) → IsLines finished → part ≢ [] → IsOfOneLine part
+    → IsText (lines_of finished) text → IsText (line_of part ∷ []) more
+    → IsText (lines_of (finished ++ part)) (text ++ more)
+IsText-line finished part text more lines some one is h =
+    rw (lines_of-append finished part lines some one) (IsText-append is h)
+
+-- a line with its line feed
+IsOfOneLine-ended : (part front : List ℕ) → IsWithoutEnd part → IsWithoutEnd front
+    → IsOfOneLine (part ++ (front ++ 10 ∷ []))
+IsOfOneLine-ended part front first second =
+    inr (part ++ front, All-append (λ b. b ≢ 10) part front first second, sym (append_assoc part front (10 ∷ [])))
+
+ended-some : (part front : List ℕ) → part ++ (front ++ 10 ∷ []) ≢ []
+ended-some [] [] e = cc
+ended-some [] (x ∷ xs) e = cc
+ended-some (x ∷ xs) front e = cc
+
+-- the line was answered
+pub Going-line : (reader reads later writer writes on : Option (List ℕ)) (part front : List ℕ)
+    → Going reader reads writer writes part → Consumes reads later (front ++ 10 ∷ []) → IsWithoutEnd front
+    → (text : List ℕ) → Appends writes on text → IsText (line_of (part ++ (front ++ 10 ∷ [])) ∷ []) text
+    → Going reader later writer on []
+Going-line reader reads later writer writes on part front so taken unended text written is =
+    let line = part ++ (front ++ 10 ∷ []) in
+    let joined = append_assoc so.finished part (front ++ 10 ∷ []) in
+    let split : so.finished ++ line ≡ so.finished ++ ((part ++ front) ++ 10 ∷ []) =
+    ap (λ l. so.finished ++ l) (sym (append_assoc part front (10 ∷ []))) in
+    let both = Consumes-trans _ _ _ _ _ so.taken taken in
+    let one = IsOfOneLine-ended part front so.unended unended in
+    record {
+      finished = so.finished ++ line;
+      text = so.text ++ text;
+      taken = subst (Consumes reader later) (joined ∙ sym (append-nil (so.finished ++ line))) both;
+      written = Appends-trans _ _ _ _ _ so.written written;
+      lines = subst IsLines (sym split) (IsLines-append so.finished (part ++ front));
+      unended = All-nil (λ b. b ≢ 10);
+      is = IsText-line so.finished line so.text text so.lines (ended-some part front) one so.is is;
+    }
+
+-- a fault while the line was answered
+pub LeavesOff-line : (e : Fault) (finished part text more : List ℕ) → IsLines finished → part ≢ [] → IsOfOneLine part
+    → IsText (lines_of finished) text → WritesPart e (IsText (line_of part ∷ [])) more
+    → LeavesOff e (finished ++ part) (text ++ more)
+LeavesOff-line Read finished part text more lines some one is h = absurd h
+LeavesOff-line Write finished part text more lines some one is h =
+    let whole = IsText-line finished part text (more ++ h.0) lines some one is h.1 in (
+      finished,
+      part,
+      text,
+      more,
+      h.0,
+      refl,
+      lines,
+      one,
+      IsFilterText-of _ _ is,
+      refl,
+      IsFilterText-of _ _ (rw (append_assoc text more h.0) whole),
+    )
+LeavesOff-line Memory finished part text more lines some one is h =
+    (finished, part, refl, lines, one, IsFilterText-of _ _ (rw (h, append-nil text) is))
+
+-- a fault of the reader, or no memory for what it shows
+pub LeavesOff-part : (e : Fault) (failed : Bool) (finished part text : List ℕ) → HasFailed e failed false false
+    → IsLines finished → IsWithoutEnd part → IsText (lines_of finished) text → LeavesOff e (finished ++ part) text
+LeavesOff-part Read failed finished part text h lines unended is =
+    (finished, part, refl, lines, unended, IsFilterText-of _ _ is)
+LeavesOff-part Write failed finished part text (inl h) lines unended is = let no : false ≡ true = h in cc
+LeavesOff-part Write failed finished part text (inr h) lines unended is = let no : false ≡ true = h in cc
+LeavesOff-part Memory failed finished part text h lines unended is =
+    (finished, part, refl, lines, inl unended, IsFilterText-of _ _ is)
+
+-- the answer to a line, or the fault that came
+pub WritesLines-line : {A : Type 0} (r : Result A Fault) (finished part text more : List ℕ) → IsLines finished → part ≢ []
+    → IsOfOneLine part → IsText (lines_of finished) text → Writes r (IsText (line_of part ∷ [])) more
+    → WritesLines r (finished ++ part) (text ++ more)
+WritesLines-line (Ok done) finished part text more lines some one is h =
+    IsFilterText-of _ _ (IsText-line finished part text more lines some one is h)
+WritesLines-line (Err e) finished part text more lines some one is h =
+    LeavesOff-line e finished part text more lines some one is h
+
+-- what a run has done, in the words of its contract
+abbrev pub Did : {A : Type 0} → Result A Fault → (reader reads writer writes : Option (List ℕ)) → Type 0
+Did result reader reads writer writes = (taken text : List ℕ) × Consumes reader reads taken
+    × Appends writer writes text × WritesLines result taken text
+
+abbrev pub DidPart : Fault → (reader reads writer writes : Option (List ℕ)) → Type 0
+DidPart e reader reads writer writes = (taken text : List ℕ) × Consumes reader reads taken
+    × Appends writer writes text × LeavesOff e taken text
+
+-- nothing more was taken
+Consumes-none : (reader reads later : Option (List ℕ)) (bytes more : List ℕ) → Consumes reader reads bytes
+    → Consumes reads later more → more ≡ [] → Consumes reader later bytes
+Consumes-none reader reads later bytes more first second none =
+    subst (Consumes reader later) (ap (λ l. bytes ++ l) none ∙ append-nil bytes) (Consumes-trans _ _ _ _ _ first second)
+
+-- it ended where the reader was asked
+pub Going-asked : (e : Fault) (failed : Bool) (reader reads later writer writes : Option (List ℕ)) (part more : List ℕ)
+    → Going reader reads writer writes part → Consumes reads later more → more ≡ [] → HasFailed e failed false false
+    → DidPart e reader later writer writes
+Going-asked e failed reader reads later writer writes part more so taken none h = (
+  so.finished ++ part,
+  so.text,
+  Consumes-none _ _ _ _ _ so.taken taken none,
+  so.written,
+  LeavesOff-part e failed so.finished part so.text h so.lines so.unended so.is,
+)
+
+-- it ended where a line was answered
+pub Going-fault : (e : Fault) (reader reads later writer writes on : Option (List ℕ)) (part front : List ℕ)
+    → Going reader reads writer writes part → Consumes reads later (front ++ 10 ∷ []) → IsWithoutEnd front
+    → (text : List ℕ) → Appends writes on text → WritesPart e (IsText (line_of (part ++ (front ++ 10 ∷ [])) ∷ [])) text
+    → DidPart e reader later writer on
+Going-fault e reader reads later writer writes on part front so taken unended text written is =
+    let line = part ++ (front ++ 10 ∷ []) in
+    let both = Consumes-trans _ _ _ _ _ so.taken taken in
+    let one = IsOfOneLine-ended part front so.unended unended in (
+      so.finished ++ line,
+      so.text ++ text,
+      subst (Consumes reader later) (append_assoc so.finished part (front ++ 10 ∷ [])) both,
+      Appends-trans _ _ _ _ _ so.written written,
+      LeavesOff-line e so.finished line so.text text so.lines (ended-some part front) one so.is is,
+    )
+
+-- it ended with the reader, at the end of a line
+pub Going-end : (reader reads later writer writes : Option (List ℕ)) (part more : List ℕ)
+    → Going reader reads writer writes part → Consumes reads later more → more ≡ [] → part ≡ []
+    → (taken text : List ℕ) × Consumes reader later taken × Appends writer writes text × IsFilterText taken text
+Going-end reader reads later writer writes part more so taken none empty = (
+  so.finished,
+  so.text,
+  subst (Consumes reader later) (ap (λ l. so.finished ++ l) empty ∙ append-nil so.finished)
+      (Consumes-none _ _ _ _ _ so.taken taken none),
+  so.written,
+  IsFilterText-of _ _ so.is,
+)
+
+-- and behind a line that no line feed ends
+pub Going-rest : {A : Type 0} (r : Result A Fault) (reader reads later writer writes on : Option (List ℕ))
+    (part more : List ℕ) → Going reader reads writer writes part → Consumes reads later more → more ≡ [] → part ≢ []
+    → (text : List ℕ) → Appends writes on text → Writes r (IsText (line_of part ∷ [])) text → Did r reader later writer on
+Going-rest r reader reads later writer writes on part more so taken none some text written is = (
+  so.finished ++ part,
+  so.text ++ text,
+  Consumes-none _ _ _ _ _ so.taken taken none,
+  Appends-trans _ _ _ _ _ so.written written,
+  WritesLines-line r so.finished part so.text text so.lines some (inl so.unended) so.is is,
+)
+
+pub empty-of_length : (bytes : List ℕ) → length bytes ≡ 0 → bytes ≡ []
+empty-of_length [] h = refl
+empty-of_length (x ∷ xs) h = absurd (omega arith)

@@ -1,0 +1,29 @@
+use Rattle.std.proofs.Common.{rules, ◌≡◌, ◌++◌, ◌∷◌, [], List, ℕ, subst, sym, ap, ◌∙◌, refl, string_bytes}
+use Rattle.std.proofs.lemmas.Result.{err_from_is_err_and}
+use Rattle.std.proofs.KnownBytes.{Appends-trans, Appends-nil}
+use Rattle.msvc_demangler.specs.Runs.{Writes}
+use Rattle.msvc_demangler.proofs.Written.{WritesPart-nothing}
+use Rattle.msvc_demangler.proofs.lines.undname_one.Goals as goal
+
+pub returns-in_err-show_tree-in-Ok-clause-text : goal.returns-in_err-show_tree-in-Ok-clause-text
+returns-in_err-show_tree-in-Ok-clause-text g c =
+    let p = err_from_is_err_and c.from_residual.result c.from_residual.ensures.1 in
+    let e = c.in_err-show_tree-in-Ok.ensures.failed in
+    rw (p.1, p.2) (
+      [],
+      Appends-nil _,
+      WritesPart-nothing _ _ _ _ (string_bytes c.in-Ok.text ++ 10 ∷ [])
+          (string_bytes c.in-Ok.text, c.in-Ok.ensures.declared, refl) e,
+    )
+
+pub returns-in_err-report-in-Err-clause-text : goal.returns-in_err-report-in-Err-clause-text
+returns-in_err-report-in-Err-clause-text g c =
+    let at = c.from_residual-in_err-report-in-Err in
+    let p = err_from_is_err_and at.result at.ensures.1 in
+    let e = c.in_err-report-in-Err.ensures.failed in
+    rw (p.1, p.2) (
+      [],
+      Appends-nil _,
+      WritesPart-nothing _ _ _ _ (c.args.symbol.now ++ 10 ∷ [])
+          (c.args.symbol.now, c.in-Err.ensures.refused (search rules), refl) e,
+    )

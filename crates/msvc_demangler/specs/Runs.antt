@@ -1,0 +1,40 @@
+-- What the engine has done when it ends.
+use Rattle.std.specs.Prelude.{ℕ, List, [], ◌∷◌, ◌++◌, ◌≡◌, ◌⊎◌, Result, MatchResult}
+use Rattle.msvc_demangler.specs.Answers.{IsFilterText}
+use Rattle.msvc_demangler.specs.Taking.{IsWithoutEnd, IsWithEnd}
+use Rattle.msvc_demangler.specs.declared.watched.Fault.{Fault}
+use Rattle.msvc_demangler.specs.declared.watched.Fault.TheVariants.{Read, Write, Memory}
+
+-- What a call that failed has written, where P says what a whole text is: a beginning of one where a write failed, and
+-- nothing where memory was refused.
+abbrev pub WritesPart : Fault → (List ℕ → Type 0) → List ℕ → Type 0
+WritesPart Read P text = ⊥
+WritesPart Write P text = (more : List ℕ) × P (text ++ more)
+WritesPart Memory P text = text ≡ []
+
+-- and what it has written where it succeeded: a whole text
+abbrev pub Writes : {A : Type 0} → Result A Fault → (List ℕ → Type 0) → List ℕ → Type 0
+Writes result P text = MatchResult result (λ _. P text) (λ fault. WritesPart fault P text)
+
+-- nothing, or bytes that a line feed ends
+abbrev pub IsLines : List ℕ → Type 0
+IsLines bytes = (bytes ≡ []) ⊎ ((front : List ℕ) × (bytes ≡ front ++ 10 ∷ []))
+
+-- some bytes of one line, or all of it
+abbrev pub IsOfOneLine : List ℕ → Type 0
+IsOfOneLine bytes = IsWithoutEnd bytes ⊎ IsWithEnd bytes
+
+-- What a run over lines that failed has written of what it took from the reader: the text of the lines finished before,
+-- and where a write failed also a beginning of what it would write for the line behind them.
+abbrev pub LeavesOff : Fault → List ℕ → List ℕ → Type 0
+LeavesOff Read taken text = (finished part : List ℕ) × (taken ≡ finished ++ part) × IsLines finished
+    × IsWithoutEnd part × IsFilterText finished text
+LeavesOff Write taken text = (finished part before begun more : List ℕ) × (taken ≡ finished ++ part)
+    × IsLines finished × IsOfOneLine part × IsFilterText finished before × (text ≡ before ++ begun)
+    × IsFilterText taken (text ++ more)
+LeavesOff Memory taken text = (finished part : List ℕ) × (taken ≡ finished ++ part) × IsLines finished
+    × IsOfOneLine part × IsFilterText finished text
+
+-- and where it came to the end: the filter's text of all that it took
+abbrev pub WritesLines : {A : Type 0} → Result A Fault → List ℕ → List ℕ → Type 0
+WritesLines result taken text = MatchResult result (λ _. IsFilterText taken text) (λ fault. LeavesOff fault taken text)

@@ -1,0 +1,228 @@
+//! `undname` over symbols and lines: what the program does, over readers and writers.
+
+ghost use Rattle.std.specs.Prelude.{◌≡◌, ◌≢◌, ◌++◌, ◌∷◌, ◌≤◌, ℕ, List, [], IfErr, IfOk, IsTrue, OnOk, OnSome, true};
+ghost use Rattle.std.specs.Prelude.{false, string_bytes};
+ghost use Rattle.std.specs.Io.KnownBytes.{Appends, Consumes, IsAtEnd};
+ghost use Rattle.msvc_tree.specs.declared.error.ErrorRepr.TheVariants.{Memory};
+ghost use Rattle.msvc_demangler.specs.Answers.{IsAnswer, IsLineText, IsText};
+ghost use Rattle.msvc_demangler.specs.Lines.{line_of};
+ghost use Rattle.msvc_demangler.specs.Faults.{HasFailed};
+ghost use Rattle.msvc_demangler.specs.Runs.{Writes, WritesLines};
+
+use crate::debug::with_texts;
+use crate::demangle;
+use crate::watched::{Fault, Taken, Watched};
+use msvc_read::parse;
+use msvc_tree::error::Error;
+use msvc_tree::flags::DemangleFlags;
+use msvc_tree::tree::discard;
+use std::alloc::Global;
+use std::io::{BufRead, Write};
+use std::str::from_utf8;
+
+/// Does what the words behind the program's name ask for: each symbol in its order, or, where there is none, the lines
+/// of `input`. A first word `-v` is no symbol; with it each tree goes to `err` before its declaration.
+///
+/// It ends at the first fault, neither flushes nor prints what that was, and leaves both to the program.
+pub fn undname_run<R: BufRead, W: Write, E: Write>(
+    alloc: Global,
+    words: &[String],
+    input: &mut Watched<R>,
+    out: &mut Watched<W>,
+    err: &mut Watched<E>,
+) -> Result<(), Fault>
+    ensures failed { IfErr result (λ fault. HasFailed fault input.new.failed out.new.failed err.new.failed) }
+    ensures kept { OnOk result ((input.new.failed ≡ input.old.failed) × (out.new.failed ≡ out.old.failed)
+        × (err.new.failed ≡ err.old.failed)) }
+{
+    let (symbols, verbose) = options(words);
+    if symbols.is_empty() {
+        return undname_lines(alloc, input, out, err, verbose);
+    }
+    undname_all(alloc, symbols, out, err, verbose)
+}
+
+/// The symbols among the words, and whether the first word asks for trees.
+fn options(words: &[String]) -> (&[String], bool) {
+    match words.split_first() {
+        Some((first, symbols)) if first.as_str() == "-v" => (symbols, true),
+        _ => (words, false),
+    }
+}
+
+/// Answers each symbol, in its order.
+fn undname_all<W: Write, E: Write>(
+    alloc: Global,
+    symbols: &[String],
+    out: &mut Watched<W>,
+    err: &mut Watched<E>,
+    verbose: bool,
+) -> Result<(), Fault>
+    ensures failed { IfErr result (λ fault. HasFailed fault false out.new.failed err.new.failed) }
+    ensures kept { OnOk result ((out.new.failed ≡ out.old.failed) × (err.new.failed ≡ err.old.failed)) }
+{
+    for symbol in symbols {
+        undname_one(alloc, symbol.as_str(), out, err, verbose)?;
+    }
+    Ok(())
+}
+
+/// Answers one symbol: its declaration and a line feed go to `out`, or, where it is refused, the symbol as it came,
+/// after a line on `err` that says why. Under `verbose` its tree goes to `err` before.
+pub fn undname_one<W: Write, E: Write>(
+    alloc: Global,
+    symbol: &str,
+    out: &mut Watched<W>,
+    err: &mut Watched<E>,
+    verbose: bool,
+) -> Result<(), Fault>
+    ensures text { (text : List ℕ) × Appends (W.contents out.old.stream) (W.contents out.new.stream) text
+        × Writes result (IsLineText symbol.now) text }
+    ensures failed { IfErr result (λ fault. HasFailed fault false out.new.failed err.new.failed) }
+    ensures kept { OnOk result ((out.new.failed ≡ out.old.failed) × (err.new.failed ≡ err.old.failed)) }
+{
+    match answer(alloc, symbol) {
+        Ok(text) => {
+            if verbose {
+                show_tree(alloc, symbol, err)?;
+            }
+            put_line(out, text.as_str())
+        }
+        Err(refusal) => {
+            if refusal.is_out_of_memory() {
+                return Err(Fault::Memory);
+            }
+            report(alloc, &refusal, err)?;
+            put_line(out, symbol)
+        }
+    }
+}
+
+/// The declaration of a symbol, under the flags of lines.
+fn answer(alloc: Global, symbol: &str) -> Result<String, Error>
+    ensures declared { IfOk result (λ text. IsAnswer symbol.now (string_bytes text)) }
+    ensures refused { IfErr result (λ e. e ≢ Memory → IsAnswer symbol.now symbol.now) }
+{
+    demangle(alloc, symbol, DemangleFlags::llvm())
+}
+
+/// Writes why a symbol was refused.
+fn report<E: Write>(alloc: Global, refusal: &Error, err: &mut Watched<E>) -> Result<(), Fault>
+    ensures failed { IfErr result (λ fault. HasFailed fault false false err.new.failed) }
+    ensures kept { OnOk result (err.new.failed ≡ err.old.failed) }
+{
+    match format!(in alloc; "error: {refusal}\n") {
+        Ok(text) => put_all(err, text.as_bytes()),
+        Err(_) => Err(Fault::Memory),
+    }
+}
+
+/// Writes a symbol's tree, where it has one.
+fn show_tree<E: Write>(alloc: Global, symbol: &str, err: &mut Watched<E>) -> Result<(), Fault>
+    ensures failed { IfErr result (λ fault. HasFailed fault false false err.new.failed) }
+    ensures kept { OnOk result (err.new.failed ≡ err.old.failed) }
+{
+    match tree_text(alloc, symbol) {
+        Ok(text) => put_all(err, text.as_bytes()),
+        Err(_) => Err(Fault::Memory),
+    }
+}
+
+/// The debug text of a symbol's tree, its names as texts, and a line feed.
+fn tree_text(alloc: Global, symbol: &str) -> Result<String, Error> {
+    let tree = parse(alloc, symbol)?;
+    let debug = format!(in alloc; "{tree:?}\n");
+    discard(tree);
+    Ok(with_texts(alloc, debug?.as_str())?)
+}
+
+/// Writes a text and a line feed.
+fn put_line<W: Write>(out: &mut Watched<W>, text: &str) -> Result<(), Fault>
+    ensures text { (written : List ℕ) × Appends (W.contents out.old.stream) (W.contents out.new.stream) written
+        × Writes result (λ whole. whole ≡ text.now ++ 10 ∷ []) written }
+    ensures failed { IfErr result (λ fault. HasFailed fault false out.new.failed false) }
+    ensures kept { OnOk result (out.new.failed ≡ out.old.failed) }
+{
+    put_all(out, text.as_bytes())?;
+    put_all(out, b"\n")
+}
+
+/// Writes all of some bytes.
+fn put_all<W: Write>(out: &mut Watched<W>, bytes: &[u8]) -> Result<(), Fault>
+    ensures text { (written : List ℕ) × Appends (W.contents out.old.stream) (W.contents out.new.stream) written
+        × Writes result (λ whole. whole ≡ bytes.now) written }
+    ensures failed { IfErr result (λ fault. (fault ≡ Fault.Write) × IsTrue out.new.failed) }
+    ensures kept { OnOk result (out.new.failed ≡ out.old.failed) }
+{
+    let mut sent = 0;
+    'writes: while sent < bytes.len() {
+        sent += out.put(&bytes[sent..])?;
+    }
+    Ok(())
+}
+
+/// Answers each line of the reader, to its end. Lines that are not UTF-8 are left out.
+pub fn undname_lines<R: BufRead, W: Write, E: Write>(
+    alloc: Global,
+    input: &mut Watched<R>,
+    out: &mut Watched<W>,
+    err: &mut Watched<E>,
+    verbose: bool,
+) -> Result<(), Fault>
+    ensures text { (taken text : List ℕ) × Consumes (R.remaining input.old.stream) (R.remaining input.new.stream) taken
+        × Appends (W.contents out.old.stream) (W.contents out.new.stream) text × WritesLines result taken text }
+    ensures end { OnOk result (OnSome (R.remaining input.old.stream) (IsAtEnd (R.remaining input.new.stream))) }
+    ensures failed { IfErr result (λ fault. HasFailed fault input.new.failed out.new.failed err.new.failed) }
+    ensures kept { OnOk result ((input.new.failed ≡ input.old.failed) × (out.new.failed ≡ out.old.failed)
+        × (err.new.failed ≡ err.old.failed)) }
+{
+    let mut piece = Vec::new(alloc);
+    'pieces: for asked in 0..u64::MAX {
+        match input.take(asked, &mut piece)? {
+            Taken::Part => {}
+            Taken::Line => {
+                filter_line(alloc, &piece, out, err, verbose)?;
+                piece.clear();
+            }
+            Taken::End => {
+                if piece.is_empty() {
+                    return Ok(());
+                }
+                return filter_line(alloc, &piece, out, err, verbose);
+            }
+        }
+    }
+    match input.take(u64::MAX, &mut piece) {
+        Ok(_) => Ok(()),
+        Err(fault) => Err(fault),
+    }
+}
+
+/// Answers one line, which is left out where it is not UTF-8.
+fn filter_line<W: Write, E: Write>(
+    alloc: Global,
+    piece: &[u8],
+    out: &mut Watched<W>,
+    err: &mut Watched<E>,
+    verbose: bool,
+) -> Result<(), Fault>
+    ensures text { (text : List ℕ) × Appends (W.contents out.old.stream) (W.contents out.new.stream) text
+        × Writes result (IsText (line_of piece.now ∷ [])) text }
+    ensures failed { IfErr result (λ fault. HasFailed fault false out.new.failed err.new.failed) }
+    ensures kept { OnOk result ((out.new.failed ≡ out.old.failed) × (err.new.failed ≡ err.old.failed)) }
+{
+    match from_utf8(without_end(piece)) {
+        Ok(line) => undname_one(alloc, line, out, err, verbose),
+        Err(_) => Ok(()),
+    }
+}
+
+/// A piece without the line feed that ends it, and without one carriage return before that.
+fn without_end(piece: &[u8]) -> &[u8]
+    ensures { result.now ≡ line_of piece.now }
+{
+    let Some(line) = piece.strip_suffix(b"\n") else {
+        return piece;
+    };
+    line.strip_suffix(b"\r").unwrap_or(line)
+}
