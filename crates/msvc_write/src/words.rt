@@ -1,6 +1,6 @@
 //! The words of types: what a base type, the kind of a named type, a pointer or a variable prints, a row each.
 
-ghost use Rattle.msvc_write.specs.Words.{base_word, mark_word, tag_word, variable_word};
+ghost use Rattle.msvc_write.specs.Words.{base_word, kind_word, mark_word, tag_word, variable_word};
 ghost use Rattle.std.specs.Prelude.{◌≡◌, cond, Bool};
 
 use crate::text::has;
@@ -45,9 +45,16 @@ fn either<'t>(choice: bool, first: &'t [u8], second: &'t [u8]) -> &'t [u8]
     if choice { first } else { second }
 }
 
-/// The word before a name that stands for a type.
-pub fn tag_word<'t>(tag: Tag) -> &'t [u8]
-    ensures { result.now ≡ tag_word tag }
+/// The word before a name that stands for a type, unless a flag drops it.
+pub fn tag_word<'t>(tag: Tag, flags: DemangleFlags) -> &'t [u8]
+    ensures { result.now ≡ tag_word tag flags.0 }
+{
+    either(has(flags, DemangleFlags::NO_CLASS_TYPE), b"", kind_word(tag))
+}
+
+/// The word for the kind of a named type.
+fn kind_word<'t>(tag: Tag) -> &'t [u8]
+    ensures { result.now ≡ kind_word tag }
 {
     match tag {
         Tag::Class => b"class ",
