@@ -1,5 +1,6 @@
 pub mod Settling
 pub mod Stack
+pub mod Dropped
 pub mod Printed
 pub mod Names
 pub mod Operators
