@@ -263,7 +263,7 @@ fn print_function_end<'t, 'a>(
     flags: DemangleFlags,
 ) -> Result<(), AllocError>
     ensures text { OnOk result (Prints (function_end pointed (parameters (params_of params.now) true flags.0) set.0
-        (after (type_of inner.now) false flags.0)) flags.0
+        flags.0 (after (type_of inner.now) false flags.0)) flags.0
         stack.old.items out.old.items stack.new.items out.new.items) }
     ensures lighter { OnOk result (Lightens (3 + types_weight (params_of params.now) + type_weight (type_of inner.now))
         stack.old.items stack.new.items) }
