@@ -6,4 +6,5 @@ pub mod Names
 pub mod Operators
 pub mod Parameters
 pub mod Whole
+pub mod Laws
 pub mod Texts
