@@ -2,8 +2,12 @@
 
 #[cfg(test)]
 mod tests {
-    use msvc_demangler::{DemangleFlags, Error, parse, serialize};
-    use std::alloc::Global;
+    use bitflags::Flags;
+    use msvc_demangler::{
+        CallingConv, DemangleFlags, Error, FuncClass, Name, NameSequence, Params, ParseResult, StorageClass, Symbol,
+        Type, parse, serialize,
+    };
+    use std::alloc::{AllocError, Global};
     use std::test::Fail;
 
     /// What a copy of a symbol's tree is printed as.
@@ -23,6 +27,44 @@ mod tests {
     fn shown(alloc: Global, symbol: &str) -> Result<String, Error> {
         let tree = parse(alloc, symbol)?;
         Ok(format!(in alloc; "{tree:?}")?)
+    }
+
+    /// What a symbol of this name, in no scope, and of this type is printed as under no flag.
+    fn printed(alloc: Global, name: &[u8], symbol_type: Type<'_>) -> Result<String, Error> {
+        let scope = NameSequence { names: Vec::new(alloc) };
+        let symbol = Symbol { name: Name::NonTemplate(name), scope };
+        serialize(alloc, &ParseResult { symbol, symbol_type }, DemangleFlags::COMPLETE)
+    }
+
+    /// A function without parameters, by a convention that no letter gives.
+    fn function<'a>(alloc: Global) -> Result<Type<'a>, AllocError> {
+        let none = StorageClass::empty();
+        let returned = Box::new(alloc, Type::Void(none))?;
+        let params = Params { types: Vec::new(alloc) };
+        Ok(Type::NonMemberFunction(CallingConv::_Regcall, params, none, returned))
+    }
+
+    /// A pointer to a member function, which no text gives without the class.
+    fn pointer<'a>(alloc: Global) -> Result<Type<'a>, AllocError> {
+        let none = StorageClass::empty();
+        let returned = Box::new(alloc, Type::Int(none))?;
+        let mut types = Vec::new(alloc);
+        types.push(Type::Void(none))?;
+        let params = Params { types };
+        let member =
+            Type::MemberFunction(FuncClass::PUBLIC, CallingConv::Cdecl, params, StorageClass::CONST, returned);
+        Ok(Type::Ptr(Box::new(alloc, member)?, none))
+    }
+
+    #[test]
+    fn built_by_hand(rt: HostRuntime) -> Result<(), Fail> {
+        let text = printed(rt.alloc(), b"f", function(rt.alloc())?)?;
+        assert_eq!(rt; text.as_str(), "void __regcall f()");
+        let text = printed(rt.alloc(), b"x", pointer(rt.alloc())?)?;
+        assert_eq!(rt; text.as_str(), "int (__cdecl *x)(void) const");
+        let text = printed(rt.alloc(), b"f\xFF", Type::None)?;
+        assert_eq!(rt; text.as_str(), "f\u{FFFD}");
+        Ok(())
     }
 
     #[test]

@@ -4,7 +4,7 @@
 #[cfg(test)]
 mod tests {
     use bitflags::Flags;
-    use msvc_demangler::{DemangleFlags, Error, StorageClass, demangle};
+    use msvc_demangler::{DemangleFlags, Error, FuncClass, StorageClass, demangle};
     use std::str::from_utf8;
     use std::test::Fail;
 
@@ -60,5 +60,72 @@ mod tests {
         assert!(rt; DemangleFlags::from_bits(0x1F01EE6).is_some());
         assert_eq!(rt; DemangleFlags::empty().bits(), 0);
         assert_eq!(rt; DemangleFlags::llvm().bits(), 0xE00400);
+    }
+
+    #[test]
+    fn sets_from_bits_and_names(rt: HostRuntime) {
+        assert_eq!(rt; StorageClass::all().bits(), 0x1FF);
+        assert_eq!(rt; FuncClass::all().bits(), 0xFF);
+        assert_eq!(rt; DemangleFlags::all().bits(), 0x1F01EE6);
+        assert_eq!(rt; DemangleFlags::from_bits_retain(0x801).bits(), 0x801);
+        assert_eq!(rt; DemangleFlags::from_bits_truncate(0x801).bits(), 0x800);
+        assert_eq!(rt; FuncClass::from_bits(0x100), None);
+        assert_eq!(rt; FuncClass::from_name("THUNK"), Some(FuncClass::THUNK));
+        assert_eq!(rt; FuncClass::from_name("thunk"), None);
+        assert_eq!(rt; DemangleFlags::COMPLETE.bits(), 0);
+        assert_eq!(rt; DemangleFlags::NO_THISTYPE.bits(), 0x60);
+    }
+
+    #[test]
+    fn sets_asked(rt: HostRuntime) {
+        let both = StorageClass::from_bits_retain(3);
+        assert!(rt; !both.is_empty());
+        assert!(rt; StorageClass::empty().is_empty());
+        assert!(rt; !both.is_all());
+        assert!(rt; StorageClass::from_bits_retain(0x3FF).is_all());
+        assert!(rt; both.intersects(StorageClass::from_bits_retain(6)));
+        assert!(rt; !both.contains(StorageClass::from_bits_retain(6)));
+        assert!(rt; !both.intersects(StorageClass::FAR));
+    }
+
+    #[test]
+    fn sets_joined(rt: HostRuntime) {
+        let low = FuncClass::from_bits_retain(0x103);
+        let high = FuncClass::from_bits_retain(6);
+        assert_eq!(rt; low.union(high).bits(), 0x107);
+        assert_eq!(rt; low.intersection(high).bits(), 2);
+        assert_eq!(rt; low.difference(high).bits(), 0x101);
+        assert_eq!(rt; low.symmetric_difference(high).bits(), 0x105);
+        assert_eq!(rt; low.complement().bits(), 0xFC);
+    }
+
+    #[test]
+    fn sets_changed(rt: HostRuntime) {
+        let mut set = FuncClass::from_bits_retain(3);
+        set.insert(FuncClass::PRIVATE);
+        assert_eq!(rt; set.bits(), 7);
+        set.remove(FuncClass::PROTECTED);
+        assert_eq!(rt; set.bits(), 5);
+        set.toggle(FuncClass::from_bits_retain(0xC));
+        assert_eq!(rt; set.bits(), 9);
+        set.set(FuncClass::STATIC, true);
+        assert_eq!(rt; set.bits(), 0x19);
+        set.set(FuncClass::GLOBAL, false);
+        assert_eq!(rt; set.bits(), 0x11);
+    }
+
+    /// A flag that adds no bit to those before it is left out, and bits that are no flag come last.
+    #[test]
+    fn sets_listed(rt: HostRuntime) {
+        let set = DemangleFlags::from_bits_retain(0x61);
+        let mut flags = set.iter();
+        assert_eq!(rt; flags.next().map(|flag| flag.bits()), Some(0x40));
+        assert_eq!(rt; flags.next().map(|flag| flag.bits()), Some(0x20));
+        assert_eq!(rt; flags.next().map(|flag| flag.bits()), Some(1));
+        assert!(rt; flags.next().is_none());
+        let mut names = set.iter_names();
+        assert_eq!(rt; names.next().map(|named| named.0), Some("NO_CV_THISTYPE"));
+        assert_eq!(rt; names.next().map(|named| named.0), Some("NO_MS_THISTYPE"));
+        assert!(rt; names.next().is_none());
     }
 }

@@ -3,14 +3,13 @@
 //! [`parse`] reads a symbol into a tree, [`serialize`] prints a tree, and [`demangle`] does both.
 #![tactic(auto)]
 
-ghost use Rattle.std.specs.Prelude.{◌≡◌, codes, ℕ, List, IfOk, IfErr, bit_and, string_bytes};
+ghost use Rattle.std.specs.Prelude.{◌≡◌, codes, ℕ, List, IfOk, IfErr, string_bytes};
 ghost use Rattle.msvc_tree.specs.Trees.{SymbolTree};
 ghost use Rattle.msvc_read.specs.Reads.{Derives};
 ghost use Rattle.msvc_read.specs.Refusals.{IsRefusedRightly, IsRefusalAt, begins_with};
 ghost use Rattle.msvc_read.specs.State.{Note};
 ghost use Rattle.msvc_read.specs.Written.{DigitsCanBeWrittenOut};
 ghost use Rattle.msvc_write.specs.Declaration.{declaration};
-ghost use Rattle.msvc_write.specs.Flags.{obeyed_flags};
 
 mod debug;
 mod lines;
@@ -36,7 +35,7 @@ pub fn demangle(alloc: Global, input: &str, flags: DemangleFlags) -> Result<Stri
         × Derives input.now tree rest notes
         × ((other : SymbolTree) (behind : List ℕ) (others : List Note) → Derives input.now other behind others
         → (other ≡ tree) × (behind ≡ rest) × (others ≡ notes))
-        × (string_bytes text ≡ declaration tree (bit_and flags.0 obeyed_flags))) }
+        × (string_bytes text ≡ declaration tree flags.0)) }
     ensures written_out { DigitsCanBeWrittenOut input.now }
     ensures refused { IfErr result (λ e. IsRefusedRightly input.now e) }
     ensures begins { (begins_with (codes "?") input.now → ⊥) → IfErr result (λ e. IsRefusalAt input.now 0 e) }

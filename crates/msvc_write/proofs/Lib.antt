@@ -1,8 +1,10 @@
 pub mod Settling
 pub mod Stack
+pub mod Dropped
 pub mod Printed
 pub mod Names
 pub mod Operators
 pub mod Parameters
 pub mod Whole
+pub mod Laws
 pub mod Texts

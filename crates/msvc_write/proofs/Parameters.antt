@@ -82,18 +82,18 @@ types_weight-positive (x ∷ xs) = omega arith
 
 -- what stands behind the last type of a list
 pub rest-end : (p : Params) (k : ℕ) (first : Bool) (end : ListEnd) (flags : ℕ) → length p.types.items ≤ k →
-    rest_of_parameters p k first end flags ≡ end_pieces end
+    rest_of_parameters p k first end flags ≡ end_pieces end flags
 unfolding rest_of_parameters
 rest-end p k first end flags h =
-    ap (λ ps. ps ++ end_pieces end) (parameters-empty p.types.items k first flags h)
+    ap (λ ps. ps ++ end_pieces end flags) (parameters-empty p.types.items k first flags h)
 
 pub rest-dropped : (p : Params) (t : «Type») (k : ℕ) (first : Bool) (end : ListEnd) (flags : ℕ) →
     k < length p.types.items → t ≡ get_or p.types.items k t → is_empty_pack (type_of t) ≡ true →
     rest_of_parameters p k first end flags ≡ rest_of_parameters p (k + 1) first end flags
 unfolding rest_of_parameters
 rest-dropped p t k first end flags some is pack =
-    ap (λ ps. ps ++ end_pieces end) (parameters-dropped p.types.items t k first flags some is pack)
-    ∙ ap (λ j. parameters (types_in (drop j p.types.items)) first flags ++ end_pieces end) (next k)
+    ap (λ ps. ps ++ end_pieces end flags) (parameters-dropped p.types.items t k first flags some is pack)
+    ∙ ap (λ j. parameters (types_in (drop j p.types.items)) first flags ++ end_pieces end flags) (next k)
 
 pub rest-kept : (p : Params) (t : «Type») (k : ℕ) (first : Bool) (end : ListEnd) (flags : ℕ) →
     k < length p.types.items → t ≡ get_or p.types.items k t → is_empty_pack (type_of t) ≡ false →
@@ -102,7 +102,7 @@ pub rest-kept : (p : Params) (t : «Type») (k : ℕ) (first : Bool) (end : List
     ++ (after (type_of t) false flags ++ rest_of_parameters p (k + 1) false end flags))
 unfolding rest_of_parameters
 rest-kept p t k first end flags some is kept =
-    let last : List Piece = end_pieces end in
+    let last : List Piece = end_pieces end flags in
     let s : List Piece = separator first flags in
     let b : List Piece = before (type_of t) false flags in
     let a : List Piece = after (type_of t) false flags in
@@ -117,12 +117,12 @@ pub settled-function_end : (out out1 out2 : List ℕ) (p : Params) (pointed : Bo
     (returned : List Piece) →
     out1 ≡ settle_all out (closing pointed) → out2 ≡ settle_all out1 (text (codes "(") ∷ []) →
     settle_all (settle_all out2 (rest_of_parameters p 0 true (Round set) flags)) returned
-    ≡ settle_all out (function_end pointed (parameters (params_of p) true flags) set.0 returned)
+    ≡ settle_all out (function_end pointed (parameters (params_of p) true flags) set.0 flags returned)
 unfolding rest_of_parameters
 settled-function_end out out1 out2 p pointed set flags returned e e' =
     let ps : List Piece = parameters (params_of p) true flags in
-    let end : List Piece = text (codes ")") ∷ own_qualifiers set.0 in
-    let later : List Piece = ps ++ (text (codes ")") ∷ (own_qualifiers set.0 ++ returned)) in
+    let end : List Piece = text (codes ")") ∷ own_qualifiers set.0 flags in
+    let later : List Piece = ps ++ (text (codes ")") ∷ (own_qualifiers set.0 flags ++ returned)) in
     sym (settle_all-append out2 (ps ++ end) returned)
     ∙ ap (λ x. settle_all out2 x) (append_assoc ps end returned)
     ∙ ap (λ x. settle_all x later) (e' ∙ ap (λ x. settle_all x (text (codes "(") ∷ [])) e)

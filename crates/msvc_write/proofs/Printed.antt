@@ -20,7 +20,7 @@ before-split : (t : TypeTree) (pointed : Bool) (flags : ℕ) →
     node_before (without_class t) pointed flags ++ class_pieces (pointed_class t) flags ≡ before t pointed flags
 unfolding before node_before class_pieces
 before-split (member_pointer n ns f c ts q t) pointed flags =
-    append_assoc (before t false flags) (calling true c) (pointed_name n ns flags)
+    append_assoc (before t false flags) (calling true c flags) (pointed_name n ns flags)
 before-split _ pointed flags = append-nil _
 
 weight-split : (t : TypeTree) → node_weight (without_class t) + class_weight (pointed_class t) ≤ type_weight t

@@ -18,7 +18,7 @@ use Rattle.msvc_write.specs.declared.operator.OwnName.{OwnName}
 use Rattle.msvc_write.specs.Pieces.{Piece, text, space, resolve}
 use Rattle.msvc_write.specs.declared.text.Space.TheVariants.{AfterAngle, AfterPointer}
 use Rattle.msvc_write.specs.Words.{base_word, variable_word, tag_word, mark_word, qualifiers, marked}
-use Rattle.msvc_write.specs.Words.{opening, closing}
+use Rattle.msvc_write.specs.Words.{opening, closing, first_half, last_half}
 
 -- a name as it is spelled
 abbrev pub spelled_name : Spelling → List ℕ → List Piece
@@ -65,10 +65,10 @@ unfoldable mutual
   name_pieces (spelled how bytes) own flags = spelled_name how bytes
   name_pieces (template n ts) own flags = name_pieces n false flags ++ angled (parameters ts true flags)
   name_pieces (discriminator z) own flags = quoted (text (signed_decimal z) ∷ [])
-  name_pieces (nested n ns t) own flags = quoted_unless own (before t false flags ++ (scoped (own_kind n)
-      (scope_prefix ns flags) (scope_path ns flags) (own_name (own_kind n) (class_name ns [] flags)
-      (class_name ns tilde flags) (conversion t (name_pieces n true flags) flags) (name_pieces n true flags))
-      flags ++ after t false flags))
+  name_pieces (nested n ns t) own flags = quoted_unless own (first_half (before t false flags) flags
+      ++ (scoped (own_kind n) (scope_prefix ns flags) (scope_path ns flags) (own_name (own_kind n)
+      (class_name ns [] flags) (class_name ns tilde flags) (conversion t (name_pieces n true flags) flags)
+      (name_pieces n true flags)) flags ++ last_half (after t false flags) flags))
   name_pieces (anonymous digits) own flags = text (codes "`anonymous namespace'") ∷ []
   name_pieces (operator o) own flags = spaced (operator_word o)
   name_pieces (guard g n) own flags = guard_pieces g n
@@ -101,8 +101,8 @@ unfoldable mutual
   -- reference, round which some types have parentheses.
   pub before : TypeTree → Bool → ℕ → List Piece
   before (base b set) pointed flags = text (base_word b flags) ∷ qualifiers set flags
-  before (tagged tag n scope set) pointed flags = text (tag_word tag) ∷ (scoped (own_kind n) (scope_prefix scope flags)
-      (scope_path scope flags) (own_name (own_kind n) (class_name scope [] flags) (class_name scope tilde flags)
+  before (tagged tag n scope set) pointed flags = text (tag_word tag flags) ∷ (scoped (own_kind n)
+      (scope_prefix scope flags) (scope_path scope flags) (own_name (own_kind n) (class_name scope [] flags) (class_name scope tilde flags)
       (name_pieces n true flags) (name_pieces n true flags)) flags ++ qualifiers set flags)
   before (numbered number_kind.Constant n) pointed flags = text (signed_decimal n) ∷ []
   before (numbered number_kind.TemplateParameter n) pointed flags =
@@ -110,18 +110,18 @@ unfoldable mutual
   before (numbered number_kind.ThreadSafeGuard n) pointed flags = text (codes "TSS") ∷ text (signed_decimal n) ∷ []
   before (pointing m t set) pointed flags = before t true flags ++ marked (mark_word m) set flags
   before (array n t set) pointed flags = before t false flags ++ (qualifiers set flags ++ opening pointed)
-  before (function convention ts set t) pointed flags = before t false flags ++ calling pointed convention
-  before (member_function class convention ts set t) pointed flags = member_start pointed class
-      ++ (before t false flags ++ calling pointed convention)
+  before (function convention ts set t) pointed flags = before t false flags ++ calling pointed convention flags
+  before (member_function class convention ts set t) pointed flags = member_start pointed class flags
+      ++ (before t false flags ++ calling pointed convention flags)
   before (member_pointer n scope class convention ts set t) pointed flags =
-      before t false flags ++ (calling true convention ++ (space AfterPointer ∷ (scoped (own_kind n)
+      before t false flags ++ (calling true convention flags ++ (space AfterPointer ∷ (scoped (own_kind n)
       (scope_prefix scope flags) (scope_path scope flags) (own_name (own_kind n) (class_name scope [] flags)
       (class_name scope tilde flags) (name_pieces n true flags) (name_pieces n true flags)) flags
       ++ text (codes "::*") ∷ [])))
   before (plain plain_kind.Variadic) pointed flags = text (codes "...") ∷ []
   before (plain plain_kind.Nullptr) pointed flags = text (codes "std::nullptr_t") ∷ []
   before (table k scope set) pointed flags = qualifiers set flags
-  before (vcall_thunk n convention) pointed flags = text (codes "[thunk]: ") ∷ calling false convention
+  before (vcall_thunk n convention) pointed flags = text (codes "[thunk]: ") ∷ calling false convention flags
   before (variable t kind set) pointed flags =
       text (variable_word kind) ∷ (before t false flags ++ qualifiers set flags)
   before _ pointed flags = []
@@ -131,10 +131,10 @@ unfoldable mutual
   after (pointing m t set) pointed flags = after t true flags
   after (array n t set) pointed flags =
       closing pointed ++ (text (codes "[") ∷ text (signed_decimal n) ∷ text (codes "]") ∷ after t false flags)
-  after (function convention ts set t) pointed flags = function_end pointed (parameters ts true flags) set
+  after (function convention ts set t) pointed flags = function_end pointed (parameters ts true flags) set flags
       (after t false flags)
   after (member_function class convention ts set t) pointed flags =
-      function_end pointed (parameters ts true flags) set (after t false flags)
+      function_end pointed (parameters ts true flags) set flags (after t false flags)
   after (member_pointer n scope class convention ts set t) pointed flags =
       member_pointer_end (parameters ts true flags) set (after t false flags)
   after (variable t kind set) pointed flags = after t false flags
@@ -164,9 +164,10 @@ symbol_name n scope t flags = symbol_as (own_kind n) n scope t flags
 abbrev pub around : TypeTree → List Piece → ℕ → List Piece
 around t inside flags = before t false flags ++ inside ++ after t false flags
 
--- the pieces of a symbol: its type grown around its name
+-- the pieces of a symbol: its type grown around its name, as far as the flags keep its halves
 abbrev pub symbol_pieces : NameTree → NameTrees → TypeTree → ℕ → List Piece
-symbol_pieces n scope t flags = before t false flags ++ (symbol_name n scope t flags ++ after t false flags)
+symbol_pieces n scope t flags = first_half (before t false flags) flags
+    ++ (symbol_name n scope t flags ++ last_half (after t false flags) flags)
 
 unfoldable pub declaration : SymbolTree → ℕ → List ℕ
 declaration s flags = resolve (symbol_pieces s.name s.scope s.symbol_type flags)

@@ -42,7 +42,7 @@ class_weight (Some named) = 3 + symbol_weight named.0 named.1 (plain plain_kind.
 -- what stands before a type but for that class, which its node does not tell
 unfoldable pub node_before : TypeTree → Bool → ℕ → List Piece
 node_before (member_pointer n scope class convention ts set t) pointed flags =
-    before t false flags ++ calling true convention
+    before t false flags ++ calling true convention flags
 node_before t pointed flags = before t pointed flags
 
 unfoldable pub node_weight : TypeTree → ℕ
@@ -64,15 +64,15 @@ return_weight None = 0
 return_weight (Some t) = type_weight t
 
 -- what stands behind the last type of a list
-abbrev pub end_pieces : ListEnd → List Piece
-end_pieces (Round set) = text (codes ")") ∷ own_qualifiers set.0
-end_pieces Bare = text (codes ")") ∷ []
-end_pieces Angle = space AfterAngle ∷ text (codes ">") ∷ []
+abbrev pub end_pieces : ListEnd → ℕ → List Piece
+end_pieces (Round set) flags = text (codes ")") ∷ own_qualifiers set.0 flags
+end_pieces Bare flags = text (codes ")") ∷ []
+end_pieces Angle flags = space AfterAngle ∷ text (codes ">") ∷ []
 
 -- the types of a list from a place on, and what stands after them
 unfoldable pub rest_of_parameters : Params → ℕ → Bool → ListEnd → ℕ → List Piece
 rest_of_parameters p place first end flags =
-    parameters (types_in (drop place p.types.items)) first flags ++ end_pieces end
+    parameters (types_in (drop place p.types.items)) first flags ++ end_pieces end flags
 
 -- the pieces that an item stands for
 abbrev pub item_pieces : Item → ℕ → List Piece
@@ -85,7 +85,7 @@ item_pieces (Spaced word) flags = spaced word.now
 item_pieces (Qualifiers set) flags = qualifiers set.0 flags
 item_pieces (Mark word set) flags = marked word.now set.0 flags
 item_pieces (ArrayLevel set pointed) flags = qualifiers set.0 flags ++ opening pointed
-item_pieces (Calling pointed convention) flags = calling pointed convention
+item_pieces (Calling pointed convention) flags = calling pointed convention flags
 item_pieces (Parameters p place first end) flags = rest_of_parameters p.now place first end flags
 item_pieces (Before t pointed) flags = before (type_of t.now) pointed flags
 item_pieces (After t pointed) flags = after (type_of t.now) pointed flags

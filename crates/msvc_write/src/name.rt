@@ -9,18 +9,19 @@ ghost use Rattle.msvc_tree.specs.Trees.{plain};
 ghost use Rattle.msvc_tree.specs.View.{name_of, names_in, scope_of, type_of};
 ghost use Rattle.msvc_write.specs.Declaration.{name_pieces, quoted, quoted_unless, scope_prefix, spelled_name};
 ghost use Rattle.msvc_write.specs.Declaration.{class_name, conversion, scope_path, symbol_as, symbol_name};
-ghost use Rattle.msvc_write.specs.Declaration.{symbol_pieces};
+ghost use Rattle.msvc_write.specs.Declaration.{after, before, symbol_pieces};
 ghost use Rattle.msvc_tree.specs.declared.kinds.PlainType.TheVariants as plain_kind;
 ghost use Rattle.msvc_write.specs.Operators.{spaced};
 ghost use Rattle.msvc_write.specs.Pieces.{settle_all, text};
 ghost use Rattle.msvc_write.specs.Weights.{name_weight, scope_weight, symbol_weight, type_weight, whole_weight};
+ghost use Rattle.msvc_write.specs.Words.{first_half, last_half};
 ghost use Rattle.msvc_write.specs.Work.{member_return, own_type, pointed_name, work, Lightens, Prints, Pushes};
 
 use crate::item::{Item, ListEnd, push};
 use crate::operator::{
     OwnName, operator_word, own_name, write_base_class, write_guard, write_spaced,
 };
-use crate::text::{Space, name_space, write_number, write_space, write_text};
+use crate::text::{Space, has, name_space, write_number, write_space, write_text};
 use msvc_tree::flags::DemangleFlags;
 use msvc_tree::kinds::Spelling;
 use msvc_tree::node::{NameNode, OperatorNode, TypeNode, name_node, operator_node, type_node};
@@ -109,6 +110,41 @@ fn write_anonymous(out: &mut Vec<u8>) -> Result<(), AllocError>
     write_text(out, b"`anonymous namespace'")
 }
 
+/// Pushes what a symbol has after its name, unless a flag drops it.
+fn push_last<'t, 'a>(
+    stack: &mut Vec<Item<'t, 'a>>,
+    t: &'t Type<'a>,
+    flags: DemangleFlags,
+) -> Result<(), AllocError>
+    ensures text { OnOk result (Pushes (last_half (after (type_of t.now) false flags.0) flags.0) flags.0
+        stack.old.items stack.new.items) }
+    ensures lighter { OnOk result (work stack.new.items ≤ type_weight (type_of t.now) + work stack.old.items) }
+{
+    if !has(flags, DemangleFlags::NAME_ONLY) {
+        push(stack, Item::After(t, false))?;
+    }
+    Ok(())
+}
+
+/// Pushes what a symbol has before its name, unless a flag drops it.
+fn push_first<'t, 'a>(
+    stack: &mut Vec<Item<'t, 'a>>,
+    t: &'t Type<'a>,
+    flags: DemangleFlags,
+) -> Result<(), AllocError>
+    ensures text { OnOk result (Pushes (first_half (before (type_of t.now) false flags.0) flags.0) flags.0
+        stack.old.items stack.new.items) }
+    ensures lighter { OnOk result (work stack.new.items ≤ type_weight (type_of t.now) + work stack.old.items) }
+{
+    if has(flags, DemangleFlags::NAME_ONLY) {
+        return Ok(());
+    }
+    if !has(flags, DemangleFlags::NO_FUNCTION_RETURNS) {
+        push(stack, Item::Before(t, false))?;
+    }
+    Ok(())
+}
+
 /// Pushes a whole symbol: its name, between the two halves of its type.
 #[tactic(auto, using(crate::proofs::Stack::pushes))]
 pub fn push_whole<'t, 'a>(
@@ -122,9 +158,10 @@ pub fn push_whole<'t, 'a>(
         (scope_of tree.now.symbol.scope) (type_of tree.now.symbol_type))
         (type_weight (type_of tree.now.symbol_type))) stack.old.items stack.new.items) }
 {
-    push(stack, Item::After(&tree.symbol_type, false))?;
+    push_last(stack, &tree.symbol_type, flags)?;
     push(stack, Item::Symbol(&tree.symbol, Some(&tree.symbol_type)))?;
-    push(stack, Item::Before(&tree.symbol_type, false))
+    push_first(stack, &tree.symbol_type, flags)?;
+    Ok(())
 }
 
 /// Prints a nested symbol, in quotes unless it is the name of a symbol itself.

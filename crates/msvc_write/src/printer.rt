@@ -1,19 +1,17 @@
 //! The loop over the stack, and its bytes as a text.
 
-ghost use Rattle.std.specs.Prelude.{◌≡◌, [], OnOk, IfOk, IfErr, bit_and, string_bytes};
+ghost use Rattle.std.specs.Prelude.{◌≡◌, [], OnOk, IfOk, IfErr, string_bytes};
 ghost use Rattle.std.specs.Str.{IsUtf8};
 ghost use Rattle.std.specs.Str.Lossy.{utf8_lossy};
 ghost use Rattle.msvc_tree.specs.EachName.{EachName};
 ghost use Rattle.msvc_tree.specs.View.{tree_of};
 ghost use Rattle.msvc_tree.specs.declared.error.ErrorRepr.TheVariants.{Memory};
 ghost use Rattle.msvc_write.specs.Declaration.{declaration};
-ghost use Rattle.msvc_write.specs.Flags.{obeyed_flags};
 ghost use Rattle.msvc_write.specs.Work.{finished};
 
 use crate::item::Item;
 use crate::name::push_whole;
 use crate::steps::step;
-use bitflags::Flags;
 use msvc_tree::error::Error;
 use msvc_tree::flags::DemangleFlags;
 use msvc_tree::tree::ParseResult;
@@ -46,9 +44,8 @@ fn print(
     input: &ParseResult<'_>,
     flags: DemangleFlags,
 ) -> Result<Vec<u8>, AllocError>
-    ensures { IfOk result (λ out. out.items ≡ declaration (tree_of input.now) (bit_and flags.0 obeyed_flags)) }
+    ensures { IfOk result (λ out. out.items ≡ declaration (tree_of input.now) flags.0) }
 {
-    let flags = flags.intersection(DemangleFlags::llvm());
     let mut out = Vec::with_capacity(alloc, FIRST_BYTES)?;
     let mut stack = Vec::with_capacity(alloc, FIRST_ITEMS)?;
     push_whole(&mut stack, input, flags)?;
@@ -56,8 +53,7 @@ fn print(
     Ok(out)
 }
 
-/// The declaration of a symbol as a text, under the flags of printing. Of these, four bits are obeyed so far:
-/// `MS_TYPENAMES`, `SPACE_AFTER_COMMA`, `HUG_TYPE` and `SPACE_BEFORE_POINTER`; the others change nothing. Where names
+/// The declaration of a symbol as a text, under the flags of printing. Bits that are no flag change nothing. Where names
 /// of the symbol are not UTF-8, what is no character is shown as U+FFFD. It refuses only for want of memory.
 pub fn serialize(
     alloc: Global,
@@ -65,9 +61,9 @@ pub fn serialize(
     flags: DemangleFlags,
 ) -> Result<String, Error>
     ensures declared { IfOk result (λ text. EachName IsUtf8 (tree_of input.now) →
-        string_bytes text ≡ declaration (tree_of input.now) (bit_and flags.0 obeyed_flags)) }
+        string_bytes text ≡ declaration (tree_of input.now) flags.0) }
     ensures lossy { IfOk result (λ text.
-        string_bytes text ≡ utf8_lossy (declaration (tree_of input.now) (bit_and flags.0 obeyed_flags))) }
+        string_bytes text ≡ utf8_lossy (declaration (tree_of input.now) flags.0)) }
     ensures memory { IfErr result (λ e. e ≡ Memory) }
 {
     let bytes = print(alloc, input, flags)?;

@@ -11,7 +11,7 @@ ghost use Rattle.msvc_write.specs.Declaration.{after, before, is_empty_pack, mem
 ghost use Rattle.msvc_write.specs.Declaration.{scope_path, symbol_name, table_end};
 ghost use Rattle.msvc_write.specs.Functions.{calling, function_end, own_qualifier, separator};
 ghost use Rattle.msvc_write.specs.Pieces.{settle_all, text};
-ghost use Rattle.msvc_write.specs.Words.{qualifiers, opening, closing};
+ghost use Rattle.msvc_write.specs.Words.{qualifiers, opening, closing, variable_word};
 ghost use Rattle.msvc_write.specs.Weights.{scope_weight, symbol_weight, type_weight, types_weight};
 ghost use Rattle.msvc_write.specs.Work.{class_pieces, class_weight, item_pieces, item_weight, node_before, node_weight};
 ghost use Rattle.msvc_write.specs.Work.{rest_of_parameters, work, Prints, Pushes, Lightens};
@@ -28,7 +28,7 @@ use bitflags::Flags;
 use msvc_tree::flags::{DemangleFlags, StorageClass};
 use msvc_tree::kinds::{NumberedType, PlainType, Table};
 use msvc_tree::node::{TypeNode, pointed_class, type_node};
-use msvc_tree::tree::{CallingConv, Name, Params, Symbol, Type};
+use msvc_tree::tree::{CallingConv, Name, Params, Symbol, Type, VarStorageKind};
 use std::alloc::AllocError;
 
 /// Pushes the class whose member function is pointed to, if the type points to one.
@@ -91,7 +91,7 @@ fn print_node_before<'t, 'a>(
         },
         TypeNode::Base(base, set) => write_word(out, base_word(base, flags), set, flags),
         TypeNode::Tagged(tag, symbol, set) => {
-            print_tagged(stack, out, tag_word(tag), symbol, set, flags)
+            print_tagged(stack, out, tag_word(tag, flags), symbol, set, flags)
         },
         TypeNode::Numbered(kind, number) => match kind {
             NumberedType::Constant => write_number(out, number),
@@ -112,7 +112,7 @@ fn print_node_before<'t, 'a>(
             push(stack, Item::Before(inner, false))
         }
         TypeNode::MemberFunction(class, convention, _, _, inner) => {
-            write_member_start(out, pointed, class)?;
+            write_member_start(out, pointed, class, flags)?;
             push(stack, Item::Calling(pointed, convention))?;
             push(stack, Item::Before(inner, false))
         }
@@ -120,14 +120,29 @@ fn print_node_before<'t, 'a>(
             push(stack, Item::Calling(true, convention))?;
             push(stack, Item::Before(inner, false))
         }
-        TypeNode::Variable(inner, kind, set) => {
-            write_text(out, variable_word(kind))?;
-            push(stack, Item::Qualifiers(set))?;
-            push(stack, Item::Before(inner, false))
-        }
+        TypeNode::Variable(inner, kind, set) => print_variable(stack, out, inner, kind, set, flags),
         TypeNode::Table(_, _, set) => write_qualifiers(out, set, flags),
-        TypeNode::VcallThunk(_, convention) => write_thunk(out, convention),
+        TypeNode::VcallThunk(_, convention) => write_thunk(out, convention, flags),
     }
+}
+
+/// Prints what a variable has before its name: words that no flag drops, its type, and its qualifiers.
+#[tactic(auto, using(crate::proofs::Stack::pushes))]
+fn print_variable<'t, 'a>(
+    stack: &mut Vec<Item<'t, 'a>>,
+    out: &mut Vec<u8>,
+    inner: &'t Type<'a>,
+    kind: VarStorageKind,
+    set: StorageClass,
+    flags: DemangleFlags,
+) -> Result<(), AllocError>
+    ensures text { OnOk result (Prints (text (variable_word kind) ∷ (before (type_of inner.now) false flags.0
+        ++ qualifiers set.0 flags.0)) flags.0 stack.old.items out.old.items stack.new.items out.new.items) }
+    ensures lighter { OnOk result (Lightens (3 + type_weight (type_of inner.now)) stack.old.items stack.new.items) }
+{
+    write_text(out, variable_word(kind))?;
+    push_qualifiers(stack, set, flags)?;
+    push(stack, Item::Before(inner, false))
 }
 
 /// Prints what a type has after it.
@@ -248,7 +263,7 @@ fn print_function_end<'t, 'a>(
     flags: DemangleFlags,
 ) -> Result<(), AllocError>
     ensures text { OnOk result (Prints (function_end pointed (parameters (params_of params.now) true flags.0) set.0
-        (after (type_of inner.now) false flags.0)) flags.0
+        flags.0 (after (type_of inner.now) false flags.0)) flags.0
         stack.old.items out.old.items stack.new.items out.new.items) }
     ensures lighter { OnOk result (Lightens (3 + types_weight (params_of params.now) + type_weight (type_of inner.now))
         stack.old.items stack.new.items) }
@@ -388,7 +403,7 @@ fn print_parameters<'t, 'a>(
         stack.old.items stack.new.items) }
 {
     if place >= params.types.len() {
-        write_list_end(out, end)?;
+        write_list_end(out, end, flags)?;
         return Ok(());
     }
     let t = &params.types[place];
@@ -465,12 +480,16 @@ fn write_guarded(out: &mut Vec<u8>, number: i32) -> Result<(), AllocError>
 }
 
 /// Writes what a thunk into a table of virtual functions has before its name.
-fn write_thunk(out: &mut Vec<u8>, convention: CallingConv) -> Result<(), AllocError>
+fn write_thunk(
+    out: &mut Vec<u8>,
+    convention: CallingConv,
+    flags: DemangleFlags,
+) -> Result<(), AllocError>
     ensures { OnOk result (out.new.items ≡ settle_all out.old.items
-        (text (codes "[thunk]: ") ∷ calling false convention)) }
+        (text (codes "[thunk]: ") ∷ calling false convention flags.0)) }
 {
     write_text(out, b"[thunk]: ")?;
-    write_calling(out, false, convention)?;
+    write_calling(out, false, convention, flags)?;
     Ok(())
 }
 
@@ -544,7 +563,7 @@ pub fn step<'t, 'a>(
         Item::Qualifiers(set) => write_qualifiers(out, set, flags),
         Item::Mark(word, set) => write_mark(out, word, set, flags),
         Item::ArrayLevel(set, pointed) => write_level(out, set, pointed, flags),
-        Item::Calling(pointed, convention) => write_calling(out, pointed, convention),
+        Item::Calling(pointed, convention) => write_calling(out, pointed, convention, flags),
         Item::Parameters(params, place, first, end) => {
             print_parameters(stack, out, params, place, first, end, flags)
         }

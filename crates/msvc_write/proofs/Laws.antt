@@ -1,0 +1,359 @@
+-- What flags do not change: bits that no definition asks for, and under NAME_ONLY the type of a symbol.
+use Rattle.std.proofs.Common.{◌≡◌, ℕ, ℤ, List, [], ◌∷◌, ◌++◌, Bool, true, false, cond, refl, ap, sym, ◌∙◌, bit_and}
+use Rattle.std.proofs.Common.{◌==◌, codes}
+use Rattle.std.proofs.lemmas.Nat.{and_assoc}
+use Rattle.std.specs.Fmt.{signed_decimal}
+use Rattle.msvc_tree.specs.Trees.{NameTree, NameTrees, SymbolTree, TypeTree, TypeTrees, spelled, operator, guard}
+use Rattle.msvc_tree.specs.Trees.{type_descriptor, base_class_descriptor, template, discriminator, nested, anonymous}
+use Rattle.msvc_tree.specs.Trees.{no_names, names, no_types, types, base, tagged, pointing, array, function}
+use Rattle.msvc_tree.specs.Trees.{member_function, member_pointer, plain, numbered, variable, table, vcall_thunk}
+use Rattle.msvc_tree.specs.declared.kinds.BaseType.{BaseType}
+use Rattle.msvc_tree.specs.declared.kinds.BaseType.TheVariants as base_kind
+use Rattle.msvc_tree.specs.declared.kinds.NumberedType.TheVariants as number_kind
+use Rattle.msvc_tree.specs.declared.kinds.PlainType.TheVariants as plain_kind
+use Rattle.msvc_tree.specs.declared.kinds.PlainOperator.TheVariants as plain_operator
+use Rattle.msvc_tree.specs.declared.kinds.Tag.{Tag}
+use Rattle.msvc_tree.specs.declared.tree.CallingConv.{CallingConv}
+use Rattle.msvc_write.proofs.Dropped.{first_half-name_only, last_half-dropped}
+use Rattle.msvc_write.specs.Declaration.{after, angled, before, class_name, conversion, declaration, is_empty_pack}
+use Rattle.msvc_write.specs.Declaration.{member_pointer_end, name_pieces, parameters, quoted_unless, scope_path}
+use Rattle.msvc_write.specs.Declaration.{scope_prefix, symbol_name, symbol_pieces, table_end, tilde}
+use Rattle.msvc_write.specs.Flags.{has, hug_type, ms_type_names, name_only, no_access_specifiers, no_class_type}
+use Rattle.msvc_write.specs.Flags.{no_function_returns, no_member_type, no_ms_keywords, no_this_type}
+use Rattle.msvc_write.specs.Flags.{space_after_comma, space_before_pointer, with_ptr64}
+use Rattle.msvc_write.specs.Functions.{access_words, calling, convention_pieces, convention_word, each_own_qualifier}
+use Rattle.msvc_write.specs.Functions.{function_end, kind_words, member_start, member_word, member_words}
+use Rattle.msvc_write.specs.Functions.{own_qualifier, own_qualifiers, separator, wide_qualifier}
+use Rattle.msvc_write.specs.Laws.{Agree, DecodingChangesNothing, NameOnlyAsksNoType, OtherBitsChangeNothing}
+use Rattle.msvc_write.specs.Laws.{all_but_decoding, obeyed_flags}
+use Rattle.msvc_write.specs.Operators.{base_class_pieces, own_kind, own_name, scoped}
+use Rattle.msvc_write.specs.Pieces.{Piece, resolve, space, text}
+use Rattle.msvc_write.specs.Words.{base_word, closing, first_half, kind_word, last_half, mark_space, mark_word, marked}
+use Rattle.msvc_write.specs.Words.{name_space, opening, qualifier_space, qualifiers, tag_word, variable_word}
+use Rattle.msvc_write.specs.declared.operator.OwnName.{OwnName}
+use Rattle.msvc_write.specs.declared.operator.OwnName.TheVariants as own_kinds
+use Rattle.msvc_write.specs.declared.text.Space.{Space}
+use Rattle.msvc_write.specs.declared.text.Space.TheVariants.{AfterPointer, AfterReference, AfterWord, UnlessOpen}
+
+-- two words give the same answer to each question that a definition asks
+record Same (a b : ℕ) : Type 0 where
+  keywords : has a no_ms_keywords ≡ has b no_ms_keywords
+  returns : has a no_function_returns ≡ has b no_function_returns
+  this_type : has a no_this_type ≡ has b no_this_type
+  access : has a no_access_specifiers ≡ has b no_access_specifiers
+  member : has a no_member_type ≡ has b no_member_type
+  type_names : has a ms_type_names ≡ has b ms_type_names
+  only : has a name_only ≡ has b name_only
+  class_type : has a no_class_type ≡ has b no_class_type
+  comma : has a space_after_comma ≡ has b space_after_comma
+  hug : has a hug_type ≡ has b hug_type
+  pointer : has a space_before_pointer ≡ has b space_before_pointer
+  wide : has a with_ptr64 ≡ has b with_ptr64
+
+-- words that agree on some bits agree on fewer
+fewer : (a b many few : ℕ) → bit_and many few ≡ few → Agree many a b → Agree few a b
+fewer a b many few within e =
+    ap (bit_and a) (sym within) ∙ sym (and_assoc few a many) ∙ ap (λ x. bit_and x few) e ∙ and_assoc few b many
+    ∙ ap (bit_and b) within
+
+has-same : (a b bits : ℕ) → bit_and obeyed_flags bits ≡ bits → Agree obeyed_flags a b → has a bits ≡ has b bits
+has-same a b bits within e = ap (λ x. x == bits) (fewer a b obeyed_flags bits within e)
+
+all-same : (a b : ℕ) → Agree obeyed_flags a b → Same a b
+all-same a b e = record {
+  keywords = has-same a b no_ms_keywords refl e;
+  returns = has-same a b no_function_returns refl e;
+  this_type = has-same a b no_this_type refl e;
+  access = has-same a b no_access_specifiers refl e;
+  member = has-same a b no_member_type refl e;
+  type_names = has-same a b ms_type_names refl e;
+  only = has-same a b name_only refl e;
+  class_type = has-same a b no_class_type refl e;
+  comma = has-same a b space_after_comma refl e;
+  hug = has-same a b hug_type refl e;
+  pointer = has-same a b space_before_pointer refl e;
+  wide = has-same a b with_ptr64 refl e
+}
+
+-- lists of the same parts are the same
+same-append : (xs xs' ys ys' : List Piece) → xs ≡ xs' → ys ≡ ys' → xs ++ ys ≡ xs' ++ ys'
+same-append xs xs' ys ys' e e' = ap (λ x. x ++ ys) e ∙ ap (λ y. xs' ++ y) e'
+
+same-choice : (c : Bool) (xs xs' ys ys' : List Piece) → xs ≡ xs' → ys ≡ ys' → cond c xs ys ≡ cond c xs' ys'
+same-choice c xs xs' ys ys' e e' = ap (λ x. cond c x ys) e ∙ ap (λ y. cond c xs' y) e'
+
+-- pieces that one question decides about
+same-unless : (c c' : Bool) (xs xs' : List Piece) → c ≡ c' → xs ≡ xs' → cond c [] xs ≡ cond c' [] xs'
+same-unless c c' xs xs' e e' = ap (λ x. cond x [] xs) e ∙ ap (λ x. cond c' [] x) e'
+
+-- words and spaces
+base_word-same : (w : BaseType) (a b : ℕ) → Same a b → base_word w a ≡ base_word w b
+base_word-same base_kind.Int64 a b e = ap (λ c. cond c (codes "__int64") (codes "int64_t")) e.type_names
+base_word-same base_kind.Uint64 a b e = ap (λ c. cond c (codes "unsigned __int64") (codes "uint64_t")) e.type_names
+base_word-same base_kind.Int128 a b e = ap (λ c. cond c (codes "__int128") (codes "int128_t")) e.type_names
+base_word-same base_kind.Uint128 a b e = ap (λ c. cond c (codes "unsigned __int128") (codes "uint128_t")) e.type_names
+base_word-same _ a b e = refl
+
+tag_word-same : (tag : Tag) (a b : ℕ) → Same a b → tag_word tag a ≡ tag_word tag b
+tag_word-same tag a b e = ap (λ c. cond c [] (kind_word tag)) e.class_type
+
+name_space-same : (a b : ℕ) → Same a b → name_space a ≡ name_space b
+name_space-same a b e = ap (λ c. cond c AfterWord AfterReference) e.pointer
+
+qualifier_space-same : (a b : ℕ) → Same a b → qualifier_space a ≡ qualifier_space b
+qualifier_space-same a b e = ap (λ c. cond c AfterWord AfterPointer) e.pointer
+
+qualifiers-same : (set a b : ℕ) → Same a b → qualifiers set a ≡ qualifiers set b
+unfolding qualifiers
+qualifiers-same set a b e = ap (λ s. cond (has set 1) (space s ∷ text (codes "const") ∷ []) []
+    ++ cond (has set 2) (space s ∷ text (codes "volatile") ∷ []) []) (qualifier_space-same a b e)
+
+mark_space-same : (a b : ℕ) → Same a b → mark_space a ≡ mark_space b
+mark_space-same a b e =
+    ap (λ c. cond c (cond (has a space_before_pointer) (space AfterWord ∷ []) []) (space AfterPointer ∷ [])) e.hug
+    ∙ ap (λ c. cond (has b hug_type) (cond c (space AfterWord ∷ []) []) (space AfterPointer ∷ [])) e.pointer
+
+marked-same : (word : List ℕ) (set a b : ℕ) → Same a b → marked word set a ≡ marked word set b
+unfolding marked
+marked-same word set a b e = same-append (mark_space a) (mark_space b) (text word ∷ qualifiers set a)
+    (text word ∷ qualifiers set b) (mark_space-same a b e) (ap (λ x. text word ∷ x) (qualifiers-same set a b e))
+
+separator-same : (first : Bool) (a b : ℕ) → Same a b → separator first a ≡ separator first b
+unfolding separator
+separator-same first a b e =
+    ap (λ c. cond first [] (text (cond c (codes ", ") (codes ",")) ∷ [])) e.comma
+
+first_half-same : (xs ys : List Piece) (a b : ℕ) → xs ≡ ys → Same a b → first_half xs a ≡ first_half ys b
+unfolding first_half
+first_half-same xs ys a b h e = same-unless (has a name_only) (has b name_only) _ _ e.only
+    (same-unless (has a no_function_returns) (has b no_function_returns) xs ys e.returns h)
+
+last_half-same : (xs ys : List Piece) (a b : ℕ) → xs ≡ ys → Same a b → last_half xs a ≡ last_half ys b
+unfolding last_half
+last_half-same xs ys a b h e = same-unless (has a name_only) (has b name_only) xs ys e.only h
+
+-- functions
+access_words-same : (class a b : ℕ) → Same a b → access_words class a ≡ access_words class b
+unfolding access_words
+access_words-same class a b e =
+    same-unless (has a no_access_specifiers) (has b no_access_specifiers) _ _ e.access refl
+
+kind_words-same : (class a b : ℕ) → Same a b → kind_words class a ≡ kind_words class b
+unfolding kind_words
+kind_words-same class a b e = same-unless (has a no_member_type) (has b no_member_type) _ _ e.member refl
+
+member_start-same : (pointed : Bool) (class a b : ℕ) → Same a b →
+    member_start pointed class a ≡ member_start pointed class b
+unfolding member_start member_words
+member_start-same pointed class a b e =
+    ap (λ x. cond pointed [] (member_word 128 (codes "[thunk]: ") class ++ x))
+    (same-append (access_words class a) (access_words class b) (kind_words class a) (kind_words class b)
+    (access_words-same class a b e) (kind_words-same class a b e))
+
+wide_qualifier-same : (set a b : ℕ) → Same a b → wide_qualifier set a ≡ wide_qualifier set b
+unfolding wide_qualifier
+wide_qualifier-same set a b e = ap (λ c. cond c (own_qualifier 64 (codes "__ptr64") set) []) e.wide
+
+own_qualifiers-same : (set a b : ℕ) → Same a b → own_qualifiers set a ≡ own_qualifiers set b
+unfolding own_qualifiers each_own_qualifier
+own_qualifiers-same set a b e = same-unless (has a no_this_type) (has b no_this_type)
+    (each_own_qualifier set a) (each_own_qualifier set b) e.this_type
+    (ap (λ x. own_qualifier 1 (codes "const") set ++ (own_qualifier 2 (codes "volatile") set
+    ++ (x ++ (own_qualifier 32 (codes "__restrict") set
+    ++ (own_qualifier 128 (codes "&") set ++ own_qualifier 256 (codes "&&") set))))) (wide_qualifier-same set a b e))
+
+calling-same : (pointed : Bool) (convention : CallingConv) (a b : ℕ) → Same a b →
+    calling pointed convention a ≡ calling pointed convention b
+unfolding calling convention_pieces
+calling-same pointed convention a b e =
+    ap (λ c. opening pointed ++ (space UnlessOpen ∷ cond c [] (text (convention_word convention) ∷ []))) e.keywords
+
+function_end-same : (pointed : Bool) (xs ys : List Piece) (set a b : ℕ) (r r' : List Piece) → xs ≡ ys → r ≡ r' →
+    Same a b → function_end pointed xs set a r ≡ function_end pointed ys set b r'
+function_end-same pointed xs ys set a b r r' h h' e = ap (λ x. closing pointed ++ (text (codes "(") ∷ x))
+    (same-append xs ys (text (codes ")") ∷ (own_qualifiers set a ++ r)) (text (codes ")") ∷ (own_qualifiers set b ++ r'))
+    h (ap (λ x. text (codes ")") ∷ x)
+    (same-append (own_qualifiers set a) (own_qualifiers set b) r r' (own_qualifiers-same set a b e) h')))
+
+member_pointer_end-same : (set : ℕ) (xs ys r r' : List Piece) → xs ≡ ys → r ≡ r' →
+    member_pointer_end xs set r ≡ member_pointer_end ys set r'
+member_pointer_end-same set xs ys r r' h h' =
+    ap (λ x. member_pointer_end x set r) h ∙ ap (λ x. member_pointer_end ys set x) h'
+
+-- names
+base_class-same : (k l m n : ℤ) (a b : ℕ) → Same a b → base_class_pieces k l m n a ≡ base_class_pieces k l m n b
+unfolding base_class_pieces
+base_class-same k l m n a b e = ap (λ s. space AfterPointer ∷ text (codes "`RTTI Base Class Descriptor at (")
+    ∷ text (signed_decimal k) ∷ ((s ++ text (signed_decimal l) ∷ []) ++ ((s ++ text (signed_decimal m) ∷ [])
+    ++ ((s ++ text (signed_decimal n) ∷ []) ++ text (codes ")'") ∷ [])))) (separator-same false a b e)
+
+scoped-flags : (kind : OwnName) (prefix path name : List Piece) (a b : ℕ) → Same a b →
+    scoped kind prefix path name a ≡ scoped kind prefix path name b
+unfolding scoped
+scoped-flags own_kinds.Literal prefix path name a b e =
+    ap (λ s. space s ∷ space AfterPointer ∷ text (codes "operator \"\"") ∷ path) (name_space-same a b e)
+scoped-flags own_kinds.Ordinary prefix path name a b e = ap (λ s. space s ∷ (prefix ++ name)) (name_space-same a b e)
+scoped-flags _ prefix path name a b e = ap (λ s. space s ∷ (prefix ++ name)) (name_space-same a b e)
+
+scoped-same : (kind : OwnName) (prefix prefix' path path' name name' : List Piece) (a b : ℕ) → prefix ≡ prefix' →
+    path ≡ path' → name ≡ name' → Same a b → scoped kind prefix path name a ≡ scoped kind prefix' path' name' b
+scoped-same kind prefix prefix' path path' name name' a b h h' h'' e =
+    ap (λ x. scoped kind x path name a) h ∙ ap (λ x. scoped kind prefix' x name a) h'
+    ∙ ap (λ x. scoped kind prefix' path' x a) h'' ∙ scoped-flags kind prefix' path' name' a b e
+
+own_name-same : (kind : OwnName) (c c' d d' v v' n n' : List Piece) → c ≡ c' → d ≡ d' → v ≡ v' → n ≡ n' →
+    own_name kind c d v n ≡ own_name kind c' d' v' n'
+own_name-same kind c c' d d' v v' n n' hc hd hv hn =
+    ap (λ x. own_name kind x d v n) hc ∙ ap (λ x. own_name kind c' x v n) hd
+    ∙ ap (λ x. own_name kind c' d' x n) hv ∙ ap (λ x. own_name kind c' d' v' x) hn
+
+-- names, scopes, types and their lists
+mutual
+  unfolding name_pieces scope_prefix scope_path class_name conversion before after parameters
+
+  name_pieces-same : (n : NameTree) (own : Bool) (a b : ℕ) → Same a b → name_pieces n own a ≡ name_pieces n own b
+  name_pieces-same (spelled how bytes) own a b e = refl
+  name_pieces-same (template n ts) own a b e = same-append (name_pieces n false a) (name_pieces n false b)
+      (angled (parameters ts true a)) (angled (parameters ts true b)) (name_pieces-same n false a b e)
+      (ap angled (parameters-same ts true a b e))
+  name_pieces-same (discriminator z) own a b e = refl
+  name_pieces-same (nested n ns t) own a b e = ap (quoted_unless own) (same-append _ _ _ _
+      (first_half-same (before t false a) (before t false b) a b (before-same t false a b e) e)
+      (same-append _ _ _ _ (scoped-same (own_kind n) _ _ _ _ _ _ a b (scope_prefix-same ns a b e)
+      (scope_path-same ns a b e) (own_name-same (own_kind n) _ _ _ _ _ _ _ _ (class_name-same ns [] a b e)
+      (class_name-same ns tilde a b e)
+      (conversion-same t (name_pieces n true a) (name_pieces n true b) a b (name_pieces-same n true a b e) e)
+      (name_pieces-same n true a b e)) e)
+      (last_half-same (after t false a) (after t false b) a b (after-same t false a b e) e)))
+  name_pieces-same (anonymous digits) own a b e = refl
+  name_pieces-same (operator o) own a b e = refl
+  name_pieces-same (guard g n) own a b e = refl
+  name_pieces-same (type_descriptor set t) own a b e =
+      ap (λ x. space AfterPointer ∷ (x ++ text (codes "::`RTTI Type Descriptor'") ∷ [])) (before-same t false a b e)
+  name_pieces-same (base_class_descriptor k l m n) own a b e = base_class-same k l m n a b e
+
+  scope_prefix-same : (ns : NameTrees) (a b : ℕ) → Same a b → scope_prefix ns a ≡ scope_prefix ns b
+  scope_prefix-same no_names a b e = refl
+  scope_prefix-same (names n ns) a b e = same-append _ _ _ _ (scope_prefix-same ns a b e)
+      (ap (λ x. x ++ text (codes "::") ∷ []) (name_pieces-same n false a b e))
+
+  scope_path-same : (ns : NameTrees) (a b : ℕ) → Same a b → scope_path ns a ≡ scope_path ns b
+  scope_path-same no_names a b e = refl
+  scope_path-same (names n ns) a b e =
+      same-append _ _ _ _ (scope_prefix-same ns a b e) (name_pieces-same n false a b e)
+
+  class_name-same : (ns : NameTrees) (word : List Piece) (a b : ℕ) → Same a b →
+      class_name ns word a ≡ class_name ns word b
+  class_name-same no_names word a b e = refl
+  class_name-same (names n ns) word a b e = ap (λ x. word ++ x) (name_pieces-same n false a b e)
+
+  conversion-same : (t : TypeTree) (name name' : List Piece) (a b : ℕ) → name ≡ name' → Same a b →
+      conversion t name a ≡ conversion t name' b
+  conversion-same (member_function class convention ts set t) name name' a b h e =
+      ap (λ x. text (codes "operator ") ∷ x)
+      (same-append _ _ _ _ (before-same t false a b e) (after-same t false a b e))
+  conversion-same _ name name' a b h e = h
+
+  before-same : (t : TypeTree) (pointed : Bool) (a b : ℕ) → Same a b → before t pointed a ≡ before t pointed b
+  before-same (base w set) pointed a b e = same-append _ _ _ _
+      (ap (λ x. text x ∷ []) (base_word-same w a b e)) (qualifiers-same set a b e)
+  before-same (tagged tag n scope set) pointed a b e = same-append _ _ _ _
+      (ap (λ x. text x ∷ []) (tag_word-same tag a b e)) (same-append _ _ _ _
+      (scoped-same (own_kind n) _ _ _ _ _ _ a b (scope_prefix-same scope a b e) (scope_path-same scope a b e)
+      (own_name-same (own_kind n) _ _ _ _ _ _ _ _ (class_name-same scope [] a b e) (class_name-same scope tilde a b e)
+      (name_pieces-same n true a b e) (name_pieces-same n true a b e)) e) (qualifiers-same set a b e))
+  before-same (numbered number_kind.Constant n) pointed a b e = refl
+  before-same (numbered k n) pointed a b e = refl
+  before-same (pointing m t set) pointed a b e = same-append _ _ _ _ (before-same t true a b e)
+      (marked-same (mark_word m) set a b e)
+  before-same (array n t set) pointed a b e = same-append _ _ _ _ (before-same t false a b e)
+      (ap (λ x. x ++ opening pointed) (qualifiers-same set a b e))
+  before-same (function convention ts set t) pointed a b e = same-append _ _ _ _ (before-same t false a b e)
+      (calling-same pointed convention a b e)
+  before-same (member_function class convention ts set t) pointed a b e = same-append _ _ _ _
+      (member_start-same pointed class a b e)
+      (same-append _ _ _ _ (before-same t false a b e) (calling-same pointed convention a b e))
+  before-same (member_pointer n scope class convention ts set t) pointed a b e = same-append _ _ _ _
+      (before-same t false a b e) (same-append _ _ _ _ (calling-same true convention a b e)
+      (ap (λ x. space AfterPointer ∷ (x ++ text (codes "::*") ∷ []))
+      (scoped-same (own_kind n) _ _ _ _ _ _ a b (scope_prefix-same scope a b e) (scope_path-same scope a b e)
+      (own_name-same (own_kind n) _ _ _ _ _ _ _ _ (class_name-same scope [] a b e) (class_name-same scope tilde a b e)
+      (name_pieces-same n true a b e) (name_pieces-same n true a b e)) e)))
+  before-same (table k scope set) pointed a b e = qualifiers-same set a b e
+  before-same (vcall_thunk n convention) pointed a b e =
+      ap (λ x. text (codes "[thunk]: ") ∷ x) (calling-same false convention a b e)
+  before-same (variable t kind set) pointed a b e = ap (λ x. text (variable_word kind) ∷ x)
+      (same-append _ _ _ _ (before-same t false a b e) (qualifiers-same set a b e))
+  before-same (plain plain_kind.Variadic) pointed a b e = refl
+  before-same _ pointed a b e = refl
+
+  after-same : (t : TypeTree) (pointed : Bool) (a b : ℕ) → Same a b → after t pointed a ≡ after t pointed b
+  after-same (pointing m t set) pointed a b e = after-same t true a b e
+  after-same (array n t set) pointed a b e = ap (λ x. closing pointed
+      ++ (text (codes "[") ∷ text (signed_decimal n) ∷ text (codes "]") ∷ x)) (after-same t false a b e)
+  after-same (function convention ts set t) pointed a b e = function_end-same pointed _ _ set a b _ _
+      (parameters-same ts true a b e) (after-same t false a b e) e
+  after-same (member_function class convention ts set t) pointed a b e = function_end-same pointed _ _ set a b _ _
+      (parameters-same ts true a b e) (after-same t false a b e) e
+  after-same (member_pointer n scope class convention ts set t) pointed a b e = member_pointer_end-same set _ _ _ _
+      (parameters-same ts true a b e) (after-same t false a b e)
+  after-same (variable t kind set) pointed a b e = after-same t false a b e
+  after-same (table k scope set) pointed a b e = ap (table_end k scope) (scope_path-same scope a b e)
+  after-same (vcall_thunk n convention) pointed a b e =
+      ap (λ x. text (codes "{") ∷ text (signed_decimal n) ∷ (x ++ text (codes "{flat}}") ∷ []))
+      (separator-same false a b e)
+  after-same (plain plain_kind.Variadic) pointed a b e = refl
+  after-same _ pointed a b e = refl
+
+  parameters-same : (ts : TypeTrees) (first : Bool) (a b : ℕ) → Same a b → parameters ts first a ≡ parameters ts first b
+  parameters-same no_types first a b e = refl
+  parameters-same (types t ts) first a b e = same-choice (is_empty_pack t) _ _ _ _ (parameters-same ts first a b e)
+      (same-append _ _ _ _ (separator-same first a b e) (same-append _ _ _ _ (before-same t false a b e)
+      (same-append _ _ _ _ (after-same t false a b e) (parameters-same ts false a b e))))
+
+symbol_pieces-same : (n : NameTree) (ns : NameTrees) (t : TypeTree) (a b : ℕ) → Same a b →
+    symbol_pieces n ns t a ≡ symbol_pieces n ns t b
+symbol_pieces-same n ns t a b e = same-append _ _ _ _
+    (first_half-same (before t false a) (before t false b) a b (before-same t false a b e) e)
+    (same-append _ _ _ _ (scoped-same (own_kind n) _ _ _ _ _ _ a b (scope_prefix-same ns a b e)
+    (scope_path-same ns a b e) (own_name-same (own_kind n) _ _ _ _ _ _ _ _ (class_name-same ns [] a b e)
+    (class_name-same ns tilde a b e)
+    (conversion-same t (name_pieces n true a) (name_pieces n true b) a b (name_pieces-same n true a b e) e)
+    (name_pieces-same n true a b e)) e)
+    (last_half-same (after t false a) (after t false b) a b (after-same t false a b e) e))
+
+pub other_bits-change-nothing : OtherBitsChangeNothing
+unfolding declaration
+other_bits-change-nothing = λ s a b agree.
+    ap resolve (symbol_pieces-same s.name s.scope s.symbol_type a b (all-same a b agree))
+
+pub decoding-changes-nothing : DecodingChangesNothing
+decoding-changes-nothing = λ s a b agree.
+    other_bits-change-nothing s a b (fewer a b all_but_decoding obeyed_flags refl agree)
+
+-- under NAME_ONLY nothing but the name is left
+name_only-pieces : (n : NameTree) (scope : NameTrees) (t : TypeTree) (flags : ℕ) → has flags name_only ≡ true →
+    symbol_pieces n scope t flags ≡ symbol_name n scope t flags ++ []
+name_only-pieces n scope t flags only = same-append _ _ _ _
+    (first_half-name_only (before t false flags) flags only)
+    (ap (λ x. symbol_name n scope t flags ++ x) (last_half-dropped (after t false flags) flags only))
+
+-- only a conversion operator prints what its symbol returns
+own_name-conversion : (n : NameTree) (c d v v' name : List Piece) → (n ≡ operator plain_operator.Conversion → ⊥) →
+    own_name (own_kind n) c d v name ≡ own_name (own_kind n) c d v' name
+unfolding own_kind
+own_name-conversion (operator plain_operator.Ctor) c d v v' name other = refl
+own_name-conversion (operator plain_operator.Dtor) c d v v' name other = refl
+own_name-conversion (operator plain_operator.Conversion) c d v v' name other = absurd (other refl)
+own_name-conversion (operator plain_operator.VBTable) c d v v' name other = refl
+own_name-conversion (operator plain_operator.LiteralOperatorName) c d v v' name other = refl
+own_name-conversion (operator o) c d v v' name other = refl
+own_name-conversion _ c d v v' name other = refl
+
+pub name_only-asks-no-type : NameOnlyAsksNoType
+unfolding declaration
+name_only-asks-no-type = λ n scope t other flags only no_conversion.
+    ap resolve (name_only-pieces n scope t flags only
+    ∙ ap (λ x. scoped (own_kind n) (scope_prefix scope flags) (scope_path scope flags) x flags ++ [])
+    (own_name-conversion n _ _ _ _ _ no_conversion)
+    ∙ sym (name_only-pieces n scope other flags only))
