@@ -13,6 +13,7 @@ use crate::parser::Parser;
 use crate::refusal::{Message, Refusal};
 use bitflags::Flags;
 use msvc_tree::flags::StorageClass;
+use msvc_tree::kinds::{Guard, Table};
 use msvc_tree::tree::{NameSequence, ParseResult, Symbol, Type, VarStorageKind};
 
 impl<'a> Parser<'a> {
@@ -31,22 +32,30 @@ impl<'a> Parser<'a> {
         self.symbol_body()
     }
 
-    /// `SYMBOL_BODY = "$" TEMPLATE_NAME | QUALIFIED_NAME ENCODING`: what follows the `?` of a symbol.
+    /// `SYMBOL_BODY = text of a form, and what the form asks for | "$" TEMPLATE_NAME | NAMED_SYMBOL`: what follows the
+    /// `?` of a symbol.
     #[cycle(readers)]
-    #[tactic(auto, using(crate::proofs::Readers::symbol_body_split))]
-    pub fn symbol_body(&mut self) -> Result<ParseResult<'a>, Refusal>
-        ensures value { Gives (λ r. (tree_of r, self.new.rest.now, state_of self.new)) result
-            (read_name symbol_body self.old.rest.now (state_of self.old)) }
-        ensures shorter { IfOk result (λ _. length self.new.rest.now < length self.old.rest.now) }
-    {
-        if self.after(b"?@").is_some() || self.after(b"$TSS").is_some() {
-            return Err(self.refuse(Message::NotBuilt));
-        }
-        if let Some(behind) = self.after(b"$") {
+    pub fn symbol_body(&mut self) -> Result<ParseResult<'a>, Refusal> {
+        if let Some((form, behind)) = symbol_form(self.rest) {
             self.rest = behind;
-            return self.template_symbol();
+            return self.formed_symbol(form);
         }
-        self.named_symbol()
+        let Some(behind) = self.after(b"$") else {
+            return self.named_symbol();
+        };
+        self.rest = behind;
+        self.template_symbol()
+    }
+
+    /// What follows the text of a form.
+    #[cycle(readers)]
+    #[inline(never)]
+    fn formed_symbol(&mut self, form: SymbolForm) -> Result<ParseResult<'a>, Refusal> {
+        match form {
+            SymbolForm::Hashed => self.hashed_symbol(),
+            SymbolForm::NumberedGuard => self.numbered_guard(),
+            SymbolForm::Guard(guard) => self.guard_symbol(guard),
+        }
     }
 
     /// A symbol that is a template and nothing else, behind its `?$`.
@@ -86,7 +95,7 @@ impl<'a> Parser<'a> {
     /// `ENCODING = end | letter of encodings, and what its row asks for`: at the end of the text there is no type.
     #[cycle(readers)]
     #[tactic(auto, using(crate::proofs::Readers::encoding_split))]
-    fn encoding(&mut self) -> Result<Type<'a>, Refusal>
+    pub fn encoding(&mut self) -> Result<Type<'a>, Refusal>
         ensures value { Gives (λ t. (type_of t, self.new.rest.now, state_of self.new)) result
             (read_name (encoding false) self.old.rest.now (state_of self.old)) }
         ensures shorter { IfOk result (λ _. length self.new.rest.now ≤ length self.old.rest.now) }
@@ -97,8 +106,8 @@ impl<'a> Parser<'a> {
         }
     }
 
-    /// What follows the first letter of an encoding: a variable behind `0` to `4`, nothing behind `9`, a function
-    /// behind `Y`, else a member function.
+    /// What follows the first letter of an encoding: a variable behind `0` to `4`, a table behind `6` and `7`, nothing
+    /// behind `8` and `9`, a function behind `Y`, a string behind `_`, a thunk behind `$`, else a member function.
     #[cycle(readers)]
     #[tactic(auto, using(crate::proofs::Readers::encoding_split), unfolding(crate::specs::Parser::encoding_by))]
     fn encoding_behind(&mut self, letter: u8) -> Result<Type<'a>, Refusal>
@@ -112,7 +121,12 @@ impl<'a> Parser<'a> {
             b'2' => self.variable(VarStorageKind::PublicStatic),
             b'3' => self.variable(VarStorageKind::Global),
             b'4' => self.variable(VarStorageKind::FunctionLocalStatic),
+            b'6' => self.table(Table::Functions),
+            b'7' => self.table(Table::Bases),
+            b'8' => Ok(Type::RTTIType),
             b'9' => Ok(Type::None),
+            b'_' => self.encoded_string(),
+            b'$' => self.virtual_call(),
             b'Y' => self.function(),
             _ => self.member_encoding(letter),
         }
@@ -129,7 +143,6 @@ impl<'a> Parser<'a> {
     {
         match letters::function_class(letter) {
             Some(class) => self.member(class),
-            None if begins_later_encoding(letter) => Err(self.refuse(Message::NotBuilt)),
             None => Err(self.refuse(Message::UnknownFuncClass)),
         }
     }
@@ -146,9 +159,43 @@ impl<'a> Parser<'a> {
         let class = self.optional_storage_class();
         Ok(Type::Var(variable, kind, class))
     }
+
+    /// The table of a class, behind its letter: `[qualifier] SCOPE`.
+    #[cycle(readers)]
+    fn table(&mut self, table: Table) -> Result<Type<'a>, Refusal> {
+        let class = self.optional_qualifier();
+        let scope = self.scope()?;
+        Ok(table.table_type(scope, class))
+    }
+
+    /// `VIRTUAL_CALL = "B" NUMBER "A" convention`: a thunk that calls a virtual function.
+    fn virtual_call(&mut self) -> Result<Type<'a>, Refusal> {
+        self.expected(b"B", Message::BExpected)?;
+        let offset = self.number()?;
+        self.expected(b"A", Message::AExpected)?;
+        let convention = self.convention()?;
+        Ok(Type::VCallThunk(offset, convention))
+    }
 }
 
-/// Whether an encoding that isn't built yet begins with the letter.
-fn begins_later_encoding(letter: u8) -> bool {
-    matches!(letter, b'6'..=b'8' | b'_' | b'$')
+/// What a symbol begins with behind its `?`, where it is neither a template alone nor a name in its scope and a type.
+#[derive(Clone, Copy)]
+pub enum SymbolForm {
+    /// The hash of a name that was too long.
+    Hashed,
+    /// The guard of a thread-safe static variable, by a number.
+    NumberedGuard,
+    /// The guard of a static variable in a function, which may have an index.
+    Guard(Guard),
+}
+
+/// The form whose text the bytes begin with, and what is behind it.
+fn symbol_form<'a>(left: &'a [u8]) -> Option<(SymbolForm, &'a [u8])> {
+    match left {
+        [b'?', b'_', b'B', behind @ ..] => Some((SymbolForm::Guard(Guard::Static), behind)),
+        [b'?', b'_', b'_', b'J', behind @ ..] => Some((SymbolForm::Guard(Guard::Thread), behind)),
+        [b'?', b'@', behind @ ..] => Some((SymbolForm::Hashed, behind)),
+        [b'$', b'T', b'S', b'S', behind @ ..] => Some((SymbolForm::NumberedGuard, behind)),
+        _ => None,
+    }
 }
