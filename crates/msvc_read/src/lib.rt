@@ -6,6 +6,7 @@ mod functions;
 mod letters;
 mod names;
 mod numbers;
+mod operators;
 mod parameters;
 mod parser;
 mod read;
