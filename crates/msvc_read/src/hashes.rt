@@ -1,6 +1,7 @@
 //! Names that were too long, for which a hash stands.
 
 use crate::letters;
+use crate::names::name_length;
 use crate::parser::Parser;
 use crate::refusal::{Message, Refusal};
 use msvc_tree::tree::{Name, NameSequence, ParseResult, Symbol, Type};
@@ -9,7 +10,6 @@ impl<'a> Parser<'a> {
     /// `HASHED_SYMBOL = 32 * hexadecimal digit "@"`, behind its `??@`.
     pub fn hashed_symbol(&mut self) -> Result<ParseResult<'a>, Refusal> {
         let digits = self.hash()?;
-        self.expected(b"@", Message::AtExpected)?;
         let scope = NameSequence {
             names: Vec::new(self.alloc),
         };
@@ -22,22 +22,32 @@ impl<'a> Parser<'a> {
         })
     }
 
-    /// The digits of a hash.
+    /// The digits of a hash, up to the next `@`, which is eaten.
     fn hash(&mut self) -> Result<&'a [u8], Refusal> {
         let bytes = self.rest;
-        let length = digits_length(bytes);
-        self.rest = &bytes[length..];
-        if length != 32 {
-            return Err(self.refuse(Message::HashLength));
+        let Some(end) = name_length(bytes) else {
+            return Err(no_hash(bytes));
+        };
+        let digits = &bytes[..end];
+        if !is_hash(digits) {
+            return Err(no_hash(bytes));
         }
-        Ok(&bytes[..length])
+        self.rest = &bytes[end + 1..];
+        Ok(digits)
     }
 }
 
-/// How many hexadecimal digits the bytes begin with.
-fn digits_length(bytes: &[u8]) -> usize {
-    match bytes.iter().position(|byte| letters::hexadecimal_code(*byte).is_none()) {
-        Some(length) => length,
-        None => bytes.len(),
-    }
+/// Whether these are the 32 digits of a hash.
+fn is_hash(digits: &[u8]) -> bool {
+    digits.len() == 32 && digits.iter().all(|digit| letters::hexadecimal_code(*digit).is_some())
+}
+
+/// That these bytes begin with no hash: it is refused behind all the digits.
+fn no_hash(bytes: &[u8]) -> Refusal {
+    let digits = bytes.iter().position(|byte| letters::hexadecimal_code(*byte).is_none());
+    let left = match digits {
+        Some(end) => bytes.len().saturating_sub(end),
+        None => 0,
+    };
+    Refusal::Unread(Message::HashLength, left)
 }

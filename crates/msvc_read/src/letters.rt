@@ -157,11 +157,11 @@ pub fn extended_type<'a>(letter: u8, q: StorageClass) -> Option<Type<'a>>
     Some(base)
 }
 
-/// How many characters of a string are written out at most: 32 of one byte each, or 64 where a character has two.
-pub fn most_characters(letter: u8) -> Option<u32> {
+/// How many bytes a character of a string has.
+pub fn character_size(letter: u8) -> Option<u8> {
     match letter {
-        b'0' => Some(32),
-        b'1' => Some(64),
+        b'0' => Some(1),
+        b'1' => Some(2),
         _ => None,
     }
 }

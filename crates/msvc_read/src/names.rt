@@ -325,7 +325,7 @@ impl<'a> Parser<'a> {
 
 /// How many bytes stand before the first `@`.
 #[tactic(auto, unfolding(crate::specs::Parser::name_length))]
-fn name_length(bytes: &[u8]) -> Option<usize>
+pub fn name_length(bytes: &[u8]) -> Option<usize>
     ensures value { result ≡ name_length bytes.now }
     ensures inside { IfSome result (λ n. n < length bytes.now) }
 {

@@ -8,18 +8,18 @@ use msvc_tree::tree::Type;
 impl<'a> Parser<'a> {
     /// `ENCODED_STRING = ("0" | "1") NUMBER NUMBER CHARACTERS`: the second number is dropped.
     pub fn encoded_string(&mut self) -> Result<Type<'a>, Refusal> {
-        let most = self.most_characters()?;
+        let size = self.character_size()?;
         let length = self.number()?;
         self.number()?;
-        let text = self.characters(written_characters(length, most))?;
+        let text = self.characters(string_length(size, length))?;
         Ok(Type::ConstantString(text))
     }
 
-    /// How many characters are written out at most: 32 times the size of one.
-    fn most_characters(&mut self) -> Result<u32, Refusal> {
+    /// How many bytes a character has.
+    fn character_size(&mut self) -> Result<u8, Refusal> {
         let letter = self.byte()?;
-        match letters::most_characters(letter) {
-            Some(most) => Ok(most),
+        match letters::character_size(letter) {
+            Some(size) => Ok(size),
             None => Err(self.refuse(Message::UnknownStringCharacterType)),
         }
     }
@@ -74,11 +74,12 @@ impl<'a> Parser<'a> {
     }
 }
 
-/// How many characters of a string of this length are written out.
-fn written_characters(length: i32, most: u32) -> u32 {
+/// How many characters of a string are kept, where each has so many bytes.
+fn string_length(size: u8, length: i32) -> u32 {
     if length < 0 {
         return 0;
     }
+    let most = 32 * u32::from(size);
     let length = length as u32;
     if length < most { length } else { most }
 }

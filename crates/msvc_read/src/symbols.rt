@@ -13,7 +13,7 @@ use crate::parser::Parser;
 use crate::refusal::{Message, Refusal};
 use bitflags::Flags;
 use msvc_tree::flags::StorageClass;
-use msvc_tree::kinds::{Guard, Table};
+use msvc_tree::kinds::Table;
 use msvc_tree::tree::{NameSequence, ParseResult, Symbol, Type, VarStorageKind};
 
 impl<'a> Parser<'a> {
@@ -32,30 +32,28 @@ impl<'a> Parser<'a> {
         self.symbol_body()
     }
 
-    /// `SYMBOL_BODY = text of a form, and what the form asks for | "$" TEMPLATE_NAME | NAMED_SYMBOL`: what follows the
+    /// `SYMBOL_BODY = "?@" HASHED_SYMBOL | "$TSS" NUMBERED_GUARD | "$" TEMPLATE_NAME | NAMED_SYMBOL`: what follows the
     /// `?` of a symbol.
     #[cycle(readers)]
-    pub fn symbol_body(&mut self) -> Result<ParseResult<'a>, Refusal> {
-        if let Some((form, behind)) = symbol_form(self.rest) {
+    #[tactic(auto, using(crate::proofs::Readers::symbol_body_split))]
+    pub fn symbol_body(&mut self) -> Result<ParseResult<'a>, Refusal>
+        ensures value { Gives (λ r. (tree_of r, self.new.rest.now, state_of self.new)) result
+            (read_name symbol_body self.old.rest.now (state_of self.old)) }
+        ensures shorter { IfOk result (λ _. length self.new.rest.now < length self.old.rest.now) }
+    {
+        if let Some(behind) = self.after(b"?@") {
             self.rest = behind;
-            return self.formed_symbol(form);
+            return self.hashed_symbol();
         }
-        let Some(behind) = self.after(b"$") else {
-            return self.named_symbol();
-        };
-        self.rest = behind;
-        self.template_symbol()
-    }
-
-    /// What follows the text of a form.
-    #[cycle(readers)]
-    #[inline(never)]
-    fn formed_symbol(&mut self, form: SymbolForm) -> Result<ParseResult<'a>, Refusal> {
-        match form {
-            SymbolForm::Hashed => self.hashed_symbol(),
-            SymbolForm::NumberedGuard => self.numbered_guard(),
-            SymbolForm::Guard(guard) => self.guard_symbol(guard),
+        if let Some(behind) = self.after(b"$TSS") {
+            self.rest = behind;
+            return self.numbered_guard();
         }
+        if let Some(behind) = self.after(b"$") {
+            self.rest = behind;
+            return self.template_symbol();
+        }
+        self.named_symbol()
     }
 
     /// A symbol that is a template and nothing else, behind its `?$`.
@@ -76,7 +74,7 @@ impl<'a> Parser<'a> {
         })
     }
 
-    /// A name in its scope, and a type.
+    /// A name in its scope, the index of a guard, and a type.
     #[cycle(readers)]
     #[tactic(auto, using(crate::proofs::Readers::symbol_split))]
     fn named_symbol(&mut self) -> Result<ParseResult<'a>, Refusal>
@@ -85,9 +83,10 @@ impl<'a> Parser<'a> {
         ensures shorter { IfOk result (λ _. length self.new.rest.now < length self.old.rest.now) }
     {
         let symbol = self.qualified_name(true)?;
+        let indexed = self.indexed_symbol(symbol)?;
         let symbol_type = self.encoding()?;
         Ok(ParseResult {
-            symbol,
+            symbol: indexed,
             symbol_type,
         })
     }
@@ -175,27 +174,5 @@ impl<'a> Parser<'a> {
         self.expected(b"A", Message::AExpected)?;
         let convention = self.convention()?;
         Ok(Type::VCallThunk(offset, convention))
-    }
-}
-
-/// What a symbol begins with behind its `?`, where it is neither a template alone nor a name in its scope and a type.
-#[derive(Clone, Copy)]
-pub enum SymbolForm {
-    /// The hash of a name that was too long.
-    Hashed,
-    /// The guard of a thread-safe static variable, by a number.
-    NumberedGuard,
-    /// The guard of a static variable in a function, which may have an index.
-    Guard(Guard),
-}
-
-/// The form whose text the bytes begin with, and what is behind it.
-fn symbol_form<'a>(left: &'a [u8]) -> Option<(SymbolForm, &'a [u8])> {
-    match left {
-        [b'?', b'_', b'B', behind @ ..] => Some((SymbolForm::Guard(Guard::Static), behind)),
-        [b'?', b'_', b'_', b'J', behind @ ..] => Some((SymbolForm::Guard(Guard::Thread), behind)),
-        [b'?', b'@', behind @ ..] => Some((SymbolForm::Hashed, behind)),
-        [b'$', b'T', b'S', b'S', behind @ ..] => Some((SymbolForm::NumberedGuard, behind)),
-        _ => None,
     }
 }
