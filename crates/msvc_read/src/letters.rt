@@ -7,6 +7,7 @@ ghost use Rattle.msvc_tree.specs.Trees.{base};
 ghost use Rattle.msvc_read.specs.Grammar.{digits, hexadecimal, hexadecimal_codes, qualifiers, storage_classes};
 ghost use Rattle.msvc_read.specs.Grammar.{qualifiers_of_returns, qualifiers_of_arrays, reference_qualifiers};
 ghost use Rattle.msvc_read.specs.Grammar.{conventions, base_types, extended_types, function_classes};
+ghost use Rattle.msvc_read.specs.Grammar.{character_sizes, escaped_characters, plain_characters};
 ghost use Rattle.msvc_read.specs.Rules.{lookup};
 
 use bitflags::Flags;
@@ -158,7 +159,9 @@ pub fn extended_type<'a>(letter: u8, q: StorageClass) -> Option<Type<'a>>
 }
 
 /// How many bytes a character of a string has.
-pub fn character_size(letter: u8) -> Option<u8> {
+pub fn character_size(letter: u8) -> Option<u8>
+    ensures { result ≡ lookup letter character_sizes }
+{
     match letter {
         b'0' => Some(1),
         b'1' => Some(2),
@@ -167,7 +170,9 @@ pub fn character_size(letter: u8) -> Option<u8> {
 }
 
 /// A character of a string that stands for itself.
-pub fn character(letter: u8) -> Option<u8> {
+pub fn character(letter: u8) -> Option<u8>
+    ensures { result ≡ lookup letter plain_characters }
+{
     match letter {
         b'0'..=b'9' | b'a'..=b'z' | b'A'..=b'Z' | b'_' | b'$' => Some(letter),
         _ => None,
@@ -175,7 +180,9 @@ pub fn character(letter: u8) -> Option<u8> {
 }
 
 /// The character of a string that a letter stands for behind a `?`: a capital one for the same as a small one.
-pub fn escaped_character(letter: u8) -> Option<u8> {
+pub fn escaped_character(letter: u8) -> Option<u8>
+    ensures { result ≡ lookup letter escaped_characters }
+{
     match letter {
         b'a'..=b'z' => Some(letter - b'a' + 0xE1),
         b'A'..=b'Z' => Some(letter - b'A' + 0xE1),

@@ -1,5 +1,15 @@
 //! Special names: the codes of what the compiler names by itself, as operators and tables.
 
+ghost use Rattle.std.specs.Prelude.{◌≡◌, ◌<◌, length, IfOk, IfSome};
+ghost use Rattle.std.specs.Option.{option_map};
+ghost use Rattle.msvc_tree.specs.View.{name_of};
+ghost use Rattle.msvc_read.specs.Grammar.{second_special_letters, special_letters, special_texts};
+ghost use Rattle.msvc_read.specs.Grammar.{third_special_letters, type_information_letters};
+ghost use Rattle.msvc_read.specs.Parser.{Gives, state_of, text_at};
+ghost use Rattle.msvc_read.specs.Reads.{read_name};
+ghost use Rattle.msvc_read.specs.Rules.{lookup, special_behind, special_name};
+ghost use Rattle.msvc_read.specs.declared.operators.SpecialForm.TheVariants as special;
+
 use crate::parser::Parser;
 use crate::refusal::{Message, Refusal};
 use msvc_tree::kinds::{Guard, PlainOperator};
@@ -19,20 +29,35 @@ pub enum SpecialForm {
 }
 
 /// What the code stands for that the bytes begin with, and what is behind it.
-pub fn special_form<'a>(left: &'a [u8]) -> Option<(SpecialForm, &'a [u8])> {
+#[tactic(auto, using(crate::proofs::SpecialSteps::special_texts_at))]
+pub fn special_form<'a>(left: &'a [u8]) -> Option<(SpecialForm, &'a [u8])>
+    ensures value { option_map (λ x. (x.0, x.1.now)) result ≡ text_at special_texts left.now }
+    ensures shorter { IfSome result (λ x. length x.1.now < length left.now) }
+{
     match left {
-        [b'_', b'_', behind @ ..] => twice_marked_form(behind),
-        [b'_', b'R', behind @ ..] => type_information_form(behind),
-        [b'_', behind @ ..] => marked_form(behind),
-        _ => unmarked_form(left),
+        [b'_', b'_', letter, behind @ ..] => with_behind(third_form(*letter), behind),
+        [b'_', b'R', letter, behind @ ..] => with_behind(type_information_form(*letter), behind),
+        [b'_', letter, behind @ ..] => with_behind(second_form(*letter), behind),
+        [letter, behind @ ..] => with_behind(first_form(*letter), behind),
+        [] => None,
     }
 }
 
-/// Likewise where no `_` stands before the letter.
-fn unmarked_form<'a>(left: &'a [u8]) -> Option<(SpecialForm, &'a [u8])> {
-    let [letter, behind @ ..] = left else {
-        return None;
-    };
+/// What a code stands for, if it is one, and what is behind it.
+fn with_behind<'a>(form: Option<SpecialForm>, behind: &'a [u8]) -> Option<(SpecialForm, &'a [u8])>
+    ensures value { option_map (λ x. (x.0, x.1.now)) result ≡ option_map (λ f. (f, behind.now)) form }
+    ensures still { IfSome result (λ x. length x.1.now ≡ length behind.now) }
+{
+    match form {
+        Some(form) => Some((form, behind)),
+        None => None,
+    }
+}
+
+/// What a code of one letter stands for.
+fn first_form(letter: u8) -> Option<SpecialForm>
+    ensures { result ≡ lookup letter special_letters }
+{
     let operator = match letter {
         b'0' => PlainOperator::Ctor,
         b'1' => PlainOperator::Dtor,
@@ -72,14 +97,13 @@ fn unmarked_form<'a>(left: &'a [u8]) -> Option<(SpecialForm, &'a [u8])> {
         b'Z' => PlainOperator::MinusEqual,
         _ => return None,
     };
-    Some((SpecialForm::Plain(operator), behind))
+    Some(SpecialForm::Plain(operator))
 }
 
-/// Likewise behind a `_`.
-fn marked_form<'a>(left: &'a [u8]) -> Option<(SpecialForm, &'a [u8])> {
-    let [letter, behind @ ..] = left else {
-        return None;
-    };
+/// What a letter stands for behind `_`.
+fn second_form(letter: u8) -> Option<SpecialForm>
+    ensures { result ≡ lookup letter second_special_letters }
+{
     let operator = match letter {
         b'0' => PlainOperator::SlashEqual,
         b'1' => PlainOperator::PercentEqual,
@@ -92,7 +116,7 @@ fn marked_form<'a>(left: &'a [u8]) -> Option<(SpecialForm, &'a [u8])> {
         b'8' => PlainOperator::VBTable,
         b'9' => PlainOperator::VCall,
         b'A' => PlainOperator::Typeof,
-        b'B' => return Some((SpecialForm::Guard(Guard::Static), behind)),
+        b'B' => return Some(SpecialForm::Guard(Guard::Static)),
         b'C' => PlainOperator::String,
         b'D' => PlainOperator::VBaseDtor,
         b'E' => PlainOperator::VectorDeletingDtor,
@@ -114,14 +138,13 @@ fn marked_form<'a>(left: &'a [u8]) -> Option<(SpecialForm, &'a [u8])> {
         b'Y' => PlainOperator::PlacementArrayDeleteClosure,
         _ => return None,
     };
-    Some((SpecialForm::Plain(operator), behind))
+    Some(SpecialForm::Plain(operator))
 }
 
-/// Likewise behind `_R`: run-time type information.
-fn type_information_form<'a>(left: &'a [u8]) -> Option<(SpecialForm, &'a [u8])> {
-    let [letter, behind @ ..] = left else {
-        return None;
-    };
+/// What a letter stands for behind `_R`, of run-time type information.
+fn type_information_form(letter: u8) -> Option<SpecialForm>
+    ensures { result ≡ lookup letter type_information_letters }
+{
     let form = match letter {
         b'0' => SpecialForm::TypeDescriptor,
         b'1' => SpecialForm::BaseClass,
@@ -130,14 +153,13 @@ fn type_information_form<'a>(left: &'a [u8]) -> Option<(SpecialForm, &'a [u8])> 
         b'4' => SpecialForm::Plain(PlainOperator::RTTIClassCompleteObjectLocator),
         _ => return None,
     };
-    Some((form, behind))
+    Some(form)
 }
 
-/// Likewise behind `__`.
-fn twice_marked_form<'a>(left: &'a [u8]) -> Option<(SpecialForm, &'a [u8])> {
-    let [letter, behind @ ..] = left else {
-        return None;
-    };
+/// What a letter stands for behind `__`.
+fn third_form(letter: u8) -> Option<SpecialForm>
+    ensures { result ≡ lookup letter third_special_letters }
+{
     let form = match letter {
         b'E' => SpecialForm::Plain(PlainOperator::DynamicInitializer),
         b'F' => SpecialForm::Plain(PlainOperator::DynamicAtexitDtor),
@@ -146,28 +168,32 @@ fn twice_marked_form<'a>(left: &'a [u8]) -> Option<(SpecialForm, &'a [u8])> {
         b'L' => SpecialForm::Plain(PlainOperator::CoroutineAwait),
         _ => return None,
     };
-    Some((form, behind))
+    Some(form)
 }
 
-/// Why the bytes begin with no code of a special name: how many of them are read before that is seen, and the message.
+/// Why the bytes begin with no code of a special name, and how many are left where that is seen.
 fn unknown_code(left: &[u8]) -> (Message, usize) {
     match left {
-        [] => (Message::EndOfInput, 0),
-        [b'_'] => (Message::EndOfInput, 1),
-        [b'_', b'R'] => (Message::EndOfInput, 2),
-        [b'_', b'_', ..] => (Message::UnknownOperatorName, 2),
-        [b'_', b'R', ..] => (Message::UnknownRttiOperatorName, 3),
-        [b'_', ..] => (Message::UnknownOperatorName, 2),
-        _ => (Message::UnknownOperatorName, 1),
+        [] | [b'_'] | [b'_', b'R'] => (Message::EndOfInput, 0),
+        [b'_', b'R', _, behind @ ..] => (Message::UnknownRttiOperatorName, behind.len()),
+        [b'_', b'_', behind @ ..] => (Message::UnknownOperatorName, behind.len()),
+        [b'_', _, behind @ ..] => (Message::UnknownOperatorName, behind.len()),
+        [_, behind @ ..] => (Message::UnknownOperatorName, behind.len()),
     }
 }
 
 impl<'a> Parser<'a> {
     /// `SPECIAL_NAME = code of special names, and what its row asks for`.
     #[cycle(readers)]
-    pub fn special_name(&mut self) -> Result<Name<'a>, Refusal> {
+    #[tactic(auto, using(crate::proofs::Readers::special_split), unfolding(msvc_tree::specs::View::name_of))]
+    pub fn special_name(&mut self) -> Result<Name<'a>, Refusal>
+        ensures value { Gives (λ n. (name_of n, self.new.rest.now, state_of self.new)) result
+            (read_name special_name self.old.rest.now (state_of self.old)) }
+        ensures shorter { IfOk result (λ _. length self.new.rest.now < length self.old.rest.now) }
+    {
         let Some((form, behind)) = special_form(self.rest) else {
-            return Err(self.no_special_name());
+            let (message, left) = unknown_code(self.rest);
+            return Err(Refusal::Unread(message, left));
         };
         self.rest = behind;
         match form {
@@ -178,15 +204,14 @@ impl<'a> Parser<'a> {
         }
     }
 
-    /// That no special name begins here.
-    fn no_special_name(&self) -> Refusal {
-        let (message, read) = unknown_code(self.rest);
-        Refusal::Unread(message, self.rest.len().saturating_sub(read))
-    }
-
     /// The descriptor of a type, behind its code: `"?" [storage class] TYPE`.
     #[cycle(readers)]
-    fn type_descriptor(&mut self) -> Result<Name<'a>, Refusal> {
+    #[tactic(auto, using(crate::proofs::Readers::descriptor_split), unfolding(msvc_tree::specs::View::name_of))]
+    fn type_descriptor(&mut self) -> Result<Name<'a>, Refusal>
+        ensures value { Gives (λ n. (name_of n, self.new.rest.now, state_of self.new)) result
+            (read_name (special_behind special.TypeDescriptor) self.old.rest.now (state_of self.old)) }
+        ensures shorter { IfOk result (λ _. length self.new.rest.now < length self.old.rest.now) }
+    {
         self.expected(b"?", Message::QuestionMarkExpected)?;
         let class = self.optional_storage_class();
         let described = self.boxed_type(class)?;
@@ -194,7 +219,12 @@ impl<'a> Parser<'a> {
     }
 
     /// The place of a base class, behind its code: four numbers.
-    fn base_class_descriptor(&mut self) -> Result<Name<'a>, Refusal> {
+    #[tactic(auto, using(crate::proofs::Readers::base_class_split), unfolding(msvc_tree::specs::View::name_of))]
+    fn base_class_descriptor(&mut self) -> Result<Name<'a>, Refusal>
+        ensures value { Gives (λ n. (name_of n, self.new.rest.now, state_of self.new)) result
+            (read_name (special_behind special.BaseClass) self.old.rest.now (state_of self.old)) }
+        ensures shorter { IfOk result (λ _. length self.new.rest.now < length self.old.rest.now) }
+    {
         let member = self.number()?;
         let table = self.number()?;
         let displacement = self.number()?;

@@ -1,12 +1,12 @@
 //! Symbols, and the types behind their names.
 
-ghost use Rattle.std.specs.Prelude.{◌≡◌, ◌<◌, ◌≤◌, codes, false, length, None, Err, IfOk};
+ghost use Rattle.std.specs.Prelude.{◌≡◌, ◌<◌, ◌≤◌, codes, length, None, Err, IfOk};
 ghost use Rattle.msvc_tree.specs.View.{type_of, tree_of};
 ghost use Rattle.msvc_read.specs.Grammar.{encoding_letters, function_classes, named_symbol, template_symbol};
 ghost use Rattle.msvc_read.specs.Parser.{Gives, encoding_by, member_by, state_of};
 ghost use Rattle.msvc_read.specs.Reads.{read, read_name};
 ghost use Rattle.msvc_read.specs.Rules.{after, lookup, encoding, encoding_behind, symbol, symbol_body};
-ghost use Rattle.msvc_read.specs.Sorts.{member_of, variable_of};
+ghost use Rattle.msvc_read.specs.Sorts.{member_of, table_of, variable_of, virtual_call};
 
 use crate::letters;
 use crate::parser::Parser;
@@ -82,11 +82,11 @@ impl<'a> Parser<'a> {
             (read named_symbol self.old.rest.now (state_of self.old)) }
         ensures shorter { IfOk result (λ _. length self.new.rest.now < length self.old.rest.now) }
     {
-        let symbol = self.qualified_name(true)?;
-        let indexed = self.indexed_symbol(symbol)?;
+        let name = self.qualified_name(true)?;
+        let symbol = self.indexed_symbol(name)?;
         let symbol_type = self.encoding()?;
         Ok(ParseResult {
-            symbol: indexed,
+            symbol,
             symbol_type,
         })
     }
@@ -96,7 +96,7 @@ impl<'a> Parser<'a> {
     #[tactic(auto, using(crate::proofs::Readers::encoding_split))]
     pub fn encoding(&mut self) -> Result<Type<'a>, Refusal>
         ensures value { Gives (λ t. (type_of t, self.new.rest.now, state_of self.new)) result
-            (read_name (encoding false) self.old.rest.now (state_of self.old)) }
+            (read_name encoding self.old.rest.now (state_of self.old)) }
         ensures shorter { IfOk result (λ _. length self.new.rest.now ≤ length self.old.rest.now) }
     {
         match self.next_byte() {
@@ -161,14 +161,24 @@ impl<'a> Parser<'a> {
 
     /// The table of a class, behind its letter: `[qualifier] SCOPE`.
     #[cycle(readers)]
-    fn table(&mut self, table: Table) -> Result<Type<'a>, Refusal> {
+    #[tactic(auto, using(crate::proofs::Readers::table_split))]
+    fn table(&mut self, table: Table) -> Result<Type<'a>, Refusal>
+        ensures value { Gives (λ t. (type_of t, self.new.rest.now, state_of self.new)) result
+            (read_name (encoding_behind (table_of table)) self.old.rest.now (state_of self.old)) }
+        ensures shorter { IfOk result (λ _. length self.new.rest.now ≤ length self.old.rest.now) }
+    {
         let class = self.optional_qualifier();
         let scope = self.scope()?;
         Ok(table.table_type(scope, class))
     }
 
     /// `VIRTUAL_CALL = "B" NUMBER "A" convention`: a thunk that calls a virtual function.
-    fn virtual_call(&mut self) -> Result<Type<'a>, Refusal> {
+    #[tactic(auto, using(crate::proofs::Readers::virtual_call_split), unfolding(msvc_tree::specs::View::type_of))]
+    fn virtual_call(&mut self) -> Result<Type<'a>, Refusal>
+        ensures value { Gives (λ t. (type_of t, self.new.rest.now, state_of self.new)) result
+            (read_name (encoding_behind virtual_call) self.old.rest.now (state_of self.old)) }
+        ensures shorter { IfOk result (λ _. length self.new.rest.now ≤ length self.old.rest.now) }
+    {
         self.expected(b"B", Message::BExpected)?;
         let offset = self.number()?;
         self.expected(b"A", Message::AExpected)?;
