@@ -285,7 +285,7 @@ is_guard _ = false
 
 -- the name of a guard with an index, and any other as it stands
 abbrev pub with_index : Option ℕ → NameTree → NameTree
-with_index index (guard kind none) = guard kind index
+with_index index (guard kind number) = guard kind index
 with_index index n = n
 
 -- Parts of productions
