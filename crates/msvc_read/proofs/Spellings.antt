@@ -15,10 +15,10 @@ use Rattle.msvc_tree.specs.Trees.{NameTree, TypeTree, SymbolTree, spelled, opera
 use Rattle.msvc_tree.specs.Trees.{base_class_descriptor, template, discriminator, nested, anonymous, name_trees}
 use Rattle.msvc_tree.specs.Trees.{type_trees}
 use Rattle.msvc_read.specs.State.{State, Entry, Note, place, remember_type}
-use Rattle.msvc_read.specs.Sorts.{Sort, bytes, name_tree, type_tree, symbol_tree, list, both, Value, based, extended}
+use Rattle.msvc_read.specs.Sorts.{Sort, bits, bytes, name_tree, type_tree, symbol_tree, list, both, Value, based, extended}
 use Rattle.msvc_read.specs.Sorts.{named, points, arrayed, indexed, referred, variable_of, table_of, type_information}
 use Rattle.msvc_read.specs.Sorts.{untyped, encoded_string, virtual_call, plain_function, member_of}
-use Rattle.msvc_read.specs.Rules.{Production, symbol_body, guard_index, unsigned, encoding_behind, characters}
+use Rattle.msvc_read.specs.Rules.{Production, symbol_body, guard_index, unsigned, encoding_behind, characters, character}
 use Rattle.msvc_read.specs.Rules.{thunk_number, own_qualifiers, returned, special_name, special_behind, required}
 use Rattle.msvc_read.specs.Rules.{text_and, call}
 use Rattle.msvc_read.specs.Rules.{any_type, type_behind, array, positive, lengths, template_name, unqualified_name, every, lookup, Rule, give, letter}
@@ -26,7 +26,8 @@ use Rattle.msvc_read.specs.Rules.{literal, up_to, here, ◌>>=◌, ◌or◌, rem
 use Rattle.msvc_read.specs.Rules.{type_form, function_type, member_pointer, class_part}
 use Rattle.msvc_read.specs.declared.forms.TypeForm.TheVariants as form
 use Rattle.msvc_read.specs.declared.operators.SpecialForm.TheVariants as special
-use Rattle.msvc_read.specs.Grammar.{grammar, arrays, special_texts, with_index}
+use Rattle.msvc_read.specs.Grammar.{grammar, arrays, escaped_characters, plain_characters, special_texts}
+use Rattle.msvc_read.specs.Grammar.{with_index}
 use Rattle.msvc_read.specs.Reads.{Reads, given, a_letter, a_literal, a_part, where_it_holds, in_a_row, the_first}
 use Rattle.msvc_read.specs.Reads.{the_second, called, a_known_name, remembered, a_known_type, a_noted_type, entered}
 use Rattle.msvc_read.specs.Reads.{set_apart, Derives}
@@ -93,6 +94,10 @@ module _ (P : List ℕ → Type 0) where
   in-indexed index (nested n ns t) h = h
   in-indexed index (anonymous digits) h = h
 
+  no-names : (table : List (ℕ × ℕ)) → Each (λ row. In bits row.1) table
+  no-names [] = tt
+  no-names (row ∷ table) = (tt, no-names table)
+
   -- what begins with a text of a table
   gives_texts : {a : Sort} {A : Type 0} (table : List (List ℕ × A)) (f : A → Rule a)
       → every (λ row. every ascii row.0) table ≡ true → ((x : A) → Gives (f x)) → Gives (text_and table f)
@@ -118,6 +123,9 @@ module _ (P : List ℕ → Type 0) where
   gives (characters (suc n)) = search depth 60
   gives (encoding_behind plain_function) = (tt, λ f h. (in-types f.1.1 h.1.1, h.1.0))
   gives (encoding_behind (member_of class)) = (tt, λ _ _. (tt, λ own _. (tt, λ f h. (in-types f.1.1 h.1.1, h.1.0))))
+  gives character =
+      ((refl, λ _ _. ((refl, λ _ _. search depth 60), (refl, no-names escaped_characters))),
+      (refl, no-names plain_characters))
   gives (thunk_number true) = search depth 60
   gives (thunk_number false) = search depth 60
   gives (own_qualifiers true) = search depth 60
@@ -138,8 +146,8 @@ module _ (P : List ℕ → Type 0) where
   gives (lengths (suc n)) = search depth 60
   gives symbol_body =
       ((refl, λ _ _. (tt, λ n h. (tt, λ _ _. (h, tt, tt)))),
-      ((refl, λ _ _. (search depth 60, λ _ _. (tt, λ _ _. (tt, λ n h. (tt, λ ns k.
-      (refl, λ _ _. (h, in-names ns k, tt))))))),
+      ((refl, λ _ _. (search depth 60, λ _ _. (tt, λ n h. (tt, λ ns k.
+      (refl, λ _ _. (h, in-names ns k, tt)))))),
       ((refl, λ _ _. (tt, λ n h. (h, tt, tt))),
       (tt, λ n h. (tt, λ _ _. (tt, λ t k. (in-indexed _ n.0 h.0, in-names n.1 h.1, k)))))))
   gives special_name = gives_texts special_texts (λ f. call (special_behind f)) refl (λ f. tt)
