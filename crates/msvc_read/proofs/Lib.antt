@@ -18,6 +18,7 @@ pub mod Spellings
 pub mod Stable
 pub mod Starts
 pub mod Steps
+pub mod SymbolSteps
 pub mod Tables
 pub mod TypeSteps
 pub mod Whole

@@ -27,7 +27,7 @@ pub use Rattle.msvc_tree.proofs.Views.{type_of-Union, type_of-Var, type_of-VarAr
 use Rattle.msvc_read.proofs.SpecialSteps.{special_name_step}
 use Rattle.msvc_read.proofs.TypeSteps.{class_part_is, function_type_step, member_pointer_step, type_form_is}
 use Rattle.msvc_read.proofs.Steps.{arrayed_step, encoding_step, function_parameters_step, function_step, letter_step}
-use Rattle.msvc_read.proofs.Steps.{guarded_step, indexed_step, member_letter, member_step, named_step}
+use Rattle.msvc_read.proofs.Steps.{indexed_step, member_letter, member_step, named_step}
 use Rattle.msvc_read.proofs.Steps.{anonymous_namespace_step, marked_name_step, nested_symbol_step, new_interface_step}
 use Rattle.msvc_read.proofs.Steps.{symbol_body_step, template_inside_step, template_symbol_step}
 use Rattle.msvc_read.proofs.Steps.{named_symbol_step, points_step, referred_step, returned_member, returned_other}
@@ -107,7 +107,7 @@ pub ruleset interface_split = (new_interface_step)
 
 pub ruleset anonymous_split = (anonymous_namespace_step)
 
-pub ruleset encoding_split = (guarded_step, encoding_step, untyped_step, member_letter, type_of-None)
+pub ruleset encoding_split = (encoding_step, untyped_step, member_letter, type_of-None)
 
 pub ruleset variable_split = (variable_step, type_of-Var)
 

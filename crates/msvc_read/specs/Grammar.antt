@@ -285,7 +285,7 @@ is_guard _ = false
 
 -- the name of a guard with an index, and any other as it stands
 abbrev pub with_index : Option ℕ → NameTree → NameTree
-with_index index (guard kind none) = guard kind index
+with_index index (guard kind before) = guard kind index
 with_index index n = n
 
 -- Parts of productions
@@ -361,11 +361,16 @@ hashed_symbol = do
   call (required (is_hash n))
   give (record { name = spelled spelling_kind.Md5 n; scope = no_names; symbol_type = plain plain_kind.None })
 
+-- one decimal digit or more, up to an @
+abbrev pub guard_number : Rule bits
+guard_number = do
+  d ← letter bits digits
+  call (decimal d)
+
 -- what follows the ?$TSS of the guard of a thread-safe static variable
 abbrev pub numbered_guard : Rule symbol_tree
 numbered_guard = do
-  d ← letter bits digits
-  z ← call (decimal d)
+  z ← guard_number
   n ← call nested_name
   ns ← call scope
   literal (codes "4HA")
@@ -373,7 +378,7 @@ numbered_guard = do
 
 -- what stands behind the name of a guard, as the type of a variable does behind another name
 abbrev pub guard_marker : Rule nothing
-guard_marker = literal (codes "4IA") or literal (codes "5")
+guard_marker = literal (codes "5") or literal (codes "4IA")
 
 -- the two halves of a byte
 abbrev pub halves : Rule bits
@@ -381,6 +386,10 @@ halves = do
   high ← letter bits hexadecimal
   low ← letter bits hexadecimal
   give (high * 16 + low)
+
+-- what stands for a byte behind a ?
+abbrev pub escaped_character : Rule bits
+escaped_character = literal_or (codes "$") halves (letter bits escaped_characters)
 
 -- The productions
 
@@ -403,8 +412,7 @@ grammar (unsigned (negsuc n)) = never
 -- decimal digits behind a value that others had, and an @ ends them
 grammar (decimal value) = do
   call (required (is_in_range value))
-  (do literal (codes "@"); give value)
-      or (do d ← letter bits digits; call (decimal (value * 10 + d)))
+  letter_or digits (λ d. call (decimal (value * 10 + d))) (do literal (codes "@"); give value)
 -- the type of a symbol, by its first byte; at the end of the text none
 grammar encoding =
     here at_end (give (plain plain_kind.None))
@@ -447,9 +455,7 @@ grammar (characters (suc n)) = do
   cs ← call (characters n)
   give (c ∷ cs)
 -- a byte as it stands, or what stands for one behind a ?
-grammar character =
-    letter bits plain_characters
-    or (do literal (codes "?"); literal_or (codes "$") halves (letter bits escaped_characters))
+grammar character = literal_or (codes "?") escaped_character (letter bits plain_characters)
 -- a thunk has a number, which is dropped
 grammar (thunk_number true) = do
   z ← call number
