@@ -2,12 +2,13 @@
 use Rattle.std.specs.Prelude.{ℕ, List, [], ◌∷◌, Option, Some, None, Result, Ok, Err, Bool, true, false, ◌≡◌, ◌==◌, ◌+◌}
 use Rattle.std.specs.Prelude.{map, position, take, drop, if◌then◌else◌}
 use Rattle.msvc_tree.specs.declared.kinds.PlainType.TheVariants as plain_kind
-use Rattle.msvc_tree.specs.Trees.{NameTree, TypeTree, plain}
+use Rattle.msvc_tree.specs.declared.kinds.Guard.{Guard}
+use Rattle.msvc_tree.specs.Trees.{NameTree, TypeTree, guard, plain}
 use Rattle.msvc_tree.specs.View.{name_of, type_of}
-use Rattle.msvc_read.specs.Grammar.{type_texts}
-use Rattle.msvc_read.specs.Reads.{Found, read_name}
+use Rattle.msvc_read.specs.Grammar.{is_guard, is_hash, type_texts, with_index}
+use Rattle.msvc_read.specs.Reads.{Found, and_then, read_name}
 use Rattle.msvc_read.specs.declared.forms.TypeForm.{TypeForm}
-use Rattle.msvc_read.specs.Rules.{after, encoding_behind, type_behind}
+use Rattle.msvc_read.specs.Rules.{after, encoding_behind, guard_index, type_behind}
 use Rattle.msvc_read.specs.Sorts.{EncodingLetter, TypeLetter, member_of}
 use Rattle.msvc_read.specs.State as state
 use Rattle.msvc_read.specs.declared.parser.BackReference.{BackReference}
@@ -106,3 +107,18 @@ parameters_stop (b ∷ bs) = if b == 64 then Some (false, bs) else (if b == 90 t
 abbrev pub ellipsis : Bool → List TypeTree
 ellipsis true = plain plain_kind.Variadic ∷ []
 ellipsis false = []
+
+-- the guard that a name is
+abbrev pub guard_of : NameTree → Option Guard
+guard_of (guard kind index) = Some kind
+guard_of _ = None
+
+-- a symbol's name and scope, with the index that follows the name of a guard
+abbrev pub indexed : NameTree → List NameTree → List ℕ → state.State → Found (NameTree × List NameTree)
+indexed n ns left s =
+    and_then (read_name (guard_index (is_guard n)) left s) (λ index l t. Some ((with_index index n, ns), l, t))
+
+-- the digits of a hash before a place, and the bytes behind the one there
+abbrev pub hash_at : Option ℕ → List ℕ → state.State → Found (List ℕ)
+hash_at None left s = None
+hash_at (Some i) left s = if is_hash (take i left) then Some (take i left, drop (i + 1) left, s) else None

@@ -3,6 +3,8 @@
 
 mod forms;
 mod functions;
+mod guards;
+mod hashes;
 mod letters;
 mod names;
 mod numbers;
@@ -12,6 +14,7 @@ mod parser;
 mod read;
 mod references;
 mod refusal;
+mod strings;
 mod symbols;
 mod types;
 
