@@ -305,7 +305,7 @@ apart_texts (row ∷ table) = if every (λ other. differ row.0 other.0) table th
 abbrev pub some_bytes : {A : Type 0} → List (List ℕ × A) → Bool
 some_bytes table = every (λ row. nat_lt 0 (length row.0)) table
 
-pub both_if : (t u : Bool) → cond t u false ≡ true → (t ≡ true) × (u ≡ true)
+both_if : (t u : Bool) → cond t u false ≡ true → (t ≡ true) × (u ≡ true)
 both_if true u h = (refl, h)
 both_if false u h = absurd (cc)
 

@@ -5,6 +5,7 @@ pub mod Completeness
 pub mod Cut
 pub mod Eats
 pub mod Firsts
+pub mod Hashes
 pub mod Hexadecimal
 pub mod Laws
 pub mod Listed

@@ -1,15 +1,19 @@
 -- Special names are read by their codes: the equations that the readers follow.
 use Rattle.std.proofs.Common.{ℕ, List, [], ◌∷◌, ◌++◌, Option, Some, None, Bool, true, false, cond, ◌==◌, ◌≡◌, refl, ap}
-use Rattle.std.proofs.Common.{◌∙◌, sym}
+use Rattle.std.proofs.Common.{◌∙◌}
+use Rattle.std.proofs.lemmas.Bool.{eqb-true}
+use Rattle.std.specs.Option.{option_map}
 use Rattle.std.specs.Prelude.{codes}
 use Rattle.msvc_tree.specs.declared.kinds.Guard.{Guard}
 use Rattle.msvc_tree.specs.declared.kinds.PlainOperator.{PlainOperator}
 use Rattle.msvc_tree.specs.Trees.{operator, guard, type_descriptor, base_class_descriptor}
+use Rattle.msvc_read.specs.declared.operators.SpecialForm.{SpecialForm}
 use Rattle.msvc_read.specs.declared.operators.SpecialForm.TheVariants as special
 use Rattle.msvc_read.specs.Parser.{this_or, text_at}
 use Rattle.msvc_read.specs.State.{State}
 use Rattle.msvc_read.specs.Rules.{after, any_type, call, literal, lookup, number, optional, special_behind, special_name}
-use Rattle.msvc_read.specs.Grammar.{grammar, special_texts, storage_classes}
+use Rattle.msvc_read.specs.Grammar.{grammar, second_special_letters, special_letters, special_texts, storage_classes}
+use Rattle.msvc_read.specs.Grammar.{texts_behind, third_special_letters, type_information_letters}
 use Rattle.msvc_read.specs.Reads.{and_then, read, read_by, read_name}
 use Rattle.msvc_read.proofs.Checks.{no_code_begins_another}
 use Rattle.msvc_read.proofs.Stable.{read_name-is}
@@ -23,6 +27,159 @@ special_name_step left s =
     ∙ text_and-is special_texts (λ f. call (special_behind f)) left s no_code_begins_another
 
 pub ruleset special_name_is = (special_name_step)
+
+-- Codes, by their letters
+
+-- what a table has for the first byte, and the bytes behind it
+abbrev pub letter_at : {A : Type 0} → List (ℕ × A) → List ℕ → Option (A × List ℕ)
+letter_at table [] = None
+letter_at table (b ∷ bs) = option_map (λ x. (x, bs)) (lookup b table)
+
+-- the same behind a text, if that begins
+abbrev letter_after : {A : Type 0} → List (ℕ × A) → Option (List ℕ) → Option (A × List ℕ)
+letter_after table None = None
+letter_after table (Some rest) = letter_at table rest
+
+abbrev first_of : {A : Type 0} → Option A → Option A → Option A
+first_of None other = other
+first_of (Some x) other = Some x
+
+first_none : {A : Type 0} (o : Option A) → first_of o None ≡ o
+first_none None = refl
+first_none (Some x) = refl
+
+-- behind a text and one byte more
+abbrev behind_one : ℕ → Option (List ℕ) → Option (List ℕ)
+behind_one c None = None
+behind_one c (Some []) = None
+behind_one c (Some (b ∷ bs)) = cond (b == c) (Some bs) None
+
+after_one : (l : List ℕ) (c : ℕ) (left : List ℕ) → after (l ++ c ∷ []) left ≡ behind_one c (after l left)
+after_one [] c [] = refl
+after_one [] c (b ∷ bs) = refl
+after_one (a ∷ l) c [] = refl
+after_one (a ∷ l) c (b ∷ bs) = go (b == a) (after_one l c bs)
+  where
+    go : (t : Bool) → after (l ++ c ∷ []) bs ≡ behind_one c (after l bs)
+        → cond t (after (l ++ c ∷ []) bs) None ≡ behind_one c (cond t (after l bs) None)
+    go true e = e
+    go false e = refl
+
+behind-is : {A : Type 0} (l : List ℕ) (table : List (ℕ × A)) (others : List (List ℕ × A)) (left : List ℕ)
+    → text_at (texts_behind l table others) left ≡ first_of (letter_after table (after l left)) (text_at others left)
+unfolding text_at
+behind-is l [] others left = go (after l left)
+  where
+    go : (o : Option (List ℕ)) → text_at others left ≡ first_of (letter_after [] o) (text_at others left)
+    go None = refl
+    go (Some []) = refl
+    go (Some (b ∷ bs)) = refl
+behind-is l (row ∷ table) others left =
+    ap (λ o. this_or row.1 o (text_at (texts_behind l table others) left)) (after_one l row.0 left)
+    ∙ ap (this_or row.1 (behind_one row.0 (after l left))) (behind-is l table others left)
+    ∙ go (after l left)
+  where
+    go : (o : Option (List ℕ))
+        → this_or row.1 (behind_one row.0 o) (first_of (letter_after table o) (text_at others left))
+        ≡ first_of (letter_after (row ∷ table) o) (text_at others left)
+    go None = refl
+    go (Some []) = refl
+    go (Some (b ∷ bs)) = here (b == row.0)
+      where
+        here : (t : Bool)
+            → this_or row.1 (cond t (Some bs) None)
+            (first_of (option_map (λ x. (x, bs)) (lookup b table)) (text_at others left))
+            ≡ first_of (option_map (λ x. (x, bs)) (cond t (Some row.1) (lookup b table))) (text_at others left)
+        here true = refl
+        here false = refl
+
+-- what the code is whose first byte is _
+abbrev pub marked_at : List ℕ → Option (SpecialForm × List ℕ)
+marked_at [] = None
+marked_at (b ∷ bs) =
+    cond (b == 95) (letter_at third_special_letters bs)
+    (cond (b == 82) (letter_at type_information_letters bs) (letter_at second_special_letters (b ∷ bs)))
+
+abbrev pub special_at : List ℕ → Option (SpecialForm × List ℕ)
+special_at [] = None
+special_at (b ∷ bs) = cond (b == 95) (marked_at bs) (letter_at special_letters (b ∷ bs))
+
+-- the four tables, one behind another
+abbrev by_tables : List ℕ → Option (SpecialForm × List ℕ)
+by_tables left =
+    first_of (letter_at special_letters left)
+    (first_of (letter_after second_special_letters (after (codes "_") left))
+    (first_of (letter_after type_information_letters (after (codes "_R") left))
+    (first_of (letter_after third_special_letters (after (codes "__") left)) None)))
+
+by_tables-is : (left : List ℕ) → text_at special_texts left ≡ by_tables left
+unfolding text_at
+by_tables-is left =
+    behind-is [] special_letters behind_mark left
+    ∙ ap (first_of (letter_at special_letters left))
+    (behind-is (codes "_") second_special_letters behind_two left
+    ∙ ap (first_of (letter_after second_special_letters (after (codes "_") left)))
+    (behind-is (codes "_R") type_information_letters last left
+    ∙ ap (first_of (letter_after type_information_letters (after (codes "_R") left)))
+    (behind-is (codes "__") third_special_letters [] left)))
+  where
+    last : List (List ℕ × SpecialForm)
+    last = texts_behind (codes "__") third_special_letters []
+
+    behind_two : List (List ℕ × SpecialForm)
+    behind_two = texts_behind (codes "_R") type_information_letters last
+
+    behind_mark : List (List ℕ × SpecialForm)
+    behind_mark = texts_behind (codes "_") second_special_letters behind_two
+
+-- behind _
+marked : (bs : List ℕ) → by_tables (95 ∷ bs) ≡ marked_at bs
+marked [] = refl
+marked (c ∷ cs) = go (c == 95) refl
+  where
+    other : (t : Bool) → (c == 82) ≡ t
+        → first_of (letter_at second_special_letters (c ∷ cs))
+        (first_of (letter_after type_information_letters (cond t (Some cs) None)) None)
+        ≡ cond t (letter_at type_information_letters cs) (letter_at second_special_letters (c ∷ cs))
+    other true e =
+        ap (λ x. first_of (letter_at second_special_letters (x ∷ cs)) (first_of (letter_at type_information_letters cs) None))
+        (eqb-true c 82 e)
+        ∙ first_none (letter_at type_information_letters cs)
+    other false e = first_none (letter_at second_special_letters (c ∷ cs))
+
+    go : (t : Bool) → (c == 95) ≡ t
+        → first_of (letter_at second_special_letters (c ∷ cs))
+        (first_of (letter_after type_information_letters (cond (c == 82) (Some cs) None))
+        (first_of (letter_after third_special_letters (cond t (Some cs) None)) None))
+        ≡ cond t (letter_at third_special_letters cs)
+        (cond (c == 82) (letter_at type_information_letters cs) (letter_at second_special_letters (c ∷ cs)))
+    go true e =
+        ap (λ x. first_of (letter_at second_special_letters (x ∷ cs))
+        (first_of (letter_after type_information_letters (cond (x == 82) (Some cs) None))
+        (first_of (letter_at third_special_letters cs) None))) (eqb-true c 95 e)
+        ∙ first_none (letter_at third_special_letters cs)
+    go false e = other (c == 82) refl
+
+-- the code that begins, letter by letter
+pub special_texts-are : (left : List ℕ) → text_at special_texts left ≡ special_at left
+special_texts-are [] = by_tables-is []
+special_texts-are (b ∷ bs) = by_tables-is (b ∷ bs) ∙ go (b == 95) refl
+  where
+    go : (t : Bool) → (b == 95) ≡ t
+        → first_of (letter_at special_letters (b ∷ bs))
+        (first_of (letter_after second_special_letters (cond (b == 95) (Some bs) None))
+        (first_of (letter_after type_information_letters (cond (b == 95) (after (codes "R") bs) None))
+        (first_of (letter_after third_special_letters (cond (b == 95) (after (codes "_") bs) None)) None)))
+        ≡ cond t (marked_at bs) (letter_at special_letters (b ∷ bs))
+    go true e = ap (λ x. by_tables (x ∷ bs)) (eqb-true b 95 e) ∙ marked bs
+    go false e =
+        ap (λ t. first_of (letter_at special_letters (b ∷ bs))
+        (first_of (letter_after second_special_letters (cond t (Some bs) None))
+        (first_of (letter_after type_information_letters (cond t (after (codes "R") bs) None))
+        (first_of (letter_after third_special_letters (cond t (after (codes "_") bs) None)) None)))) e
+        ∙ first_none (letter_at special_letters (b ∷ bs))
+
+pub ruleset special_texts_at = (special_texts-are)
 
 -- What follows the code
 

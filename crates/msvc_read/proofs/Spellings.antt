@@ -32,8 +32,8 @@ use Rattle.msvc_read.specs.Reads.{Reads, given, a_letter, a_literal, a_part, whe
 use Rattle.msvc_read.specs.Reads.{the_second, called, a_known_name, remembered, a_known_type, a_noted_type, entered}
 use Rattle.msvc_read.specs.Reads.{set_apart, Derives}
 use Rattle.msvc_read.specs.Parts.{IsPart, NamesAreParts}
-use Rattle.msvc_read.proofs.Checks.{both_if}
 use Rattle.msvc_read.proofs.Eats.{IsTail}
+use Rattle.msvc_read.proofs.Firsts.{if_both}
 use Rattle.msvc_read.proofs.Tables.{with_one}
 
 -- what holds of each
@@ -104,7 +104,7 @@ module _ (P : List ℕ → Type 0) where
   unfolding Gives
   gives_texts [] f h go = (refl, tt)
   gives_texts (row ∷ table) f h go =
-      let parts : (every ascii row.0 ≡ true) × (every (λ other. every ascii other.0) table ≡ true) = both_if _ _ h in
+      let parts : (every ascii row.0 ≡ true) × (every (λ other. every ascii other.0) table ≡ true) = if_both _ _ h in
       ((parts.0, λ _ _. go row.1), gives_texts table f parts.1 go)
 
   gives : {a : Sort} (n : Production a) → Gives (grammar n)
