@@ -35,11 +35,11 @@ pub fn special_form<'a>(left: &'a [u8]) -> Option<(SpecialForm, &'a [u8])>
     ensures shorter { IfSome result (λ x. length x.1.now < length left.now) }
 {
     match left {
+        [] | [b'_'] | [b'_', b'_'] | [b'_', b'R'] => None,
         [b'_', b'_', letter, behind @ ..] => with_behind(third_form(*letter), behind),
         [b'_', b'R', letter, behind @ ..] => with_behind(type_information_form(*letter), behind),
         [b'_', letter, behind @ ..] => with_behind(second_form(*letter), behind),
         [letter, behind @ ..] => with_behind(first_form(*letter), behind),
-        [] => None,
     }
 }
 

@@ -1,8 +1,9 @@
 use Rattle.std.proofs.Common.{rules, None, Some, ◌≡◌, sym, ◌∙◌}
 use Rattle.msvc_read.specs.Rules.{lookup}
-use Rattle.msvc_read.proofs.Characters.{capital_rows, digit_rows, other_rows, plain_other, small_rows}
+use Rattle.msvc_read.proofs.Characters.{capital_rows, digit_rows, other_rows, plain_capital, plain_other, small_rows}
 use Rattle.msvc_read.proofs.letters.character.Goals as goal
 
+-- none of the four parts of the table has the letter
 pub returns-in_default : goal.returns-in_default
 returns-in_default c =
     let digit : lookup c.args.letter digit_rows ≡ None = search rules in
@@ -10,3 +11,35 @@ returns-in_default c =
     let capital : lookup c.args.letter capital_rows ≡ None = search rules in
     let other : lookup c.args.letter other_rows ≡ None = search rules in
     sym (plain_other c.args.letter digit small capital ∙ other)
+
+pub returns-in_default-2 : goal.returns-in_default-2
+returns-in_default-2 c =
+    let digit : lookup c.args.letter digit_rows ≡ None = search rules in
+    let small : lookup c.args.letter small_rows ≡ None = search rules in
+    let capital : lookup c.args.letter capital_rows ≡ None = search rules in
+    let other : lookup c.args.letter other_rows ≡ None = search rules in
+    sym (plain_other c.args.letter digit small capital ∙ other)
+
+pub returns-in_default-3 : goal.returns-in_default-3
+returns-in_default-3 c =
+    let digit : lookup c.args.letter digit_rows ≡ None = search rules in
+    let small : lookup c.args.letter small_rows ≡ None = search rules in
+    let capital : lookup c.args.letter capital_rows ≡ None = search rules in
+    let other : lookup c.args.letter other_rows ≡ None = search rules in
+    sym (plain_other c.args.letter digit small capital ∙ other)
+
+pub returns-in_default-4 : goal.returns-in_default-4
+returns-in_default-4 c =
+    let digit : lookup c.args.letter digit_rows ≡ None = search rules in
+    let small : lookup c.args.letter small_rows ≡ None = search rules in
+    let capital : lookup c.args.letter capital_rows ≡ None = search rules in
+    let other : lookup c.args.letter other_rows ≡ None = search rules in
+    sym (plain_other c.args.letter digit small capital ∙ other)
+
+-- the capital letters
+pub returns-in-48-to-57-3 : goal.returns-in-48-to-57-3
+returns-in-48-to-57-3 c =
+    let digit : lookup c.args.letter digit_rows ≡ None = search rules in
+    let small : lookup c.args.letter small_rows ≡ None = search rules in
+    let capital : lookup c.args.letter capital_rows ≡ Some c.args.letter = search rules in
+    sym (plain_capital c.args.letter digit small ∙ ?)
