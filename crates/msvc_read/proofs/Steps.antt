@@ -22,6 +22,7 @@ use Rattle.msvc_tree.specs.Trees.{NameTree, SymbolTree, TypeTree, function, memb
 use Rattle.msvc_tree.specs.Trees.{anonymous, discriminator, name_trees, nested, numbered, plain, pointing, spelled}
 use Rattle.msvc_tree.specs.Trees.{template}
 use Rattle.msvc_tree.specs.Trees.{tagged, type_trees, variable}
+use Rattle.msvc_read.specs.Parser as parser
 use Rattle.msvc_read.specs.Parser.{byte_here, cut_at, ellipsis, encoding_by, kept_name, member_by, name_length}
 use Rattle.msvc_read.specs.Parser.{parameters_stop}
 use Rattle.msvc_read.specs.Parser.{type_by}
@@ -208,20 +209,45 @@ pub template_symbol_step : (left : List ℕ) (s : State) → read template_symbo
 unfolding read read_by
 template_symbol_step left s = refl
 
-pub named_symbol_is : (left l k rest : List ℕ) (s t u v : State) (n : NameTree) (ns : List NameTree) (index : Option ℕ)
-    (x : TypeTree) → read_name (qualified_name true) left s ≡ Some ((n, ns), l, t)
-    → read_name (guard_index (is_guard n)) l t ≡ Some (index, k, u) → read_name encoding k u ≡ Some (x, rest, v)
-    → read named_symbol left s
-    ≡ Some (record { name = with_index index n; scope = name_trees ns; symbol_type = x }, rest, v)
-unfolding read read_by
-named_symbol_is left l k rest s t u v n ns index x e f g = rw (e, f, g)
+-- a symbol with these parts
+abbrev pub symbol_of : NameTree → List NameTree → TypeTree → SymbolTree
+symbol_of n ns x = record { name = n; scope = name_trees ns; symbol_type = x }
 
 pub named_symbol_step : (left : List ℕ) (s : State) → read named_symbol left s
     ≡ and_then (read_name (qualified_name true) left s)
-    (λ n l t. and_then (read_name (guard_index (is_guard n.0)) l t) (λ index k u. and_then (read_name encoding k u)
-    (λ x j v. Some (record { name = with_index index n.0; scope = name_trees n.1; symbol_type = x }, j, v))))
+    (λ n l t. and_then (parser.indexed n.0 n.1 l t) (λ m k u. and_then (read_name encoding k u)
+    (λ x j v. Some (symbol_of m.0 m.1 x, j, v))))
 unfolding read read_by
-named_symbol_step left s = refl
+named_symbol_step left s = go (read_name (qualified_name true) left s)
+  where
+    inside : (n : NameTree) (ns : List NameTree) (o : Found (Option ℕ))
+        → and_then o (λ index k u. and_then (read_name encoding k u)
+        (λ x j v. Some (symbol_of (with_index index n) ns x, j, v)))
+        ≡ and_then {A = NameTree × List NameTree} (and_then o (λ index l t. Some ((with_index index n, ns), l, t)))
+        (λ m k u. and_then (read_name encoding k u) (λ x j v. Some (symbol_of m.0 m.1 x, j, v)))
+    inside n ns None = refl
+    inside n ns (Some y) = refl
+
+    go : (o : Found (NameTree × List NameTree))
+        → and_then o (λ n l t. and_then (read_name (guard_index (is_guard n.0)) l t)
+        (λ index k u. and_then (read_name encoding k u)
+        (λ x j v. Some (symbol_of (with_index index n.0) n.1 x, j, v))))
+        ≡ and_then o (λ n l t. and_then (parser.indexed n.0 n.1 l t) (λ m k u. and_then (read_name encoding k u)
+        (λ x j v. Some (symbol_of m.0 m.1 x, j, v))))
+    go None = refl
+    go (Some y) = inside y.0.0 y.0.1 (read_name (guard_index (is_guard y.0.0)) y.1 y.2)
+
+pub named_symbol_is : (left l k rest : List ℕ) (s t u v : State) (n m : NameTree) (ns ms : List NameTree) (x : TypeTree)
+    → read_name (qualified_name true) left s ≡ Some ((n, ns), l, t) → parser.indexed n ns l t ≡ Some ((m, ms), k, u)
+    → read_name encoding k u ≡ Some (x, rest, v)
+    → read named_symbol left s ≡ Some (symbol_of m ms x, rest, v)
+named_symbol_is left l k rest s t u v n m ns ms x e f g =
+    named_symbol_step left s
+    ∙ ap (λ o. and_then o (λ y i a. and_then (parser.indexed y.0 y.1 i a) (λ z j b. and_then (read_name encoding j b)
+    (λ w h c. Some (symbol_of z.0 z.1 w, h, c))))) e
+    ∙ ap (λ o. and_then o (λ z j b. and_then (read_name encoding j b)
+    (λ w h c. Some (symbol_of z.0 z.1 w, h, c)))) f
+    ∙ ap (λ o. and_then o (λ w h c. Some (symbol_of m ms w, h, c))) g
 
 -- the type of a symbol, by its first byte
 

@@ -378,7 +378,7 @@ numbered_guard = do
 
 -- what stands behind the name of a guard, as the type of a variable does behind another name
 abbrev pub guard_marker : Rule nothing
-guard_marker = literal (codes "5") or literal (codes "4IA")
+guard_marker = literal (codes "4IA") or literal (codes "5")
 
 -- the two halves of a byte
 abbrev pub halves : Rule bits
