@@ -17,6 +17,18 @@ lookup-behind b (row ∷ table) others e = go (b == row.0) e (lookup-behind b ta
     go true e ih = absurd (cc)
     go false e ih = ih e
 
+-- what the first table has
+pub lookup-first : {A : Type 0} (b : ℕ) (table others : List (ℕ × A)) (x : A) → lookup b table ≡ Some x
+    → lookup b (table ++ others) ≡ Some x
+lookup-first b [] others x e = absurd (cc)
+lookup-first b (row ∷ table) others x e = go (b == row.0) e (lookup-first b table others x)
+  where
+    go : (t : Bool) → cond t (Some row.1) (lookup b table) ≡ Some x
+        → (lookup b table ≡ Some x → lookup b (table ++ others) ≡ Some x)
+        → cond t (Some row.1) (lookup b (table ++ others)) ≡ Some x
+    go true e ih = e
+    go false e ih = ih e
+
 abbrev pub digit_rows : List (ℕ × ℕ)
 digit_rows = rows (codes "0123456789") (codes "0123456789")
 
@@ -36,6 +48,10 @@ plain_small b e = lookup-behind b digit_rows (small_rows ++ capital_rows ++ othe
 pub plain_capital : (b : ℕ) → lookup b digit_rows ≡ None → lookup b small_rows ≡ None
     → lookup b plain_characters ≡ lookup b (capital_rows ++ other_rows)
 plain_capital b e f = plain_small b e ∙ lookup-behind b small_rows (capital_rows ++ other_rows) f
+
+pub capital_first : (b : ℕ) → lookup b digit_rows ≡ None → lookup b small_rows ≡ None
+    → lookup b capital_rows ≡ Some b → lookup b plain_characters ≡ Some b
+capital_first b e f g = plain_capital b e f ∙ lookup-first b capital_rows other_rows b g
 
 pub plain_other : (b : ℕ) → lookup b digit_rows ≡ None → lookup b small_rows ≡ None → lookup b capital_rows ≡ None
     → lookup b plain_characters ≡ lookup b other_rows

@@ -108,6 +108,11 @@ abbrev pub ellipsis : Bool → List TypeTree
 ellipsis true = plain plain_kind.Variadic ∷ []
 ellipsis false = []
 
+-- what a code stands for, if it is one, and the bytes behind it
+abbrev pub at_rest : {A : Type 0} → Option A → List ℕ → Option (A × List ℕ)
+at_rest None rest = None
+at_rest (Some x) rest = Some (x, rest)
+
 -- the guard that a name is
 abbrev pub guard_of : NameTree → Option Guard
 guard_of (guard kind index) = Some kind

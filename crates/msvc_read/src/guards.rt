@@ -3,10 +3,10 @@
 ghost use Rattle.std.specs.Prelude.{◌≡◌, ◌<◌, ◌≤◌, ◌+◌, ◌*◌, None, Some, length, map, true, IfOk, if◌then◌else◌};
 ghost use Rattle.msvc_tree.specs.Trees as tree;
 ghost use Rattle.msvc_tree.specs.View.{name_of, tree_of};
-ghost use Rattle.msvc_read.specs.Grammar.{guard_marker, guard_number, is_in_range, numbered_guard};
+ghost use Rattle.msvc_read.specs.Grammar.{digits, guard_marker, is_in_range, numbered_guard};
 ghost use Rattle.msvc_read.specs.Parser.{Gives, guard_of, indexed, state_of};
-ghost use Rattle.msvc_read.specs.Reads.{and_then, read, read_name};
-ghost use Rattle.msvc_read.specs.Rules.{guard_index, nested_name, scope};
+ghost use Rattle.msvc_read.specs.Reads.{and_then, letter_here, read, read_name};
+ghost use Rattle.msvc_read.specs.Rules.{decimal, guard_index, nested_name, scope};
 
 use crate::parser::Parser;
 use crate::refusal::{Message, Refusal};
@@ -54,18 +54,18 @@ impl<'a> Parser<'a> {
         Ok(Some(index as u32))
     }
 
-    /// `GUARD_MARKER = "5" | "4IA"`.
+    /// `GUARD_MARKER = "4IA" | "5"`.
     #[tactic(auto, using(crate::proofs::SymbolSteps::guard_marker_is))]
     fn guard_marker(&mut self) -> Result<(), Refusal>
         ensures value { Gives (λ _. (tt, self.new.rest.now, state_of self.new)) result
             (read guard_marker self.old.rest.now (state_of self.old)) }
         ensures shorter { IfOk result (λ _. length self.new.rest.now < length self.old.rest.now) }
     {
-        if let Some(behind) = self.after(b"5") {
+        if let Some(behind) = self.after(b"4IA") {
             self.rest = behind;
             return Ok(());
         }
-        self.expected(b"4IA", Message::UnexpectedLocalGuardMarker)
+        self.expected(b"5", Message::UnexpectedLocalGuardMarker)
     }
 
     /// `NUMBERED_GUARD = GUARD_NUMBER NESTED_NAME SCOPE "4HA"`, behind its `?$TSS`.
@@ -103,21 +103,35 @@ impl<'a> Parser<'a> {
     }
 
     /// `GUARD_NUMBER = digit {digit} "@"`: to base 10, at most 2147483647.
+    #[tactic(auto, using(crate::proofs::SymbolSteps::decimal_goes_on))]
     fn guard_number(&mut self) -> Result<u32, Refusal>
         ensures value { Gives (λ n. (n, self.new.rest.now, state_of self.new)) result
-            (read guard_number self.old.rest.now (state_of self.old)) }
+            (and_then (letter_here digits self.old.rest.now (state_of self.old)) (λ d. read_name (decimal d))) }
         ensures shorter { IfOk result (λ _. length self.new.rest.now < length self.old.rest.now) }
         ensures small { IfOk result (λ n. n ≤ 2147483647) }
     {
-        let Some(first) = self.digit() else {
-            return Err(self.refuse(Message::MissingDigit));
-        };
-        let mut value = u32::from(first);
-        'digits: while let Some(digit) = self.digit() {
+        let mut value = u32::from(self.guard_digit()?);
+        'digits: loop {
+            if let Some(behind) = self.after(b"@") {
+                self.rest = behind;
+                return Ok(value);
+            }
+            let digit = self.guard_digit()?;
             value = self.longer_number(value, digit)?;
         }
-        self.expected(b"@", Message::MissingDigit)?;
-        Ok(value)
+    }
+
+    /// A digit of the number of a guard.
+    fn guard_digit(&mut self) -> Result<u8, Refusal>
+        ensures value { Gives (λ d. (d, self.new.rest.now, state_of self.new)) result
+            (letter_here digits self.old.rest.now (state_of self.old)) }
+        ensures shorter { IfOk result (λ _. length self.new.rest.now < length self.old.rest.now) }
+        ensures small { IfOk result (λ d. d < 10) }
+    {
+        match self.digit() {
+            Some(digit) => Ok(digit),
+            None => Err(self.refuse(Message::MissingDigit)),
+        }
     }
 
     /// A number with one more digit behind it, if it is at most 2147483647.

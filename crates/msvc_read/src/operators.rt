@@ -5,7 +5,7 @@ ghost use Rattle.std.specs.Option.{option_map};
 ghost use Rattle.msvc_tree.specs.View.{name_of};
 ghost use Rattle.msvc_read.specs.Grammar.{second_special_letters, special_letters, special_texts};
 ghost use Rattle.msvc_read.specs.Grammar.{third_special_letters, type_information_letters};
-ghost use Rattle.msvc_read.specs.Parser.{Gives, state_of, text_at};
+ghost use Rattle.msvc_read.specs.Parser.{Gives, at_rest, state_of, text_at};
 ghost use Rattle.msvc_read.specs.Reads.{read_name};
 ghost use Rattle.msvc_read.specs.Rules.{lookup, special_behind, special_name};
 ghost use Rattle.msvc_read.specs.declared.operators.SpecialForm.TheVariants as special;
@@ -45,7 +45,7 @@ pub fn special_form<'a>(left: &'a [u8]) -> Option<(SpecialForm, &'a [u8])>
 
 /// What a code stands for, if it is one, and what is behind it.
 fn with_behind<'a>(form: Option<SpecialForm>, behind: &'a [u8]) -> Option<(SpecialForm, &'a [u8])>
-    ensures value { option_map (λ x. (x.0, x.1.now)) result ≡ option_map (λ f. (f, behind.now)) form }
+    ensures value { option_map (λ x. (x.0, x.1.now)) result ≡ at_rest form behind.now }
     ensures still { IfSome result (λ x. length x.1.now ≡ length behind.now) }
 {
     match form {

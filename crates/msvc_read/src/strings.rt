@@ -74,7 +74,7 @@ impl<'a> Parser<'a> {
     }
 
     /// `ESCAPED_CHARACTER = escaped character | "$" HALVES`.
-    #[tactic(auto, using(crate::proofs::SymbolSteps::escaped_character_is))]
+    #[tactic(auto, using(crate::proofs::SymbolSteps::escaped_is))]
     fn escaped_character(&mut self) -> Result<u8, Refusal>
         ensures value { Gives (λ n. (n, self.new.rest.now, state_of self.new)) result
             (read escaped_character self.old.rest.now (state_of self.old)) }
