@@ -2,29 +2,32 @@
 -- of each production. Alternatives of a choice exclude each other; a production that calls another before it has
 -- eaten a byte stands above it; a guard is decided by bytes that the rule, or what follows it, eats.
 use Rattle.std.proofs.Common.{ℕ, zero, suc, pos, negsuc, List, [], ◌∷◌, ◌++◌, Bool, true, false, not, ◌≡◌, ◌==◌, ◌+◌}
-use Rattle.std.proofs.Common.{◌*◌, length, nat_lt, map, arith, cond, refl, sym, ap, ◌∙◌, subst}
+use Rattle.std.proofs.Common.{Option, None, ◌*◌, length, nat_lt, map, arith, cond, refl, sym, ap, ◌∙◌, subst}
 use Rattle.std.proofs.lemmas.Bool.{eq-eqb, le-ltb}
 use Rattle.std.specs.Prelude.{codes, if◌then◌else◌}
 use Rattle.msvc_tree.specs.Trees as tree
 use Rattle.msvc_tree.specs.declared.kinds.BaseType.TheVariants as base_kind
 use Rattle.msvc_tree.specs.declared.kinds.PlainType.TheVariants as plain_kind
 use Rattle.msvc_tree.specs.declared.kinds.Spelling.TheVariants as spelling_kind
-use Rattle.msvc_tree.specs.Trees.{operator, spelled, plain}
+use Rattle.msvc_tree.specs.Trees.{spelled, plain}
 use Rattle.msvc_tree.specs.declared.tree.CallingConv.TheVariants.{Cdecl}
 use Rattle.msvc_read.specs.Sorts.{Sort, nothing, bits, integer, bytes, name_tree, type_tree, symbol_tree, base_type}
-use Rattle.msvc_read.specs.Sorts.{type_letter, encoding_letter, convention, list, both, Value, based, extended, named}
-use Rattle.msvc_read.specs.Sorts.{points, arrayed, indexed, referred, variable_of, untyped, plain_function, member_of}
-use Rattle.msvc_read.specs.Rules.{Production, symbol, symbol_body, encoding, encoding_behind, thunk_number}
+use Rattle.msvc_read.specs.Sorts.{type_letter, encoding_letter, convention, perhaps, list, both, Value, based, extended}
+use Rattle.msvc_read.specs.Sorts.{named, points, arrayed, indexed, referred, variable_of, table_of, type_information}
+use Rattle.msvc_read.specs.Sorts.{untyped, encoded_string, virtual_call, plain_function, member_of}
+use Rattle.msvc_read.specs.Rules.{Production, symbol, symbol_body, guard_index, unsigned, decimal, encoding}
+use Rattle.msvc_read.specs.Rules.{encoding_behind, characters, character, thunk_number}
 use Rattle.msvc_read.specs.Rules.{own_qualifiers, function_qualifiers, signature, return_qualifiers, returned}
 use Rattle.msvc_read.specs.Rules.{function_parameters, parameters, parameter, any_type, plain_type, type_behind}
 use Rattle.msvc_read.specs.Rules.{pointee, array, dimension, positive, lengths, qualified_name, unqualified_name}
 use Rattle.msvc_read.specs.Rules.{template_name, scope, nested_name, marked_name, anonymous_namespace}
-use Rattle.msvc_read.specs.Rules.{hexadecimal_digits, source_name, number, magnitude, letters, Condition, none_of}
+use Rattle.msvc_read.specs.Rules.{hexadecimal_digits, source_name, number, magnitude, letters, required, Condition, none_of}
 use Rattle.msvc_read.specs.Rules.{at_end, every, some_of, is_nil, Rule, letter, literal, up_to, here, ◌>>=◌, ◌or◌, call}
 use Rattle.msvc_read.specs.Rules.{noted, entering, apart, type_form, function_type, member_pointer, class_part}
-use Rattle.msvc_read.specs.Rules.{special_name, give, literal_or, texts_of, text_and, text_or}
-use Rattle.msvc_read.specs.Grammar.{type_texts, operators}
+use Rattle.msvc_read.specs.Rules.{special_name, special_behind, literal_or, texts_of, text_and, text_or}
+use Rattle.msvc_read.specs.Grammar.{type_texts, special_texts}
 use Rattle.msvc_read.specs.declared.forms.TypeForm.TheVariants as form
+use Rattle.msvc_read.specs.declared.operators.SpecialForm.TheVariants as special
 use Rattle.msvc_read.specs.Grammar.{grammar}
 use Rattle.msvc_read.specs.Reads.{ranks}
 
@@ -45,6 +48,7 @@ some_value base_type = base_kind.Void
 some_value type_letter = extended
 some_value encoding_letter = untyped
 some_value convention = Cdecl
+some_value (perhaps a) = None
 some_value (list a) = []
 some_value (both a b) = (some_value a, some_value b)
 
@@ -54,8 +58,13 @@ some_value (both a b) = (some_value a, some_value b)
 unfoldable pub rank : {a : Sort} → Production a → ℕ
 rank symbol = 0
 rank symbol_body = 3
-rank (encoding guarded) = 0
+rank (guard_index guarded) = 0
+rank (unsigned z) = 0
+rank (decimal value) = 1
+rank encoding = 0
 rank (encoding_behind l) = 4
+rank (characters n) = 1
+rank character = 0
 rank (thunk_number there) = 3
 rank (own_qualifiers static) = 1
 rank function_qualifiers = 0
@@ -80,6 +89,7 @@ rank (lengths n) = 3
 rank (qualified_name own) = 2
 rank (unqualified_name own) = 1
 rank special_name = 0
+rank (special_behind f) = 3
 rank template_name = 2
 rank scope = 2
 rank nested_name = 1
@@ -90,6 +100,7 @@ rank source_name = 0
 rank number = 2
 rank magnitude = 1
 rank (letters value) = 0
+rank (required there) = 0
 
 -- how deep productions call one another at most, where these bytes are left
 unfoldable pub depth : {a : Sort} → Production a → List ℕ → ℕ
@@ -99,8 +110,11 @@ depth n left = ranks * length left + rank n
 
 -- by the name of a production
 unfoldable pub eater : {a : Sort} → Production a → ℕ
-eater (encoding guarded) = 0
+eater (guard_index guarded) = 0
+eater (unsigned z) = 0
+eater encoding = 0
 eater (encoding_behind l) = 0
+eater (characters n) = 0
 eater (thunk_number there) = 0
 eater (own_qualifiers static) = 0
 eater function_qualifiers = 0
@@ -113,6 +127,8 @@ eater (class_part qualified) = 0
 eater (positive z) = 0
 eater (lengths n) = 0
 eater (qualified_name own) = 2
+eater (special_behind f) = 0
+eater (required there) = 0
 eater _ = 1
 
 abbrev pub least : ℕ → ℕ → ℕ
@@ -224,7 +240,8 @@ needs (unqualified_name own) = 1
 needs template_name = 1
 needs nested_name = 1
 needs marked_name = 1
-needs (encoding guarded) = 1
+needs (guard_index guarded) = 1
+needs encoding = 1
 needs (encoding_behind l) = 1
 needs (own_qualifiers static) = 1
 needs function_qualifiers = 1
@@ -239,7 +256,7 @@ needs_inside symbol = 1
 needs_inside symbol_body = 1
 needs_inside nested_name = 1
 needs_inside marked_name = 1
-needs_inside (encoding guarded) = 1
+needs_inside encoding = 1
 needs_inside (encoding_behind l) = 1
 needs_inside (own_qualifiers static) = 1
 needs_inside function_qualifiers = 1
@@ -415,7 +432,7 @@ local_texts k followed (row ∷ table) f go = ((tt, λ _. go row.1), local_texts
 pub no_text_begins_another : apart_texts type_texts ≡ true
 no_text_begins_another = refl
 
-pub no_code_begins_another : apart_texts operators ≡ true
+pub no_code_begins_another : apart_texts special_texts ≡ true
 no_code_begins_another = refl
 
 -- The grammar
@@ -431,12 +448,20 @@ Checked n =
 
 pub checked : {a : Sort} (n : Production a) → Checked n
 unfolding Checked grammar rank eater needs needs_inside
-checked (encoding true) = search
-checked (encoding false) = search
+checked (guard_index true) = search
+checked (guard_index false) = search
+checked (unsigned (pos n)) = search
+checked (unsigned (negsuc n)) = search
 checked (encoding_behind (variable_of kind)) = search
+checked (encoding_behind (table_of kind)) = search
+checked (encoding_behind type_information) = search
 checked (encoding_behind untyped) = search
+checked (encoding_behind encoded_string) = search
+checked (encoding_behind virtual_call) = search
 checked (encoding_behind plain_function) = search
 checked (encoding_behind (member_of class)) = search
+checked (characters zero) = search
+checked (characters (suc n)) = search
 checked (thunk_number true) = search
 checked (thunk_number false) = search
 checked (own_qualifiers true) = search
@@ -487,12 +512,18 @@ checked (any_type q) = (
   (local_texts others 0 type_texts (λ f. call (type_form q f)) (λ f. refl), search),
 )
 checked special_name = (
-  fine_texts {a = name_tree} 0 operators (λ o. give (operator o)) no_code_begins_another refl (λ o. tt),
+  fine_texts 0 special_texts (λ f. call (special_behind f)) no_code_begins_another refl (λ f. refl),
   refl,
   refl,
-  local_texts {a = name_tree} anything 0 operators (λ o. give (operator o)) (λ o. tt),
-  local_texts {a = name_tree} others 0 operators (λ o. give (operator o)) (λ o. tt),
+  local_texts anything 0 special_texts (λ f. call (special_behind f)) (λ f. refl),
+  local_texts others 0 special_texts (λ f. call (special_behind f)) (λ f. refl),
 )
+checked (special_behind (special.Plain o)) = search
+checked (special_behind (special.Guard kind)) = search
+checked (special_behind special.TypeDescriptor) = search
+checked (special_behind special.BaseClass) = search
+checked (required true) = search
+checked (required false) = search
 checked _ = search depth 12
 
 pub fine : {a : Sort} (n : Production a) → Fine (rank n) (grammar n)

@@ -1,9 +1,11 @@
 pub mod Carried
+pub mod Characters
 pub mod Checks
 pub mod Completeness
 pub mod Cut
 pub mod Eats
 pub mod Firsts
+pub mod Hashes
 pub mod Hexadecimal
 pub mod Laws
 pub mod Listed
@@ -18,6 +20,7 @@ pub mod Spellings
 pub mod Stable
 pub mod Starts
 pub mod Steps
+pub mod SymbolSteps
 pub mod Tables
 pub mod TypeSteps
 pub mod Whole

@@ -6,16 +6,18 @@ use Rattle.std.proofs.Common.{take, not, length, arith, refl}
 use Rattle.std.proofs.lemmas.Bool.{le-ltb}
 use Rattle.std.specs.Prelude.{codes, if◌then◌else◌}
 use Rattle.msvc_read.specs.Sorts.{Sort, Value, name_tree, type_tree, based, extended, named, points, arrayed, indexed}
-use Rattle.msvc_read.specs.Sorts.{referred, variable_of, untyped, plain_function, member_of}
-use Rattle.msvc_read.specs.Rules.{Production, encoding, encoding_behind, thunk_number, own_qualifiers, returned}
+use Rattle.msvc_read.specs.Sorts.{referred, variable_of, table_of, type_information, untyped, encoded_string}
+use Rattle.msvc_read.specs.Sorts.{virtual_call, plain_function, member_of}
+use Rattle.msvc_read.specs.Rules.{Production, guard_index, unsigned, encoding_behind, characters, thunk_number}
+use Rattle.msvc_read.specs.Rules.{own_qualifiers, returned, required}
 use Rattle.msvc_read.specs.Rules.{function_parameters, parameters, parameter, any_type, type_behind, positive, lengths}
 use Rattle.msvc_read.specs.Rules.{plain_type, Condition, none_of, at_end, every, some_of, Rule, letter, literal, up_to}
 use Rattle.msvc_read.specs.Rules.{here, ◌>>=◌, ◌or◌, call}
 use Rattle.msvc_read.specs.Rules.{noted, entering, apart, begins_of, type_form, function_type, class_part, special_name}
-use Rattle.msvc_read.specs.Rules.{unqualified_name, text_and, give}
-use Rattle.msvc_read.specs.Grammar.{grammar, type_texts, operators}
+use Rattle.msvc_read.specs.Rules.{special_behind, unqualified_name, text_and}
+use Rattle.msvc_read.specs.Grammar.{grammar, type_texts, special_texts}
+use Rattle.msvc_read.specs.declared.operators.SpecialForm.TheVariants as special
 use Rattle.msvc_read.specs.declared.forms.TypeForm.TheVariants as form
-use Rattle.msvc_tree.specs.Trees.{operator}
 use Rattle.msvc_read.proofs.Checks.{some_value, least, eats, eater, differ, bars, others, needs_inside, Local}
 
 -- How many bytes a rule reads at least before a digit that it notes
@@ -144,12 +146,20 @@ placed_texts (row ∷ table) f go = (
 
 pub well_placed : {a : Sort} (n : Production a) → WellPlaced n
 unfolding WellPlaced Placed Beside grammar runs_up eater needs_inside
-well_placed (encoding true) = search depth 12
-well_placed (encoding false) = search depth 12
+well_placed (guard_index true) = search depth 12
+well_placed (guard_index false) = search depth 12
+well_placed (unsigned (pos n)) = search depth 12
+well_placed (unsigned (negsuc n)) = search depth 12
 well_placed (encoding_behind (variable_of kind)) = search depth 12
+well_placed (encoding_behind (table_of kind)) = search depth 12
+well_placed (encoding_behind type_information) = search depth 12
 well_placed (encoding_behind untyped) = search depth 12
+well_placed (encoding_behind encoded_string) = search depth 12
+well_placed (encoding_behind virtual_call) = search depth 12
 well_placed (encoding_behind plain_function) = search depth 12
 well_placed (encoding_behind (member_of class)) = search depth 12
+well_placed (characters zero) = search depth 12
+well_placed (characters (suc n)) = search depth 12
 well_placed (thunk_number true) = search depth 12
 well_placed (thunk_number false) = search depth 12
 well_placed (own_qualifiers true) = search depth 12
@@ -191,7 +201,13 @@ well_placed (plain_type q) = search depth 12
 well_placed (unqualified_name true) = search depth 12
 well_placed (unqualified_name false) = search depth 12
 well_placed (any_type q) = ((placed_texts type_texts (λ f. call (type_form q f)) (λ f. tt), search), refl)
-well_placed special_name = (placed_texts {a = name_tree} operators (λ o. give (operator o)) (λ o. tt), refl)
+well_placed special_name = (placed_texts special_texts (λ f. call (special_behind f)) (λ f. tt), refl)
+well_placed (special_behind (special.Plain o)) = search depth 12
+well_placed (special_behind (special.Guard kind)) = search depth 12
+well_placed (special_behind special.TypeDescriptor) = search depth 12
+well_placed (special_behind special.BaseClass) = search depth 12
+well_placed (required true) = search depth 12
+well_placed (required false) = search depth 12
 well_placed _ = search depth 12
 
 pub placed : {a : Sort} (n : Production a) → Placed (grammar n)

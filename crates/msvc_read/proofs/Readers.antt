@@ -1,19 +1,22 @@
 -- What the readers of the program cite beside the steps: how their trees are seen, and what is known where they look
 -- for an entry of a table.
 use Rattle.std.proofs.Common.{ℕ, ℤ, suc, List, [], ◌∷◌, ◌++◌, length, Bool, true, false, ◌≡◌, ◌<◌, refl, sym, ap}
-use Rattle.std.proofs.Common.{Box, Global, drop, get_or, drop-cons}
+use Rattle.std.proofs.Common.{Box, Global, Vec, drop, get_or, drop-cons}
 use Rattle.std.specs.Prelude.{map, IsTrue}
 use Rattle.std.specs.List.{list_any}
 use Rattle.msvc_tree.specs.Equality.{same_name, same_name-is, same_type, same_type-is}
 use Rattle.msvc_tree.specs.Trees.{NameTree, TypeTree, array, names, name_trees, nested, numbered, plain, tagged, types}
-use Rattle.msvc_tree.specs.Trees.{type_trees}
+use Rattle.msvc_tree.specs.Trees.{base_class_descriptor, constant_string, type_descriptor, type_trees, vcall_thunk}
 use Rattle.msvc_tree.specs.declared.flags.StorageClass.{StorageClass}
 use Rattle.msvc_tree.specs.declared.kinds.NumberedType.TheVariants as number_kind
 use Rattle.msvc_tree.specs.declared.kinds.PlainType.TheVariants as plain_kind
 use Rattle.msvc_tree.specs.declared.kinds.Tag.TheVariants as tag_kind
+use Rattle.msvc_tree.specs.declared.tree.CallingConv.{CallingConv}
+use Rattle.msvc_tree.specs.declared.tree.Operator as code_operator
+use Rattle.msvc_tree.specs.declared.tree.Operator.{Operator}
 use Rattle.msvc_tree.specs.declared.tree.Symbol.{Symbol}
 use Rattle.msvc_tree.specs.declared.tree.Type as code_type
-use Rattle.msvc_tree.specs.View.{name_of, names_in, scope_of, type_of, types_in, tree_of}
+use Rattle.msvc_tree.specs.View.{name_of, names_in, operator_of, scope_of, type_of, types_in, tree_of}
 use Rattle.msvc_tree.specs.declared.tree.Name as code
 use Rattle.msvc_tree.specs.declared.tree.Name.{Name}
 use Rattle.msvc_tree.specs.declared.tree.ParseResult.{ParseResult}
@@ -24,10 +27,13 @@ pub use Rattle.msvc_tree.proofs.Views.{type_of-NonMemberFunction, type_of-None, 
 pub use Rattle.msvc_tree.proofs.Views.{type_of-MemberFunctionPointer}
 pub use Rattle.msvc_tree.proofs.Views.{type_of-RValueRef, type_of-Struct, type_of-TemplateParameterWithIndex}
 pub use Rattle.msvc_tree.proofs.Views.{type_of-Union, type_of-Var, type_of-VarArgs, type_of-Void}
-use Rattle.msvc_read.proofs.SpecialSteps.{special_name_step}
+use Rattle.msvc_read.proofs.SpecialSteps.{base_class_step, guard_step, plain_operator_step, special_name_here}
+use Rattle.msvc_read.proofs.SpecialSteps.{type_descriptor_step}
+use Rattle.msvc_read.proofs.SymbolSteps.{encoded_string_step, hashed_symbol_step, indexed_guard, indexed_other}
+use Rattle.msvc_read.proofs.SymbolSteps.{numbered_guard_step, table_step, type_information_step, virtual_call_step}
 use Rattle.msvc_read.proofs.TypeSteps.{class_part_is, function_type_step, member_pointer_step, type_form_is}
 use Rattle.msvc_read.proofs.Steps.{arrayed_step, encoding_step, function_parameters_step, function_step, letter_step}
-use Rattle.msvc_read.proofs.Steps.{guarded_step, indexed_step, member_letter, member_step, named_step}
+use Rattle.msvc_read.proofs.Steps.{indexed_step, member_letter, member_step, named_step}
 use Rattle.msvc_read.proofs.Steps.{anonymous_namespace_step, marked_name_step, nested_symbol_step, new_interface_step}
 use Rattle.msvc_read.proofs.Steps.{symbol_body_step, template_inside_step, template_symbol_step}
 use Rattle.msvc_read.proofs.Steps.{named_symbol_step, points_step, referred_step, returned_member, returned_other}
@@ -91,6 +97,37 @@ pub type_of-Nullptr : type_of code_type.Nullptr ≡ plain plain_kind.Nullptr
 unfolding type_of
 type_of-Nullptr = refl
 
+pub type_of-RTTIType : type_of code_type.RTTIType ≡ plain plain_kind.Rtti
+unfolding type_of
+type_of-RTTIType = refl
+
+pub type_of-ThreadSafeStaticGuard : (n : ℤ)
+    → type_of (code_type.ThreadSafeStaticGuard n) ≡ numbered number_kind.ThreadSafeGuard n
+unfolding type_of
+type_of-ThreadSafeStaticGuard n = refl
+
+pub type_of-ConstantString : (x : Vec ℕ Global) → type_of (code_type.ConstantString x) ≡ constant_string x.items
+unfolding type_of
+type_of-ConstantString x = refl
+
+pub type_of-VCallThunk : (n : ℤ) (c : CallingConv) → type_of (code_type.VCallThunk n c) ≡ vcall_thunk n c
+unfolding type_of
+type_of-VCallThunk n c = refl
+
+pub name_of-Operator : (o : Operator) → name_of (code.Operator o) ≡ operator_of o
+unfolding name_of operator_of
+name_of-Operator o = refl
+
+pub name_of-RTTITypeDescriptor : (q : StorageClass) (b : Box «Type» Global)
+    → name_of (code.Operator (code_operator.RTTITypeDescriptor q b)) ≡ type_descriptor q.0 (type_of b.value)
+unfolding name_of operator_of type_of
+name_of-RTTITypeDescriptor q b = refl
+
+pub name_of-RTTIBaseClassDescriptor : (i j k l : ℤ)
+    → name_of (code.Operator (code_operator.RTTIBaseClassDescriptor i j k l)) ≡ base_class_descriptor i j k l
+unfolding name_of operator_of
+name_of-RTTIBaseClassDescriptor i j k l = refl
+
 pub ruleset symbol_is = (symbol_step)
 
 pub ruleset symbol_body_split = (symbol_body_step)
@@ -107,7 +144,8 @@ pub ruleset interface_split = (new_interface_step)
 
 pub ruleset anonymous_split = (anonymous_namespace_step)
 
-pub ruleset encoding_split = (guarded_step, encoding_step, untyped_step, member_letter, type_of-None)
+pub ruleset encoding_split =
+    (encoding_step, untyped_step, type_information_step, member_letter, type_of-None, type_of-RTTIType)
 
 pub ruleset variable_split = (variable_step, type_of-Var)
 
@@ -141,7 +179,23 @@ pub ruleset member_pointer_split = (member_pointer_step, names_in-is, types_in-i
 
 pub ruleset class_part_split = (class_part_is, letter_step)
 
-pub ruleset special_split = (special_name_step)
+pub ruleset special_split = (special_name_here, plain_operator_step, guard_step, name_of-Operator)
+
+pub ruleset descriptor_split = (type_descriptor_step, name_of-RTTITypeDescriptor)
+
+pub ruleset base_class_split = (base_class_step, name_of-RTTIBaseClassDescriptor)
+
+pub ruleset hashed_split = (hashed_symbol_step, type_of-None)
+
+pub ruleset indexed_split = (indexed_other, indexed_guard)
+
+pub ruleset numbered_split = (numbered_guard_step, tree_of-is, type_of-ThreadSafeStaticGuard)
+
+pub ruleset string_split = (encoded_string_step, type_of-ConstantString)
+
+pub ruleset table_split = (table_step, names_in-is)
+
+pub ruleset virtual_call_split = (virtual_call_step, type_of-VCallThunk)
 
 pub ruleset compound_split = (
   arrayed_step,

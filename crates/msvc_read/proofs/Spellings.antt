@@ -1,6 +1,6 @@
 -- The names in what is read are parts of the text, and UTF-8 if it is: each name that a tree spells is what stands up
 -- to an ASCII byte, and all else that is eaten is ASCII too.
-use Rattle.std.proofs.Common.{ℕ, ℤ, zero, suc, pos, negsuc, List, [], ◌∷◌, ◌++◌, length, get_or, Some, Bool, true}
+use Rattle.std.proofs.Common.{Option, ℕ, ℤ, zero, suc, pos, negsuc, List, [], ◌∷◌, ◌++◌, length, get_or, Some, Bool, true}
 use Rattle.std.proofs.Common.{false, cond, nat_lt, ◌≡◌, ◌<◌, ◌+◌, ◌-◌, ◌==◌, refl, sym, ap, ◌∙◌, subst, arith}
 use Rattle.std.proofs.Common.{append_assoc, length-append}
 use Rattle.std.proofs.lemmas.Bool.{eqb-true, ltb-true}
@@ -11,22 +11,29 @@ use Rattle.std.specs.Prelude.{slice_get}
 use Rattle.std.specs.List.{list_any}
 use Rattle.std.specs.Str.{IsUtf8}
 use Rattle.msvc_tree.specs.EachName.{EachNameOfName, EachNameOfNames, EachNameOfType, EachNameOfTypes, EachName}
-use Rattle.msvc_tree.specs.Trees.{NameTree, TypeTree, SymbolTree, name_trees, type_trees}
+use Rattle.msvc_tree.specs.Trees.{NameTree, TypeTree, SymbolTree, spelled, operator, guard, type_descriptor}
+use Rattle.msvc_tree.specs.Trees.{base_class_descriptor, template, discriminator, nested, anonymous, name_trees}
+use Rattle.msvc_tree.specs.Trees.{type_trees}
 use Rattle.msvc_read.specs.State.{State, Entry, Note, place, remember_type}
-use Rattle.msvc_read.specs.Sorts.{Sort, bytes, name_tree, type_tree, symbol_tree, list, both, Value, based, extended}
-use Rattle.msvc_read.specs.Sorts.{named, points, arrayed, indexed, referred, variable_of, untyped, plain_function}
-use Rattle.msvc_read.specs.Sorts.{member_of}
-use Rattle.msvc_read.specs.Rules.{Production, symbol_body, encoding, encoding_behind, thunk_number, own_qualifiers, returned}
+use Rattle.msvc_read.specs.Sorts.{Sort, bits, bytes, name_tree, type_tree, symbol_tree, list, both, Value, based, extended}
+use Rattle.msvc_read.specs.Sorts.{named, points, arrayed, indexed, referred, variable_of, table_of, type_information}
+use Rattle.msvc_read.specs.Sorts.{untyped, encoded_string, virtual_call, plain_function, member_of}
+use Rattle.msvc_read.specs.Rules.{Production, symbol_body, guard_index, unsigned, encoding_behind, characters, character}
+use Rattle.msvc_read.specs.Rules.{thunk_number, own_qualifiers, returned, special_name, special_behind, required}
+use Rattle.msvc_read.specs.Rules.{text_and, call}
 use Rattle.msvc_read.specs.Rules.{any_type, type_behind, array, positive, lengths, template_name, unqualified_name, every, lookup, Rule, give, letter}
 use Rattle.msvc_read.specs.Rules.{literal, up_to, here, ◌>>=◌, ◌or◌, remember, noted, entering, apart}
 use Rattle.msvc_read.specs.Rules.{type_form, function_type, member_pointer, class_part}
 use Rattle.msvc_read.specs.declared.forms.TypeForm.TheVariants as form
-use Rattle.msvc_read.specs.Grammar.{grammar, arrays}
+use Rattle.msvc_read.specs.declared.operators.SpecialForm.TheVariants as special
+use Rattle.msvc_read.specs.Grammar.{grammar, arrays, escaped_characters, plain_characters, special_texts}
+use Rattle.msvc_read.specs.Grammar.{with_index}
 use Rattle.msvc_read.specs.Reads.{Reads, given, a_letter, a_literal, a_part, where_it_holds, in_a_row, the_first}
 use Rattle.msvc_read.specs.Reads.{the_second, called, a_known_name, remembered, a_known_type, a_noted_type, entered}
 use Rattle.msvc_read.specs.Reads.{set_apart, Derives}
 use Rattle.msvc_read.specs.Parts.{IsPart, NamesAreParts}
 use Rattle.msvc_read.proofs.Eats.{IsTail}
+use Rattle.msvc_read.proofs.Firsts.{if_both}
 use Rattle.msvc_read.proofs.Tables.{with_one}
 
 -- what holds of each
@@ -76,14 +83,49 @@ module _ (P : List ℕ → Type 0) where
   in-types [] h = tt
   in-types (t ∷ ts) h = (h.0, in-types ts h.1)
 
+  in-indexed : (index : Option ℕ) (n : NameTree) → EachNameOfName P n → EachNameOfName P (with_index index n)
+  in-indexed index (spelled how text) h = h
+  in-indexed index (operator o) h = h
+  in-indexed index (guard kind number) h = tt
+  in-indexed index (type_descriptor q t) h = h
+  in-indexed index (base_class_descriptor a b c d) h = h
+  in-indexed index (template n ts) h = h
+  in-indexed index (discriminator z) h = h
+  in-indexed index (nested n ns t) h = h
+  in-indexed index (anonymous digits) h = h
+
+  no-names : (table : List (ℕ × ℕ)) → Each (λ row. In bits row.1) table
+  no-names [] = tt
+  no-names (row ∷ table) = (tt, no-names table)
+
+  -- what begins with a text of a table
+  gives_texts : {a : Sort} {A : Type 0} (table : List (List ℕ × A)) (f : A → Rule a)
+      → every (λ row. every ascii row.0) table ≡ true → ((x : A) → Gives (f x)) → Gives (text_and table f)
+  unfolding Gives
+  gives_texts [] f h go = (refl, tt)
+  gives_texts (row ∷ table) f h go =
+      let parts : (every ascii row.0 ≡ true) × (every (λ other. every ascii other.0) table ≡ true) = if_both _ _ h in
+      ((parts.0, λ _ _. go row.1), gives_texts table f parts.1 go)
+
   gives : {a : Sort} (n : Production a) → Gives (grammar n)
   unfolding Gives grammar
-  gives (encoding true) = search depth 60
-  gives (encoding false) = search depth 60
+  gives (guard_index true) = search depth 60
+  gives (guard_index false) = search depth 60
+  gives (unsigned (pos n)) = search depth 60
+  gives (unsigned (negsuc n)) = search depth 60
   gives (encoding_behind (variable_of kind)) = search depth 60
+  gives (encoding_behind (table_of kind)) = (search depth 60, λ q _. (tt, λ ns h. in-names ns h))
+  gives (encoding_behind type_information) = search depth 60
   gives (encoding_behind untyped) = search depth 60
+  gives (encoding_behind encoded_string) = search depth 60
+  gives (encoding_behind virtual_call) = search depth 60
+  gives (characters zero) = search depth 60
+  gives (characters (suc n)) = search depth 60
   gives (encoding_behind plain_function) = (tt, λ f h. (in-types f.1.1 h.1.1, h.1.0))
   gives (encoding_behind (member_of class)) = (tt, λ _ _. (tt, λ own _. (tt, λ f h. (in-types f.1.1 h.1.1, h.1.0))))
+  gives character =
+      ((refl, λ _ _. ((refl, λ _ _. search depth 60), (refl, no-names escaped_characters))),
+      (refl, no-names plain_characters))
   gives (thunk_number true) = search depth 60
   gives (thunk_number false) = search depth 60
   gives (own_qualifiers true) = search depth 60
@@ -103,7 +145,18 @@ module _ (P : List ℕ → Type 0) where
   gives (lengths zero) = search depth 60
   gives (lengths (suc n)) = search depth 60
   gives symbol_body =
-      ((refl, λ _ _. (tt, λ n h. (h, tt, tt))), (tt, λ n h. (tt, λ t k. (h.0, in-names n.1 h.1, k))))
+      ((refl, λ _ _. (tt, λ n h. (tt, λ _ _. (h, tt, tt)))),
+      ((refl, λ _ _. (search depth 60, λ _ _. (tt, λ n h. (tt, λ ns k.
+      (refl, λ _ _. (h, in-names ns k, tt)))))),
+      ((refl, λ _ _. (tt, λ n h. (h, tt, tt))),
+      (tt, λ n h. (tt, λ _ _. (tt, λ t k. (in-indexed _ n.0 h.0, in-names n.1 h.1, k)))))))
+  gives special_name = gives_texts special_texts (λ f. call (special_behind f)) refl (λ f. tt)
+  gives (special_behind (special.Plain o)) = search depth 60
+  gives (special_behind (special.Guard kind)) = search depth 60
+  gives (special_behind special.TypeDescriptor) = search depth 60
+  gives (special_behind special.BaseClass) = search depth 60
+  gives (required true) = search depth 60
+  gives (required false) = search depth 60
   gives (unqualified_name true) = search depth 60
   gives (unqualified_name false) = search depth 60
   gives template_name = (tt, λ n h. (tt, λ ts k. (h, in-types ts k)))

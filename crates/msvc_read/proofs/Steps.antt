@@ -22,6 +22,7 @@ use Rattle.msvc_tree.specs.Trees.{NameTree, SymbolTree, TypeTree, function, memb
 use Rattle.msvc_tree.specs.Trees.{anonymous, discriminator, name_trees, nested, numbered, plain, pointing, spelled}
 use Rattle.msvc_tree.specs.Trees.{template}
 use Rattle.msvc_tree.specs.Trees.{tagged, type_trees, variable}
+use Rattle.msvc_read.specs.Parser as parser
 use Rattle.msvc_read.specs.Parser.{byte_here, cut_at, ellipsis, encoding_by, kept_name, member_by, name_length}
 use Rattle.msvc_read.specs.Parser.{parameters_stop}
 use Rattle.msvc_read.specs.Parser.{type_by}
@@ -30,7 +31,7 @@ use Rattle.msvc_read.specs.Sorts.{Sort, bits, integer, name_tree, symbol_tree, t
 use Rattle.msvc_read.specs.Sorts.{EncodingLetter, TypeLetter}
 use Rattle.msvc_read.specs.Sorts.{arrayed, based, extended, indexed, member_of, named, plain_function, points, referred}
 use Rattle.msvc_read.specs.Sorts.{untyped, variable_of}
-use Rattle.msvc_read.specs.Rules.{symbol, symbol_body, encoding, encoding_behind, thunk_number, own_qualifiers}
+use Rattle.msvc_read.specs.Rules.{symbol, symbol_body, guard_index, encoding, encoding_behind, thunk_number, own_qualifiers}
 use Rattle.msvc_read.specs.Rules.{function_qualifiers, signature, return_qualifiers, returned, function_parameters}
 use Rattle.msvc_read.specs.Rules.{parameters, parameter, any_type, plain_type, type_behind, pointee, array, dimension}
 use Rattle.msvc_read.specs.Rules.{positive, lengths, qualified_name, unqualified_name, template_name, scope, nested_name}
@@ -43,6 +44,7 @@ use Rattle.msvc_read.specs.Grammar.{reference_qualifiers, qualifiers, storage_cl
 use Rattle.msvc_read.specs.Grammar.{qualifiers_of_returns, qualifiers_of_arrays, base_types, extended_types}
 use Rattle.msvc_read.specs.Grammar.{compound_letters, function_classes, encoding_letters, array_class, arrays, has}
 use Rattle.msvc_read.specs.Grammar.{hexadecimal_codes, entering_name, named_symbol, nested_symbol, new_interface}
+use Rattle.msvc_read.specs.Grammar.{hashed_symbol, is_guard, numbered_guard, with_index}
 use Rattle.msvc_read.specs.Grammar.{new_source_name, signed_letters, template_inside, template_kept, template_symbol}
 use Rattle.msvc_read.specs.Reads.{Found, read_name, read, read_by, letter_here, with_value, type_known, type_noted}
 use Rattle.msvc_read.specs.Reads.{noted_by, entered_by, with_byte, part_here, behind_literal, and_then, or_else}
@@ -183,18 +185,23 @@ symbol_step left s = read_name-is symbol left s ∙ go (after (codes "?") left)
     go (Some rest) = refl
 
 pub symbol_body_step : (left : List ℕ) (s : State) → read_name symbol_body left s
-    ≡ cond (some_of (begins left) (codes "?@" ∷ codes "$TSS" ∷ [])) None
-    (chosen (after (codes "$") left) (λ rest. read template_symbol rest s) (read named_symbol left s))
+    ≡ chosen (after (codes "?@") left) (λ rest. read hashed_symbol rest s)
+    (chosen (after (codes "$TSS") left) (λ rest. read numbered_guard rest s)
+    (chosen (after (codes "$") left) (λ rest. read template_symbol rest s) (read named_symbol left s)))
 unfolding grammar read read_by
 symbol_body_step left s =
     read_name-is symbol_body left s
-    ∙ unless (some_of (begins left) (codes "?@" ∷ codes "$TSS" ∷ [])) _
-    ∙ ap (cond (some_of (begins left) (codes "?@" ∷ codes "$TSS" ∷ [])) None)
-    (literal_or-is {a = symbol_tree} (codes "$") template_symbol named_symbol left s)
+    ∙ literal_or-is {a = symbol_tree} (codes "?@") hashed_symbol from_guard left s
+    ∙ ap (chosen (after (codes "?@") left) (λ rest. read hashed_symbol rest s))
+    (literal_or-is {a = symbol_tree} (codes "$TSS") numbered_guard from_template left s
+    ∙ ap (chosen (after (codes "$TSS") left) (λ rest. read numbered_guard rest s))
+    (literal_or-is {a = symbol_tree} (codes "$") template_symbol named_symbol left s))
   where
-    unless : (stop : Bool) (x : Found SymbolTree) → cond (not stop) x None ≡ cond stop None x
-    unless true x = refl
-    unless false x = refl
+    from_template : Rule symbol_tree
+    from_template = literal_or (codes "$") template_symbol named_symbol
+
+    from_guard : Rule symbol_tree
+    from_guard = literal_or (codes "$TSS") numbered_guard from_template
 
 pub template_symbol_step : (left : List ℕ) (s : State) → read template_symbol left s
     ≡ and_then (read_name template_name left s)
@@ -202,31 +209,54 @@ pub template_symbol_step : (left : List ℕ) (s : State) → read template_symbo
 unfolding read read_by
 template_symbol_step left s = refl
 
-pub named_symbol_is : (left l rest : List ℕ) (s t u : State) (n : NameTree) (ns : List NameTree) (x : TypeTree)
-    → read_name (qualified_name true) left s ≡ Some ((n, ns), l, t) → read_name (encoding false) l t ≡ Some (x, rest, u)
-    → read named_symbol left s ≡ Some (record { name = n; scope = name_trees ns; symbol_type = x }, rest, u)
-unfolding read read_by
-named_symbol_is left l rest s t u n ns x e f = rw (e, f)
+-- a symbol with these parts
+abbrev pub symbol_of : NameTree → List NameTree → TypeTree → SymbolTree
+symbol_of n ns x = record { name = n; scope = name_trees ns; symbol_type = x }
 
 pub named_symbol_step : (left : List ℕ) (s : State) → read named_symbol left s
-    ≡ and_then (read_name (qualified_name true) left s) (λ n l t. and_then (read_name (encoding false) l t)
-    (λ x k u. Some (record { name = n.0; scope = name_trees n.1; symbol_type = x }, k, u)))
+    ≡ and_then (read_name (qualified_name true) left s)
+    (λ n l t. and_then (parser.indexed n.0 n.1 l t) (λ m k u. and_then (read_name encoding k u)
+    (λ x j v. Some (symbol_of m.0 m.1 x, j, v))))
 unfolding read read_by
-named_symbol_step left s = refl
+named_symbol_step left s = go (read_name (qualified_name true) left s)
+  where
+    inside : (n : NameTree) (ns : List NameTree) (o : Found (Option ℕ))
+        → and_then o (λ index k u. and_then (read_name encoding k u)
+        (λ x j v. Some (symbol_of (with_index index n) ns x, j, v)))
+        ≡ and_then {A = NameTree × List NameTree} (and_then o (λ index l t. Some ((with_index index n, ns), l, t)))
+        (λ m k u. and_then (read_name encoding k u) (λ x j v. Some (symbol_of m.0 m.1 x, j, v)))
+    inside n ns None = refl
+    inside n ns (Some y) = refl
+
+    go : (o : Found (NameTree × List NameTree))
+        → and_then o (λ n l t. and_then (read_name (guard_index (is_guard n.0)) l t)
+        (λ index k u. and_then (read_name encoding k u)
+        (λ x j v. Some (symbol_of (with_index index n.0) n.1 x, j, v))))
+        ≡ and_then o (λ n l t. and_then (parser.indexed n.0 n.1 l t) (λ m k u. and_then (read_name encoding k u)
+        (λ x j v. Some (symbol_of m.0 m.1 x, j, v))))
+    go None = refl
+    go (Some y) = inside y.0.0 y.0.1 (read_name (guard_index (is_guard y.0.0)) y.1 y.2)
+
+pub named_symbol_is : (left l k rest : List ℕ) (s t u v : State) (n m : NameTree) (ns ms : List NameTree) (x : TypeTree)
+    → read_name (qualified_name true) left s ≡ Some ((n, ns), l, t) → parser.indexed n ns l t ≡ Some ((m, ms), k, u)
+    → read_name encoding k u ≡ Some (x, rest, v)
+    → read named_symbol left s ≡ Some (symbol_of m ms x, rest, v)
+named_symbol_is left l k rest s t u v n m ns ms x e f g =
+    named_symbol_step left s
+    ∙ ap (λ o. and_then o (λ y i a. and_then (parser.indexed y.0 y.1 i a) (λ z j b. and_then (read_name encoding j b)
+    (λ w h c. Some (symbol_of z.0 z.1 w, h, c))))) e
+    ∙ ap (λ o. and_then o (λ z j b. and_then (read_name encoding j b)
+    (λ w h c. Some (symbol_of z.0 z.1 w, h, c)))) f
+    ∙ ap (λ o. and_then o (λ w h c. Some (symbol_of m ms w, h, c))) g
 
 -- the type of a symbol, by its first byte
 
-pub guarded_step : (left : List ℕ) (s : State) → read_name (encoding true) left s ≡ None
-unfolding grammar read read_by
-guarded_step [] s = read_name-is (encoding true) [] s
-guarded_step (b ∷ bs) s = read_name-is (encoding true) (b ∷ bs) s
-
-pub encoding_step : (left : List ℕ) (s : State) → read_name (encoding false) left s
+pub encoding_step : (left : List ℕ) (s : State) → read_name encoding left s
     ≡ choose (byte_here left s)
     (λ b l t. encoding_by (lookup b encoding_letters) l t) (Some (plain plain_kind.None, left, s))
 unfolding grammar read read_by byte_here encoding_by
-encoding_step [] s = read_name-is (encoding false) [] s
-encoding_step (b ∷ bs) s = read_name-is (encoding false) (b ∷ bs) s ∙ behind (lookup b encoding_letters)
+encoding_step [] s = read_name-is encoding [] s
+encoding_step (b ∷ bs) s = read_name-is encoding (b ∷ bs) s ∙ behind (lookup b encoding_letters)
   where
     behind : (o : Option EncodingLetter) → and_then (with_value o bs s) (λ x. read_name (encoding_behind x))
         ≡ encoding_by o bs s
@@ -742,7 +772,7 @@ pub front_none : {A : Type 0} (o : Found (List A)) → with_front [] o ≡ o
 front_none None = refl
 front_none (Some y) = refl
 
-front_first : {A : Type 0} (xs : List A) (x : A) (o : Found (List A))
+pub front_first : {A : Type 0} (xs : List A) (x : A) (o : Found (List A))
     → with_front xs (and_then o (λ ys k u. Some (x ∷ ys, k, u))) ≡ with_front (xs ++ x ∷ []) o
 front_first xs x None = refl
 front_first xs x (Some y) = ap (λ z. Some (z, y.1, y.2)) (sym (append_assoc xs (x ∷ []) y.0))

@@ -1,7 +1,8 @@
 -- The grammar of symbols. A production has the name that docs/grammar.md gives it, and that of the function that
 -- reads it. Texts stand in it as such, and a table has its letters in one text and what they stand for behind it.
 use Rattle.std.specs.Prelude.{ℕ, ℤ, pos, List, [], ◌∷◌, ◌++◌, ◌==◌, ◌+◌, ◌*◌, ◌%◌, ◌^◌, Bool, true, false, Some, None}
-use Rattle.std.specs.Prelude.{bit_and, bit_or, suc, zero, codes, unwrap_or}
+use Rattle.std.specs.Prelude.{negsuc, Option, bit_and, bit_or, suc, zero, codes, is_some, length, nat_lt, not, min}
+use Rattle.std.specs.Prelude.{if◌then◌else◌, unwrap_or}
 use Rattle.std.specs.Int.{cast_signed, int_wrapping_neg, w32}
 use Rattle.msvc_tree.specs.declared.tree.CallingConv.{CallingConv}
 use Rattle.msvc_tree.specs.declared.tree.CallingConv.TheVariants.{Cdecl, Pascal, Thiscall, Stdcall, Fastcall}
@@ -11,29 +12,37 @@ use Rattle.msvc_tree.specs.Trees as tree
 use Rattle.msvc_tree.specs.declared.kinds.Tag.TheVariants as tag_kind
 use Rattle.msvc_tree.specs.declared.kinds.BaseType.{BaseType}
 use Rattle.msvc_tree.specs.declared.kinds.BaseType.TheVariants as base_kind
+use Rattle.msvc_tree.specs.declared.kinds.Guard.TheVariants as guard_kind
 use Rattle.msvc_tree.specs.declared.kinds.Mark.TheVariants as mark_kind
 use Rattle.msvc_tree.specs.declared.kinds.NumberedType.TheVariants as number_kind
 use Rattle.msvc_tree.specs.declared.kinds.PlainOperator.{PlainOperator}
 use Rattle.msvc_tree.specs.declared.kinds.PlainOperator.TheVariants as operator_kind
 use Rattle.msvc_tree.specs.declared.kinds.PlainType.TheVariants as plain_kind
 use Rattle.msvc_tree.specs.declared.kinds.Spelling.TheVariants as spelling_kind
+use Rattle.msvc_tree.specs.declared.kinds.Table.TheVariants as table_kind
 use Rattle.msvc_tree.specs.Trees.{NameTree, TypeTree, spelled, template, discriminator, nested, anonymous, no_names, plain}
-use Rattle.msvc_tree.specs.Trees.{operator, base, tagged, numbered, pointing, function}
+use Rattle.msvc_tree.specs.Trees.{operator, guard, type_descriptor, base_class_descriptor, base, tagged, numbered}
+use Rattle.msvc_tree.specs.Trees.{pointing, constant_string, vcall_thunk, function}
 use Rattle.msvc_tree.specs.Trees.{member_function, variable, name_trees, type_trees}
 use Rattle.msvc_read.specs.declared.forms.TypeForm.{TypeForm}
 use Rattle.msvc_read.specs.declared.forms.TypeForm.TheVariants as form
+use Rattle.msvc_read.specs.declared.operators.SpecialForm.{SpecialForm}
+use Rattle.msvc_read.specs.declared.operators.SpecialForm.TheVariants as special
 use Rattle.msvc_read.specs.Sorts.{TypeLetter, based, extended, named, points, arrayed, indexed, referred}
-use Rattle.msvc_read.specs.Sorts.{EncodingLetter, variable_of, untyped, plain_function, member_of, Sort, bits, integer}
+use Rattle.msvc_read.specs.Sorts.{EncodingLetter, variable_of, table_of, type_information, untyped, encoded_string}
+use Rattle.msvc_read.specs.Sorts.{virtual_call, plain_function, member_of, Sort, nothing, bits, integer, bytes}
 use Rattle.msvc_read.specs.Sorts.{name_tree, base_type, type_letter, encoding_letter, convention, symbol_tree}
-use Rattle.msvc_read.specs.Rules.{Production, symbol, symbol_body, encoding, encoding_behind, thunk_number, own_qualifiers}
+use Rattle.msvc_read.specs.Rules.{Production, symbol, symbol_body, guard_index, unsigned, decimal, encoding}
+use Rattle.msvc_read.specs.Rules.{encoding_behind, characters, character, thunk_number, own_qualifiers}
 use Rattle.msvc_read.specs.Rules.{function_qualifiers, signature, return_qualifiers, returned, function_parameters}
 use Rattle.msvc_read.specs.Rules.{parameters, parameter, any_type, plain_type, type_behind, pointee, array, dimension}
 use Rattle.msvc_read.specs.Rules.{positive, lengths, qualified_name, unqualified_name, template_name, scope, nested_name}
 use Rattle.msvc_read.specs.Rules.{marked_name, anonymous_namespace, hexadecimal_digits, source_name, number, magnitude}
-use Rattle.msvc_read.specs.Rules.{letters, none_of, at_end, Rule, give, letter, literal, up_to, here, ◌>>=◌, ◌>>◌, ◌or◌}
+use Rattle.msvc_read.specs.Rules.{letters, required, none_of, at_end, Rule, give, letter, literal, up_to, here, ◌>>=◌}
+use Rattle.msvc_read.specs.Rules.{◌>>◌, ◌or◌, lookup, every}
 use Rattle.msvc_read.specs.Rules.{call, known_name, remember, known_type, noted, entering, apart, begins_of, letter_or}
 use Rattle.msvc_read.specs.Rules.{literal_or, text_and, text_or, optional, never}
-use Rattle.msvc_read.specs.Rules.{type_form, function_type, member_pointer, class_part, special_name}
+use Rattle.msvc_read.specs.Rules.{type_form, function_type, member_pointer, class_part, special_name, special_behind}
 
 -- Tables
 
@@ -57,7 +66,7 @@ abbrev pub hexadecimal : List (ℕ × ℕ)
 hexadecimal = rows (codes "ABCDEFGHIJKLMNOP")
     (0 ∷ 1 ∷ 2 ∷ 3 ∷ 4 ∷ 5 ∷ 6 ∷ 7 ∷ 8 ∷ 9 ∷ 10 ∷ 11 ∷ 12 ∷ 13 ∷ 14 ∷ 15 ∷ [])
 
--- the digits of the number of an anonymous namespace, each for itself
+-- the digits of a hash and of the number of an anonymous namespace, each for itself
 abbrev pub hexadecimal_codes : List (ℕ × ℕ)
 hexadecimal_codes = rows (codes "0123456789abcdefABCDEF") (codes "0123456789abcdefABCDEF")
 
@@ -130,9 +139,10 @@ function_classes = rows (codes "ABCDEFGHIJKLMNOPQRSTUVWXYZ")
     ∷ 8 ∷ 72 ∷ [])
 
 abbrev pub encoding_letters : List (ℕ × EncodingLetter)
-encoding_letters = rows (codes "012349Y")
+encoding_letters = rows (codes "012346789Y_$")
     (variable_of PrivateStatic ∷ variable_of ProtectedStatic ∷ variable_of PublicStatic ∷ variable_of Global
-    ∷ variable_of FunctionLocalStatic ∷ untyped ∷ plain_function ∷ [])
+    ∷ variable_of FunctionLocalStatic ∷ table_of table_kind.Functions ∷ table_of table_kind.Bases
+    ∷ type_information ∷ untyped ∷ plain_function ∷ encoded_string ∷ virtual_call ∷ [])
     ++ rows_of member_of function_classes []
 
 -- The texts that are tried before a plain type, and the form that each stands for. None begins another.
@@ -161,9 +171,84 @@ type_texts =
     ∷ (codes "$J", form.MemberPointer)
     ∷ []
 
--- The codes of operators. What has another code is not built yet.
-abbrev pub operators : List (List ℕ × PlainOperator)
-operators = (codes "B", operator_kind.Conversion) ∷ []
+-- The codes of special names and what each stands for. A code is a letter, alone or behind _, _R or __.
+
+abbrev pub special_letters : List (ℕ × SpecialForm)
+special_letters = rows_of special.Plain (rows (codes "0123456789ABCDEFGHIJKLMNOPQRSTUVWXYZ")
+    (operator_kind.Ctor ∷ operator_kind.Dtor ∷ operator_kind.New ∷ operator_kind.Delete ∷ operator_kind.Equal
+    ∷ operator_kind.RShift ∷ operator_kind.LShift ∷ operator_kind.Bang ∷ operator_kind.EqualEqual
+    ∷ operator_kind.BangEqual
+    ∷ operator_kind.Subscript ∷ operator_kind.Conversion ∷ operator_kind.Arrow ∷ operator_kind.Star
+    ∷ operator_kind.PlusPlus ∷ operator_kind.MinusMinus ∷ operator_kind.Minus ∷ operator_kind.Plus
+    ∷ operator_kind.Amp ∷ operator_kind.ArrowStar ∷ operator_kind.Slash ∷ operator_kind.Percent
+    ∷ operator_kind.Less ∷ operator_kind.LessEqual ∷ operator_kind.Greater ∷ operator_kind.GreaterEqual
+    ∷ operator_kind.Comma ∷ operator_kind.Call ∷ operator_kind.Tilde ∷ operator_kind.Caret ∷ operator_kind.Pipe
+    ∷ operator_kind.AmpAmp ∷ operator_kind.PipePipe ∷ operator_kind.StarEqual ∷ operator_kind.PlusEqual
+    ∷ operator_kind.MinusEqual ∷ [])) []
+
+-- behind _
+abbrev pub second_special_letters : List (ℕ × SpecialForm)
+second_special_letters = rows_of special.Plain (rows (codes "0123456789ACDEFGHIJKLMNOSTUVXY")
+    (operator_kind.SlashEqual ∷ operator_kind.PercentEqual ∷ operator_kind.GreaterGreaterEqual
+    ∷ operator_kind.LessLessEqual ∷ operator_kind.AmpEqual ∷ operator_kind.PipeEqual ∷ operator_kind.CaretEqual
+    ∷ operator_kind.VFTable ∷ operator_kind.VBTable ∷ operator_kind.VCall
+    ∷ operator_kind.Typeof ∷ operator_kind.String ∷ operator_kind.VBaseDtor ∷ operator_kind.VectorDeletingDtor
+    ∷ operator_kind.DefaultCtorClosure ∷ operator_kind.ScalarDeletingDtor ∷ operator_kind.VectorCtorIterator
+    ∷ operator_kind.VectorDtorIterator ∷ operator_kind.VectorVBaseCtorIterator
+    ∷ operator_kind.VirtualDisplacementMap ∷ operator_kind.EHVectorCtorIterator
+    ∷ operator_kind.EHVectorDtorIterator ∷ operator_kind.EHVectorVBaseCtorIterator ∷ operator_kind.CopyCtorClosure
+    ∷ operator_kind.LocalVFTable ∷ operator_kind.LocalVFTableCtorClosure ∷ operator_kind.ArrayNew
+    ∷ operator_kind.ArrayDelete ∷ operator_kind.PlacementDeleteClosure
+    ∷ operator_kind.PlacementArrayDeleteClosure ∷ []))
+    (rows (codes "B") (special.Guard guard_kind.Static ∷ []))
+
+-- of run-time type information, behind _R
+abbrev pub type_information_letters : List (ℕ × SpecialForm)
+type_information_letters = rows (codes "01234")
+    (special.TypeDescriptor ∷ special.BaseClass ∷ special.Plain operator_kind.RTTIBaseClassArray
+    ∷ special.Plain operator_kind.RTTIClassHierarchyDescriptor
+    ∷ special.Plain operator_kind.RTTIClassCompleteObjectLocator ∷ [])
+
+-- behind __
+abbrev pub third_special_letters : List (ℕ × SpecialForm)
+third_special_letters = rows (codes "EFJKL")
+    (special.Plain operator_kind.DynamicInitializer ∷ special.Plain operator_kind.DynamicAtexitDtor
+    ∷ special.Guard guard_kind.Thread ∷ special.Plain operator_kind.LiteralOperatorName
+    ∷ special.Plain operator_kind.CoroutineAwait ∷ [])
+
+-- a text and each letter of a table behind it, then the texts of another table
+abbrev pub texts_behind : {A : Type 0} → List ℕ → List (ℕ × A) → List (List ℕ × A) → List (List ℕ × A)
+texts_behind text [] others = others
+texts_behind text (row ∷ table) others = (text ++ row.0 ∷ [], row.1) ∷ texts_behind text table others
+
+-- none begins another
+abbrev pub special_texts : List (List ℕ × SpecialForm)
+special_texts =
+    texts_behind [] special_letters
+    (texts_behind (codes "_") second_special_letters
+    (texts_behind (codes "_R") type_information_letters
+    (texts_behind (codes "__") third_special_letters [])))
+
+-- Strings
+
+-- how many bytes a character has
+abbrev pub character_sizes : List (ℕ × ℕ)
+character_sizes = rows (codes "01") (1 ∷ 2 ∷ [])
+
+-- what stands for itself in a string
+abbrev pub plain_characters : List (ℕ × ℕ)
+plain_characters = rows (codes "0123456789abcdefghijklmnopqrstuvwxyzABCDEFGHIJKLMNOPQRSTUVWXYZ_$")
+    (codes "0123456789abcdefghijklmnopqrstuvwxyzABCDEFGHIJKLMNOPQRSTUVWXYZ_$")
+
+-- what stands for another byte behind ?: capital and small letters for the same, and for 0 to 9 these signs:
+-- , / \ : . space, line feed, tab, ' -
+abbrev pub escaped_characters : List (ℕ × ℕ)
+escaped_characters = rows (codes "abcdefghijklmnopqrstuvwxyzABCDEFGHIJKLMNOPQRSTUVWXYZ0123456789")
+    (225 ∷ 226 ∷ 227 ∷ 228 ∷ 229 ∷ 230 ∷ 231 ∷ 232 ∷ 233 ∷ 234 ∷ 235 ∷ 236 ∷ 237
+    ∷ 238 ∷ 239 ∷ 240 ∷ 241 ∷ 242 ∷ 243 ∷ 244 ∷ 245 ∷ 246 ∷ 247 ∷ 248 ∷ 249 ∷ 250
+    ∷ 225 ∷ 226 ∷ 227 ∷ 228 ∷ 229 ∷ 230 ∷ 231 ∷ 232 ∷ 233 ∷ 234 ∷ 235 ∷ 236 ∷ 237
+    ∷ 238 ∷ 239 ∷ 240 ∷ 241 ∷ 242 ∷ 243 ∷ 244 ∷ 245 ∷ 246 ∷ 247 ∷ 248 ∷ 249 ∷ 250
+    ∷ 44 ∷ 47 ∷ 92 ∷ 58 ∷ 46 ∷ 32 ∷ 10 ∷ 9 ∷ 39 ∷ 45 ∷ [])
 
 -- What values are made of
 
@@ -179,6 +264,29 @@ signed value = cast_signed w32 (value % 2 ^ 32)
 unfoldable pub arrays : List ℤ → TypeTree → ℕ → TypeTree
 arrays [] t q = t
 arrays (n ∷ ns) t q = tree.array n (arrays ns t q) q
+
+-- how many characters of a string are kept, where each has so many bytes
+abbrev pub string_length : ℕ → ℤ → ℕ
+string_length size (pos n) = min n (32 * size)
+string_length size (negsuc n) = 0
+
+-- whether a hash is 32 digits to base 16
+abbrev pub is_hash : List ℕ → Bool
+is_hash digits = if length digits == 32 then every (λ b. is_some (lookup b hexadecimal_codes)) digits else false
+
+-- whether a number is at most the greatest of 32 bits with a sign
+abbrev pub is_in_range : ℕ → Bool
+is_in_range value = not (nat_lt 2147483647 value)
+
+-- whether a name is that of a guard
+abbrev pub is_guard : NameTree → Bool
+is_guard (guard kind index) = true
+is_guard _ = false
+
+-- the name of a guard with an index, and any other as it stands
+abbrev pub with_index : Option ℕ → NameTree → NameTree
+with_index index (guard kind before) = guard kind index
+with_index index n = n
 
 -- Parts of productions
 
@@ -238,33 +346,100 @@ template_symbol = do
   n ← call template_name
   give (record { name = n; scope = no_names; symbol_type = plain plain_kind.None })
 
--- what follows the ? of a symbol that has a scope; its name is none of a guard
+-- what follows the ? of a symbol that has a scope
 abbrev pub named_symbol : Rule symbol_tree
 named_symbol = do
   n ← call (qualified_name true)
-  t ← call (encoding false)
-  give (record { name = n.0; scope = name_trees n.1; symbol_type = t })
+  index ← call (guard_index (is_guard n.0))
+  t ← call encoding
+  give (record { name = with_index index n.0; scope = name_trees n.1; symbol_type = t })
+
+-- what follows the ??@ of a symbol of which there is a hash alone
+abbrev pub hashed_symbol : Rule symbol_tree
+hashed_symbol = do
+  n ← call source_name
+  call (required (is_hash n))
+  give (record { name = spelled spelling_kind.Md5 n; scope = no_names; symbol_type = plain plain_kind.None })
+
+-- one decimal digit or more, up to an @
+abbrev pub guard_number : Rule bits
+guard_number = do
+  d ← letter bits digits
+  call (decimal d)
+
+-- what follows the ?$TSS of the guard of a thread-safe static variable
+abbrev pub numbered_guard : Rule symbol_tree
+numbered_guard = do
+  z ← guard_number
+  n ← call nested_name
+  ns ← call scope
+  literal (codes "4HA")
+  give (record { name = n; scope = name_trees ns; symbol_type = numbered number_kind.ThreadSafeGuard (pos z) })
+
+-- what stands behind the name of a guard, as the type of a variable does behind another name
+abbrev pub guard_marker : Rule nothing
+guard_marker = literal (codes "4IA") or literal (codes "5")
+
+-- the two halves of a byte
+abbrev pub halves : Rule bits
+halves = do
+  high ← letter bits hexadecimal
+  low ← letter bits hexadecimal
+  give (high * 16 + low)
+
+-- what stands for a byte behind a ?
+abbrev pub escaped_character : Rule bits
+escaped_character = literal_or (codes "$") halves (letter bits escaped_characters)
 
 -- The productions
 
 unfoldable pub grammar : {a : Sort} → Production a → Rule a
--- A ?, and a template behind a $, or a name in its scope and a type. What has ?@ or $TSS behind the ? is not built yet.
+-- A ?, and what follows it.
 grammar symbol = do
   literal (codes "?")
   call symbol_body
 grammar symbol_body =
-    here (none_of (codes "?@" ∷ codes "$TSS" ∷ [])) (literal_or (codes "$") template_symbol named_symbol)
--- The type of a symbol, by its first byte; at the end of the text none. Behind the name of a guard (true) stands a
--- marker, which is not built yet.
-grammar (encoding true) = never
-grammar (encoding false) =
+    literal_or (codes "?@") hashed_symbol
+    (literal_or (codes "$TSS") numbered_guard
+    (literal_or (codes "$") template_symbol named_symbol))
+-- at the end of the text a guard has no index
+grammar (guard_index true) = do
+  guard_marker
+  here at_end (give None) or (do z ← call number; index ← call (unsigned z); give (Some index))
+grammar (guard_index false) = give None
+grammar (unsigned (pos n)) = give n
+grammar (unsigned (negsuc n)) = never
+-- decimal digits behind a value that others had, and an @ ends them
+grammar (decimal value) = do
+  call (required (is_in_range value))
+  letter_or digits (λ d. call (decimal (value * 10 + d))) (do literal (codes "@"); give value)
+-- the type of a symbol, by its first byte; at the end of the text none
+grammar encoding =
     here at_end (give (plain plain_kind.None))
     or (do l ← letter encoding_letter encoding_letters; call (encoding_behind l))
 grammar (encoding_behind (variable_of kind)) = do
   t ← call (any_type 0)
   class ← optional storage_classes
   give (variable t kind class)
+grammar (encoding_behind (table_of kind)) = do
+  q ← optional qualifiers
+  ns ← call scope
+  give (tree.table kind (name_trees ns) q)
+grammar (encoding_behind type_information) = give (plain plain_kind.Rtti)
 grammar (encoding_behind untyped) = give (plain plain_kind.None)
+-- the size of a character, the length of the string, a number, which is dropped, and the first characters
+grammar (encoding_behind encoded_string) = do
+  size ← letter bits character_sizes
+  z ← call number
+  _ ← call number
+  cs ← call (characters (string_length size z))
+  give (constant_string cs)
+grammar (encoding_behind virtual_call) = do
+  literal (codes "B")
+  z ← call number
+  literal (codes "A")
+  c ← letter convention conventions
+  give (vcall_thunk z c)
 grammar (encoding_behind plain_function) = do
   f ← call (signature false)
   give (function f.0 (type_trees f.1.1) 0 f.1.0)
@@ -273,6 +448,14 @@ grammar (encoding_behind (member_of class)) = do
   own ← call (own_qualifiers (has class 16))
   f ← call (signature true)
   give (member_function class f.0 (type_trees f.1.1) own f.1.0)
+-- as many characters
+grammar (characters zero) = give []
+grammar (characters (suc n)) = do
+  c ← call character
+  cs ← call (characters n)
+  give (c ∷ cs)
+-- a byte as it stands, or what stands for one behind a ?
+grammar character = literal_or (codes "?") escaped_character (letter bits plain_characters)
 -- a thunk has a number, which is dropped
 grammar (thunk_number true) = do
   z ← call number
@@ -426,7 +609,22 @@ grammar (unqualified_name own) =
     letter_or digits
     (λ i. known_name i)
     (literal_or (codes "?$") (template_kept own) (literal_or (codes "?") (call special_name) new_source_name))
-grammar special_name = text_and operators (λ o. give (operator o))
+grammar special_name = text_and special_texts (λ f. call (special_behind f))
+grammar (special_behind (special.Plain o)) = give (operator o)
+-- an index follows behind the scope, where a guard is a symbol's own name
+grammar (special_behind (special.Guard kind)) = give (guard kind None)
+-- the type keeps its qualifiers, and the descriptor has them too
+grammar (special_behind special.TypeDescriptor) = do
+  literal (codes "?")
+  q ← optional storage_classes
+  t ← call (any_type q)
+  give (type_descriptor q t)
+grammar (special_behind special.BaseClass) = do
+  a ← call number
+  b ← call number
+  c ← call number
+  d ← call number
+  give (base_class_descriptor a b c d)
 -- a name and arguments, which have tables of their own
 grammar template_name = apart template_inside
 -- names up to an @
@@ -458,3 +656,6 @@ grammar magnitude = letter_or digits (λ d. give (cast_signed w32 (d + 1))) sign
 grammar (letters value) =
     (do literal (codes "@"); give value)
     or (do d ← letter bits hexadecimal; call (letters (value * 16 + d)))
+-- what was read may stand there, or nothing is read
+grammar (required true) = give tt
+grammar (required false) = never

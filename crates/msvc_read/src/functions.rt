@@ -179,7 +179,7 @@ impl<'a> Parser<'a> {
 
     /// How a function is called.
     #[tactic(auto, using(crate::proofs::Steps::letter_is))]
-    fn convention(&mut self) -> Result<CallingConv, Refusal>
+    pub fn convention(&mut self) -> Result<CallingConv, Refusal>
         ensures value { Gives (λ c. (c, self.new.rest.now, state_of self.new)) result
             (letter_here conventions self.old.rest.now (state_of self.old)) }
         ensures shorter { IfOk result (λ _. length self.new.rest.now ≤ length self.old.rest.now) }

@@ -1,18 +1,17 @@
 //! What the letters of a symbol stand for: one function a table of letters.
 
-ghost use Rattle.std.specs.Prelude.{◌≡◌, ◌<◌, length, IfSome};
+ghost use Rattle.std.specs.Prelude.{◌≡◌};
 ghost use Rattle.std.specs.Option.{option_map};
 ghost use Rattle.msvc_tree.specs.View.{type_of};
 ghost use Rattle.msvc_tree.specs.Trees.{base};
 ghost use Rattle.msvc_read.specs.Grammar.{digits, hexadecimal, hexadecimal_codes, qualifiers, storage_classes};
 ghost use Rattle.msvc_read.specs.Grammar.{qualifiers_of_returns, qualifiers_of_arrays, reference_qualifiers};
-ghost use Rattle.msvc_read.specs.Grammar.{conventions, base_types, extended_types, function_classes, operators};
-ghost use Rattle.msvc_read.specs.Parser.{text_at};
+ghost use Rattle.msvc_read.specs.Grammar.{conventions, base_types, extended_types, function_classes};
+ghost use Rattle.msvc_read.specs.Grammar.{character_sizes, escaped_characters, plain_characters};
 ghost use Rattle.msvc_read.specs.Rules.{lookup};
 
 use bitflags::Flags;
 use msvc_tree::flags::{FuncClass, StorageClass};
-use msvc_tree::kinds::PlainOperator;
 use msvc_tree::tree::{CallingConv, Type};
 
 /// The entry of a table that a digit stands for.
@@ -159,16 +158,71 @@ pub fn extended_type<'a>(letter: u8, q: StorageClass) -> Option<Type<'a>>
     Some(base)
 }
 
-/// The operator whose code the bytes begin with, and what is behind it.
-#[tactic(auto, unfolding(crate::specs::Parser::text_at))]
-pub fn operator<'a>(left: &'a [u8]) -> Option<(PlainOperator, &'a [u8])>
-    ensures value { option_map (λ x. (x.0, x.1.now)) result ≡ text_at operators left.now }
-    ensures shorter { IfSome result (λ x. length x.1.now < length left.now) }
+/// How many bytes a character of a string has.
+pub fn character_size(letter: u8) -> Option<u8>
+    ensures { result ≡ lookup letter character_sizes }
 {
-    match left {
-        [b'B', behind @ ..] => Some((PlainOperator::Conversion, behind)),
+    match letter {
+        b'0' => Some(1),
+        b'1' => Some(2),
         _ => None,
     }
+}
+
+/// A character of a string that stands for itself.
+pub fn character(letter: u8) -> Option<u8>
+    ensures { result ≡ lookup letter plain_characters }
+{
+    match letter {
+        b'0'..=b'9' | b'a'..=b'z' | b'A'..=b'Z' | b'_' | b'$' => Some(letter),
+        _ => None,
+    }
+}
+
+/// The character of a string that a letter stands for behind a `?`: a capital one for the same as a small one.
+pub fn escaped_character(letter: u8) -> Option<u8>
+    ensures { result ≡ lookup letter escaped_characters }
+{
+    let character = match letter {
+        b'a' | b'A' => 0xE1,
+        b'b' | b'B' => 0xE2,
+        b'c' | b'C' => 0xE3,
+        b'd' | b'D' => 0xE4,
+        b'e' | b'E' => 0xE5,
+        b'f' | b'F' => 0xE6,
+        b'g' | b'G' => 0xE7,
+        b'h' | b'H' => 0xE8,
+        b'i' | b'I' => 0xE9,
+        b'j' | b'J' => 0xEA,
+        b'k' | b'K' => 0xEB,
+        b'l' | b'L' => 0xEC,
+        b'm' | b'M' => 0xED,
+        b'n' | b'N' => 0xEE,
+        b'o' | b'O' => 0xEF,
+        b'p' | b'P' => 0xF0,
+        b'q' | b'Q' => 0xF1,
+        b'r' | b'R' => 0xF2,
+        b's' | b'S' => 0xF3,
+        b't' | b'T' => 0xF4,
+        b'u' | b'U' => 0xF5,
+        b'v' | b'V' => 0xF6,
+        b'w' | b'W' => 0xF7,
+        b'x' | b'X' => 0xF8,
+        b'y' | b'Y' => 0xF9,
+        b'z' | b'Z' => 0xFA,
+        b'0' => b',',
+        b'1' => b'/',
+        b'2' => b'\\',
+        b'3' => b':',
+        b'4' => b'.',
+        b'5' => b' ',
+        b'6' => b'\n',
+        b'7' => b'\t',
+        b'8' => b'\'',
+        b'9' => b'-',
+        _ => return None,
+    };
+    Some(character)
 }
 
 /// How a function is called.

@@ -3,14 +3,18 @@
 
 mod forms;
 mod functions;
+mod guards;
+mod hash;
 mod letters;
 mod names;
 mod numbers;
+mod operators;
 mod parameters;
 mod parser;
 mod read;
 mod references;
 mod refusal;
+mod strings;
 mod symbols;
 mod types;
 

@@ -94,20 +94,6 @@ impl<'a> Parser<'a> {
         self.new_source_name()
     }
 
-    /// `SPECIAL_NAME = code of an operator`.
-    #[tactic(auto, using(crate::proofs::Readers::special_split), unfolding(msvc_tree::specs::View::name_of))]
-    fn special_name(&mut self) -> Result<Name<'a>, Refusal>
-        ensures value { Gives (λ n. (name_of n, self.new.rest.now, state_of self.new)) result
-            (read_name special_name self.old.rest.now (state_of self.old)) }
-        ensures shorter { IfOk result (λ _. length self.new.rest.now < length self.old.rest.now) }
-    {
-        let Some((operator, behind)) = letters::operator(self.rest) else {
-            return Err(self.refuse(Message::NotBuilt));
-        };
-        self.rest = behind;
-        Ok(Name::Operator(operator.operator()))
-    }
-
     /// A template, which enters the table of names if it isn't a symbol's own name.
     #[cycle(readers)]
     #[tactic(auto, using(crate::proofs::Steps::template_kept_is))]
@@ -161,7 +147,7 @@ impl<'a> Parser<'a> {
     /// `NESTED_NAME = digit | "?" MARKED_NAME | SOURCE_NAME`.
     #[cycle(readers)]
     #[tactic(auto, using(crate::proofs::Steps::nested_name_is))]
-    fn nested_name(&mut self) -> Result<Name<'a>, Refusal>
+    pub fn nested_name(&mut self) -> Result<Name<'a>, Refusal>
         ensures value { Gives (λ n. (name_of n, self.new.rest.now, state_of self.new)) result
             (read_name nested_name self.old.rest.now (state_of self.old)) }
         ensures shorter { IfOk result (λ _. length self.new.rest.now < length self.old.rest.now) }
@@ -306,7 +292,7 @@ impl<'a> Parser<'a> {
     /// `SCOPE = {NESTED_NAME} "@"`, the innermost name first.
     #[cycle(readers)]
     #[tactic(auto, using(crate::proofs::Steps::scope_goes_on))]
-    fn scope(&mut self) -> Result<NameSequence<'a>, Refusal>
+    pub fn scope(&mut self) -> Result<NameSequence<'a>, Refusal>
         ensures value { Gives (λ n. (map name_of n.names.items, self.new.rest.now, state_of self.new)) result
             (read_name scope self.old.rest.now (state_of self.old)) }
         ensures shorter { IfOk result (λ _. length self.new.rest.now < length self.old.rest.now) }
@@ -339,7 +325,7 @@ impl<'a> Parser<'a> {
 
 /// How many bytes stand before the first `@`.
 #[tactic(auto, unfolding(crate::specs::Parser::name_length))]
-fn name_length(bytes: &[u8]) -> Option<usize>
+pub fn name_length(bytes: &[u8]) -> Option<usize>
     ensures value { result ≡ name_length bytes.now }
     ensures inside { IfSome result (λ n. n < length bytes.now) }
 {

@@ -25,8 +25,20 @@ pub enum Message {
     ZExpected,
     AtExpected,
     QuestionMarkExpected,
-    /// Only a rule that isn't built yet could read on.
-    NotBuilt,
+    AExpected,
+    BExpected,
+    /// `4HA`, behind the name of a thread-safe guard.
+    GuardTypeExpected,
+    MissingDigit,
+    GuardNumberTooLarge,
+    UnexpectedLocalGuardMarker,
+    ExpectedUnsigned,
+    UnknownStringCharacterType,
+    /// Of a string: neither a character nor what stands for one.
+    UnknownCharacter(u8),
+    HashLength,
+    UnknownOperatorName,
+    UnknownRttiOperatorName,
 }
 
 impl Message {
@@ -45,9 +57,25 @@ impl Message {
             Message::ZExpected => "Z expected",
             Message::AtExpected => "@ expected",
             Message::QuestionMarkExpected => "? expected",
-            Message::NotBuilt => "form not built yet",
+            Message::AExpected => "A expected",
+            Message::BExpected => "B expected",
+            Message::GuardTypeExpected => "4HA expected",
+            Message::MissingDigit => "missing digit",
+            Message::GuardNumberTooLarge => "static guard number too large",
+            Message::UnexpectedLocalGuardMarker => "unexpected local guard marker",
+            Message::ExpectedUnsigned => "expected unsigned",
+            Message::UnknownStringCharacterType => "unknown string character type",
+            Message::HashLength => "expected MD5 mangled name of length 32",
+            Message::UnknownOperatorName => "unknown operator name",
+            Message::UnknownRttiOperatorName => "unknown RTTI Operator name",
             Message::InvalidBackReference(index) => {
                 return Ok(CowStr::Owned(format!(in alloc; "invalid backreference: {index}")?));
+            }
+            Message::UnknownCharacter(byte) => {
+                let character = char::from(byte);
+                return Ok(CowStr::Owned(format!(in alloc;
+                    "unknown escaped encoded string character {character}"
+                )?));
             }
             Message::InvalidArrayDimension(dimension) => {
                 return Ok(CowStr::Owned(format!(in alloc;

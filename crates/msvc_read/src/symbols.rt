@@ -1,18 +1,19 @@
 //! Symbols, and the types behind their names.
 
-ghost use Rattle.std.specs.Prelude.{◌≡◌, ◌<◌, ◌≤◌, codes, false, length, None, Err, IfOk};
+ghost use Rattle.std.specs.Prelude.{◌≡◌, ◌<◌, ◌≤◌, codes, length, None, Err, IfOk};
 ghost use Rattle.msvc_tree.specs.View.{type_of, tree_of};
 ghost use Rattle.msvc_read.specs.Grammar.{encoding_letters, function_classes, named_symbol, template_symbol};
 ghost use Rattle.msvc_read.specs.Parser.{Gives, encoding_by, member_by, state_of};
 ghost use Rattle.msvc_read.specs.Reads.{read, read_name};
 ghost use Rattle.msvc_read.specs.Rules.{after, lookup, encoding, encoding_behind, symbol, symbol_body};
-ghost use Rattle.msvc_read.specs.Sorts.{member_of, variable_of};
+ghost use Rattle.msvc_read.specs.Sorts.{member_of, table_of, variable_of, virtual_call};
 
 use crate::letters;
 use crate::parser::Parser;
 use crate::refusal::{Message, Refusal};
 use bitflags::Flags;
 use msvc_tree::flags::StorageClass;
+use msvc_tree::kinds::Table;
 use msvc_tree::tree::{NameSequence, ParseResult, Symbol, Type, VarStorageKind};
 
 impl<'a> Parser<'a> {
@@ -31,7 +32,8 @@ impl<'a> Parser<'a> {
         self.symbol_body()
     }
 
-    /// `SYMBOL_BODY = "$" TEMPLATE_NAME | QUALIFIED_NAME ENCODING`: what follows the `?` of a symbol.
+    /// `SYMBOL_BODY = "?@" HASHED_SYMBOL | "$TSS" NUMBERED_GUARD | "$" TEMPLATE_NAME | NAMED_SYMBOL`: what follows the
+    /// `?` of a symbol.
     #[cycle(readers)]
     #[tactic(auto, using(crate::proofs::Readers::symbol_body_split))]
     pub fn symbol_body(&mut self) -> Result<ParseResult<'a>, Refusal>
@@ -39,8 +41,13 @@ impl<'a> Parser<'a> {
             (read_name symbol_body self.old.rest.now (state_of self.old)) }
         ensures shorter { IfOk result (λ _. length self.new.rest.now < length self.old.rest.now) }
     {
-        if self.after(b"?@").is_some() || self.after(b"$TSS").is_some() {
-            return Err(self.refuse(Message::NotBuilt));
+        if let Some(behind) = self.after(b"?@") {
+            self.rest = behind;
+            return self.hashed_symbol();
+        }
+        if let Some(behind) = self.after(b"$TSS") {
+            self.rest = behind;
+            return self.numbered_guard();
         }
         if let Some(behind) = self.after(b"$") {
             self.rest = behind;
@@ -67,7 +74,7 @@ impl<'a> Parser<'a> {
         })
     }
 
-    /// A name in its scope, and a type.
+    /// A name in its scope, the index of a guard, and a type.
     #[cycle(readers)]
     #[tactic(auto, using(crate::proofs::Readers::symbol_split))]
     fn named_symbol(&mut self) -> Result<ParseResult<'a>, Refusal>
@@ -75,7 +82,8 @@ impl<'a> Parser<'a> {
             (read named_symbol self.old.rest.now (state_of self.old)) }
         ensures shorter { IfOk result (λ _. length self.new.rest.now < length self.old.rest.now) }
     {
-        let symbol = self.qualified_name(true)?;
+        let name = self.qualified_name(true)?;
+        let symbol = self.indexed_symbol(name)?;
         let symbol_type = self.encoding()?;
         Ok(ParseResult {
             symbol,
@@ -86,9 +94,9 @@ impl<'a> Parser<'a> {
     /// `ENCODING = end | letter of encodings, and what its row asks for`: at the end of the text there is no type.
     #[cycle(readers)]
     #[tactic(auto, using(crate::proofs::Readers::encoding_split))]
-    fn encoding(&mut self) -> Result<Type<'a>, Refusal>
+    pub fn encoding(&mut self) -> Result<Type<'a>, Refusal>
         ensures value { Gives (λ t. (type_of t, self.new.rest.now, state_of self.new)) result
-            (read_name (encoding false) self.old.rest.now (state_of self.old)) }
+            (read_name encoding self.old.rest.now (state_of self.old)) }
         ensures shorter { IfOk result (λ _. length self.new.rest.now ≤ length self.old.rest.now) }
     {
         match self.next_byte() {
@@ -97,8 +105,8 @@ impl<'a> Parser<'a> {
         }
     }
 
-    /// What follows the first letter of an encoding: a variable behind `0` to `4`, nothing behind `9`, a function
-    /// behind `Y`, else a member function.
+    /// What follows the first letter of an encoding: a variable behind `0` to `4`, a table behind `6` and `7`, nothing
+    /// behind `8` and `9`, a function behind `Y`, a string behind `_`, a thunk behind `$`, else a member function.
     #[cycle(readers)]
     #[tactic(auto, using(crate::proofs::Readers::encoding_split), unfolding(crate::specs::Parser::encoding_by))]
     fn encoding_behind(&mut self, letter: u8) -> Result<Type<'a>, Refusal>
@@ -112,7 +120,12 @@ impl<'a> Parser<'a> {
             b'2' => self.variable(VarStorageKind::PublicStatic),
             b'3' => self.variable(VarStorageKind::Global),
             b'4' => self.variable(VarStorageKind::FunctionLocalStatic),
+            b'6' => self.table(Table::Functions),
+            b'7' => self.table(Table::Bases),
+            b'8' => Ok(Type::RTTIType),
             b'9' => Ok(Type::None),
+            b'_' => self.encoded_string(),
+            b'$' => self.virtual_call(),
             b'Y' => self.function(),
             _ => self.member_encoding(letter),
         }
@@ -129,7 +142,6 @@ impl<'a> Parser<'a> {
     {
         match letters::function_class(letter) {
             Some(class) => self.member(class),
-            None if begins_later_encoding(letter) => Err(self.refuse(Message::NotBuilt)),
             None => Err(self.refuse(Message::UnknownFuncClass)),
         }
     }
@@ -146,9 +158,31 @@ impl<'a> Parser<'a> {
         let class = self.optional_storage_class();
         Ok(Type::Var(variable, kind, class))
     }
-}
 
-/// Whether an encoding that isn't built yet begins with the letter.
-fn begins_later_encoding(letter: u8) -> bool {
-    matches!(letter, b'6'..=b'8' | b'_' | b'$')
+    /// The table of a class, behind its letter: `[qualifier] SCOPE`.
+    #[cycle(readers)]
+    #[tactic(auto, using(crate::proofs::Readers::table_split))]
+    fn table(&mut self, table: Table) -> Result<Type<'a>, Refusal>
+        ensures value { Gives (λ t. (type_of t, self.new.rest.now, state_of self.new)) result
+            (read_name (encoding_behind (table_of table)) self.old.rest.now (state_of self.old)) }
+        ensures shorter { IfOk result (λ _. length self.new.rest.now ≤ length self.old.rest.now) }
+    {
+        let class = self.optional_qualifier();
+        let scope = self.scope()?;
+        Ok(table.table_type(scope, class))
+    }
+
+    /// `VIRTUAL_CALL = "B" NUMBER "A" convention`: a thunk that calls a virtual function.
+    #[tactic(auto, using(crate::proofs::Readers::virtual_call_split), unfolding(msvc_tree::specs::View::type_of))]
+    fn virtual_call(&mut self) -> Result<Type<'a>, Refusal>
+        ensures value { Gives (λ t. (type_of t, self.new.rest.now, state_of self.new)) result
+            (read_name (encoding_behind virtual_call) self.old.rest.now (state_of self.old)) }
+        ensures shorter { IfOk result (λ _. length self.new.rest.now ≤ length self.old.rest.now) }
+    {
+        self.expected(b"B", Message::BExpected)?;
+        let offset = self.number()?;
+        self.expected(b"A", Message::AExpected)?;
+        let convention = self.convention()?;
+        Ok(Type::VCallThunk(offset, convention))
+    }
 }

@@ -1,0 +1,61 @@
+-- The name of a hash stands for itself: of ??@, the digits, an @ and any bytes, the part that ends with that @ is the
+-- name, and nothing else is derived.
+use Rattle.std.proofs.Common.{ℕ, List, [], ◌∷◌, ◌++◌, Bool, true, false, cond, not, ◌≡◌, ◌==◌, length, refl, sym, ap}
+use Rattle.std.proofs.Common.{◌∙◌, subst}
+use Rattle.std.proofs.lemmas.Bool.{eqb-true}
+use Rattle.std.specs.Prelude.{codes, is_some}
+use Rattle.msvc_tree.specs.Trees.{SymbolTree}
+use Rattle.msvc_read.specs.State.{State, Note, beginning}
+use Rattle.msvc_read.specs.Sorts.{symbol_tree}
+use Rattle.msvc_read.specs.Rules.{call, every, lookup, required, symbol}
+use Rattle.msvc_read.specs.Grammar.{grammar, hashed_symbol, hexadecimal_codes, is_hash}
+use Rattle.msvc_read.specs.Reads.{Derives, Reads, a_literal, a_part, called, given, in_a_row, the_first}
+use Rattle.msvc_read.proofs.Firsts.{both_if, if_both}
+use Rattle.msvc_read.proofs.Laws.{derived-only}
+use Rattle.msvc_read.proofs.SymbolSteps.{md5_symbol}
+
+-- no digit is an @
+no_end : (digits : List ℕ) → every (λ b. is_some (lookup b hexadecimal_codes)) digits ≡ true
+    → every (λ b. not (b == 64)) digits ≡ true
+no_end [] h = refl
+no_end (b ∷ digits) h =
+    let parts : (is_some (lookup b hexadecimal_codes) ≡ true)
+    × (every (λ c. is_some (lookup c hexadecimal_codes)) digits ≡ true) = if_both _ _ h in
+    both_if (not (b == 64)) _ (go (b == 64) refl parts.0) (no_end digits parts.1)
+  where
+    go : (t : Bool) → (b == 64) ≡ t → is_some (lookup b hexadecimal_codes) ≡ true → not t ≡ true
+    go true e k =
+        let none : false ≡ true = ap (λ x. is_some (lookup x hexadecimal_codes)) (sym (eqb-true b 64 e)) ∙ k in
+        absurd (cc)
+    go false e k = refl
+
+there : (t : Bool) (left : List ℕ) (s : State) → t ≡ true → Reads _ (call (required t)) left s tt left s
+unfolding grammar
+there true left s e = called given
+there false left s e = absurd (cc)
+
+hash_read : (digits rest : List ℕ) (s : State) → is_hash digits ≡ true
+    → Reads symbol_tree hashed_symbol (digits ++ 64 ∷ rest) s (md5_symbol digits) rest s
+unfolding grammar
+hash_read digits rest s h =
+    let parts : ((length digits == 32) ≡ true) × (every (λ b. is_some (lookup b hexadecimal_codes)) digits ≡ true) =
+    if_both _ _ h in
+    in_a_row (called (a_part refl (no_end digits parts.1))) (in_a_row (there (is_hash digits) rest s h) given)
+
+-- the text of a hashed name
+abbrev pub hashed_text : List ℕ → List ℕ → List ℕ
+hashed_text digits rest = codes "??@" ++ (digits ++ 64 ∷ rest)
+
+pub hash_derived : (digits rest : List ℕ) → is_hash digits ≡ true
+    → Derives (hashed_text digits rest) (md5_symbol digits) rest []
+unfolding grammar
+hash_derived digits rest h =
+    let s : State = beginning (hashed_text digits rest) in
+    (s, called (in_a_row (a_literal refl) (called (the_first (in_a_row (a_literal refl) (hash_read digits rest s h))))), refl)
+
+-- whatever is derived of such a text is the name of the hash
+pub hash_only : (digits rest : List ℕ) → is_hash digits ≡ true
+    → (tree : SymbolTree) (behind : List ℕ) (notes : List Note) → Derives (hashed_text digits rest) tree behind notes
+    → (tree ≡ md5_symbol digits) × (behind ≡ rest) × (notes ≡ [])
+hash_only digits rest h tree behind notes d =
+    derived-only (hashed_text digits rest) tree (md5_symbol digits) behind rest notes [] d (hash_derived digits rest h)

@@ -1,0 +1,67 @@
+//! Names that were too long, for which a hash stands.
+
+ghost use Rattle.std.specs.Prelude.{◌≡◌, ◌<◌, length, IfOk};
+ghost use Rattle.msvc_tree.specs.View.{tree_of};
+ghost use Rattle.msvc_read.specs.Grammar.{hashed_symbol, is_hash};
+ghost use Rattle.msvc_read.specs.Parser.{Gives, hash_at, name_length, state_of};
+ghost use Rattle.msvc_read.specs.Reads.{read};
+
+use crate::letters;
+use crate::names::name_length;
+use crate::parser::Parser;
+use crate::refusal::{Message, Refusal};
+use msvc_tree::tree::{Name, NameSequence, ParseResult, Symbol, Type};
+
+impl<'a> Parser<'a> {
+    /// `HASHED_SYMBOL = 32 * hexadecimal digit "@"`, behind its `??@`.
+    #[tactic(auto, using(crate::proofs::Readers::hashed_split), unfolding(msvc_tree::specs::View::name_of))]
+    pub fn hashed_symbol(&mut self) -> Result<ParseResult<'a>, Refusal>
+        ensures value { Gives (λ r. (tree_of r, self.new.rest.now, state_of self.new)) result
+            (read hashed_symbol self.old.rest.now (state_of self.old)) }
+        ensures shorter { IfOk result (λ _. length self.new.rest.now < length self.old.rest.now) }
+    {
+        let digits = self.hash()?;
+        let scope = NameSequence {
+            names: Vec::new(self.alloc),
+        };
+        Ok(ParseResult {
+            symbol: Symbol {
+                name: Name::Md5(digits),
+                scope,
+            },
+            symbol_type: Type::None,
+        })
+    }
+
+    /// The digits of a hash, up to the next `@`, which is eaten.
+    fn hash(&mut self) -> Result<&'a [u8], Refusal>
+        ensures value { Gives (λ n. (n.now, self.new.rest.now, state_of self.new)) result
+            (hash_at (name_length self.old.rest.now) self.old.rest.now (state_of self.old)) }
+        ensures shorter { IfOk result (λ _. length self.new.rest.now < length self.old.rest.now) }
+    {
+        let bytes = self.rest;
+        if let Some(end) = name_length(bytes) {
+            let digits = &bytes[..end];
+            if is_hash(digits) {
+                self.rest = &bytes[end + 1..];
+                return Ok(digits);
+            }
+        }
+        Err(Refusal::Unread(Message::HashLength, behind_digits(bytes)))
+    }
+}
+
+/// Whether these are the 32 digits of a hash.
+fn is_hash(digits: &[u8]) -> bool
+    ensures { result ≡ is_hash digits.now }
+{
+    digits.len() == 32 && digits.iter().all(|digit| letters::hexadecimal_code(*digit).is_some())
+}
+
+/// How many bytes follow all the hexadecimal digits that these begin with.
+fn behind_digits(bytes: &[u8]) -> usize {
+    match bytes.iter().position(|byte| letters::hexadecimal_code(*byte).is_none()) {
+        Some(end) => bytes.len().saturating_sub(end),
+        None => 0,
+    }
+}

@@ -1,0 +1,248 @@
+//! Special names: the codes of what the compiler names by itself, as operators and tables.
+
+ghost use Rattle.std.specs.Prelude.{◌≡◌, ◌<◌, length, IfOk, IfSome};
+ghost use Rattle.std.specs.Option.{option_map};
+ghost use Rattle.msvc_tree.specs.View.{name_of};
+ghost use Rattle.msvc_read.specs.Grammar.{second_special_letters, special_letters};
+ghost use Rattle.msvc_read.specs.Grammar.{third_special_letters, type_information_letters};
+ghost use Rattle.msvc_read.specs.Parser.{Gives, at_rest, marked_at, special_at, state_of};
+ghost use Rattle.msvc_read.specs.Reads.{read_name};
+ghost use Rattle.msvc_read.specs.Rules.{lookup, special_behind, special_name};
+ghost use Rattle.msvc_read.specs.declared.operators.SpecialForm.TheVariants as special;
+
+use crate::parser::Parser;
+use crate::refusal::{Message, Refusal};
+use msvc_tree::kinds::{Guard, PlainOperator};
+use msvc_tree::tree::{Name, Operator};
+
+/// What the code of a special name stands for.
+#[derive(Clone, Copy)]
+pub enum SpecialForm {
+    /// An operator with nothing in it.
+    Plain(PlainOperator),
+    /// The guard of a static variable in a function, without an index.
+    Guard(Guard),
+    /// The descriptor of a type, which follows.
+    TypeDescriptor,
+    /// The place of a base class in an object, and four numbers follow.
+    BaseClass,
+}
+
+/// What the code stands for that the bytes begin with, and what is behind it.
+#[tactic(auto, unfolding(crate::specs::Parser::special_at))]
+pub fn special_form<'a>(left: &'a [u8]) -> Option<(SpecialForm, &'a [u8])>
+    ensures value { option_map (λ x. (x.0, x.1.now)) result ≡ special_at left.now }
+    ensures shorter { IfSome result (λ x. length x.1.now < length left.now) }
+{
+    match left {
+        [b'_', behind @ ..] => marked_form(behind),
+        [letter, behind @ ..] => with_behind(first_form(*letter), behind),
+        [] => None,
+    }
+}
+
+/// Likewise behind a `_`.
+#[tactic(auto, unfolding(crate::specs::Parser::marked_at))]
+fn marked_form<'a>(left: &'a [u8]) -> Option<(SpecialForm, &'a [u8])>
+    ensures value { option_map (λ x. (x.0, x.1.now)) result ≡ marked_at left.now }
+    ensures shorter { IfSome result (λ x. length x.1.now < length left.now) }
+{
+    match left {
+        [b'_', letter, behind @ ..] => with_behind(third_form(*letter), behind),
+        [b'R', letter, behind @ ..] => with_behind(type_information_form(*letter), behind),
+        [] | [b'_'] | [b'R'] => None,
+        [letter, behind @ ..] => with_behind(second_form(*letter), behind),
+    }
+}
+
+/// What a code stands for, if it is one, and what is behind it.
+fn with_behind<'a>(form: Option<SpecialForm>, behind: &'a [u8]) -> Option<(SpecialForm, &'a [u8])>
+    ensures value { option_map (λ x. (x.0, x.1.now)) result ≡ at_rest form behind.now }
+    ensures still { IfSome result (λ x. length x.1.now ≡ length behind.now) }
+{
+    match form {
+        Some(form) => Some((form, behind)),
+        None => None,
+    }
+}
+
+/// What a code of one letter stands for.
+fn first_form(letter: u8) -> Option<SpecialForm>
+    ensures { result ≡ lookup letter special_letters }
+{
+    let operator = match letter {
+        b'0' => PlainOperator::Ctor,
+        b'1' => PlainOperator::Dtor,
+        b'2' => PlainOperator::New,
+        b'3' => PlainOperator::Delete,
+        b'4' => PlainOperator::Equal,
+        b'5' => PlainOperator::RShift,
+        b'6' => PlainOperator::LShift,
+        b'7' => PlainOperator::Bang,
+        b'8' => PlainOperator::EqualEqual,
+        b'9' => PlainOperator::BangEqual,
+        b'A' => PlainOperator::Subscript,
+        b'B' => PlainOperator::Conversion,
+        b'C' => PlainOperator::Arrow,
+        b'D' => PlainOperator::Star,
+        b'E' => PlainOperator::PlusPlus,
+        b'F' => PlainOperator::MinusMinus,
+        b'G' => PlainOperator::Minus,
+        b'H' => PlainOperator::Plus,
+        b'I' => PlainOperator::Amp,
+        b'J' => PlainOperator::ArrowStar,
+        b'K' => PlainOperator::Slash,
+        b'L' => PlainOperator::Percent,
+        b'M' => PlainOperator::Less,
+        b'N' => PlainOperator::LessEqual,
+        b'O' => PlainOperator::Greater,
+        b'P' => PlainOperator::GreaterEqual,
+        b'Q' => PlainOperator::Comma,
+        b'R' => PlainOperator::Call,
+        b'S' => PlainOperator::Tilde,
+        b'T' => PlainOperator::Caret,
+        b'U' => PlainOperator::Pipe,
+        b'V' => PlainOperator::AmpAmp,
+        b'W' => PlainOperator::PipePipe,
+        b'X' => PlainOperator::StarEqual,
+        b'Y' => PlainOperator::PlusEqual,
+        b'Z' => PlainOperator::MinusEqual,
+        _ => return None,
+    };
+    Some(SpecialForm::Plain(operator))
+}
+
+/// What a letter stands for behind `_`.
+fn second_form(letter: u8) -> Option<SpecialForm>
+    ensures { result ≡ lookup letter second_special_letters }
+{
+    let operator = match letter {
+        b'0' => PlainOperator::SlashEqual,
+        b'1' => PlainOperator::PercentEqual,
+        b'2' => PlainOperator::GreaterGreaterEqual,
+        b'3' => PlainOperator::LessLessEqual,
+        b'4' => PlainOperator::AmpEqual,
+        b'5' => PlainOperator::PipeEqual,
+        b'6' => PlainOperator::CaretEqual,
+        b'7' => PlainOperator::VFTable,
+        b'8' => PlainOperator::VBTable,
+        b'9' => PlainOperator::VCall,
+        b'A' => PlainOperator::Typeof,
+        b'B' => return Some(SpecialForm::Guard(Guard::Static)),
+        b'C' => PlainOperator::String,
+        b'D' => PlainOperator::VBaseDtor,
+        b'E' => PlainOperator::VectorDeletingDtor,
+        b'F' => PlainOperator::DefaultCtorClosure,
+        b'G' => PlainOperator::ScalarDeletingDtor,
+        b'H' => PlainOperator::VectorCtorIterator,
+        b'I' => PlainOperator::VectorDtorIterator,
+        b'J' => PlainOperator::VectorVBaseCtorIterator,
+        b'K' => PlainOperator::VirtualDisplacementMap,
+        b'L' => PlainOperator::EHVectorCtorIterator,
+        b'M' => PlainOperator::EHVectorDtorIterator,
+        b'N' => PlainOperator::EHVectorVBaseCtorIterator,
+        b'O' => PlainOperator::CopyCtorClosure,
+        b'S' => PlainOperator::LocalVFTable,
+        b'T' => PlainOperator::LocalVFTableCtorClosure,
+        b'U' => PlainOperator::ArrayNew,
+        b'V' => PlainOperator::ArrayDelete,
+        b'X' => PlainOperator::PlacementDeleteClosure,
+        b'Y' => PlainOperator::PlacementArrayDeleteClosure,
+        _ => return None,
+    };
+    Some(SpecialForm::Plain(operator))
+}
+
+/// What a letter stands for behind `_R`, of run-time type information.
+fn type_information_form(letter: u8) -> Option<SpecialForm>
+    ensures { result ≡ lookup letter type_information_letters }
+{
+    let form = match letter {
+        b'0' => SpecialForm::TypeDescriptor,
+        b'1' => SpecialForm::BaseClass,
+        b'2' => SpecialForm::Plain(PlainOperator::RTTIBaseClassArray),
+        b'3' => SpecialForm::Plain(PlainOperator::RTTIClassHierarchyDescriptor),
+        b'4' => SpecialForm::Plain(PlainOperator::RTTIClassCompleteObjectLocator),
+        _ => return None,
+    };
+    Some(form)
+}
+
+/// What a letter stands for behind `__`.
+fn third_form(letter: u8) -> Option<SpecialForm>
+    ensures { result ≡ lookup letter third_special_letters }
+{
+    let form = match letter {
+        b'E' => SpecialForm::Plain(PlainOperator::DynamicInitializer),
+        b'F' => SpecialForm::Plain(PlainOperator::DynamicAtexitDtor),
+        b'J' => SpecialForm::Guard(Guard::Thread),
+        b'K' => SpecialForm::Plain(PlainOperator::LiteralOperatorName),
+        b'L' => SpecialForm::Plain(PlainOperator::CoroutineAwait),
+        _ => return None,
+    };
+    Some(form)
+}
+
+/// Why the bytes begin with no code of a special name, and how many are left where that is seen.
+fn unknown_code(left: &[u8]) -> (Message, usize) {
+    match left {
+        [] | [b'_'] | [b'_', b'R'] => (Message::EndOfInput, 0),
+        [b'_', b'R', _, behind @ ..] => (Message::UnknownRttiOperatorName, behind.len()),
+        [b'_', b'_', behind @ ..] => (Message::UnknownOperatorName, behind.len()),
+        [b'_', _, behind @ ..] => (Message::UnknownOperatorName, behind.len()),
+        [_, behind @ ..] => (Message::UnknownOperatorName, behind.len()),
+    }
+}
+
+impl<'a> Parser<'a> {
+    /// `SPECIAL_NAME = code of special names, and what its row asks for`.
+    #[cycle(readers)]
+    #[tactic(auto, using(crate::proofs::Readers::special_split), unfolding(msvc_tree::specs::View::name_of))]
+    pub fn special_name(&mut self) -> Result<Name<'a>, Refusal>
+        ensures value { Gives (λ n. (name_of n, self.new.rest.now, state_of self.new)) result
+            (read_name special_name self.old.rest.now (state_of self.old)) }
+        ensures shorter { IfOk result (λ _. length self.new.rest.now < length self.old.rest.now) }
+    {
+        let Some((form, behind)) = special_form(self.rest) else {
+            let (message, left) = unknown_code(self.rest);
+            return Err(Refusal::Unread(message, left));
+        };
+        self.rest = behind;
+        match form {
+            SpecialForm::Plain(operator) => Ok(Name::Operator(operator.operator())),
+            SpecialForm::Guard(guard) => Ok(Name::Operator(guard.operator(None))),
+            SpecialForm::TypeDescriptor => self.type_descriptor(),
+            SpecialForm::BaseClass => self.base_class_descriptor(),
+        }
+    }
+
+    /// The descriptor of a type, behind its code: `"?" [storage class] TYPE`.
+    #[cycle(readers)]
+    #[tactic(auto, using(crate::proofs::Readers::descriptor_split), unfolding(msvc_tree::specs::View::name_of))]
+    fn type_descriptor(&mut self) -> Result<Name<'a>, Refusal>
+        ensures value { Gives (λ n. (name_of n, self.new.rest.now, state_of self.new)) result
+            (read_name (special_behind special.TypeDescriptor) self.old.rest.now (state_of self.old)) }
+        ensures shorter { IfOk result (λ _. length self.new.rest.now < length self.old.rest.now) }
+    {
+        self.expected(b"?", Message::QuestionMarkExpected)?;
+        let class = self.optional_storage_class();
+        let described = self.boxed_type(class)?;
+        Ok(Name::Operator(Operator::RTTITypeDescriptor(class, described)))
+    }
+
+    /// The place of a base class, behind its code: four numbers.
+    #[tactic(auto, using(crate::proofs::Readers::base_class_split), unfolding(msvc_tree::specs::View::name_of))]
+    fn base_class_descriptor(&mut self) -> Result<Name<'a>, Refusal>
+        ensures value { Gives (λ n. (name_of n, self.new.rest.now, state_of self.new)) result
+            (read_name (special_behind special.BaseClass) self.old.rest.now (state_of self.old)) }
+        ensures shorter { IfOk result (λ _. length self.new.rest.now < length self.old.rest.now) }
+    {
+        let member = self.number()?;
+        let table = self.number()?;
+        let displacement = self.number()?;
+        let attributes = self.number()?;
+        Ok(Name::Operator(
+            Operator::RTTIBaseClassDescriptor(member, table, displacement, attributes),
+        ))
+    }
+}
