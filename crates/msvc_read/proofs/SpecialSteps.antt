@@ -11,7 +11,8 @@ use Rattle.msvc_read.specs.declared.operators.SpecialForm.{SpecialForm}
 use Rattle.msvc_read.specs.declared.operators.SpecialForm.TheVariants as special
 use Rattle.msvc_read.specs.Parser.{this_or, text_at}
 use Rattle.msvc_read.specs.State.{State}
-use Rattle.msvc_read.specs.Rules.{after, any_type, call, literal, lookup, number, optional, special_behind, special_name}
+use Rattle.msvc_read.specs.Rules.{after, any_type, call, literal, lookup, number, optional, special_behind}
+use Rattle.msvc_read.specs.Rules.{special_name}
 use Rattle.msvc_read.specs.Grammar.{grammar, second_special_letters, special_letters, special_texts, storage_classes}
 use Rattle.msvc_read.specs.Grammar.{texts_behind, third_special_letters, type_information_letters}
 use Rattle.msvc_read.specs.Reads.{and_then, read, read_by, read_name}
@@ -142,8 +143,8 @@ marked (c ∷ cs) = go (c == 95) refl
         (first_of (letter_after type_information_letters (cond t (Some cs) None)) None)
         ≡ cond t (letter_at type_information_letters cs) (letter_at second_special_letters (c ∷ cs))
     other true e =
-        ap (λ x. first_of (letter_at second_special_letters (x ∷ cs)) (first_of (letter_at type_information_letters cs) None))
-        (eqb-true c 82 e)
+        ap (λ x. first_of (letter_at second_special_letters (x ∷ cs))
+        (first_of (letter_at type_information_letters cs) None)) (eqb-true c 82 e)
         ∙ first_none (letter_at type_information_letters cs)
     other false e = first_none (letter_at second_special_letters (c ∷ cs))
 
@@ -202,8 +203,9 @@ type_descriptor_step left s = read_name-is (special_behind special.TypeDescripto
 
 pub base_class_step : (left : List ℕ) (s : State)
     → read_name (special_behind special.BaseClass) left s
-    ≡ and_then (read_name number left s) (λ a l t. and_then (read_name number l t) (λ b k u. and_then (read_name number k u)
-    (λ c j v. and_then (read_name number j v) (λ d i w. Some (base_class_descriptor a b c d, i, w)))))
+    ≡ and_then (read_name number left s) (λ a l t. and_then (read_name number l t)
+    (λ b k u. and_then (read_name number k u) (λ c j v. and_then (read_name number j v)
+    (λ d i w. Some (base_class_descriptor a b c d, i, w)))))
 unfolding grammar read read_by
 base_class_step left s = read_name-is (special_behind special.BaseClass) left s
 

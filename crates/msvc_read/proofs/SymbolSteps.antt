@@ -9,23 +9,28 @@ use Rattle.msvc_tree.specs.declared.kinds.PlainType.TheVariants as plain_kind
 use Rattle.msvc_tree.specs.declared.kinds.Spelling.TheVariants as spelling_kind
 use Rattle.msvc_tree.specs.declared.kinds.Table.{Table}
 use Rattle.msvc_tree.specs.Trees as tree
-use Rattle.msvc_tree.specs.Trees.{NameTree, SymbolTree, TypeTree, constant_string, name_trees, no_names, numbered, plain, spelled}
+use Rattle.msvc_tree.specs.Trees.{NameTree, SymbolTree, TypeTree, constant_string, name_trees, no_names, numbered}
+use Rattle.msvc_tree.specs.Trees.{plain, spelled}
 use Rattle.msvc_tree.specs.Trees.{anonymous, base_class_descriptor, discriminator, guard, nested, operator, template}
 use Rattle.msvc_tree.specs.Trees.{type_descriptor, vcall_thunk}
 use Rattle.msvc_tree.specs.declared.kinds.Guard.{Guard}
 use Rattle.msvc_read.specs.Parser.{byte_here, cut_at, guard_of, hash_at, indexed, name_length}
+use Rattle.msvc_read.specs.Hashes.{md5_symbol}
 use Rattle.msvc_read.specs.State.{State}
-use Rattle.msvc_read.specs.Sorts.{Sort, bits, encoded_string, table_of, type_information, virtual_call}
-use Rattle.msvc_read.specs.Rules.{after, call, character, characters, decimal, encoding_behind, give, guard_index, is_nil}
+use Rattle.msvc_read.specs.Sorts.{bits, encoded_string, table_of, type_information, virtual_call}
+use Rattle.msvc_read.specs.Rules.{after, call, character, characters, decimal, encoding_behind, give, guard_index}
+use Rattle.msvc_read.specs.Rules.{is_nil}
 use Rattle.msvc_read.specs.Rules.{letter, letter_or, literal, lookup, nested_name, number, optional, required, scope}
-use Rattle.msvc_read.specs.Rules.{source_name, unsigned, ◌>>◌, ◌>>=◌}
-use Rattle.msvc_read.specs.Grammar.{grammar, character_sizes, conventions, digits, escaped_character, escaped_characters}
-use Rattle.msvc_read.specs.Grammar.{guard_marker, guard_number, halves, hashed_symbol, hexadecimal, is_hash, is_in_range}
+use Rattle.msvc_read.specs.Rules.{unsigned, ◌>>◌}
+use Rattle.msvc_read.specs.Grammar.{grammar, character_sizes, conventions, digits, escaped_character}
+use Rattle.msvc_read.specs.Grammar.{escaped_characters}
+use Rattle.msvc_read.specs.Grammar.{guard_marker, halves, hashed_symbol, hexadecimal, is_hash, is_in_range}
 use Rattle.msvc_read.specs.Grammar.{is_guard, numbered_guard, plain_characters, qualifiers, string_length, with_index}
 use Rattle.msvc_read.specs.Reads.{Found, and_then, behind_literal, letter_here, or_else, read, read_by, read_name}
 use Rattle.msvc_read.specs.Reads.{with_value}
 use Rattle.msvc_read.proofs.Stable.{read_name-is}
-use Rattle.msvc_read.proofs.Steps.{choose, chosen, front_first, front_none, letter_or-is, literal_or-is, source_name_step}
+use Rattle.msvc_read.proofs.Steps.{choose, chosen, front_first, front_none, letter_or-is, literal_or-is}
+use Rattle.msvc_read.proofs.Steps.{source_name_step}
 use Rattle.msvc_read.proofs.Steps.{with_front}
 
 -- what was read may stand there, or nothing is read
@@ -48,9 +53,6 @@ then_is None f g h = refl
 then_is (Some x) f g h = h x.0 x.1 x.2
 
 -- hashes
-
-abbrev pub md5_symbol : List ℕ → SymbolTree
-md5_symbol n = record { name = spelled spelling_kind.Md5 n; scope = no_names; symbol_type = plain plain_kind.None }
 
 pub hashed_symbol_step : (left : List ℕ) (s : State) → read hashed_symbol left s
     ≡ and_then (hash_at (name_length left) left s) (λ n l t. Some (md5_symbol n, l, t))
