@@ -1,9 +1,9 @@
 -- The name of a hash stands for itself: of ??@, the digits, an @ and any bytes, the part that ends with that @ is the
 -- name, and nothing else is derived.
 use Rattle.std.proofs.Common.{ℕ, List, [], ◌∷◌, ◌++◌, Bool, true, false, not, ◌≡◌, ◌==◌, length, refl, sym, ap}
-use Rattle.std.proofs.Common.{◌∙◌}
+use Rattle.std.proofs.Common.{◌∙◌, subst}
 use Rattle.std.proofs.lemmas.Bool.{eqb-true}
-use Rattle.std.specs.Prelude.{codes, is_some}
+use Rattle.std.specs.Prelude.{is_some}
 use Rattle.msvc_tree.specs.Trees.{SymbolTree}
 use Rattle.msvc_read.specs.State.{State, Note, beginning}
 use Rattle.msvc_read.specs.Sorts.{symbol_tree}

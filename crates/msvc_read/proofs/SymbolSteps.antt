@@ -6,7 +6,6 @@ use Rattle.std.proofs.lemmas.Bool.{eqb-true, le-ltb}
 use Rattle.std.specs.Prelude.{codes}
 use Rattle.msvc_tree.specs.declared.kinds.NumberedType.TheVariants as number_kind
 use Rattle.msvc_tree.specs.declared.kinds.PlainType.TheVariants as plain_kind
-use Rattle.msvc_tree.specs.declared.kinds.Spelling.TheVariants as spelling_kind
 use Rattle.msvc_tree.specs.declared.kinds.Table.{Table}
 use Rattle.msvc_tree.specs.Trees as tree
 use Rattle.msvc_tree.specs.Trees.{NameTree, SymbolTree, TypeTree, constant_string, name_trees, no_names, numbered}
