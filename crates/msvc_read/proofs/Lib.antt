@@ -1,4 +1,5 @@
 pub mod Carried
+pub mod Characters
 pub mod Checks
 pub mod Completeness
 pub mod Cut

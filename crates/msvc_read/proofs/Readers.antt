@@ -27,7 +27,7 @@ pub use Rattle.msvc_tree.proofs.Views.{type_of-NonMemberFunction, type_of-None, 
 pub use Rattle.msvc_tree.proofs.Views.{type_of-MemberFunctionPointer}
 pub use Rattle.msvc_tree.proofs.Views.{type_of-RValueRef, type_of-Struct, type_of-TemplateParameterWithIndex}
 pub use Rattle.msvc_tree.proofs.Views.{type_of-Union, type_of-Var, type_of-VarArgs, type_of-Void}
-use Rattle.msvc_read.proofs.SpecialSteps.{base_class_step, guard_step, plain_operator_step, special_name_step}
+use Rattle.msvc_read.proofs.SpecialSteps.{base_class_step, guard_step, plain_operator_step, special_name_here}
 use Rattle.msvc_read.proofs.SpecialSteps.{type_descriptor_step}
 use Rattle.msvc_read.proofs.SymbolSteps.{encoded_string_step, hashed_symbol_step, indexed_guard, indexed_other}
 use Rattle.msvc_read.proofs.SymbolSteps.{numbered_guard_step, table_step, type_information_step, virtual_call_step}
@@ -179,7 +179,7 @@ pub ruleset member_pointer_split = (member_pointer_step, names_in-is, types_in-i
 
 pub ruleset class_part_split = (class_part_is, letter_step)
 
-pub ruleset special_split = (special_name_step, plain_operator_step, guard_step, name_of-Operator)
+pub ruleset special_split = (special_name_here, plain_operator_step, guard_step, name_of-Operator)
 
 pub ruleset descriptor_split = (type_descriptor_step, name_of-RTTITypeDescriptor)
 

@@ -2,14 +2,13 @@
 use Rattle.std.proofs.Common.{ℕ, List, [], ◌∷◌, ◌++◌, Option, Some, None, Bool, true, false, cond, ◌==◌, ◌≡◌, refl, ap}
 use Rattle.std.proofs.Common.{◌∙◌}
 use Rattle.std.proofs.lemmas.Bool.{eqb-true}
-use Rattle.std.specs.Option.{option_map}
 use Rattle.std.specs.Prelude.{codes}
 use Rattle.msvc_tree.specs.declared.kinds.Guard.{Guard}
 use Rattle.msvc_tree.specs.declared.kinds.PlainOperator.{PlainOperator}
 use Rattle.msvc_tree.specs.Trees.{operator, guard, type_descriptor, base_class_descriptor}
 use Rattle.msvc_read.specs.declared.operators.SpecialForm.{SpecialForm}
 use Rattle.msvc_read.specs.declared.operators.SpecialForm.TheVariants as special
-use Rattle.msvc_read.specs.Parser.{this_or, text_at}
+use Rattle.msvc_read.specs.Parser.{at_rest, letter_at, marked_at, special_at, this_or, text_at}
 use Rattle.msvc_read.specs.State.{State}
 use Rattle.msvc_read.specs.Rules.{after, any_type, call, literal, lookup, number, optional, special_behind}
 use Rattle.msvc_read.specs.Rules.{special_name}
@@ -30,11 +29,6 @@ special_name_step left s =
 pub ruleset special_name_is = (special_name_step)
 
 -- Codes, by their letters
-
--- what a table has for the first byte, and the bytes behind it
-abbrev pub letter_at : {A : Type 0} → List (ℕ × A) → List ℕ → Option (A × List ℕ)
-letter_at table [] = None
-letter_at table (b ∷ bs) = option_map (λ x. (x, bs)) (lookup b table)
 
 -- the same behind a text, if that begins
 abbrev letter_after : {A : Type 0} → List (ℕ × A) → Option (List ℕ) → Option (A × List ℕ)
@@ -89,21 +83,10 @@ behind-is l (row ∷ table) others left =
       where
         here : (t : Bool)
             → this_or row.1 (cond t (Some bs) None)
-            (first_of (option_map (λ x. (x, bs)) (lookup b table)) (text_at others left))
-            ≡ first_of (option_map (λ x. (x, bs)) (cond t (Some row.1) (lookup b table))) (text_at others left)
+            (first_of (at_rest (lookup b table) bs) (text_at others left))
+            ≡ first_of (at_rest (cond t (Some row.1) (lookup b table)) bs) (text_at others left)
         here true = refl
         here false = refl
-
--- what the code is whose first byte is _
-abbrev pub marked_at : List ℕ → Option (SpecialForm × List ℕ)
-marked_at [] = None
-marked_at (b ∷ bs) =
-    cond (b == 95) (letter_at third_special_letters bs)
-    (cond (b == 82) (letter_at type_information_letters bs) (letter_at second_special_letters (b ∷ bs)))
-
-abbrev pub special_at : List ℕ → Option (SpecialForm × List ℕ)
-special_at [] = None
-special_at (b ∷ bs) = cond (b == 95) (marked_at bs) (letter_at special_letters (b ∷ bs))
 
 -- the four tables, one behind another
 abbrev by_tables : List ℕ → Option (SpecialForm × List ℕ)
@@ -135,6 +118,7 @@ by_tables-is left =
 
 -- behind _
 marked : (bs : List ℕ) → by_tables (95 ∷ bs) ≡ marked_at bs
+unfolding marked_at
 marked [] = refl
 marked (c ∷ cs) = go (c == 95) refl
   where
@@ -163,6 +147,7 @@ marked (c ∷ cs) = go (c == 95) refl
 
 -- the code that begins, letter by letter
 pub special_texts-are : (left : List ℕ) → text_at special_texts left ≡ special_at left
+unfolding special_at
 special_texts-are [] = by_tables-is []
 special_texts-are (b ∷ bs) = by_tables-is (b ∷ bs) ∙ go (b == 95) refl
   where
@@ -180,7 +165,11 @@ special_texts-are (b ∷ bs) = by_tables-is (b ∷ bs) ∙ go (b == 95) refl
         (first_of (letter_after third_special_letters (cond t (after (codes "_") bs) None)) None)))) e
         ∙ first_none (letter_at special_letters (b ∷ bs))
 
-pub ruleset special_texts_at = (special_texts-are)
+pub special_name_here : (left : List ℕ) (s : State) → read_name special_name left s
+    ≡ by_text (special_at left) (λ f rest. read_name (special_behind f) rest s) None
+special_name_here left s =
+    special_name_step left s
+    ∙ ap (λ o. by_text o (λ f rest. read_name (special_behind f) rest s) None) (special_texts-are left)
 
 -- What follows the code
 

@@ -5,10 +5,12 @@ use Rattle.msvc_tree.specs.declared.kinds.PlainType.TheVariants as plain_kind
 use Rattle.msvc_tree.specs.declared.kinds.Guard.{Guard}
 use Rattle.msvc_tree.specs.Trees.{NameTree, TypeTree, guard, plain}
 use Rattle.msvc_tree.specs.View.{name_of, type_of}
-use Rattle.msvc_read.specs.Grammar.{is_guard, is_hash, type_texts, with_index}
+use Rattle.msvc_read.specs.Grammar.{is_guard, is_hash, second_special_letters, special_letters}
+use Rattle.msvc_read.specs.Grammar.{third_special_letters, type_information_letters, type_texts, with_index}
+use Rattle.msvc_read.specs.declared.operators.SpecialForm.{SpecialForm}
 use Rattle.msvc_read.specs.Reads.{Found, and_then, read_name}
 use Rattle.msvc_read.specs.declared.forms.TypeForm.{TypeForm}
-use Rattle.msvc_read.specs.Rules.{after, encoding_behind, guard_index, type_behind}
+use Rattle.msvc_read.specs.Rules.{after, encoding_behind, guard_index, lookup, type_behind}
 use Rattle.msvc_read.specs.Sorts.{EncodingLetter, TypeLetter, member_of}
 use Rattle.msvc_read.specs.State as state
 use Rattle.msvc_read.specs.declared.parser.BackReference.{BackReference}
@@ -107,6 +109,28 @@ parameters_stop (b ∷ bs) = if b == 64 then Some (false, bs) else (if b == 90 t
 abbrev pub ellipsis : Bool → List TypeTree
 ellipsis true = plain plain_kind.Variadic ∷ []
 ellipsis false = []
+
+-- what a code stands for, if it is one, and the bytes behind it
+abbrev pub at_rest : {A : Type 0} → Option A → List ℕ → Option (A × List ℕ)
+at_rest None rest = None
+at_rest (Some x) rest = Some (x, rest)
+
+-- what a table has for the first byte, and the bytes behind it
+abbrev pub letter_at : {A : Type 0} → List (ℕ × A) → List ℕ → Option (A × List ℕ)
+letter_at table [] = None
+letter_at table (b ∷ bs) = at_rest (lookup b table) bs
+
+-- the code of a special name that begins, letter by letter, and what the code is whose first byte is _
+
+unfoldable pub marked_at : List ℕ → Option (SpecialForm × List ℕ)
+marked_at [] = None
+marked_at (b ∷ bs) =
+    if b == 95 then letter_at third_special_letters bs
+    else (if b == 82 then letter_at type_information_letters bs else at_rest (lookup b second_special_letters) bs)
+
+unfoldable pub special_at : List ℕ → Option (SpecialForm × List ℕ)
+special_at [] = None
+special_at (b ∷ bs) = if b == 95 then marked_at bs else at_rest (lookup b special_letters) bs
 
 -- the guard that a name is
 abbrev pub guard_of : NameTree → Option Guard

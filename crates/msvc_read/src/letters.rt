@@ -183,21 +183,46 @@ pub fn character(letter: u8) -> Option<u8>
 pub fn escaped_character(letter: u8) -> Option<u8>
     ensures { result ≡ lookup letter escaped_characters }
 {
-    match letter {
-        b'a'..=b'z' => Some(letter - b'a' + 0xE1),
-        b'A'..=b'Z' => Some(letter - b'A' + 0xE1),
-        b'0' => Some(b','),
-        b'1' => Some(b'/'),
-        b'2' => Some(b'\\'),
-        b'3' => Some(b':'),
-        b'4' => Some(b'.'),
-        b'5' => Some(b' '),
-        b'6' => Some(b'\n'),
-        b'7' => Some(b'\t'),
-        b'8' => Some(b'\''),
-        b'9' => Some(b'-'),
-        _ => None,
-    }
+    let character = match letter {
+        b'a' | b'A' => 0xE1,
+        b'b' | b'B' => 0xE2,
+        b'c' | b'C' => 0xE3,
+        b'd' | b'D' => 0xE4,
+        b'e' | b'E' => 0xE5,
+        b'f' | b'F' => 0xE6,
+        b'g' | b'G' => 0xE7,
+        b'h' | b'H' => 0xE8,
+        b'i' | b'I' => 0xE9,
+        b'j' | b'J' => 0xEA,
+        b'k' | b'K' => 0xEB,
+        b'l' | b'L' => 0xEC,
+        b'm' | b'M' => 0xED,
+        b'n' | b'N' => 0xEE,
+        b'o' | b'O' => 0xEF,
+        b'p' | b'P' => 0xF0,
+        b'q' | b'Q' => 0xF1,
+        b'r' | b'R' => 0xF2,
+        b's' | b'S' => 0xF3,
+        b't' | b'T' => 0xF4,
+        b'u' | b'U' => 0xF5,
+        b'v' | b'V' => 0xF6,
+        b'w' | b'W' => 0xF7,
+        b'x' | b'X' => 0xF8,
+        b'y' | b'Y' => 0xF9,
+        b'z' | b'Z' => 0xFA,
+        b'0' => b',',
+        b'1' => b'/',
+        b'2' => b'\\',
+        b'3' => b':',
+        b'4' => b'.',
+        b'5' => b' ',
+        b'6' => b'\n',
+        b'7' => b'\t',
+        b'8' => b'\'',
+        b'9' => b'-',
+        _ => return None,
+    };
+    Some(character)
 }
 
 /// How a function is called.

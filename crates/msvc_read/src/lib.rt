@@ -4,7 +4,7 @@
 mod forms;
 mod functions;
 mod guards;
-mod hashes;
+mod hash;
 mod letters;
 mod names;
 mod numbers;

@@ -3,9 +3,9 @@
 ghost use Rattle.std.specs.Prelude.{◌≡◌, ◌<◌, length, IfOk, IfSome};
 ghost use Rattle.std.specs.Option.{option_map};
 ghost use Rattle.msvc_tree.specs.View.{name_of};
-ghost use Rattle.msvc_read.specs.Grammar.{second_special_letters, special_letters, special_texts};
+ghost use Rattle.msvc_read.specs.Grammar.{second_special_letters, special_letters};
 ghost use Rattle.msvc_read.specs.Grammar.{third_special_letters, type_information_letters};
-ghost use Rattle.msvc_read.specs.Parser.{Gives, state_of, text_at};
+ghost use Rattle.msvc_read.specs.Parser.{Gives, at_rest, marked_at, special_at, state_of};
 ghost use Rattle.msvc_read.specs.Reads.{read_name};
 ghost use Rattle.msvc_read.specs.Rules.{lookup, special_behind, special_name};
 ghost use Rattle.msvc_read.specs.declared.operators.SpecialForm.TheVariants as special;
@@ -29,23 +29,35 @@ pub enum SpecialForm {
 }
 
 /// What the code stands for that the bytes begin with, and what is behind it.
-#[tactic(auto, using(crate::proofs::SpecialSteps::special_texts_at))]
+#[tactic(auto, unfolding(crate::specs::Parser::special_at))]
 pub fn special_form<'a>(left: &'a [u8]) -> Option<(SpecialForm, &'a [u8])>
-    ensures value { option_map (λ x. (x.0, x.1.now)) result ≡ text_at special_texts left.now }
+    ensures value { option_map (λ x. (x.0, x.1.now)) result ≡ special_at left.now }
     ensures shorter { IfSome result (λ x. length x.1.now < length left.now) }
 {
     match left {
-        [b'_', b'_', letter, behind @ ..] => with_behind(third_form(*letter), behind),
-        [b'_', b'R', letter, behind @ ..] => with_behind(type_information_form(*letter), behind),
-        [b'_', letter, behind @ ..] => with_behind(second_form(*letter), behind),
+        [b'_', behind @ ..] => marked_form(behind),
         [letter, behind @ ..] => with_behind(first_form(*letter), behind),
         [] => None,
     }
 }
 
+/// Likewise behind a `_`.
+#[tactic(auto, unfolding(crate::specs::Parser::marked_at))]
+fn marked_form<'a>(left: &'a [u8]) -> Option<(SpecialForm, &'a [u8])>
+    ensures value { option_map (λ x. (x.0, x.1.now)) result ≡ marked_at left.now }
+    ensures shorter { IfSome result (λ x. length x.1.now < length left.now) }
+{
+    match left {
+        [b'_', letter, behind @ ..] => with_behind(third_form(*letter), behind),
+        [b'R', letter, behind @ ..] => with_behind(type_information_form(*letter), behind),
+        [] | [b'_'] | [b'R'] => None,
+        [letter, behind @ ..] => with_behind(second_form(*letter), behind),
+    }
+}
+
 /// What a code stands for, if it is one, and what is behind it.
 fn with_behind<'a>(form: Option<SpecialForm>, behind: &'a [u8]) -> Option<(SpecialForm, &'a [u8])>
-    ensures value { option_map (λ x. (x.0, x.1.now)) result ≡ option_map (λ f. (f, behind.now)) form }
+    ensures value { option_map (λ x. (x.0, x.1.now)) result ≡ at_rest form behind.now }
     ensures still { IfSome result (λ x. length x.1.now ≡ length behind.now) }
 {
     match form {

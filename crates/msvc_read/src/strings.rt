@@ -1,12 +1,12 @@
 //! Strings that are constants: the first characters of one are written out, each as a byte.
 
-ghost use Rattle.std.specs.Prelude.{◌≡◌, ◌<◌, ◌≤◌, codes, length, IfOk};
+ghost use Rattle.std.specs.Prelude.{◌≡◌, ◌<◌, ◌≤◌, length, IfOk};
 ghost use Rattle.msvc_tree.specs.View.{type_of};
-ghost use Rattle.msvc_read.specs.Grammar.{character_sizes, escaped_characters, halves, hexadecimal, string_length};
+ghost use Rattle.msvc_read.specs.Grammar.{character_sizes, escaped_character, halves, hexadecimal, string_length};
 ghost use Rattle.msvc_read.specs.Parser.{Gives, state_of};
 ghost use Rattle.msvc_read.specs.Reads.{letter_here, read, read_name};
-ghost use Rattle.msvc_read.specs.Rules.{character, characters, encoding_behind, letter, literal_or};
-ghost use Rattle.msvc_read.specs.Sorts.{bits, encoded_string};
+ghost use Rattle.msvc_read.specs.Rules.{character, characters, encoding_behind};
+ghost use Rattle.msvc_read.specs.Sorts.{encoded_string};
 
 use crate::letters;
 use crate::parser::Parser;
@@ -77,8 +77,7 @@ impl<'a> Parser<'a> {
     #[tactic(auto, using(crate::proofs::SymbolSteps::escaped_is))]
     fn escaped_character(&mut self) -> Result<u8, Refusal>
         ensures value { Gives (λ n. (n, self.new.rest.now, state_of self.new)) result
-            (read (literal_or (codes "$") halves (letter bits escaped_characters))
-            self.old.rest.now (state_of self.old)) }
+            (read escaped_character self.old.rest.now (state_of self.old)) }
         ensures shorter { IfOk result (λ _. length self.new.rest.now < length self.old.rest.now) }
     {
         let letter = self.byte()?;

@@ -34,7 +34,6 @@ impl<'a> Parser<'a> {
     }
 
     /// The digits of a hash, up to the next `@`, which is eaten.
-    #[tactic(auto, using(crate::proofs::Readers::hash_split))]
     fn hash(&mut self) -> Result<&'a [u8], Refusal>
         ensures value { Gives (λ n. (n.now, self.new.rest.now, state_of self.new)) result
             (hash_at (name_length self.old.rest.now) self.old.rest.now (state_of self.old)) }
