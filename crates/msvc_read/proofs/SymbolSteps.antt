@@ -397,6 +397,25 @@ pub halves_step : (left : List ℕ) (s : State) → read halves left s
 unfolding read read_by
 halves_step left s = refl
 
+-- any other byte than a ? or a $ is looked up in its table
+
+pub character_other : (b : ℕ) (left l : List ℕ) (s t : State) (o : Option ℕ) → byte_here left s ≡ Some (b, l, t)
+    → (b == 63) ≡ false → lookup b plain_characters ≡ o → read_name character left s ≡ with_value o l t
+character_other b left l s t o e f g =
+    character_step left s
+    ∙ ap (λ x. and_then x (λ c k u. cond (c == 63) (read escaped_character k u)
+    (with_value (lookup c plain_characters) k u))) e
+    ∙ ap (λ x. cond x (read escaped_character l t) (with_value (lookup b plain_characters) l t)) f
+    ∙ ap (λ x. with_value x l t) g
+
+pub escaped_other : (b : ℕ) (left l : List ℕ) (s t : State) (o : Option ℕ) → byte_here left s ≡ Some (b, l, t)
+    → (b == 36) ≡ false → lookup b escaped_characters ≡ o → read escaped_character left s ≡ with_value o l t
+escaped_other b left l s t o e f g =
+    escaped_character_step left s
+    ∙ ap (λ x. and_then x (λ c k u. cond (c == 36) (read halves k u) (with_value (lookup c escaped_characters) k u))) e
+    ∙ ap (λ x. cond x (read halves l t) (with_value (lookup b escaped_characters) l t)) f
+    ∙ ap (λ x. with_value x l t) g
+
 pub ruleset character_is = (character_step)
 
 pub ruleset escaped_is = (escaped_character_step)
