@@ -397,11 +397,19 @@ pub halves_step : (left : List ℕ) (s : State) → read halves left s
 unfolding read read_by
 halves_step left s = refl
 
+differs : (b c : ℕ) → (b ≡ c → ⊥) → (b == c) ≡ false
+differs b c h = go (b == c) refl
+  where
+    go : (t : Bool) → (b == c) ≡ t → t ≡ false
+    go true e = absurd (h (eqb-true b c e))
+    go false e = refl
+
 -- any other byte than a ? or a $ is looked up in its table
 
 pub character_other : (b : ℕ) (left l : List ℕ) (s t : State) (o : Option ℕ) → byte_here left s ≡ Some (b, l, t)
-    → (b == 63) ≡ false → lookup b plain_characters ≡ o → read_name character left s ≡ with_value o l t
-character_other b left l s t o e f g =
+    → (b ≡ 63 → ⊥) → lookup b plain_characters ≡ o → read_name character left s ≡ with_value o l t
+character_other b left l s t o e other g =
+    let f : (b == 63) ≡ false = differs b 63 other in
     character_step left s
     ∙ ap (λ x. and_then x (λ c k u. cond (c == 63) (read escaped_character k u)
     (with_value (lookup c plain_characters) k u))) e
@@ -409,8 +417,9 @@ character_other b left l s t o e f g =
     ∙ ap (λ x. with_value x l t) g
 
 pub escaped_other : (b : ℕ) (left l : List ℕ) (s t : State) (o : Option ℕ) → byte_here left s ≡ Some (b, l, t)
-    → (b == 36) ≡ false → lookup b escaped_characters ≡ o → read escaped_character left s ≡ with_value o l t
-escaped_other b left l s t o e f g =
+    → (b ≡ 36 → ⊥) → lookup b escaped_characters ≡ o → read escaped_character left s ≡ with_value o l t
+escaped_other b left l s t o e other g =
+    let f : (b == 36) ≡ false = differs b 36 other in
     escaped_character_step left s
     ∙ ap (λ x. and_then x (λ c k u. cond (c == 36) (read halves k u) (with_value (lookup c escaped_characters) k u))) e
     ∙ ap (λ x. cond x (read halves l t) (with_value (lookup b escaped_characters) l t)) f
