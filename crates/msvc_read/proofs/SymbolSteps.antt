@@ -294,6 +294,14 @@ pub decimal_too_large : (value d : ℕ) (left l : List ℕ) (s t : State) → va
 decimal_too_large value d left l s t h e large =
     decimal_more value d left l s t h e ∙ decimal_large (value * 10 + d) l t large
 
+-- a number with one more digit, where it is not too large
+pub kept : (n m : ℕ) → cond (is_in_range n) (Some n) None ≡ Some m → n ≡ m
+kept n m = go (is_in_range n)
+  where
+    go : (t : Bool) → cond t (Some n) None ≡ Some m → n ≡ m
+    go true e = cc
+    go false e = absurd (cc)
+
 pub ruleset decimal_goes_on = (decimal_ends, decimal_refused, decimal_too_large)
 
 -- types of tables, of run-time type information and of thunks
