@@ -1,5 +1,5 @@
 -- Special names are read by their codes: the equations that the readers follow.
-use Rattle.std.proofs.Common.{ℕ, List, [], ◌∷◌, ◌++◌, Option, Some, None, Bool, true, false, cond, ◌==◌, ◌≡◌, refl, ap}
+use Rattle.std.proofs.Common.{ℕ, ℤ, List, [], ◌∷◌, ◌++◌, Option, Some, None, Bool, true, false, cond, ◌==◌, ◌≡◌, refl, ap}
 use Rattle.std.proofs.Common.{◌∙◌}
 use Rattle.std.proofs.lemmas.Bool.{eqb-true}
 use Rattle.std.specs.Prelude.{codes}
@@ -197,5 +197,11 @@ pub base_class_step : (left : List ℕ) (s : State)
     (λ d i w. Some (base_class_descriptor a b c d, i, w)))))
 unfolding grammar read read_by
 base_class_step left s = read_name-is (special_behind special.BaseClass) left s
+
+pub base_class_reads : (left l k j rest : List ℕ) (s t u v w : State) (a b c d : ℤ)
+    → read_name number left s ≡ Some (a, l, t) → read_name number l t ≡ Some (b, k, u)
+    → read_name number k u ≡ Some (c, j, v) → read_name number j v ≡ Some (d, rest, w)
+    → read_name (special_behind special.BaseClass) left s ≡ Some (base_class_descriptor a b c d, rest, w)
+base_class_reads left l k j rest s t u v w a b c d e f g h = base_class_step left s ∙ rw (e, f, g, h)
 
 pub ruleset special_behind_is = (plain_operator_step, guard_step, type_descriptor_step, base_class_step)

@@ -397,33 +397,33 @@ pub halves_step : (left : List ℕ) (s : State) → read halves left s
 unfolding read read_by
 halves_step left s = refl
 
--- a byte that is not the one that something follows
-not_first : (b first : ℕ) → (b ≡ first → ⊥) → (b == first) ≡ false
-not_first b first h = go (b == first) refl
+differs : (b c : ℕ) → (b ≡ c → ⊥) → (b == c) ≡ false
+differs b c h = go (b == c) refl
   where
-    go : (t : Bool) → (b == first) ≡ t → t ≡ false
-    go true e = absurd (h (eqb-true b first e))
+    go : (t : Bool) → (b == c) ≡ t → t ≡ false
+    go true e = absurd (h (eqb-true b c e))
     go false e = refl
 
-other_byte : {A : Type 0} (table : List (ℕ × A)) (first b : ℕ) (f : List ℕ → State → Found A) (o : Found ℕ)
-    (l : List ℕ) (t : State) → o ≡ Some (b, l, t) → (b ≡ first → ⊥)
-    → and_then o (λ c k u. cond (c == first) (f k u) (with_value (lookup c table) k u))
-    ≡ with_value (lookup b table) l t
-other_byte table first b f o l t e h =
-    ap (λ p. and_then p (λ c k u. cond (c == first) (f k u) (with_value (lookup c table) k u))) e
-    ∙ ap (λ c. cond c (f l t) (with_value (lookup b table) l t)) (not_first b first h)
+-- any other byte than a ? or a $ is looked up in its table
 
-pub character_other : (b : ℕ) (left l : List ℕ) (s t : State) → byte_here left s ≡ Some (b, l, t) → (b ≡ 63 → ⊥)
-    → read_name character left s ≡ with_value (lookup b plain_characters) l t
-character_other b left l s t e h =
+pub character_other : (b : ℕ) (left l : List ℕ) (s t : State) (o : Option ℕ) → byte_here left s ≡ Some (b, l, t)
+    → (b ≡ 63 → ⊥) → lookup b plain_characters ≡ o → read_name character left s ≡ with_value o l t
+character_other b left l s t o e other g =
+    let f : (b == 63) ≡ false = differs b 63 other in
     character_step left s
-    ∙ other_byte plain_characters 63 b (λ k u. read escaped_character k u) (byte_here left s) l t e h
+    ∙ ap (λ x. and_then x (λ c k u. cond (c == 63) (read escaped_character k u)
+    (with_value (lookup c plain_characters) k u))) e
+    ∙ ap (λ x. cond x (read escaped_character l t) (with_value (lookup b plain_characters) l t)) f
+    ∙ ap (λ x. with_value x l t) g
 
-pub escaped_other : (b : ℕ) (left l : List ℕ) (s t : State) → byte_here left s ≡ Some (b, l, t) → (b ≡ 36 → ⊥)
-    → read escaped_character left s ≡ with_value (lookup b escaped_characters) l t
-escaped_other b left l s t e h =
+pub escaped_other : (b : ℕ) (left l : List ℕ) (s t : State) (o : Option ℕ) → byte_here left s ≡ Some (b, l, t)
+    → (b ≡ 36 → ⊥) → lookup b escaped_characters ≡ o → read escaped_character left s ≡ with_value o l t
+escaped_other b left l s t o e other g =
+    let f : (b == 36) ≡ false = differs b 36 other in
     escaped_character_step left s
-    ∙ other_byte escaped_characters 36 b (λ k u. read halves k u) (byte_here left s) l t e h
+    ∙ ap (λ x. and_then x (λ c k u. cond (c == 36) (read halves k u) (with_value (lookup c escaped_characters) k u))) e
+    ∙ ap (λ x. cond x (read halves l t) (with_value (lookup b escaped_characters) l t)) f
+    ∙ ap (λ x. with_value x l t) g
 
 pub ruleset character_is = (character_step)
 

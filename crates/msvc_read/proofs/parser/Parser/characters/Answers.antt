@@ -15,7 +15,7 @@ loop-preserved c =
     let read : read_name character c.loop.self.rest.now (state_of c.loop.self)
     ≡ Some (c.in_ok-character.field-0, c.character.new.self.rest.now, state_of c.character.new.self) = search rules in
     let one_less : c.args.count - c.loop.counter ≡ suc (c.args.count - (c.loop.counter + 1)) = omega arith in (
-      ap (λ (cs : List ℕ). with_front cs
+      ap (λ (zs : List ℕ). with_front zs
           (read_name (characters (c.args.count - (c.loop.counter + 1))) c.character.new.self.rest.now
           (state_of c.character.new.self)))
           items
