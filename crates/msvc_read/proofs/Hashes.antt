@@ -1,18 +1,18 @@
 -- The name of a hash stands for itself: of ??@, the digits, an @ and any bytes, the part that ends with that @ is the
 -- name, and nothing else is derived.
-use Rattle.std.proofs.Common.{ℕ, List, [], ◌∷◌, ◌++◌, Bool, true, false, cond, not, ◌≡◌, ◌==◌, length, refl, sym, ap}
+use Rattle.std.proofs.Common.{ℕ, List, [], ◌∷◌, ◌++◌, Bool, true, false, not, ◌≡◌, ◌==◌, length, refl, sym, ap}
 use Rattle.std.proofs.Common.{◌∙◌, subst}
 use Rattle.std.proofs.lemmas.Bool.{eqb-true}
-use Rattle.std.specs.Prelude.{codes, is_some}
+use Rattle.std.specs.Prelude.{is_some}
 use Rattle.msvc_tree.specs.Trees.{SymbolTree}
 use Rattle.msvc_read.specs.State.{State, Note, beginning}
 use Rattle.msvc_read.specs.Sorts.{symbol_tree}
-use Rattle.msvc_read.specs.Rules.{call, every, lookup, required, symbol}
+use Rattle.msvc_read.specs.Rules.{call, every, lookup, required}
 use Rattle.msvc_read.specs.Grammar.{grammar, hashed_symbol, hexadecimal_codes, is_hash}
+use Rattle.msvc_read.specs.Hashes.{HashesStand, hashed_text, md5_symbol}
 use Rattle.msvc_read.specs.Reads.{Derives, Reads, a_literal, a_part, called, given, in_a_row, the_first}
 use Rattle.msvc_read.proofs.Firsts.{both_if, if_both}
 use Rattle.msvc_read.proofs.Laws.{derived-only}
-use Rattle.msvc_read.proofs.SymbolSteps.{md5_symbol}
 
 -- no digit is an @
 no_end : (digits : List ℕ) → every (λ b. is_some (lookup b hexadecimal_codes)) digits ≡ true
@@ -42,16 +42,13 @@ hash_read digits rest s h =
     if_both _ _ h in
     in_a_row (called (a_part refl (no_end digits parts.1))) (in_a_row (there (is_hash digits) rest s h) given)
 
--- the text of a hashed name
-abbrev pub hashed_text : List ℕ → List ℕ → List ℕ
-hashed_text digits rest = codes "??@" ++ (digits ++ 64 ∷ rest)
-
 pub hash_derived : (digits rest : List ℕ) → is_hash digits ≡ true
     → Derives (hashed_text digits rest) (md5_symbol digits) rest []
 unfolding grammar
 hash_derived digits rest h =
     let s : State = beginning (hashed_text digits rest) in
-    (s, called (in_a_row (a_literal refl) (called (the_first (in_a_row (a_literal refl) (hash_read digits rest s h))))), refl)
+    let body = in_a_row (a_literal refl) (hash_read digits rest s h) in
+    (s, called (in_a_row (a_literal refl) (called (the_first body))), refl)
 
 -- whatever is derived of such a text is the name of the hash
 pub hash_only : (digits rest : List ℕ) → is_hash digits ≡ true
@@ -59,3 +56,8 @@ pub hash_only : (digits rest : List ℕ) → is_hash digits ≡ true
     → (tree ≡ md5_symbol digits) × (behind ≡ rest) × (notes ≡ [])
 hash_only digits rest h tree behind notes d =
     derived-only (hashed_text digits rest) tree (md5_symbol digits) behind rest notes [] d (hash_derived digits rest h)
+
+pub hashes-stand : (text : List ℕ) (tree : SymbolTree) (rest : List ℕ) (notes : List Note)
+    → Derives text tree rest notes → HashesStand text tree
+hashes-stand text tree rest notes d digits behind h same =
+    (hash_only digits behind h tree rest notes (subst (λ z. Derives z tree rest notes) same d)).0

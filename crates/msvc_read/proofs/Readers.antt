@@ -128,6 +128,10 @@ pub name_of-RTTIBaseClassDescriptor : (i j k l : ℤ)
 unfolding name_of operator_of
 name_of-RTTIBaseClassDescriptor i j k l = refl
 
+pub base_class_view : (a b c d i j k l : ℤ) → i ≡ a → j ≡ b → k ≡ c → l ≡ d
+    → name_of (code.Operator (code_operator.RTTIBaseClassDescriptor i j k l)) ≡ base_class_descriptor a b c d
+base_class_view a b c d i j k l e f g h = rw (name_of-RTTIBaseClassDescriptor i j k l, e, f, g, h)
+
 pub ruleset symbol_is = (symbol_step)
 
 pub ruleset symbol_body_split = (symbol_body_step)

@@ -1,5 +1,5 @@
 -- Special names are read by their codes: the equations that the readers follow.
-use Rattle.std.proofs.Common.{ℕ, List, [], ◌∷◌, ◌++◌, Option, Some, None, Bool, true, false, cond, ◌==◌, ◌≡◌, refl, ap}
+use Rattle.std.proofs.Common.{ℕ, ℤ, List, [], ◌∷◌, ◌++◌, Option, Some, None, Bool, true, false, cond, ◌==◌, ◌≡◌, refl, ap}
 use Rattle.std.proofs.Common.{◌∙◌}
 use Rattle.std.proofs.lemmas.Bool.{eqb-true}
 use Rattle.std.specs.Prelude.{codes}
@@ -10,7 +10,8 @@ use Rattle.msvc_read.specs.declared.operators.SpecialForm.{SpecialForm}
 use Rattle.msvc_read.specs.declared.operators.SpecialForm.TheVariants as special
 use Rattle.msvc_read.specs.Parser.{at_rest, letter_at, marked_at, special_at, this_or, text_at}
 use Rattle.msvc_read.specs.State.{State}
-use Rattle.msvc_read.specs.Rules.{after, any_type, call, literal, lookup, number, optional, special_behind, special_name}
+use Rattle.msvc_read.specs.Rules.{after, any_type, call, literal, lookup, number, optional, special_behind}
+use Rattle.msvc_read.specs.Rules.{special_name}
 use Rattle.msvc_read.specs.Grammar.{grammar, second_special_letters, special_letters, special_texts, storage_classes}
 use Rattle.msvc_read.specs.Grammar.{texts_behind, third_special_letters, type_information_letters}
 use Rattle.msvc_read.specs.Reads.{and_then, read, read_by, read_name}
@@ -126,8 +127,8 @@ marked (c ∷ cs) = go (c == 95) refl
         (first_of (letter_after type_information_letters (cond t (Some cs) None)) None)
         ≡ cond t (letter_at type_information_letters cs) (letter_at second_special_letters (c ∷ cs))
     other true e =
-        ap (λ x. first_of (letter_at second_special_letters (x ∷ cs)) (first_of (letter_at type_information_letters cs) None))
-        (eqb-true c 82 e)
+        ap (λ x. first_of (letter_at second_special_letters (x ∷ cs))
+        (first_of (letter_at type_information_letters cs) None)) (eqb-true c 82 e)
         ∙ first_none (letter_at type_information_letters cs)
     other false e = first_none (letter_at second_special_letters (c ∷ cs))
 
@@ -191,9 +192,16 @@ type_descriptor_step left s = read_name-is (special_behind special.TypeDescripto
 
 pub base_class_step : (left : List ℕ) (s : State)
     → read_name (special_behind special.BaseClass) left s
-    ≡ and_then (read_name number left s) (λ a l t. and_then (read_name number l t) (λ b k u. and_then (read_name number k u)
-    (λ c j v. and_then (read_name number j v) (λ d i w. Some (base_class_descriptor a b c d, i, w)))))
+    ≡ and_then (read_name number left s) (λ a l t. and_then (read_name number l t)
+    (λ b k u. and_then (read_name number k u) (λ c j v. and_then (read_name number j v)
+    (λ d i w. Some (base_class_descriptor a b c d, i, w)))))
 unfolding grammar read read_by
 base_class_step left s = read_name-is (special_behind special.BaseClass) left s
+
+pub base_class_reads : (left l k j rest : List ℕ) (s t u v w : State) (a b c d : ℤ)
+    → read_name number left s ≡ Some (a, l, t) → read_name number l t ≡ Some (b, k, u)
+    → read_name number k u ≡ Some (c, j, v) → read_name number j v ≡ Some (d, rest, w)
+    → read_name (special_behind special.BaseClass) left s ≡ Some (base_class_descriptor a b c d, rest, w)
+base_class_reads left l k j rest s t u v w a b c d e f g h = base_class_step left s ∙ rw (e, f, g, h)
 
 pub ruleset special_behind_is = (plain_operator_step, guard_step, type_descriptor_step, base_class_step)

@@ -1,6 +1,7 @@
 -- The names in what is read are parts of the text, and UTF-8 if it is: each name that a tree spells is what stands up
 -- to an ASCII byte, and all else that is eaten is ASCII too.
-use Rattle.std.proofs.Common.{Option, ℕ, ℤ, zero, suc, pos, negsuc, List, [], ◌∷◌, ◌++◌, length, get_or, Some, Bool, true}
+use Rattle.std.proofs.Common.{Option, ℕ, ℤ, zero, suc, pos, negsuc, List, [], ◌∷◌, ◌++◌, length, get_or, Some, Bool}
+use Rattle.std.proofs.Common.{true}
 use Rattle.std.proofs.Common.{false, cond, nat_lt, ◌≡◌, ◌<◌, ◌+◌, ◌-◌, ◌==◌, refl, sym, ap, ◌∙◌, subst, arith}
 use Rattle.std.proofs.Common.{append_assoc, length-append}
 use Rattle.std.proofs.lemmas.Bool.{eqb-true, ltb-true}
@@ -15,18 +16,22 @@ use Rattle.msvc_tree.specs.Trees.{NameTree, TypeTree, SymbolTree, spelled, opera
 use Rattle.msvc_tree.specs.Trees.{base_class_descriptor, template, discriminator, nested, anonymous, name_trees}
 use Rattle.msvc_tree.specs.Trees.{type_trees}
 use Rattle.msvc_read.specs.State.{State, Entry, Note, place, remember_type}
-use Rattle.msvc_read.specs.Sorts.{Sort, bits, bytes, name_tree, type_tree, symbol_tree, list, both, Value, based, extended}
+use Rattle.msvc_read.specs.Sorts.{Sort, bits, bytes, name_tree, type_tree, symbol_tree, list, both, Value, based}
+use Rattle.msvc_read.specs.Sorts.{extended}
 use Rattle.msvc_read.specs.Sorts.{named, points, arrayed, indexed, referred, variable_of, table_of, type_information}
 use Rattle.msvc_read.specs.Sorts.{untyped, encoded_string, virtual_call, plain_function, member_of}
-use Rattle.msvc_read.specs.Rules.{Production, symbol_body, guard_index, unsigned, encoding_behind, characters, character}
+use Rattle.msvc_read.specs.Rules.{Production, symbol_body, guard_index, unsigned, encoding_behind, characters}
+use Rattle.msvc_read.specs.Rules.{character}
 use Rattle.msvc_read.specs.Rules.{thunk_number, own_qualifiers, returned, special_name, special_behind, required}
 use Rattle.msvc_read.specs.Rules.{text_and, call}
-use Rattle.msvc_read.specs.Rules.{any_type, type_behind, array, positive, lengths, template_name, unqualified_name, every, lookup, Rule, give, letter}
+use Rattle.msvc_read.specs.Rules.{any_type, type_behind, array, positive, lengths, template_name, unqualified_name}
+use Rattle.msvc_read.specs.Rules.{every, lookup, Rule, give, letter}
 use Rattle.msvc_read.specs.Rules.{literal, up_to, here, ◌>>=◌, ◌or◌, remember, noted, entering, apart}
 use Rattle.msvc_read.specs.Rules.{type_form, function_type, member_pointer, class_part}
 use Rattle.msvc_read.specs.declared.forms.TypeForm.TheVariants as form
 use Rattle.msvc_read.specs.declared.operators.SpecialForm.TheVariants as special
 use Rattle.msvc_read.specs.Grammar.{grammar, arrays, escaped_characters, plain_characters, special_texts}
+use Rattle.msvc_read.specs.Grammar.{escaped_character, hashed_symbol, named_symbol, numbered_guard, template_symbol}
 use Rattle.msvc_read.specs.Grammar.{with_index}
 use Rattle.msvc_read.specs.Reads.{Reads, given, a_letter, a_literal, a_part, where_it_holds, in_a_row, the_first}
 use Rattle.msvc_read.specs.Reads.{the_second, called, a_known_name, remembered, a_known_type, a_noted_type, entered}
@@ -107,6 +112,27 @@ module _ (P : List ℕ → Type 0) where
       let parts : (every ascii row.0 ≡ true) × (every (λ other. every ascii other.0) table ≡ true) = if_both _ _ h in
       ((parts.0, λ _ _. go row.1), gives_texts table f parts.1 go)
 
+  gives_escaped : Gives escaped_character
+  unfolding Gives
+  gives_escaped = ((refl, λ _ _. search depth 60), (refl, no-names escaped_characters))
+
+  gives_hashed : Gives hashed_symbol
+  unfolding Gives
+  gives_hashed = (tt, λ n h. (tt, λ _ _. (h, tt, tt)))
+
+  gives_guard : Gives numbered_guard
+  unfolding Gives
+  gives_guard = (search depth 60, λ _ _. (tt, λ n h. (tt, λ ns k. (refl, λ _ _. (h, in-names ns k, tt)))))
+
+  gives_template : Gives template_symbol
+  unfolding Gives
+  gives_template = (tt, λ n h. (h, tt, tt))
+
+  gives_named : Gives named_symbol
+  unfolding Gives
+  gives_named =
+      (tt, λ n h. (tt, λ index _. (tt, λ t k. (in-indexed index n.0 h.0, in-names n.1 h.1, k))))
+
   gives : {a : Sort} (n : Production a) → Gives (grammar n)
   unfolding Gives grammar
   gives (guard_index true) = search depth 60
@@ -123,9 +149,7 @@ module _ (P : List ℕ → Type 0) where
   gives (characters (suc n)) = search depth 60
   gives (encoding_behind plain_function) = (tt, λ f h. (in-types f.1.1 h.1.1, h.1.0))
   gives (encoding_behind (member_of class)) = (tt, λ _ _. (tt, λ own _. (tt, λ f h. (in-types f.1.1 h.1.1, h.1.0))))
-  gives character =
-      ((refl, λ _ _. ((refl, λ _ _. search depth 60), (refl, no-names escaped_characters))),
-      (refl, no-names plain_characters))
+  gives character = ((refl, λ _ _. gives_escaped), (refl, no-names plain_characters))
   gives (thunk_number true) = search depth 60
   gives (thunk_number false) = search depth 60
   gives (own_qualifiers true) = search depth 60
@@ -145,11 +169,7 @@ module _ (P : List ℕ → Type 0) where
   gives (lengths zero) = search depth 60
   gives (lengths (suc n)) = search depth 60
   gives symbol_body =
-      ((refl, λ _ _. (tt, λ n h. (tt, λ _ _. (h, tt, tt)))),
-      ((refl, λ _ _. (search depth 60, λ _ _. (tt, λ n h. (tt, λ ns k.
-      (refl, λ _ _. (h, in-names ns k, tt)))))),
-      ((refl, λ _ _. (tt, λ n h. (h, tt, tt))),
-      (tt, λ n h. (tt, λ _ _. (tt, λ t k. (in-indexed _ n.0 h.0, in-names n.1 h.1, k)))))))
+      ((refl, λ _ _. gives_hashed), ((refl, λ _ _. gives_guard), ((refl, λ _ _. gives_template), gives_named)))
   gives special_name = gives_texts special_texts (λ f. call (special_behind f)) refl (λ f. tt)
   gives (special_behind (special.Plain o)) = search depth 60
   gives (special_behind (special.Guard kind)) = search depth 60

@@ -31,10 +31,12 @@ use Rattle.msvc_read.specs.Sorts.{Sort, bits, integer, name_tree, symbol_tree, t
 use Rattle.msvc_read.specs.Sorts.{EncodingLetter, TypeLetter}
 use Rattle.msvc_read.specs.Sorts.{arrayed, based, extended, indexed, member_of, named, plain_function, points, referred}
 use Rattle.msvc_read.specs.Sorts.{untyped, variable_of}
-use Rattle.msvc_read.specs.Rules.{symbol, symbol_body, guard_index, encoding, encoding_behind, thunk_number, own_qualifiers}
+use Rattle.msvc_read.specs.Rules.{symbol, symbol_body, guard_index, encoding, encoding_behind, thunk_number}
+use Rattle.msvc_read.specs.Rules.{own_qualifiers}
 use Rattle.msvc_read.specs.Rules.{function_qualifiers, signature, return_qualifiers, returned, function_parameters}
 use Rattle.msvc_read.specs.Rules.{parameters, parameter, any_type, plain_type, type_behind, pointee, array, dimension}
-use Rattle.msvc_read.specs.Rules.{positive, lengths, qualified_name, unqualified_name, template_name, scope, nested_name}
+use Rattle.msvc_read.specs.Rules.{positive, lengths, qualified_name, unqualified_name, template_name, scope}
+use Rattle.msvc_read.specs.Rules.{nested_name}
 use Rattle.msvc_read.specs.Rules.{marked_name, anonymous_namespace, hexadecimal_digits, source_name, number, magnitude}
 use Rattle.msvc_read.specs.Rules.{holds, none_of, some_of, begins, after, lookup, Rule, give, letter, literal}
 use Rattle.msvc_read.specs.Rules.{◌>>=◌, ◌>>◌, known_name, call, begins_of, letter_or, literal_or}

@@ -6,26 +6,30 @@ use Rattle.std.proofs.lemmas.Bool.{eqb-true, le-ltb}
 use Rattle.std.specs.Prelude.{codes}
 use Rattle.msvc_tree.specs.declared.kinds.NumberedType.TheVariants as number_kind
 use Rattle.msvc_tree.specs.declared.kinds.PlainType.TheVariants as plain_kind
-use Rattle.msvc_tree.specs.declared.kinds.Spelling.TheVariants as spelling_kind
 use Rattle.msvc_tree.specs.declared.kinds.Table.{Table}
 use Rattle.msvc_tree.specs.Trees as tree
-use Rattle.msvc_tree.specs.Trees.{NameTree, SymbolTree, TypeTree, constant_string, name_trees, no_names, numbered, plain, spelled}
+use Rattle.msvc_tree.specs.Trees.{NameTree, SymbolTree, TypeTree, constant_string, name_trees, no_names, numbered}
+use Rattle.msvc_tree.specs.Trees.{plain, spelled}
 use Rattle.msvc_tree.specs.Trees.{anonymous, base_class_descriptor, discriminator, guard, nested, operator, template}
 use Rattle.msvc_tree.specs.Trees.{type_descriptor, vcall_thunk}
 use Rattle.msvc_tree.specs.declared.kinds.Guard.{Guard}
 use Rattle.msvc_read.specs.Parser.{byte_here, cut_at, guard_of, hash_at, indexed, name_length}
+use Rattle.msvc_read.specs.Hashes.{md5_symbol}
 use Rattle.msvc_read.specs.State.{State}
-use Rattle.msvc_read.specs.Sorts.{Sort, bits, encoded_string, table_of, type_information, virtual_call}
-use Rattle.msvc_read.specs.Rules.{after, call, character, characters, decimal, encoding_behind, give, guard_index, is_nil}
+use Rattle.msvc_read.specs.Sorts.{bits, encoded_string, table_of, type_information, virtual_call}
+use Rattle.msvc_read.specs.Rules.{after, call, character, characters, decimal, encoding_behind, give, guard_index}
+use Rattle.msvc_read.specs.Rules.{is_nil}
 use Rattle.msvc_read.specs.Rules.{letter, letter_or, literal, lookup, nested_name, number, optional, required, scope}
-use Rattle.msvc_read.specs.Rules.{source_name, unsigned, ◌>>◌, ◌>>=◌}
-use Rattle.msvc_read.specs.Grammar.{grammar, character_sizes, conventions, digits, escaped_character, escaped_characters}
-use Rattle.msvc_read.specs.Grammar.{guard_marker, guard_number, halves, hashed_symbol, hexadecimal, is_hash, is_in_range}
+use Rattle.msvc_read.specs.Rules.{unsigned, ◌>>◌}
+use Rattle.msvc_read.specs.Grammar.{grammar, character_sizes, conventions, digits, escaped_character}
+use Rattle.msvc_read.specs.Grammar.{escaped_characters}
+use Rattle.msvc_read.specs.Grammar.{guard_marker, halves, hashed_symbol, hexadecimal, is_hash, is_in_range}
 use Rattle.msvc_read.specs.Grammar.{is_guard, numbered_guard, plain_characters, qualifiers, string_length, with_index}
 use Rattle.msvc_read.specs.Reads.{Found, and_then, behind_literal, letter_here, or_else, read, read_by, read_name}
 use Rattle.msvc_read.specs.Reads.{with_value}
 use Rattle.msvc_read.proofs.Stable.{read_name-is}
-use Rattle.msvc_read.proofs.Steps.{choose, chosen, front_first, front_none, letter_or-is, literal_or-is, source_name_step}
+use Rattle.msvc_read.proofs.Steps.{choose, chosen, front_first, front_none, letter_or-is, literal_or-is}
+use Rattle.msvc_read.proofs.Steps.{source_name_step}
 use Rattle.msvc_read.proofs.Steps.{with_front}
 
 -- what was read may stand there, or nothing is read
@@ -48,9 +52,6 @@ then_is None f g h = refl
 then_is (Some x) f g h = h x.0 x.1 x.2
 
 -- hashes
-
-abbrev pub md5_symbol : List ℕ → SymbolTree
-md5_symbol n = record { name = spelled spelling_kind.Md5 n; scope = no_names; symbol_type = plain plain_kind.None }
 
 pub hashed_symbol_step : (left : List ℕ) (s : State) → read hashed_symbol left s
     ≡ and_then (hash_at (name_length left) left s) (λ n l t. Some (md5_symbol n, l, t))
@@ -293,6 +294,14 @@ pub decimal_too_large : (value d : ℕ) (left l : List ℕ) (s t : State) → va
 decimal_too_large value d left l s t h e large =
     decimal_more value d left l s t h e ∙ decimal_large (value * 10 + d) l t large
 
+-- a number with one more digit, where it is not too large
+pub kept : (n m : ℕ) → cond (is_in_range n) (Some n) None ≡ Some m → n ≡ m
+kept n m = go (is_in_range n)
+  where
+    go : (t : Bool) → cond t (Some n) None ≡ Some m → n ≡ m
+    go true e = cc
+    go false e = absurd (cc)
+
 pub ruleset decimal_goes_on = (decimal_ends, decimal_refused, decimal_too_large)
 
 -- types of tables, of run-time type information and of thunks
@@ -395,6 +404,34 @@ pub halves_step : (left : List ℕ) (s : State) → read halves left s
     (λ low k u. Some (high * 16 + low, k, u)))
 unfolding read read_by
 halves_step left s = refl
+
+differs : (b c : ℕ) → (b ≡ c → ⊥) → (b == c) ≡ false
+differs b c h = go (b == c) refl
+  where
+    go : (t : Bool) → (b == c) ≡ t → t ≡ false
+    go true e = absurd (h (eqb-true b c e))
+    go false e = refl
+
+-- any other byte than a ? or a $ is looked up in its table
+
+pub character_other : (b : ℕ) (left l : List ℕ) (s t : State) (o : Option ℕ) → byte_here left s ≡ Some (b, l, t)
+    → (b ≡ 63 → ⊥) → lookup b plain_characters ≡ o → read_name character left s ≡ with_value o l t
+character_other b left l s t o e other g =
+    let f : (b == 63) ≡ false = differs b 63 other in
+    character_step left s
+    ∙ ap (λ x. and_then x (λ c k u. cond (c == 63) (read escaped_character k u)
+    (with_value (lookup c plain_characters) k u))) e
+    ∙ ap (λ x. cond x (read escaped_character l t) (with_value (lookup b plain_characters) l t)) f
+    ∙ ap (λ x. with_value x l t) g
+
+pub escaped_other : (b : ℕ) (left l : List ℕ) (s t : State) (o : Option ℕ) → byte_here left s ≡ Some (b, l, t)
+    → (b ≡ 36 → ⊥) → lookup b escaped_characters ≡ o → read escaped_character left s ≡ with_value o l t
+escaped_other b left l s t o e other g =
+    let f : (b == 36) ≡ false = differs b 36 other in
+    escaped_character_step left s
+    ∙ ap (λ x. and_then x (λ c k u. cond (c == 36) (read halves k u) (with_value (lookup c escaped_characters) k u))) e
+    ∙ ap (λ x. cond x (read halves l t) (with_value (lookup b escaped_characters) l t)) f
+    ∙ ap (λ x. with_value x l t) g
 
 pub ruleset character_is = (character_step)
 

@@ -10,8 +10,10 @@ use Rattle.msvc_tree.specs.Errors.{context_of}
 use Rattle.msvc_tree.specs.Trees.{SymbolTree}
 use Rattle.msvc_tree.specs.declared.error.ErrorRepr.{ErrorRepr}
 use Rattle.msvc_tree.specs.declared.error.ErrorRepr.TheVariants as error
+use Rattle.msvc_read.proofs.Hashes.{hashes-stand}
 use Rattle.msvc_read.proofs.Laws.{derived-only, symbol-derived, symbol-refused}
 use Rattle.msvc_read.proofs.Spellings.{derived-parts, derived-utf8}
+use Rattle.msvc_read.specs.Hashes.{HashesStand}
 use Rattle.msvc_read.specs.Parser.{Gives, Refuses}
 use Rattle.msvc_read.specs.Parts.{NamesAreParts}
 use Rattle.msvc_read.specs.Reads.{Derives, Found, read_name}
@@ -61,6 +63,10 @@ pub read-texts : (text : List ℕ) (tree : SymbolTree) → IsUtf8 text → tree_
     → EachName IsUtf8 tree
 read-texts text tree u e =
     let one = read-derived text tree e in derived-utf8 text tree one.0 one.1 u one.2
+
+pub read-hashes : (text : List ℕ) (tree : SymbolTree) → tree_read text ≡ Some tree → HashesStand text tree
+read-hashes text tree e =
+    let one = read-derived text tree e in hashes-stand text tree one.0 one.1 one.2
 
 at_refused : (text : List ℕ) (left : ℕ) (e : ErrorRepr) → IsNoSymbol text → IsRefusalAt text (length text - left) e
     → IsRefusedRightly text e

@@ -15,12 +15,12 @@ use Rattle.msvc_tree.specs.declared.kinds.BaseType.TheVariants as base_kind
 use Rattle.msvc_tree.specs.declared.kinds.Guard.TheVariants as guard_kind
 use Rattle.msvc_tree.specs.declared.kinds.Mark.TheVariants as mark_kind
 use Rattle.msvc_tree.specs.declared.kinds.NumberedType.TheVariants as number_kind
-use Rattle.msvc_tree.specs.declared.kinds.PlainOperator.{PlainOperator}
 use Rattle.msvc_tree.specs.declared.kinds.PlainOperator.TheVariants as operator_kind
 use Rattle.msvc_tree.specs.declared.kinds.PlainType.TheVariants as plain_kind
 use Rattle.msvc_tree.specs.declared.kinds.Spelling.TheVariants as spelling_kind
 use Rattle.msvc_tree.specs.declared.kinds.Table.TheVariants as table_kind
-use Rattle.msvc_tree.specs.Trees.{NameTree, TypeTree, spelled, template, discriminator, nested, anonymous, no_names, plain}
+use Rattle.msvc_tree.specs.Trees.{NameTree, TypeTree, spelled, template, discriminator, nested, anonymous, no_names}
+use Rattle.msvc_tree.specs.Trees.{plain}
 use Rattle.msvc_tree.specs.Trees.{operator, guard, type_descriptor, base_class_descriptor, base, tagged, numbered}
 use Rattle.msvc_tree.specs.Trees.{pointing, constant_string, vcall_thunk, function}
 use Rattle.msvc_tree.specs.Trees.{member_function, variable, name_trees, type_trees}
@@ -30,13 +30,14 @@ use Rattle.msvc_read.specs.declared.operators.SpecialForm.{SpecialForm}
 use Rattle.msvc_read.specs.declared.operators.SpecialForm.TheVariants as special
 use Rattle.msvc_read.specs.Sorts.{TypeLetter, based, extended, named, points, arrayed, indexed, referred}
 use Rattle.msvc_read.specs.Sorts.{EncodingLetter, variable_of, table_of, type_information, untyped, encoded_string}
-use Rattle.msvc_read.specs.Sorts.{virtual_call, plain_function, member_of, Sort, nothing, bits, integer, bytes}
+use Rattle.msvc_read.specs.Sorts.{virtual_call, plain_function, member_of, Sort, nothing, bits, integer}
 use Rattle.msvc_read.specs.Sorts.{name_tree, base_type, type_letter, encoding_letter, convention, symbol_tree}
 use Rattle.msvc_read.specs.Rules.{Production, symbol, symbol_body, guard_index, unsigned, decimal, encoding}
 use Rattle.msvc_read.specs.Rules.{encoding_behind, characters, character, thunk_number, own_qualifiers}
 use Rattle.msvc_read.specs.Rules.{function_qualifiers, signature, return_qualifiers, returned, function_parameters}
 use Rattle.msvc_read.specs.Rules.{parameters, parameter, any_type, plain_type, type_behind, pointee, array, dimension}
-use Rattle.msvc_read.specs.Rules.{positive, lengths, qualified_name, unqualified_name, template_name, scope, nested_name}
+use Rattle.msvc_read.specs.Rules.{positive, lengths, qualified_name, unqualified_name, template_name, scope}
+use Rattle.msvc_read.specs.Rules.{nested_name}
 use Rattle.msvc_read.specs.Rules.{marked_name, anonymous_namespace, hexadecimal_digits, source_name, number, magnitude}
 use Rattle.msvc_read.specs.Rules.{letters, required, none_of, at_end, Rule, give, letter, literal, up_to, here, ◌>>=◌}
 use Rattle.msvc_read.specs.Rules.{◌>>◌, ◌or◌, lookup, every}

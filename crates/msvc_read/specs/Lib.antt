@@ -1,4 +1,5 @@
 pub mod Grammar
+pub mod Hashes
 pub mod Parser
 pub mod Parts
 pub mod Reads

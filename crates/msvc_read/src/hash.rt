@@ -1,10 +1,11 @@
 //! Names that were too long, for which a hash stands.
 
-ghost use Rattle.std.specs.Prelude.{◌≡◌, ◌<◌, length, IfOk};
+ghost use Rattle.std.specs.Prelude.{◌≡◌, ◌<◌, is_some, length, IfOk};
 ghost use Rattle.msvc_tree.specs.View.{tree_of};
-ghost use Rattle.msvc_read.specs.Grammar.{hashed_symbol, is_hash};
+ghost use Rattle.msvc_read.specs.Grammar.{hashed_symbol, hexadecimal_codes, is_hash};
 ghost use Rattle.msvc_read.specs.Parser.{Gives, hash_at, name_length, state_of};
 ghost use Rattle.msvc_read.specs.Reads.{read};
+ghost use Rattle.msvc_read.specs.Rules.{every, lookup};
 
 use crate::letters;
 use crate::names::name_length;
@@ -55,7 +56,19 @@ impl<'a> Parser<'a> {
 fn is_hash(digits: &[u8]) -> bool
     ensures { result ≡ is_hash digits.now }
 {
-    digits.len() == 32 && digits.iter().all(|digit| letters::hexadecimal_code(*digit).is_some())
+    digits.len() == 32 && are_digits(digits)
+}
+
+/// Whether all of these are hexadecimal digits.
+fn are_digits(bytes: &[u8]) -> bool
+    ensures { result ≡ every (λ b. is_some (lookup b hexadecimal_codes)) bytes.now }
+{
+    match bytes {
+        [first, others @ ..] => {
+            letters::hexadecimal_code(*first).is_some() && are_digits(others)
+        }
+        [] => true,
+    }
 }
 
 /// How many bytes follow all the hexadecimal digits that these begin with.

@@ -82,8 +82,8 @@ impl<'a> Parser<'a> {
             (read named_symbol self.old.rest.now (state_of self.old)) }
         ensures shorter { IfOk result (λ _. length self.new.rest.now < length self.old.rest.now) }
     {
-        let name = self.qualified_name(true)?;
-        let symbol = self.indexed_symbol(name)?;
+        let named = self.qualified_name(true)?;
+        let symbol = self.indexed_symbol(named)?;
         let symbol_type = self.encoding()?;
         Ok(ParseResult {
             symbol,

@@ -13,7 +13,7 @@ use Rattle.msvc_read.proofs.Steps.{scope_more, with_front}
 use Rattle.msvc_read.proofs.TypeSteps.{function_type_reads, member_pointer_reads}
 use Rattle.msvc_read.specs.Grammar.{class_of_returned, compound_letters, conventions, digits, encoding_letters}
 use Rattle.msvc_read.specs.Grammar.{function_classes, pointer_sizes}
-use Rattle.msvc_read.specs.Parser.{encoding_by, member_by, parameters_stop, state_of, type_by}
+use Rattle.msvc_read.specs.Parser.{encoding_by, indexed, member_by, parameters_stop, state_of, type_by}
 use Rattle.msvc_read.specs.Reads.{and_then, letter_here, read, read_name, type_known, with_value}
 use Rattle.msvc_read.specs.Rules.{after, encoding, lookup, nested_name, parameter, parameters, qualified_name, scope}
 use Rattle.msvc_read.specs.Rules.{any_type, class_part, function_parameters, optional, own_qualifiers, signature}
@@ -82,16 +82,21 @@ parameters-parameters-preserved t c =
 -- a symbol of its name, its scope and its type
 pub named_symbol-returns-clause-value : goal.named_symbol-returns-clause-value
 named_symbol-returns-clause-value t c =
+    let before : NameTree = name_of c.in_ok-named.named.name in
+    let outer : List NameTree = map name_of c.in_ok-named.named.scope.names.items in
     let name : NameTree = name_of c.in_ok-symbol.symbol.name in
     let scope : List NameTree = map name_of c.in_ok-symbol.symbol.scope.names.items in
     let type : TypeTree = type_of c.in_ok-symbol_type.symbol_type in
     let read_first : read_name (qualified_name true) c.args.self.now.rest.now (state_of c.args.self.now)
-    ≡ Some ((name, scope), c.qualified_name.new.self.rest.now, state_of c.qualified_name.new.self) = search rules in
-    let read_then : read_name (encoding false) c.qualified_name.new.self.rest.now (state_of c.qualified_name.new.self)
+    ≡ Some ((before, outer), c.qualified_name.new.self.rest.now, state_of c.qualified_name.new.self) = search rules in
+    let read_index : indexed before outer c.qualified_name.new.self.rest.now (state_of c.qualified_name.new.self)
+    ≡ Some ((name, scope), c.indexed_symbol.new.self.rest.now, state_of c.indexed_symbol.new.self) = search rules in
+    let read_then : read_name encoding c.indexed_symbol.new.self.rest.now (state_of c.indexed_symbol.new.self)
     ≡ Some (type, c.encoding.new.self.rest.now, state_of c.encoding.new.self) = search rules in
-    named_symbol_is c.args.self.now.rest.now c.qualified_name.new.self.rest.now c.encoding.new.self.rest.now
-    (state_of c.args.self.now) (state_of c.qualified_name.new.self) (state_of c.encoding.new.self) name scope type
-    read_first read_then
+    named_symbol_is c.args.self.now.rest.now c.qualified_name.new.self.rest.now c.indexed_symbol.new.self.rest.now
+    c.encoding.new.self.rest.now (state_of c.args.self.now) (state_of c.qualified_name.new.self)
+    (state_of c.indexed_symbol.new.self) (state_of c.encoding.new.self) before name outer scope type
+    read_first read_index read_then
     ∙ ap
     (λ ns. Some (
       record { name = name; scope = ns; symbol_type = type },

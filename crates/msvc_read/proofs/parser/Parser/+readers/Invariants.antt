@@ -123,6 +123,21 @@ decreases-unqualified_name l = level l.self.now.rest.now 1
 abbrev pub decreases-variable : goal.decreases-variable
 decreases-variable l = level l.self.now.rest.now 8
 
+abbrev pub decreases-special_name : goal.decreases-special_name
+decreases-special_name l = level l.self.now.rest.now 8
+
+abbrev pub decreases-type_descriptor : goal.decreases-type_descriptor
+decreases-type_descriptor l = level l.self.now.rest.now 8
+
+abbrev pub decreases-numbered_guard : goal.decreases-numbered_guard
+decreases-numbered_guard l = level l.self.now.rest.now 8
+
+abbrev pub decreases-nested_symbol_name : goal.decreases-nested_symbol_name
+decreases-nested_symbol_name l = level l.self.now.rest.now 3
+
+abbrev pub decreases-table : goal.decreases-table
+decreases-table l = level l.self.now.rest.now 8
+
 -- the names so far, before what is read of the rest, are what is read of all
 abbrev pub invariant-scope-names : goal.invariant-scope-names
 invariant-scope-names l =

@@ -1,0 +1,17 @@
+use Rattle.std.proofs.Common.{◌≡◌, ◌≤◌, length}
+use Rattle.msvc_read.specs.Grammar.{digits}
+use Rattle.msvc_read.specs.Parser.{state_of}
+use Rattle.msvc_read.specs.Reads.{and_then, letter_here, read_name}
+use Rattle.msvc_read.specs.Rules.{decimal}
+use Rattle.msvc_read.proofs.parser.Parser.guard_number.Given as goal
+
+-- what is read of the rest, behind the value so far, is what is read of all
+abbrev pub invariant-digits : goal.invariant-digits
+invariant-digits l =
+    (read_name (decimal l.value) l.self.rest.now (state_of l.self)
+    ≡ and_then (letter_here digits l.fn.self.rest.now (state_of l.fn.self)) (λ d. read_name (decimal d)))
+    × (length l.self.rest.now ≤ length l.fn.self.rest.now)
+    × (l.value ≤ 2147483647)
+
+abbrev pub decreases-digits : goal.decreases-digits
+decreases-digits l = length l.self.rest.now
