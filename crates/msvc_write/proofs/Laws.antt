@@ -171,8 +171,8 @@ calling-same pointed convention a b e =
 function_end-same : (pointed : Bool) (xs ys : List Piece) (set a b : ℕ) (r r' : List Piece) → xs ≡ ys → r ≡ r' →
     Same a b → function_end pointed xs set a r ≡ function_end pointed ys set b r'
 function_end-same pointed xs ys set a b r r' h h' e = ap (λ x. closing pointed ++ (text (codes "(") ∷ x))
-    (same-append xs ys (text (codes ")") ∷ (own_qualifiers set a ++ r)) (text (codes ")") ∷ (own_qualifiers set b ++ r'))
-    h (ap (λ x. text (codes ")") ∷ x)
+    (same-append xs ys (text (codes ")") ∷ (own_qualifiers set a ++ r))
+    (text (codes ")") ∷ (own_qualifiers set b ++ r')) h (ap (λ x. text (codes ")") ∷ x)
     (same-append (own_qualifiers set a) (own_qualifiers set b) r r' (own_qualifiers-same set a b e) h')))
 
 member_pointer_end-same : (set : ℕ) (xs ys r r' : List Piece) → xs ≡ ys → r ≡ r' →

@@ -102,8 +102,9 @@ unfoldable mutual
   pub before : TypeTree → Bool → ℕ → List Piece
   before (base b set) pointed flags = text (base_word b flags) ∷ qualifiers set flags
   before (tagged tag n scope set) pointed flags = text (tag_word tag flags) ∷ (scoped (own_kind n)
-      (scope_prefix scope flags) (scope_path scope flags) (own_name (own_kind n) (class_name scope [] flags) (class_name scope tilde flags)
-      (name_pieces n true flags) (name_pieces n true flags)) flags ++ qualifiers set flags)
+      (scope_prefix scope flags) (scope_path scope flags) (own_name (own_kind n) (class_name scope [] flags)
+      (class_name scope tilde flags) (name_pieces n true flags) (name_pieces n true flags)) flags
+      ++ qualifiers set flags)
   before (numbered number_kind.Constant n) pointed flags = text (signed_decimal n) ∷ []
   before (numbered number_kind.TemplateParameter n) pointed flags =
       text (codes "`template-parameter") ∷ text (signed_decimal n) ∷ text (codes "'") ∷ []

@@ -53,8 +53,8 @@ fn print(
     Ok(out)
 }
 
-/// The declaration of a symbol as a text, under the flags of printing. Bits that are no flag change nothing. Where names
-/// of the symbol are not UTF-8, what is no character is shown as U+FFFD. It refuses only for want of memory.
+/// The declaration of a symbol as a text, under the flags of printing. Bits that are no flag change nothing. Where
+/// names of the symbol are not UTF-8, what is no character is shown as U+FFFD. It refuses only for want of memory.
 pub fn serialize(
     alloc: Global,
     input: &ParseResult<'_>,
