@@ -1,6 +1,6 @@
 -- What flags do not change: bits that no definition asks for, and under NAME_ONLY the type of a symbol.
 use Rattle.std.proofs.Common.{◌≡◌, ℕ, ℤ, List, [], ◌∷◌, ◌++◌, Bool, true, false, cond, refl, ap, sym, ◌∙◌, bit_and}
-use Rattle.std.proofs.Common.{◌==◌, codes}
+use Rattle.std.proofs.Common.{◌==◌, append_assoc, codes}
 use Rattle.std.proofs.lemmas.Nat.{and_assoc}
 use Rattle.std.specs.Fmt.{signed_decimal}
 use Rattle.msvc_tree.specs.Trees.{NameTree, NameTrees, SymbolTree, TypeTree, TypeTrees, spelled, operator, guard}
@@ -12,6 +12,7 @@ use Rattle.msvc_tree.specs.declared.kinds.BaseType.TheVariants as base_kind
 use Rattle.msvc_tree.specs.declared.kinds.NumberedType.TheVariants as number_kind
 use Rattle.msvc_tree.specs.declared.kinds.PlainType.TheVariants as plain_kind
 use Rattle.msvc_tree.specs.declared.kinds.PlainOperator.TheVariants as plain_operator
+use Rattle.msvc_tree.specs.declared.kinds.Spelling.TheVariants as spelling_kind
 use Rattle.msvc_tree.specs.declared.kinds.Tag.{Tag}
 use Rattle.msvc_tree.specs.declared.tree.CallingConv.{CallingConv}
 use Rattle.msvc_write.proofs.Dropped.{first_half-name_only, last_half-dropped}
@@ -24,10 +25,11 @@ use Rattle.msvc_write.specs.Flags.{space_after_comma, space_before_pointer, with
 use Rattle.msvc_write.specs.Functions.{access_words, calling, convention_pieces, convention_word, each_own_qualifier}
 use Rattle.msvc_write.specs.Functions.{function_end, kind_words, member_start, member_word, member_words}
 use Rattle.msvc_write.specs.Functions.{own_qualifier, own_qualifiers, separator, wide_qualifier}
-use Rattle.msvc_write.specs.Laws.{Agree, DecodingChangesNothing, NameOnlyAsksNoType, OtherBitsChangeNothing}
+use Rattle.msvc_write.specs.Laws.{Agree, DecodingChangesNothing, HashesAreShown, NameOnlyAsksNoType}
+use Rattle.msvc_write.specs.Laws.{OtherBitsChangeNothing}
 use Rattle.msvc_write.specs.Laws.{all_but_decoding, obeyed_flags}
 use Rattle.msvc_write.specs.Operators.{base_class_pieces, own_kind, own_name, scoped}
-use Rattle.msvc_write.specs.Pieces.{Piece, resolve, space, text}
+use Rattle.msvc_write.specs.Pieces.{Piece, resolve, settle_all, space, text}
 use Rattle.msvc_write.specs.Words.{base_word, closing, first_half, kind_word, last_half, mark_space, mark_word, marked}
 use Rattle.msvc_write.specs.Words.{name_space, opening, qualifier_space, qualifiers, tag_word, variable_word}
 use Rattle.msvc_write.specs.declared.operator.OwnName.{OwnName}
@@ -357,3 +359,43 @@ name_only-asks-no-type = λ n scope t other flags only no_conversion.
     ∙ ap (λ x. scoped (own_kind n) (scope_prefix scope flags) (scope_path scope flags) x flags ++ [])
     (own_name-conversion n _ _ _ _ _ no_conversion)
     ∙ sym (name_only-pieces n scope other flags only))
+
+-- no flag puts anything before nothing
+none-before : (flags : ℕ) → first_half [] flags ≡ []
+unfolding first_half
+none-before flags = go (has flags name_only) (has flags no_function_returns)
+  where
+    go : (only returns : Bool) → cond {A = List Piece} only [] (cond returns [] []) ≡ []
+    go true returns = refl
+    go false true = refl
+    go false false = refl
+
+none-after : (flags : ℕ) → last_half [] flags ≡ []
+unfolding last_half
+none-after flags = go (has flags name_only)
+  where
+    go : (only : Bool) → cond {A = List Piece} only [] [] ≡ []
+    go true = refl
+    go false = refl
+
+hash-pieces : (digits : List ℕ) (flags : ℕ) → symbol_pieces (spelled spelling_kind.Md5 digits) no_names
+    (plain plain_kind.None) flags
+    ≡ space (name_space flags) ∷ text (codes "??@") ∷ text digits ∷ text (codes "@") ∷ []
+unfolding before after scoped own_kind name_pieces scope_prefix
+hash-pieces digits flags =
+    ap (λ xs. xs ++ (symbol_name (spelled spelling_kind.Md5 digits) no_names (plain plain_kind.None) flags
+    ++ last_half [] flags)) (none-before flags)
+    ∙ ap (λ xs. symbol_name (spelled spelling_kind.Md5 digits) no_names (plain plain_kind.None) flags ++ xs)
+    (none-after flags)
+
+hash-text : (only : Bool) (digits : List ℕ)
+    → resolve (space (cond only AfterWord AfterReference) ∷ text (codes "??@") ∷ text digits ∷ text (codes "@") ∷ [])
+    ≡ codes "??@" ++ (digits ++ codes "@")
+unfolding settle_all
+hash-text true digits = append_assoc (codes "??@") digits (codes "@")
+hash-text false digits = append_assoc (codes "??@") digits (codes "@")
+
+pub hashes-are-shown : HashesAreShown
+unfolding declaration
+hashes-are-shown = λ digits flags.
+    ap resolve (hash-pieces digits flags) ∙ hash-text (has flags space_before_pointer) digits

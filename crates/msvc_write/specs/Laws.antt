@@ -1,7 +1,9 @@
 -- What flags do not change, as statements about declarations alone. `proofs/Laws` proves them.
-use Rattle.std.specs.Prelude.{ℕ, ◌≡◌, bit_and, true}
-use Rattle.msvc_tree.specs.Trees.{NameTree, NameTrees, SymbolTree, TypeTree, operator}
+use Rattle.std.specs.Prelude.{ℕ, List, ◌++◌, ◌≡◌, bit_and, codes, true}
+use Rattle.msvc_tree.specs.Trees.{NameTree, NameTrees, SymbolTree, TypeTree, no_names, operator, plain, spelled}
 use Rattle.msvc_tree.specs.declared.kinds.PlainOperator.TheVariants as plain_operator
+use Rattle.msvc_tree.specs.declared.kinds.PlainType.TheVariants as plain_kind
+use Rattle.msvc_tree.specs.declared.kinds.Spelling.TheVariants as spelling_kind
 use Rattle.msvc_write.specs.Declaration.{declaration}
 use Rattle.msvc_write.specs.Flags.{has, name_only}
 
@@ -31,3 +33,9 @@ NameOnlyAsksNoType = (n : NameTree) (scope : NameTrees) (t other : TypeTree) (fl
     (n ≡ operator plain_operator.Conversion → ⊥) →
     declaration (record { name = n; scope = scope; symbol_type = t }) flags
     ≡ declaration (record { name = n; scope = scope; symbol_type = other }) flags
+
+-- a hash alone is shown as it was written, under every word
+abbrev pub HashesAreShown : Type 0
+HashesAreShown = (digits : List ℕ) (flags : ℕ) →
+    declaration (record { name = spelled spelling_kind.Md5 digits; scope = no_names; symbol_type = plain plain_kind.None })
+    flags ≡ codes "??@" ++ (digits ++ codes "@")
