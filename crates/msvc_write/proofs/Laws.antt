@@ -3,7 +3,7 @@ use Rattle.std.proofs.Common.{◌≡◌, ℕ, ℤ, List, [], ◌∷◌, ◌++◌
 use Rattle.std.proofs.Common.{◌==◌, append_assoc, codes}
 use Rattle.std.proofs.lemmas.Nat.{and_assoc}
 use Rattle.std.specs.Fmt.{signed_decimal}
-use Rattle.msvc_tree.specs.Trees.{NameTree, NameTrees, SymbolTree, TypeTree, TypeTrees, spelled, operator, guard}
+use Rattle.msvc_tree.specs.Trees.{NameTree, NameTrees, TypeTree, TypeTrees, spelled, operator, guard}
 use Rattle.msvc_tree.specs.Trees.{type_descriptor, base_class_descriptor, template, discriminator, nested, anonymous}
 use Rattle.msvc_tree.specs.Trees.{no_names, names, no_types, types, base, tagged, pointing, array, function}
 use Rattle.msvc_tree.specs.Trees.{member_function, member_pointer, plain, numbered, variable, table, vcall_thunk}
@@ -34,7 +34,6 @@ use Rattle.msvc_write.specs.Words.{base_word, closing, first_half, kind_word, la
 use Rattle.msvc_write.specs.Words.{name_space, opening, qualifier_space, qualifiers, tag_word, variable_word}
 use Rattle.msvc_write.specs.declared.operator.OwnName.{OwnName}
 use Rattle.msvc_write.specs.declared.operator.OwnName.TheVariants as own_kinds
-use Rattle.msvc_write.specs.declared.text.Space.{Space}
 use Rattle.msvc_write.specs.declared.text.Space.TheVariants.{AfterPointer, AfterReference, AfterWord, UnlessOpen}
 
 -- two words give the same answer to each question that a definition asks
@@ -74,7 +73,7 @@ all-same a b e = record {
   comma = has-same a b space_after_comma refl e;
   hug = has-same a b hug_type refl e;
   pointer = has-same a b space_before_pointer refl e;
-  wide = has-same a b with_ptr64 refl e
+  wide = has-same a b with_ptr64 refl e;
 }
 
 -- lists of the same parts are the same
