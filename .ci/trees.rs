@@ -67,6 +67,28 @@ mod tests {
         Ok(())
     }
 
+    /// The bytes of a symbol that is a string.
+    fn string_bytes(alloc: Global, symbol: &str) -> Result<Vec<u8>, Error> {
+        match parse(alloc, symbol)?.symbol_type {
+            Type::ConstantString(bytes) => Ok(bytes),
+            _ => Err(Error::new(alloc, "no string")),
+        }
+    }
+
+    /// Whether each byte is read from two letters, its halves.
+    fn each_byte(alloc: Global) -> Result<bool, Error> {
+        for byte in 0..=255u8 {
+            let high = char::from(b'A' + byte / 16);
+            let low = char::from(b'A' + byte % 16);
+            let symbol = format!(in alloc; "??_C@_01A@?${high}{low}?$AA@")?;
+            let bytes = string_bytes(alloc, symbol.as_str())?;
+            if bytes.len() != 2 || bytes[0] != byte || bytes[1] != 0 {
+                return Ok(false);
+            }
+        }
+        Ok(true)
+    }
+
     #[test]
     fn trees(rt: HostRuntime) -> Result<(), Fail> {
         let text = copied(rt.alloc(), "?x@@3PEAY1NKM@5HEA")?;
@@ -77,6 +99,18 @@ mod tests {
         assert!(rt; variable.as_str().contains("Var(Ptr(Class(Symbol"));
         let function = shown(rt.alloc(), "?f@@YAXHZZ")?;
         assert!(rt; function.as_str().contains("NonMemberFunction(Cdecl, Params { types: [Int("));
+        let signs = string_bytes(rt.alloc(), "??_C@_09A@?0?1?2?3?4?5?6?7?8?9")?;
+        assert!(rt; *signs.as_slice() == *b",/\\:. \n\t'-".as_slice());
+        assert_eq!(rt; string_bytes(rt.alloc(), "??_C@_0A@A@")?.len(), 0);
+        assert_eq!(rt; string_bytes(rt.alloc(), "??_C@_0?0A@")?.len(), 0);
+        let small = "aaaaaaaaaaaaaaaaaaaaaaaaaaaaaaaaaaaaaaaaaaaaaaaaaaaaaaaaaaaaaaaa";
+        let short = format!(in rt.alloc(); "??_C@_0CF@A@{small}")?;
+        assert_eq!(rt; string_bytes(rt.alloc(), short.as_str())?.len(), 32);
+        let wide = format!(in rt.alloc(); "??_C@_1EK@A@{small}")?;
+        assert_eq!(rt; string_bytes(rt.alloc(), wide.as_str())?.len(), 64);
+        let letters = string_bytes(rt.alloc(), "??_C@_03A@?a?A?z?Z")?;
+        assert!(rt; *letters.as_slice() == *b"\xE1\xE1\xFA\xFA".as_slice());
+        assert!(rt; each_byte(rt.alloc())?);
         Ok(())
     }
 }

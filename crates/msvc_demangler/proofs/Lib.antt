@@ -1,4 +1,5 @@
 pub mod Going
+pub mod Hashes
 pub mod Pieces
 pub mod Texts
 pub mod Written

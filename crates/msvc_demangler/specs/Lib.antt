@@ -1,5 +1,6 @@
 pub mod Answers
 pub mod Faults
+pub mod Hashes
 pub mod Lines
 pub mod Runs
 pub mod Streams

@@ -10,6 +10,7 @@ ghost use Rattle.msvc_read.specs.Refusals.{IsRefusedRightly, IsRefusalAt, begins
 ghost use Rattle.msvc_read.specs.State.{Note};
 ghost use Rattle.msvc_read.specs.Written.{DigitsCanBeWrittenOut};
 ghost use Rattle.msvc_write.specs.Declaration.{declaration};
+ghost use Rattle.msvc_demangler.specs.Hashes.{HashesAreShown};
 
 mod debug;
 mod lines;
@@ -37,6 +38,7 @@ pub fn demangle(alloc: Global, input: &str, flags: DemangleFlags) -> Result<Stri
         → (other ≡ tree) × (behind ≡ rest) × (others ≡ notes))
         × (string_bytes text ≡ declaration tree flags.0)) }
     ensures written_out { DigitsCanBeWrittenOut input.now }
+    ensures hashes { IfOk result (λ text. HashesAreShown input.now (string_bytes text)) }
     ensures refused { IfErr result (λ e. IsRefusedRightly input.now e) }
     ensures begins { (begins_with (codes "?") input.now → ⊥) → IfErr result (λ e. IsRefusalAt input.now 0 e) }
     ensures begins_ok { IfOk result (λ text. begins_with (codes "?") input.now) }
