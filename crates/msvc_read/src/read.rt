@@ -6,6 +6,7 @@ ghost use Rattle.std.specs.Str.{IsUtf8};
 ghost use Rattle.msvc_tree.specs.EachName.{EachName};
 ghost use Rattle.msvc_tree.specs.Trees.{SymbolTree};
 ghost use Rattle.msvc_tree.specs.View.{tree_of};
+ghost use Rattle.msvc_read.specs.Hashes.{HashesStand};
 ghost use Rattle.msvc_read.specs.Parser.{Gives};
 ghost use Rattle.msvc_read.specs.Parts.{NamesAreParts};
 ghost use Rattle.msvc_read.specs.Reads.{Derives, read_name};
@@ -23,8 +24,7 @@ use std::alloc::Global;
 /// The tree of the symbol that `input` begins with. Its names are parts of `input`, which it borrows; bytes behind a
 /// finished symbol stay unread.
 ///
-/// A refusal has an offset into `input`, in bytes; one for want of memory has none, and leaves nothing behind. Forms
-/// that only a later rule reads are refused with the message `form not built yet`.
+/// A refusal has an offset into `input`, in bytes; one for want of memory has none, and leaves nothing behind.
 pub fn parse<'a>(alloc: Global, input: &'a str) -> Result<ParseResult<'a>, Error>
     ensures derived { IfOk result (λ r. (rest : List ℕ) × (notes : List Note)
         × Derives input.now (tree_of r) rest notes
@@ -33,6 +33,7 @@ pub fn parse<'a>(alloc: Global, input: &'a str) -> Result<ParseResult<'a>, Error
     ensures written_out { DigitsCanBeWrittenOut input.now }
     ensures parts { IfOk result (λ r. NamesAreParts input.now (tree_of r)) }
     ensures texts { IfOk result (λ r. EachName IsUtf8 (tree_of r)) }
+    ensures hashes { IfOk result (λ r. HashesStand input.now (tree_of r)) }
     ensures refused { IfErr result (λ e. IsRefusedRightly input.now e) }
     ensures begins { (begins_with (codes "?") input.now → ⊥) → IfErr result (λ e. IsRefusalAt input.now 0 e) }
     ensures begins_ok { IfOk result (λ r. begins_with (codes "?") input.now) }

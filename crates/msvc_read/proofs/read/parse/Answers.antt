@@ -1,5 +1,5 @@
 use Rattle.msvc_tree.specs.View.{tree_of}
-use Rattle.msvc_read.proofs.Whole.{read-derived, read-parts, read-texts, error-refused}
+use Rattle.msvc_read.proofs.Whole.{read-derived, read-hashes, read-parts, read-texts, error-refused}
 use Rattle.msvc_read.proofs.Written.{all_written_out}
 use Rattle.msvc_read.proofs.read.parse.Goals as goal
 
@@ -11,6 +11,9 @@ returns-in-Ok-clause-parts c = read-parts c.args.input.now (tree_of c.in-Ok.symb
 
 pub returns-in-Ok-clause-texts : goal.returns-in-Ok-clause-texts
 returns-in-Ok-clause-texts c = read-texts c.args.input.now (tree_of c.in-Ok.symbol) c.utf8.input c.in-Ok.ensures.value
+
+pub returns-in-Ok-clause-hashes : goal.returns-in-Ok-clause-hashes
+returns-in-Ok-clause-hashes c = read-hashes c.args.input.now (tree_of c.in-Ok.symbol) c.in-Ok.ensures.value
 
 pub returns-in-Err-clause-refused : goal.returns-in-Err-clause-refused
 returns-in-Err-clause-refused c =
