@@ -13,7 +13,7 @@ use Rattle.msvc_tree.specs.Trees.{plain, spelled}
 use Rattle.msvc_tree.specs.Trees.{anonymous, base_class_descriptor, discriminator, guard, nested, operator, template}
 use Rattle.msvc_tree.specs.Trees.{type_descriptor, vcall_thunk}
 use Rattle.msvc_tree.specs.declared.kinds.Guard.{Guard}
-use Rattle.msvc_read.specs.Parser.{byte_here, cut_at, guard_of, hash_at, indexed, name_length}
+use Rattle.msvc_read.specs.Parser.{byte_here, cut_at, guard_of, hash_at, indexed, name_length, nested_in_scope}
 use Rattle.msvc_read.specs.Hashes.{md5_symbol}
 use Rattle.msvc_read.specs.State.{State}
 use Rattle.msvc_read.specs.Sorts.{bits, encoded_string, table_of, type_information, virtual_call}
@@ -177,13 +177,9 @@ indexed_guard (anonymous text) ns left s kind e = absurd (cc)
 
 pub ruleset indexed_is = (indexed_other, indexed_guard)
 
--- the digits of a number, and a name in its scope, as the readers take them
+-- the digits of a number, as the readers take them
 abbrev pub decimals : List ℕ → State → Found ℕ
 decimals left s = and_then (letter_here digits left s) (λ d. read_name (decimal d))
-
-abbrev pub nested_in_scope : List ℕ → State → Found (NameTree × List NameTree)
-nested_in_scope left s =
-    and_then (read_name nested_name left s) (λ n l t. and_then (read_name scope l t) (λ ns k u. Some ((n, ns), k, u)))
 
 abbrev pub guard_symbol : ℕ → NameTree → List NameTree → SymbolTree
 guard_symbol z n ns =

@@ -10,7 +10,7 @@ use Rattle.msvc_read.specs.Grammar.{third_special_letters, type_information_lett
 use Rattle.msvc_read.specs.declared.operators.SpecialForm.{SpecialForm}
 use Rattle.msvc_read.specs.Reads.{Found, and_then, read_name}
 use Rattle.msvc_read.specs.declared.forms.TypeForm.{TypeForm}
-use Rattle.msvc_read.specs.Rules.{after, encoding_behind, guard_index, lookup, type_behind}
+use Rattle.msvc_read.specs.Rules.{after, encoding_behind, guard_index, lookup, nested_name, scope, type_behind}
 use Rattle.msvc_read.specs.Sorts.{EncodingLetter, TypeLetter, member_of}
 use Rattle.msvc_read.specs.State as state
 use Rattle.msvc_read.specs.declared.parser.BackReference.{BackReference}
@@ -141,6 +141,11 @@ guard_of _ = None
 abbrev pub indexed : NameTree → List NameTree → List ℕ → state.State → Found (NameTree × List NameTree)
 indexed n ns left s =
     and_then (read_name (guard_index (is_guard n)) left s) (λ index l t. Some ((with_index index n, ns), l, t))
+
+-- a nested name in its scope
+abbrev pub nested_in_scope : List ℕ → state.State → Found (NameTree × List NameTree)
+nested_in_scope left s =
+    and_then (read_name nested_name left s) (λ n l t. and_then (read_name scope l t) (λ ns k u. Some ((n, ns), k, u)))
 
 -- the digits of a hash before a place, and the bytes behind the one there
 abbrev pub hash_at : Option ℕ → List ℕ → state.State → Found (List ℕ)

@@ -1,12 +1,13 @@
 //! The guards of static variables in functions: their indices, and the numbers of thread-safe ones.
 
-ghost use Rattle.std.specs.Prelude.{◌≡◌, ◌<◌, ◌≤◌, ◌+◌, ◌*◌, None, Some, length, map, true, IfOk, if◌then◌else◌};
+ghost use Rattle.std.specs.Prelude.{◌≡◌, ◌<◌, ◌≤◌, ◌+◌, ◌*◌, None, Some, length, map, true, IfOk};
+ghost use Rattle.std.specs.Prelude.{if◌then◌else◌};
 ghost use Rattle.msvc_tree.specs.Trees as tree;
 ghost use Rattle.msvc_tree.specs.View.{name_of, tree_of};
 ghost use Rattle.msvc_read.specs.Grammar.{digits, guard_marker, is_in_range, numbered_guard};
-ghost use Rattle.msvc_read.specs.Parser.{Gives, guard_of, indexed, state_of};
+ghost use Rattle.msvc_read.specs.Parser.{Gives, guard_of, indexed, nested_in_scope, state_of};
 ghost use Rattle.msvc_read.specs.Reads.{and_then, letter_here, read, read_name};
-ghost use Rattle.msvc_read.specs.Rules.{decimal, guard_index, nested_name, scope};
+ghost use Rattle.msvc_read.specs.Rules.{decimal, guard_index};
 
 use crate::parser::Parser;
 use crate::refusal::{Message, Refusal};
@@ -93,8 +94,7 @@ impl<'a> Parser<'a> {
     fn nested_symbol_name(&mut self) -> Result<Symbol<'a>, Refusal>
         ensures value { Gives
             (λ n. ((name_of n.name, map name_of n.scope.names.items), self.new.rest.now, state_of self.new)) result
-            (and_then (read_name nested_name self.old.rest.now (state_of self.old))
-            (λ n l t. and_then (read_name scope l t) (λ ns k u. Some ((n, ns), k, u)))) }
+            (nested_in_scope self.old.rest.now (state_of self.old)) }
         ensures shorter { IfOk result (λ _. length self.new.rest.now < length self.old.rest.now) }
     {
         let name = self.nested_name()?;
