@@ -209,6 +209,18 @@ numbered_guard_step left s =
     go z None = refl
     go z (Some y) = inside z y.0 (read_name scope y.1 y.2)
 
+pub numbered_guard_reads : (left l k rest : List ℕ) (s t u v : State) (z : ℕ) (n : NameTree) (ns : List NameTree)
+    → decimals left s ≡ Some (z, l, t) → nested_in_scope l t ≡ Some ((n, ns), k, u)
+    → read (literal (codes "4HA")) k u ≡ Some (tt, rest, v)
+    → read numbered_guard left s ≡ Some (guard_symbol z n ns, rest, v)
+numbered_guard_reads left l k rest s t u v z n ns e f g =
+    numbered_guard_step left s
+    ∙ ap (λ o. and_then o (λ y i a. and_then (nested_in_scope i a) (λ x j b. and_then (read (literal (codes "4HA")) j b)
+    (λ _ h c. Some (guard_symbol y x.0 x.1, h, c))))) e
+    ∙ ap (λ o. and_then o (λ x j b. and_then (read (literal (codes "4HA")) j b)
+    (λ _ h c. Some (guard_symbol z x.0 x.1, h, c)))) f
+    ∙ ap (λ o. and_then o (λ _ h c. Some (guard_symbol z n ns, h, c))) g
+
 pub ruleset numbered_guard_is = (numbered_guard_step)
 
 pub decimal_step : (value : ℕ) (left : List ℕ) (s : State) → read_name (decimal value) left s

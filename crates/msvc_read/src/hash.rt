@@ -73,7 +73,10 @@ fn are_digits(bytes: &[u8]) -> bool
 
 /// How many bytes follow all the hexadecimal digits that these begin with.
 fn behind_digits(bytes: &[u8]) -> usize {
-    match bytes.iter().position(|byte| letters::hexadecimal_code(*byte).is_none()) {
+    match bytes
+        .iter()
+        .position(|byte| letters::hexadecimal_code(*byte).is_none())
+    {
         Some(end) => bytes.len().saturating_sub(end),
         None => 0,
     }

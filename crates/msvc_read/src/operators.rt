@@ -241,8 +241,11 @@ impl<'a> Parser<'a> {
         let table = self.number()?;
         let displacement = self.number()?;
         let attributes = self.number()?;
-        Ok(Name::Operator(
-            Operator::RTTIBaseClassDescriptor(member, table, displacement, attributes),
-        ))
+        Ok(Name::Operator(Operator::RTTIBaseClassDescriptor(
+            member,
+            table,
+            displacement,
+            attributes,
+        )))
     }
 }

@@ -1,21 +1,24 @@
 use Rattle.std.proofs.Common.{rules, ◌≡◌, ◌∷◌, [], ◌++◌, ◌<◌, Some, None, List, true, false, sym, ap, ◌∙◌, arith, length}
-use Rattle.std.proofs.Common.{◌≤◌}
-use Rattle.std.specs.Prelude.{bit_or, map, slice_get}
+use Rattle.std.proofs.Common.{◌≤◌, of_z, pos, to_z, w32}
+use Rattle.std.proofs.lemmas.Int.{to_z-of_z, to_z_pos}
+use Rattle.std.specs.Prelude.{bit_or, codes, map, slice_get}
 use Rattle.msvc_tree.proofs.Views.{type_of-MemberFunctionPointer, type_of-NonMemberFunction}
-use Rattle.msvc_tree.specs.Trees.{NameTree, TypeTree, function, name_trees, type_trees}
+use Rattle.msvc_tree.specs.Trees.{NameTree, TypeTree, function, name_trees, numbered, type_trees}
+use Rattle.msvc_tree.specs.declared.kinds.NumberedType.TheVariants as number_kind
 use Rattle.msvc_tree.specs.Trees.{member_pointer as member_pointer_tree}
 use Rattle.msvc_tree.specs.View.{name_of, type_of, types_in}
-use Rattle.msvc_tree.specs.declared.tree.Type.{MemberFunctionPointer, NonMemberFunction}
+use Rattle.msvc_tree.specs.declared.tree.Type.{MemberFunctionPointer, NonMemberFunction, ThreadSafeStaticGuard}
 use Rattle.msvc_read.proofs.Carried.{pushed, map_last}
-use Rattle.msvc_read.proofs.Readers.{names_in-is, types_in-is}
+use Rattle.msvc_read.proofs.Readers.{names_in-is, type_of-ThreadSafeStaticGuard, types_in-is}
 use Rattle.msvc_read.proofs.Steps.{function_step, member_letter, named_symbol_is, parameters_more, referred_step}
 use Rattle.msvc_read.proofs.Steps.{scope_more, with_front}
+use Rattle.msvc_read.proofs.SymbolSteps.{decimals, numbered_guard_reads}
 use Rattle.msvc_read.proofs.TypeSteps.{function_type_reads, member_pointer_reads}
 use Rattle.msvc_read.specs.Grammar.{class_of_returned, compound_letters, conventions, digits, encoding_letters}
 use Rattle.msvc_read.specs.Grammar.{function_classes, pointer_sizes}
-use Rattle.msvc_read.specs.Parser.{encoding_by, indexed, member_by, parameters_stop, state_of, type_by}
+use Rattle.msvc_read.specs.Parser.{encoding_by, indexed, member_by, nested_in_scope, parameters_stop, state_of, type_by}
 use Rattle.msvc_read.specs.Reads.{and_then, letter_here, read, read_name, type_known, with_value}
-use Rattle.msvc_read.specs.Rules.{after, encoding, lookup, nested_name, parameter, parameters, qualified_name, scope}
+use Rattle.msvc_read.specs.Rules.{after, encoding, literal, lookup, nested_name, parameter, parameters, qualified_name, scope}
 use Rattle.msvc_read.specs.Rules.{any_type, class_part, function_parameters, optional, own_qualifiers, signature}
 use Rattle.msvc_read.proofs.parser.Parser.+readers.Goals as goal
 
@@ -102,6 +105,51 @@ named_symbol-returns-clause-value t c =
       record { name = name; scope = ns; symbol_type = type },
       c.encoding.new.self.rest.now,
       state_of c.encoding.new.self,
+    ))
+    (sym (names_in-is c.in_ok-symbol.symbol.scope.names.items))
+
+-- a guard of its number, and of a name in its scope
+pub numbered_guard-returns-clause-value : goal.numbered_guard-returns-clause-value
+numbered_guard-returns-clause-value t c =
+    let name : NameTree = name_of c.in_ok-symbol.symbol.name in
+    let scope : List NameTree = map name_of c.in_ok-symbol.symbol.scope.names.items in
+    let number : decimals c.args.self.now.rest.now (state_of c.args.self.now)
+    ≡ Some (c.in_ok-number.number, c.guard_number.new.self.rest.now, state_of c.guard_number.new.self) =
+    c.in_ok-number.ensures.value in
+    let named : nested_in_scope c.guard_number.new.self.rest.now (state_of c.guard_number.new.self)
+    ≡ Some ((name, scope), c.nested_symbol_name.new.self.rest.now, state_of c.nested_symbol_name.new.self) =
+    c.in_ok-symbol.ensures.value in
+    let ended : read (literal (codes "4HA")) c.nested_symbol_name.new.self.rest.now
+    (state_of c.nested_symbol_name.new.self)
+    ≡ Some (tt, c.expected.new.self.rest.now, state_of c.expected.new.self) = c.in_default.ensures.value in
+    let small : c.in_ok-number.number < 2147483648 = omega (arith, c.in_ok-number.ensures.small) in
+    let value : c.cast_signed.result ≡ pos c.in_ok-number.number =
+    c.cast_signed.ensures ∙ to_z_pos w32 c.in_ok-number.number small in
+    let same : to_z w32 (of_z w32 c.cast_signed.result) ≡ c.cast_signed.result = search (rules, to_z-of_z) in
+    let view : type_of (ThreadSafeStaticGuard (to_z w32 (of_z w32 c.cast_signed.result)))
+    ≡ numbered number_kind.ThreadSafeGuard (pos c.in_ok-number.number) =
+    type_of-ThreadSafeStaticGuard (to_z w32 (of_z w32 c.cast_signed.result))
+    ∙ ap (numbered number_kind.ThreadSafeGuard) (same ∙ value) in
+    numbered_guard_reads c.args.self.now.rest.now c.guard_number.new.self.rest.now
+    c.nested_symbol_name.new.self.rest.now c.expected.new.self.rest.now (state_of c.args.self.now)
+    (state_of c.guard_number.new.self) (state_of c.nested_symbol_name.new.self) (state_of c.expected.new.self)
+    c.in_ok-number.number name scope number named ended
+    ∙ ap
+    (λ (x : TypeTree). Some (
+      record { name = name; scope = name_trees scope; symbol_type = x },
+      c.expected.new.self.rest.now,
+      state_of c.expected.new.self,
+    ))
+    (sym view)
+    ∙ ap
+    (λ ns. Some (
+      record {
+        name = name;
+        scope = ns;
+        symbol_type = type_of (ThreadSafeStaticGuard (to_z w32 (of_z w32 c.cast_signed.result)));
+      },
+      c.expected.new.self.rest.now,
+      state_of c.expected.new.self,
     ))
     (sym (names_in-is c.in_ok-symbol.symbol.scope.names.items))
 
