@@ -1,8 +1,7 @@
-use Rattle.std.proofs.Common.{rules, ◌≡◌, ◌==◌, Some, None, false, sym, ◌∙◌}
-use Rattle.msvc_read.specs.Parser.{Refuses, byte_here, state_of}
+use Rattle.std.proofs.Common.{◌≡◌, Some, None, sym}
+use Rattle.msvc_read.specs.Parser.{byte_here, state_of}
 use Rattle.msvc_read.specs.Reads.{read_name}
-use Rattle.msvc_read.specs.Rules.{character, lookup}
-use Rattle.msvc_read.specs.Grammar.{plain_characters}
+use Rattle.msvc_read.specs.Rules.{character}
 use Rattle.msvc_read.proofs.SymbolSteps.{character_other}
 use Rattle.msvc_read.proofs.parser.Parser.character.Goals as goal
 

@@ -1,8 +1,7 @@
-use Rattle.std.proofs.Common.{rules, ◌≡◌, ◌==◌, Some, None, false, sym, ◌∙◌}
-use Rattle.msvc_read.specs.Parser.{Refuses, byte_here, state_of}
+use Rattle.std.proofs.Common.{◌≡◌, Some, None, sym}
+use Rattle.msvc_read.specs.Parser.{byte_here, state_of}
 use Rattle.msvc_read.specs.Reads.{read}
-use Rattle.msvc_read.specs.Rules.{lookup}
-use Rattle.msvc_read.specs.Grammar.{escaped_character, escaped_characters}
+use Rattle.msvc_read.specs.Grammar.{escaped_character}
 use Rattle.msvc_read.proofs.SymbolSteps.{escaped_other}
 use Rattle.msvc_read.proofs.parser.Parser.escaped_character.Goals as goal
 
