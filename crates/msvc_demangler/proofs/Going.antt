@@ -1,15 +1,15 @@
 -- A run over lines, on its way.
-use Rattle.std.proofs.Common.{◌≡◌, ◌≢◌, ◌++◌, ◌∷◌, [], ℕ, List, Bool, true, false, Result, Ok, Err, Some, None, OnSome}
+use Rattle.std.proofs.Common.{◌≡◌, ◌≢◌, ◌++◌, ◌∷◌, [], ℕ, List, Bool, true, false, Result, Ok, Err}
 use Rattle.std.proofs.Common.{ap, sym, subst, refl, ◌∙◌, append_assoc, append-nil, inl, inr, length, arith}
 use Rattle.std.specs.declared.option.Option.{Option}
-use Rattle.std.specs.Io.KnownBytes.{Appends, Consumes, IsAtEnd}
+use Rattle.std.specs.Io.KnownBytes.{Appends, Consumes}
 use Rattle.std.proofs.KnownBytes.{Appends-nil, Appends-trans, Consumes-nil, Consumes-trans}
 use Rattle.std.proofs.lemmas.List.Elements.{All-nil, All-append}
 use Rattle.msvc_demangler.specs.Answers.{IsFilterText, IsText, nothing}
 use Rattle.msvc_demangler.specs.Faults.{HasFailed}
 use Rattle.msvc_demangler.specs.Lines.{line_of, lines_of}
 use Rattle.msvc_demangler.specs.Runs.{IsLines, IsOfOneLine, LeavesOff, Writes, WritesLines, WritesPart}
-use Rattle.msvc_demangler.specs.Taking.{IsWithoutEnd, IsWithEnd}
+use Rattle.msvc_demangler.specs.Taking.{IsWithoutEnd}
 use Rattle.msvc_demangler.specs.declared.watched.Fault.{Fault}
 use Rattle.msvc_demangler.specs.declared.watched.Fault.TheVariants.{Read, Write, Memory}
 use Rattle.msvc_demangler.proofs.Pieces.{IsLines-append, lines_of-append, lines_of-nil}

@@ -1,12 +1,12 @@
 -- How bytes are cut into lines where some lines were cut before.
-use Rattle.std.proofs.Common.{◌≡◌, ◌≢◌, ◌<◌, ◌++◌, ◌∷◌, [], ℕ, List, Bool, true, false, cond, eqb, All, length, ap, sym}
-use Rattle.std.proofs.Common.{subst, refl, ◌∙◌, arith, append_assoc, append-nil, inl, inr, ne_eqb}
+use Rattle.std.proofs.Common.{◌≡◌, ◌≢◌, ◌++◌, ◌∷◌, [], ℕ, List, Bool, true, false, cond, eqb, ap, sym}
+use Rattle.std.proofs.Common.{refl, ◌∙◌, append_assoc, inl, inr, ne_eqb}
 use Rattle.std.proofs.lemmas.List.{map-append}
-use Rattle.std.specs.Prelude.{◌⊎◌, map}
-use Rattle.std.proofs.lemmas.List.Elements.{All-head, All-tail, All-append}
+use Rattle.std.specs.Prelude.{map}
+use Rattle.std.proofs.lemmas.List.Elements.{All-head, All-tail}
 use Rattle.msvc_demangler.specs.Lines.{joined, pieces, line_of, lines_of}
 use Rattle.msvc_demangler.specs.Runs.{IsLines, IsOfOneLine}
-use Rattle.msvc_demangler.specs.Taking.{IsWithoutEnd, IsWithEnd}
+use Rattle.msvc_demangler.specs.Taking.{IsWithoutEnd}
 
 -- bytes that are there give a piece
 pieces-some : (x : ℕ) (xs : List ℕ) → (p : List ℕ) × (ps : List (List ℕ)) × (pieces (x ∷ xs) ≡ p ∷ ps)

@@ -1,6 +1,6 @@
 -- What is written when one call follows another.
-use Rattle.std.proofs.Common.{◌≡◌, ◌++◌, ◌∷◌, [], ℕ, List, Result, Ok, Err, IfErr, Bool, true, false, ap, sym, refl}
-use Rattle.std.proofs.Common.{◌∙◌, append_assoc, append-nil, take, drop, length, ◌-◌, length-drop, take_all, arith}
+use Rattle.std.proofs.Common.{◌≡◌, ◌++◌, [], ℕ, List, Result, Ok, Err, IfErr, Bool, true, false, ap, sym, refl}
+use Rattle.std.proofs.Common.{◌∙◌, append_assoc, take, drop, length, ◌-◌, length-drop, take_all, arith}
 use Rattle.msvc_demangler.specs.Faults.{HasFailed}
 use Rattle.msvc_demangler.specs.Runs.{Writes, WritesPart}
 use Rattle.msvc_demangler.specs.declared.watched.Fault.{Fault}

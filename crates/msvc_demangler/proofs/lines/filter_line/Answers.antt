@@ -1,5 +1,5 @@
-use Rattle.std.proofs.Common.{rules, ◌≡◌, ◌++◌, ◌∷◌, [], List, ℕ, subst, sym, ap, ◌∙◌}
-use Rattle.std.proofs.KnownBytes.{Appends-trans, Appends-nil}
+use Rattle.std.proofs.Common.{[], List, ℕ, subst, sym}
+use Rattle.std.proofs.KnownBytes.{Appends-nil}
 use Rattle.std.specs.Str.{IsUtf8}
 use Rattle.msvc_demangler.specs.Answers.{IsLineText, left_out, nothing}
 use Rattle.msvc_demangler.proofs.Texts.{IsText-one}

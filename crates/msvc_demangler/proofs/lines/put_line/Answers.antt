@@ -1,7 +1,6 @@
-use Rattle.std.proofs.Common.{rules, ◌≡◌, ◌++◌, ◌∷◌, [], List, ℕ, subst, sym, ap, ◌∙◌}
+use Rattle.std.proofs.Common.{◌++◌, ◌∷◌, []}
 use Rattle.std.proofs.lemmas.Result.{err_from_is_err_and}
 use Rattle.std.proofs.KnownBytes.{Appends-trans}
-use Rattle.msvc_demangler.specs.Runs.{Writes}
 use Rattle.msvc_demangler.proofs.Written.{WritesPart-first, Writes-second}
 use Rattle.msvc_demangler.proofs.lines.put_line.Goals as goal
 

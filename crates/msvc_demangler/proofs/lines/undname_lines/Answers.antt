@@ -1,5 +1,4 @@
-use Rattle.std.proofs.Common.{rules, ◌≡◌, ◌≢◌, ◌++◌, ◌∷◌, [], ℕ, List, subst, sym, ap, ◌∙◌, refl, append-nil, arith}
-use Rattle.std.proofs.Common.{length}
+use Rattle.std.proofs.Common.{rules, ◌≡◌, ◌≢◌, ◌++◌, ◌∷◌, [], subst, sym, ap, ◌∙◌, refl, append-nil}
 use Rattle.std.specs.Prelude.{vec_len}
 use Rattle.std.proofs.lemmas.Result.{err_from_is_err_and}
 use Rattle.std.specs.Io.KnownBytes.{Consumes}
@@ -7,7 +6,7 @@ use Rattle.msvc_demangler.specs.Answers.{IsText}
 use Rattle.msvc_demangler.specs.Lines.{line_of}
 use Rattle.msvc_demangler.specs.Runs.{Writes, WritesPart}
 use Rattle.msvc_demangler.specs.Taking.{IsCut, IsWithEnd, IsWithoutEnd}
-use Rattle.msvc_demangler.proofs.Going.{Going, empty-of_length, Going-asked, Going-end, Going-fault, Going-line}
+use Rattle.msvc_demangler.proofs.Going.{empty-of_length, Going-asked, Going-end, Going-fault, Going-line}
 use Rattle.msvc_demangler.proofs.Going.{Going-part, Going-rest, Going-start}
 use Rattle.msvc_demangler.proofs.lines.undname_lines.Goals.{in-Part, in-Line+in_ok-filter_line-in-Line}
 use Rattle.msvc_demangler.proofs.lines.undname_lines.Goals as goal

@@ -1,7 +1,6 @@
-use Rattle.std.proofs.Common.{rules, ◌≡◌, ◌++◌, ◌∷◌, [], List, ℕ, subst, sym, ap, ◌∙◌, refl, string_bytes}
+use Rattle.std.proofs.Common.{rules, ◌++◌, ◌∷◌, [], refl, string_bytes}
 use Rattle.std.proofs.lemmas.Result.{err_from_is_err_and}
-use Rattle.std.proofs.KnownBytes.{Appends-trans, Appends-nil}
-use Rattle.msvc_demangler.specs.Runs.{Writes}
+use Rattle.std.proofs.KnownBytes.{Appends-nil}
 use Rattle.msvc_demangler.proofs.Written.{WritesPart-nothing}
 use Rattle.msvc_demangler.proofs.lines.undname_one.Goals as goal
 

@@ -1,8 +1,6 @@
-use Rattle.std.proofs.Common.{rules, arith, refl, ap, ◌∙◌, subst, ◌≡◌, length, List, ℕ, []}
-use Rattle.std.specs.Io.BufRead.{FillKeeps, DropsConsumable}
-use Rattle.std.specs.Io.KnownBytes.{Appends, Consumes, IsAtEnd, Keeps}
+use Rattle.std.proofs.Common.{ap, subst, length}
+use Rattle.std.specs.Io.BufRead.{FillKeeps}
 use Rattle.std.proofs.BufReadLemmas.{Consumes_shown}
-use Rattle.msvc_demangler.specs.Taking.{IsCut, TakenAs}
 use Rattle.msvc_demangler.proofs.watched.Watched.take.Goals as goal
 
 pub returns-clause-end : goal.returns-clause-end
