@@ -71,8 +71,8 @@ impl<'a> Parser<'a> {
         self.entered_name(name)
     }
 
-    /// `UNQUALIFIED_NAME = digit | "?$" TEMPLATE_NAME | "?" SPECIAL_NAME | SOURCE_NAME`: a digit stands for an entry of the table. A
-    /// template enters the table if it isn't a symbol's own name.
+    /// `UNQUALIFIED_NAME = digit | "?$" TEMPLATE_NAME | "?" SPECIAL_NAME | SOURCE_NAME`: a digit stands for an entry of
+    /// the table. A template enters the table if it isn't a symbol's own name.
     #[cycle(readers)]
     #[tactic(auto, using(crate::proofs::Steps::unqualified_name_is))]
     pub fn unqualified_name(&mut self, own: bool) -> Result<Name<'a>, Refusal>
