@@ -37,5 +37,8 @@ NameOnlyAsksNoType = (n : NameTree) (scope : NameTrees) (t other : TypeTree) (fl
 -- a hash alone is shown as it was written, under every word
 abbrev pub HashesAreShown : Type 0
 HashesAreShown = (digits : List ℕ) (flags : ℕ) →
-    declaration (record { name = spelled spelling_kind.Md5 digits; scope = no_names; symbol_type = plain plain_kind.None })
-    flags ≡ codes "??@" ++ (digits ++ codes "@")
+    declaration (record {
+      name = spelled spelling_kind.Md5 digits;
+      scope = no_names;
+      symbol_type = plain plain_kind.None;
+    }) flags ≡ codes "??@" ++ (digits ++ codes "@")
