@@ -38,7 +38,8 @@ Going-start reader writer = record {
 
 -- more of the line was taken
 pub Going-part : (reader reads later writer writes : Option (List ℕ)) (part more : List ℕ)
-    → Going reader reads writer writes part → Consumes reads later more → IsWithoutEnd more → Going reader later writer writes (part ++ more)
+    → Going reader reads writer writes part → Consumes reads later more → IsWithoutEnd more
+    → Going reader later writer writes (part ++ more)
 Going-part reader reads later writer writes part more so taken unended = record {
   finished = so.finished;
   text = so.text;
@@ -122,7 +123,8 @@ LeavesOff-part Memory failed finished part text h lines unended is =
     (finished, part, refl, lines, inl unended, IsFilterText-of _ _ is)
 
 -- the answer to a line, or the fault that came
-pub WritesLines-line : {A : Type 0} (r : Result A Fault) (finished part text more : List ℕ) → IsLines finished → part ≢ []
+pub WritesLines-line : {A : Type 0} (r : Result A Fault) (finished part text more : List ℕ) → IsLines finished
+    → part ≢ []
     → IsOfOneLine part → IsText (lines_of finished) text → Writes r (IsText (line_of part ∷ [])) more
     → WritesLines r (finished ++ part) (text ++ more)
 WritesLines-line (Ok done) finished part text more lines some one is h =
@@ -189,7 +191,8 @@ Going-end reader reads later writer writes part more so taken none empty = (
 -- and behind a line that no line feed ends
 pub Going-rest : {A : Type 0} (r : Result A Fault) (reader reads later writer writes on : Option (List ℕ))
     (part more : List ℕ) → Going reader reads writer writes part → Consumes reads later more → more ≡ [] → part ≢ []
-    → (text : List ℕ) → Appends writes on text → Writes r (IsText (line_of part ∷ [])) text → Did r reader later writer on
+    → (text : List ℕ) → Appends writes on text → Writes r (IsText (line_of part ∷ [])) text
+    → Did r reader later writer on
 Going-rest r reader reads later writer writes on part more so taken none some text written is = (
   so.finished ++ part,
   so.text ++ text,

@@ -29,7 +29,8 @@ WritesPart-first Memory bytes end text h = h
 
 -- the second of two parts, where the first was written
 pub Writes-second : {A : Type 0} (r : Result A Fault) (B : Fault → Type 0) (bytes end text : List ℕ)
-    → IfErr r (λ e. (e ≡ Write) × B e) → Writes r (λ whole. whole ≡ end) text → Writes r (λ whole. whole ≡ bytes ++ end) (bytes ++ text)
+    → IfErr r (λ e. (e ≡ Write) × B e) → Writes r (λ whole. whole ≡ end) text
+    → Writes r (λ whole. whole ≡ bytes ++ end) (bytes ++ text)
 Writes-second (Ok done) B bytes end text e h = ap (λ l. bytes ++ l) h
 Writes-second (Err Read) B bytes end text e h = absurd h
 Writes-second (Err Write) B bytes end text e h = (h.0, append_assoc bytes text h.0 ∙ ap (λ l. bytes ++ l) h.1)

@@ -1,5 +1,5 @@
 -- What is known of what was made where it went on unopened: behind a list, or with its error as one of another kind.
-use Rattle.std.proofs.Common.{rules, Bool, true, false, ◌<◌, length, List, [], ◌∷◌, ◌++◌, Option, Some, Result, Ok}
+use Rattle.std.proofs.Common.{ℕ, rules, Bool, true, false, ◌<◌, length, List, [], ◌∷◌, ◌++◌, Option, Some, Result, Ok}
 use Rattle.std.proofs.Common.{Err, IfOk, IfErr, ◌≡◌, refl, sym, ap, ◌∙◌}
 use Rattle.std.specs.Prelude.{map, nat_lt, if◌then◌else◌}
 use Rattle.std.specs.List.{list_any}
@@ -73,10 +73,11 @@ map_last view [] x = refl
 map_last view (y ∷ ys) x = ap (λ zs. view y ∷ zs) (map_last view ys x)
 
 -- an entry that is not in the table yet stands last in it, while there is room
-pub with_type-new : (e : Entry) (table : List Entry) → length table < 10
-    → list_any (λ known. same_type e.entered known.entered) table ≡ false → with_type e table ≡ table ++ e ∷ []
-with_type-new e table room new =
-    by_tests (nat_lt (length table) 10) (list_any (λ known. same_type e.entered known.entered) table) (search rules) new
+pub with_type-new : (room : ℕ) (e : Entry) (table : List Entry) → length table < room
+    → list_any (λ known. same_type e.entered known.entered) table ≡ false → with_type room e table ≡ table ++ e ∷ []
+with_type-new room e table fits new =
+    by_tests (nat_lt (length table) room) (list_any (λ known. same_type e.entered known.entered) table)
+    (search rules) new
   where
     by_tests : (t u : Bool) → t ≡ true → u ≡ false
         → (if t then (if u then table else table ++ e ∷ []) else table) ≡ table ++ e ∷ []

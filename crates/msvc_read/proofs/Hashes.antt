@@ -1,9 +1,10 @@
 -- The name of a hash stands for itself: of ??@, the digits, an @ and any bytes, the part that ends with that @ is the
 -- name, and nothing else is derived.
-use Rattle.std.proofs.Common.{ℕ, List, [], ◌∷◌, ◌++◌, Bool, true, false, not, ◌≡◌, ◌==◌, length, refl, sym, ap}
+use Rattle.std.proofs.Common.{ℕ, List, [], ◌∷◌, ◌++◌, Bool, true, false, cond, not, ◌≡◌, ◌==◌, length, refl, sym, ap}
 use Rattle.std.proofs.Common.{◌∙◌, subst}
 use Rattle.std.proofs.lemmas.Bool.{eqb-true}
-use Rattle.std.specs.Prelude.{is_some}
+use Rattle.std.specs.Prelude.{is_some, ◌&&◌}
+use Rattle.std.specs.List.{list_all}
 use Rattle.msvc_tree.specs.Trees.{SymbolTree}
 use Rattle.msvc_read.specs.State.{State, Note, beginning}
 use Rattle.msvc_read.specs.Sorts.{symbol_tree}
@@ -13,6 +14,15 @@ use Rattle.msvc_read.specs.Hashes.{HashesStand, hashed_text, md5_symbol}
 use Rattle.msvc_read.specs.Reads.{Derives, Reads, a_literal, a_part, called, given, in_a_row, the_first}
 use Rattle.msvc_read.proofs.Firsts.{both_if, if_both}
 use Rattle.msvc_read.proofs.Laws.{derived-only}
+
+-- that all elements pass a test, as an iterator finds it
+pub all-every : (test : ℕ → Bool) (bs : List ℕ) → list_all test bs ≡ every test bs
+all-every test [] = refl
+all-every test (b ∷ bs) = go (test b) (all-every test bs)
+  where
+    go : (t : Bool) → list_all test bs ≡ every test bs → (t && list_all test bs) ≡ cond t (every test bs) false
+    go true e = e
+    go false e = refl
 
 -- no digit is an @
 no_end : (digits : List ℕ) → every (λ b. is_some (lookup b hexadecimal_codes)) digits ≡ true

@@ -29,15 +29,20 @@ pub use Rattle.msvc_tree.proofs.Views.{type_of-RValueRef, type_of-Struct, type_o
 pub use Rattle.msvc_tree.proofs.Views.{type_of-Union, type_of-Var, type_of-VarArgs, type_of-Void}
 use Rattle.msvc_read.proofs.SpecialSteps.{base_class_step, guard_step, plain_operator_step, special_name_here}
 use Rattle.msvc_read.proofs.SpecialSteps.{type_descriptor_step}
-use Rattle.msvc_read.proofs.SymbolSteps.{encoded_string_step, hashed_symbol_step, indexed_guard, indexed_other}
-use Rattle.msvc_read.proofs.SymbolSteps.{numbered_guard_step, table_step, type_information_step, virtual_call_step}
-use Rattle.msvc_read.proofs.TypeSteps.{class_part_is, function_type_step, member_pointer_step, type_form_is}
-use Rattle.msvc_read.proofs.Steps.{arrayed_step, encoding_step, function_parameters_step, function_step, letter_step}
-use Rattle.msvc_read.proofs.Steps.{indexed_step, member_letter, member_step, named_step}
-use Rattle.msvc_read.proofs.Steps.{anonymous_namespace_step, marked_name_step, nested_symbol_step, new_interface_step}
-use Rattle.msvc_read.proofs.Steps.{symbol_body_step, template_inside_step, template_symbol_step}
-use Rattle.msvc_read.proofs.Steps.{named_symbol_step, points_step, referred_step, returned_member, returned_other}
-use Rattle.msvc_read.proofs.Steps.{symbol_step, untyped_step, variable_step}
+use Rattle.msvc_read.proofs.Choices.{letter_step}
+use Rattle.msvc_read.proofs.FunctionSteps.{class_part_is, function_type_step, member_pointer_step}
+use Rattle.msvc_read.proofs.FunctionSteps.{function_parameters_step, returned_member, returned_other}
+use Rattle.msvc_read.proofs.GuardSteps.{indexed_guard, indexed_other, numbered_guard_step}
+use Rattle.msvc_read.proofs.NameSteps.{anonymous_namespace_step, marked_name_step, nested_symbol_step}
+use Rattle.msvc_read.proofs.NameSteps.{new_interface_step, template_inside_step}
+use Rattle.msvc_read.proofs.StringSteps.{encoded_string_step}
+use Rattle.msvc_read.proofs.SymbolSteps.{hashed_symbol_step, table_step, type_information_step, virtual_call_step}
+use Rattle.msvc_read.proofs.SymbolSteps.{encoding_step, function_step, member_step}
+use Rattle.msvc_read.proofs.SymbolSteps.{symbol_body_step}
+use Rattle.msvc_read.proofs.SymbolSteps.{template_symbol_step, named_symbol_step, symbol_step, untyped_step}
+use Rattle.msvc_read.proofs.SymbolSteps.{variable_step}
+use Rattle.msvc_read.proofs.TypeSteps.{type_form_is, arrayed_step, indexed_step, named_step, points_step}
+use Rattle.msvc_read.proofs.TypeSteps.{plain_type_step, referred_step}
 use Rattle.msvc_read.specs.Grammar.{arrays}
 use Rattle.msvc_read.specs.Parser.{entry_of}
 use Rattle.msvc_read.specs.State as state
@@ -78,7 +83,8 @@ pub name_of-ParsedName : (b : Box ParseResult Global)
     ≡ nested (name_of b.value.symbol.name) (scope_of b.value.symbol.scope) (type_of b.value.symbol_type)
 unfolding name_of
 name_of-ParsedName b =
-    ap (λ ns. nested (name_of b.value.symbol.name) ns (type_of b.value.symbol_type)) (names_of-hidden b.value.symbol.scope)
+    ap (λ ns. nested (name_of b.value.symbol.name) ns (type_of b.value.symbol_type))
+    (names_of-hidden b.value.symbol.scope)
 
 pub type_of-Alias : (s : Symbol) (q : StorageClass)
     → type_of (code_type.Alias s q) ≡ tagged tag_kind.Alias (name_of s.name) (scope_of s.scope) q.0
@@ -134,22 +140,20 @@ base_class_view a b c d i j k l e f g h = rw (name_of-RTTIBaseClassDescriptor i 
 
 pub ruleset symbol_is = (symbol_step)
 
-pub ruleset symbol_body_split = (symbol_body_step)
+pub ruleset symbol_body_split = (symbol_body_step, template_symbol_step)
 
-pub ruleset template_symbol_split = (template_symbol_step, type_of-None)
+pub ruleset alone_split = (tree_of-is, type_of-None)
 
 pub ruleset template_split = (template_inside_step, types_in-is, name_of-Template)
 
-pub ruleset nested_symbol_split = (nested_symbol_step, name_of-ParsedName)
-
-pub ruleset marked_split = (marked_name_step)
+pub ruleset marked_split = (marked_name_step, nested_symbol_step, name_of-ParsedName)
 
 pub ruleset interface_split = (new_interface_step)
 
 pub ruleset anonymous_split = (anonymous_namespace_step)
 
 pub ruleset encoding_split =
-    (encoding_step, untyped_step, type_information_step, member_letter, type_of-None, type_of-RTTIType)
+    (encoding_step, untyped_step, type_information_step, type_of-None, type_of-RTTIType)
 
 pub ruleset variable_split = (variable_step, type_of-Var)
 
@@ -183,17 +187,24 @@ pub ruleset member_pointer_split = (member_pointer_step, names_in-is, types_in-i
 
 pub ruleset class_part_split = (class_part_is, letter_step)
 
-pub ruleset special_split = (special_name_here, plain_operator_step, guard_step, name_of-Operator)
-
-pub ruleset descriptor_split = (type_descriptor_step, name_of-RTTITypeDescriptor)
+pub ruleset special_split = (
+  special_name_here,
+  plain_operator_step,
+  guard_step,
+  type_descriptor_step,
+  name_of-Operator,
+  name_of-RTTITypeDescriptor,
+)
 
 pub ruleset base_class_split = (base_class_step, name_of-RTTIBaseClassDescriptor)
 
-pub ruleset hashed_split = (hashed_symbol_step, type_of-None)
+pub ruleset hashed_split = (hashed_symbol_step)
 
 pub ruleset indexed_split = (indexed_other, indexed_guard)
 
-pub ruleset numbered_split = (numbered_guard_step, tree_of-is, type_of-ThreadSafeStaticGuard)
+pub ruleset numbered_split = (numbered_guard_step)
+
+pub ruleset numbered_end = (tree_of-is, type_of-ThreadSafeStaticGuard)
 
 pub ruleset string_split = (encoded_string_step, type_of-ConstantString)
 
@@ -201,7 +212,10 @@ pub ruleset table_split = (table_step, names_in-is)
 
 pub ruleset virtual_call_split = (virtual_call_step, type_of-VCallThunk)
 
-pub ruleset compound_split = (
+pub ruleset compound_split = (indexed_step, type_of-TemplateParameterWithIndex)
+
+pub ruleset plain_split = (
+  plain_type_step,
   arrayed_step,
   indexed_step,
   named_step,

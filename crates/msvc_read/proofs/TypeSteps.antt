@@ -1,29 +1,37 @@
 -- A type is read by the text that it begins with, and each form as its rule: the equations that the readers follow.
-use Rattle.std.proofs.Common.{ℕ, List, [], ◌∷◌, Option, Some, None, Bool, true, false, cond, not, ◌≡◌, refl, ap}
-use Rattle.std.proofs.Common.{◌∙◌}
-use Rattle.std.specs.Prelude.{is_some, codes, bit_or}
+use Rattle.std.proofs.Common.{ℕ, ℤ, pos, negsuc, zero, suc, List, [], ◌∷◌, Option, Some, None, true, false, cond, not}
+use Rattle.std.proofs.Common.{◌≡◌, refl, sym, ap, ◌∙◌}
+use Rattle.std.specs.Prelude.{is_some, slice_get, codes, bit_or, unwrap_or}
+use Rattle.std.specs.Option.{option_map, option_map_or}
+use Rattle.std.specs.Int.{int_wrapping_neg, w32}
 use Rattle.msvc_tree.specs.Trees as tree
-use Rattle.msvc_tree.specs.declared.tree.CallingConv.{CallingConv}
-use Rattle.msvc_tree.specs.Trees.{NameTree, TypeTree, function, name_trees, numbered, plain, pointing, tagged, type_trees}
-use Rattle.msvc_tree.specs.declared.kinds.Mark.TheVariants as mark_kind
+use Rattle.msvc_tree.specs.declared.kinds.BaseType.{BaseType}
+use Rattle.msvc_tree.specs.declared.kinds.Mark.{Mark}
+use Rattle.msvc_tree.specs.declared.kinds.Tag.{Tag}
 use Rattle.msvc_tree.specs.declared.kinds.NumberedType.TheVariants as number_kind
 use Rattle.msvc_tree.specs.declared.kinds.PlainType.TheVariants as plain_kind
+use Rattle.msvc_tree.specs.Trees.{TypeTree, name_trees, numbered, plain, pointing, tagged}
+use Rattle.msvc_read.specs.Parser.{byte_here, type_by, this_or, text_at}
+use Rattle.msvc_read.specs.State.{State}
+use Rattle.msvc_read.specs.Sorts.{Sort, bits, type_tree, TypeLetter, arrayed, based, extended, indexed, named, points}
+use Rattle.msvc_read.specs.Sorts.{referred}
+use Rattle.msvc_read.specs.Rules.{any_type, plain_type, type_behind, pointee, array, dimension, positive, lengths}
+use Rattle.msvc_read.specs.Rules.{qualified_name, number, some_of, begins, after, lookup, Rule, give, letter, literal}
+use Rattle.msvc_read.specs.Rules.{call, literal_or, optional, function_type, member_pointer, type_form, every}
+use Rattle.msvc_read.specs.Rules.{text_and, text_or, texts_of}
+use Rattle.msvc_read.specs.Grammar.{grammar, rows_of, digits, pointer_sizes, qualifiers, storage_classes}
+use Rattle.msvc_read.specs.Grammar.{qualifiers_of_arrays, base_types, extended_types, compound_letters, array_class}
+use Rattle.msvc_read.specs.Grammar.{arrays, type_texts}
+use Rattle.msvc_read.specs.Reads.{Found, read_name, read, read_by, letter_here, with_value, type_known}
+use Rattle.msvc_read.specs.Reads.{behind_literal, and_then, or_else}
+use Rattle.msvc_read.proofs.Stable.{read_name-is}
+use Rattle.msvc_tree.specs.declared.kinds.Mark.TheVariants as mark_kind
 use Rattle.msvc_tree.specs.declared.kinds.Tag.TheVariants as tag_kind
 use Rattle.msvc_read.specs.declared.forms.TypeForm.TheVariants as form
-use Rattle.msvc_read.specs.Parser.{this_or, text_at}
-use Rattle.msvc_read.specs.State.{State}
-use Rattle.msvc_read.specs.Sorts.{Sort, bits, type_tree}
-use Rattle.msvc_read.specs.Rules.{any_type, array, class_part, function_parameters, function_type, member_pointer, number}
-use Rattle.msvc_read.specs.Rules.{own_qualifiers, plain_type, pointee, qualified_name, signature, thunk_number, type_form}
-use Rattle.msvc_read.specs.Rules.{after, begins, call, every, give, literal, literal_or, optional, Rule}
-use Rattle.msvc_read.specs.Rules.{some_of, text_and, text_or, texts_of}
-use Rattle.msvc_read.specs.Grammar.{class_of_returned, conventions, function_classes, grammar, has, pointer_sizes}
-use Rattle.msvc_read.specs.Grammar.{qualifiers, storage_classes, type_texts}
-use Rattle.msvc_read.specs.Reads.{Found, and_then, behind_literal, letter_here, or_else, read, read_by, read_name}
 use Rattle.msvc_read.proofs.Checks.{apart_texts, differ, no_text_begins_another}
 use Rattle.msvc_read.proofs.Firsts.{differ-never, if_both}
-use Rattle.msvc_read.proofs.Stable.{read_name-is}
-use Rattle.msvc_read.proofs.Steps.{chosen, literal_or-is}
+use Rattle.msvc_read.proofs.Choices.{or_none, chosen, literal_or-is, lookup-rows, letter_step, letter_behind}
+use Rattle.msvc_read.specs.Rules.{◌>>=◌}
 
 -- Tables of texts
 
@@ -31,10 +39,6 @@ use Rattle.msvc_read.proofs.Steps.{chosen, literal_or-is}
 abbrev pub by_text : {A B : Type 0} → Option (A × List ℕ) → (A → List ℕ → Found B) → Found B → Found B
 by_text None f q = q
 by_text (Some x) f q = f x.0 x.1
-
-no_other : {B : Type 0} (o : Found B) → or_else o None ≡ o
-no_other None = refl
-no_other (Some y) = refl
 
 -- where one text begins, those that differ from it do not
 none_at : {A : Type 0} (l left : List ℕ) (table : List (List ℕ × A)) → begins left l ≡ true
@@ -70,7 +74,7 @@ text_and-is (row ∷ table) f left s h =
     go (Some rest) e d ih =
         ap (or_else (read (f row.1) rest s)) (ih
         ∙ ap (λ o. by_text o (λ x l. read (f x) l s) None) (none_at row.0 left table (ap is_some e) d))
-        ∙ no_other (read (f row.1) rest s)
+        ∙ or_none (read (f row.1) rest s)
 
 some_text : {A : Type 0} (table : List (List ℕ × A)) (left : List ℕ)
     → some_of (begins left) (texts_of table) ≡ is_some (text_at table left)
@@ -100,7 +104,7 @@ text_or-is table f q left s h =
         → or_else (by_text o (λ x rest. read (f x) rest s) None) (cond (not (is_some o)) (read q left s) None)
         ≡ by_text o (λ x rest. read (f x) rest s) (read q left s)
     go None = refl
-    go (Some x) = no_other (read (f x.0) x.1 s)
+    go (Some x) = or_none (read (f x.0) x.1 s)
 
 -- Types
 
@@ -202,70 +206,6 @@ pub member_form_step : (q : ℕ) (left : List ℕ) (s : State) → read_name (ty
 unfolding grammar read read_by
 member_form_step q left s = read_name-is (type_form q form.MemberPointer) left s
 
--- Function types and member pointers
-
-pub class_of_returned_step : (left : List ℕ) (s : State) → read class_of_returned left s
-    ≡ chosen (after (codes "?") left) (λ rest. read (optional storage_classes) rest s) (Some (0, left, s))
-unfolding read read_by
-class_of_returned_step left s = literal_or-is {a = bits} (codes "?") (optional storage_classes) (give 0) left s
-
-pub ruleset class_of_returned_is = (class_of_returned_step)
-
-pub function_type_step : (bare : Bool) (left : List ℕ) (s : State) → read_name (function_type bare) left s
-    ≡ and_then (read_name (own_qualifiers bare) left s) (λ own l t. and_then (letter_here conventions l t)
-    (λ c k u. and_then (read class_of_returned k u) (λ q j v. and_then (read_name (any_type q) j v)
-    (λ x i w. and_then (read_name function_parameters i w)
-    (λ xs h y. Some (function c (type_trees xs) own x, h, y))))))
-unfolding grammar read read_by
-function_type_step bare left s = read_name-is (function_type bare) left s
-
-pub function_type_reads : (bare : Bool) (left l k j i rest : List ℕ) (s t u v w z : State) (own : ℕ) (c : CallingConv)
-    (q : ℕ) (x : TypeTree) (xs : List TypeTree)
-    → read_name (own_qualifiers bare) left s ≡ Some (own, l, t)
-    → letter_here conventions l t ≡ Some (c, k, u)
-    → read class_of_returned k u ≡ Some (q, j, v)
-    → read_name (any_type q) j v ≡ Some (x, i, w)
-    → read_name function_parameters i w ≡ Some (xs, rest, z)
-    → read_name (function_type bare) left s ≡ Some (function c (type_trees xs) own x, rest, z)
-function_type_reads bare left l k j i rest s t u v w z own c q x xs e f g h m =
-    function_type_step bare left s ∙ rw (e, f, g, h, m)
-
-pub member_pointer_step : (qualified : Bool) (left : List ℕ) (s : State)
-    → read_name (member_pointer qualified) left s
-    ≡ and_then (read_name (qualified_name true) left s) (λ n l t. and_then (read (optional pointer_sizes) l t)
-    (λ size k u. and_then (read_name (class_part qualified) k u) (λ part j v. and_then (read_name (signature true) j v)
-    (λ f i w. Some (
-      tree.member_pointer n.0 (name_trees n.1) part.0 f.0 (type_trees f.1.1) (bit_or size part.1) f.1.0,
-      i,
-      w,
-    )))))
-unfolding grammar read read_by
-member_pointer_step qualified left s = read_name-is (member_pointer qualified) left s
-
-pub member_pointer_reads : (qualified : Bool) (left l k j rest : List ℕ) (s t u v z : State) (n : NameTree)
-    (ns : List NameTree) (size class own : ℕ) (c : CallingConv) (x : TypeTree) (xs : List TypeTree)
-    → read_name (qualified_name true) left s ≡ Some ((n, ns), l, t)
-    → read (optional pointer_sizes) l t ≡ Some (size, k, u)
-    → read_name (class_part qualified) k u ≡ Some ((class, own), j, v)
-    → read_name (signature true) j v ≡ Some ((c, (x, xs)), rest, z)
-    → read_name (member_pointer qualified) left s
-    ≡ Some (tree.member_pointer n (name_trees ns) class c (type_trees xs) (bit_or size own) x, rest, z)
-member_pointer_reads qualified left l k j rest s t u v z n ns size class own c x xs e f g h =
-    member_pointer_step qualified left s ∙ rw (e, f, g, h)
-
-pub class_part_qualified : (left : List ℕ) (s : State) → read_name (class_part true) left s
-    ≡ and_then (read (optional qualifiers) left s) (λ q l t. Some ((0, q), l, t))
-unfolding grammar read read_by
-class_part_qualified left s = read_name-is (class_part true) left s
-
-pub class_part_of : (left : List ℕ) (s : State) → read_name (class_part false) left s
-    ≡ and_then (letter_here function_classes left s) (λ class l t.
-    and_then (read_name (thunk_number (has class 128)) l t) (λ _ k u. Some ((class, 0), k, u)))
-unfolding grammar read read_by
-class_part_of left s = read_name-is (class_part false) left s
-
-pub ruleset class_part_is = (class_part_qualified, class_part_of)
-
 pub ruleset type_form_is = (
   enumeration_step,
   alias_step,
@@ -283,3 +223,156 @@ pub ruleset type_form_is = (
   qualified_member_step,
   member_form_step,
 )
+
+-- Plain types, and what follows their letters
+
+-- a base type where the first letter stands for one, else what the other letters stand for
+abbrev pub found_or : {A : Type 0} → Option A → List ℕ → State → Found A → Found A
+found_or (Some x) left s other = Some (x, left, s)
+found_or None left s other = other
+
+pub plain_type_step : (q : ℕ) (left : List ℕ) (s : State) → read_name (plain_type q) left s
+    ≡ and_then (byte_here left s) (λ b l t. found_or (option_map (λ x. tree.base x q) (lookup b base_types)) l t
+    (type_by q (lookup b compound_letters) l t))
+unfolding grammar read read_by byte_here type_by
+plain_type_step q [] s = read_name-is (plain_type q) [] s
+plain_type_step q (b ∷ bs) s =
+    read_name-is (plain_type q) (b ∷ bs) s
+    ∙ ap (λ o. and_then (with_value o bs s) (λ x. read_name (type_behind q x)))
+    (lookup-rows based b base_types compound_letters)
+    ∙ go (lookup b base_types)
+  where
+    behind : (o : Option TypeLetter) → and_then (with_value o bs s) (λ x. read_name (type_behind q x))
+        ≡ type_by q o bs s
+    behind None = refl
+    behind (Some x) = refl
+
+    go : (o : Option BaseType)
+        → and_then (with_value (option_map_or (λ x. Some (based x)) o (lookup b compound_letters)) bs s)
+        (λ x. read_name (type_behind q x))
+        ≡ found_or (option_map (λ x. tree.base x q) o) bs s
+        (type_by q (lookup b compound_letters) bs s)
+    go None = behind (lookup b compound_letters)
+    go (Some x) = read_name-is (type_behind q (based x)) bs s
+
+-- any other letter than those of the base types
+pub plain_other : (q b : ℕ) (left l : List ℕ) (s t : State) → byte_here left s ≡ Some (b, l, t)
+    → option_map (λ x. tree.base x q) (lookup b base_types) ≡ None
+    → read_name (plain_type q) left s ≡ type_by q (lookup b compound_letters) l t
+plain_other q b left l s t e none =
+    plain_type_step q left s
+    ∙ ap (λ o. and_then o (λ c k u. found_or (option_map (λ x. tree.base x q) (lookup c base_types)) k u
+    (type_by q (lookup c compound_letters) k u))) e
+    ∙ ap (λ o. found_or o l t (type_by q (lookup b compound_letters) l t)) none
+
+pub extended_step : (q : ℕ) (left : List ℕ) (s : State) → read_name (type_behind q extended) left s
+    ≡ and_then (byte_here left s) (λ b l t. with_value (option_map (λ x. tree.base x q) (lookup b extended_types)) l t)
+unfolding grammar read read_by byte_here
+extended_step q [] s = read_name-is (type_behind q extended) [] s
+extended_step q (b ∷ bs) s = read_name-is (type_behind q extended) (b ∷ bs) s ∙ go (lookup b extended_types)
+  where
+    go : (o : Option BaseType) → and_then (with_value o bs s) (λ x l t. Some (tree.base x q, l, t))
+        ≡ with_value (option_map (λ x. tree.base x q) o) bs s
+    go None = refl
+    go (Some x) = refl
+
+pub ruleset extended_is = (extended_step)
+
+pub named_step : (q : ℕ) (tag : Tag) (left : List ℕ) (s : State) → read_name (type_behind q (named tag)) left s
+    ≡ and_then (read_name (qualified_name false) left s) (λ n l t. Some (tagged tag n.0 (name_trees n.1) q, l, t))
+unfolding grammar read read_by
+named_step q tag left s = read_name-is (type_behind q (named tag)) left s
+
+pub points_step : (q : ℕ) (mark : Mark) (own : Option ℕ) (left : List ℕ) (s : State)
+    → read_name (type_behind q (points mark own)) left s
+    ≡ and_then (read_name pointee left s) (λ x l t. Some (pointing mark x (unwrap_or own q), l, t))
+unfolding grammar read read_by
+points_step q mark own left s = read_name-is (type_behind q (points mark own)) left s
+
+pub arrayed_step : (q : ℕ) (left : List ℕ) (s : State)
+    → read_name (type_behind q arrayed) left s ≡ read_name array left s
+unfolding grammar read read_by
+arrayed_step q left s = read_name-is (type_behind q arrayed) left s
+
+pub indexed_step : (q : ℕ) (left : List ℕ) (s : State) → read_name (type_behind q indexed) left s
+    ≡ and_then (read_name number left s)
+    (λ z l t. Some (numbered number_kind.TemplateParameter (int_wrapping_neg w32 z), l, t))
+unfolding grammar read read_by
+indexed_step q left s = read_name-is (type_behind q indexed) left s
+
+pub referred_step : (q b : ℕ) (left : List ℕ) (s : State)
+    → type_by q (lookup b (rows_of referred digits [])) left s
+    ≡ and_then (with_value (lookup b digits) left s) (λ i l t. type_known (slice_get t.types i) l t)
+unfolding grammar read read_by type_by
+referred_step q b left s =
+    ap (λ o. type_by q o left s) (lookup-rows referred b digits [])
+    ∙ go (lookup b digits)
+  where
+    go : (o : Option ℕ)
+        → type_by q (option_map_or (λ i. Some (referred i)) o None) left s
+        ≡ and_then (with_value o left s) (λ i l t. type_known (slice_get t.types i) l t)
+    go None = refl
+    go (Some i) = read_name-is (type_behind q (referred i)) left s
+
+pub pointee_step : (left : List ℕ) (s : State) → read_name pointee left s
+    ≡ and_then (read (optional pointer_sizes) left s) (λ size l t. and_then (read (optional storage_classes) l t)
+    (λ class. read_name (any_type (bit_or size class))))
+unfolding grammar read read_by
+pointee_step left s = read_name-is pointee left s
+
+pub ruleset pointee_is = (pointee_step)
+
+pub array_class_step : (left : List ℕ) (s : State) → read array_class left s
+    ≡ chosen (after (codes "$$C") left) (λ rest. and_then (byte_here rest s)
+    (λ b l t. with_value (lookup b qualifiers_of_arrays) l t)) (Some (0, left, s))
+unfolding read read_by
+array_class_step left s =
+    literal_or-is {a = bits} (codes "$$C") (letter bits qualifiers_of_arrays) (give 0) left s
+    ∙ letter_behind qualifiers_of_arrays (after (codes "$$C") left) (Some (0, left, s)) s
+
+pub ruleset array_class_is = (array_class_step)
+
+abbrev elements : List ℤ → ℕ → List ℕ → State → Found TypeTree
+elements zs q left s = and_then (read_name (any_type 0) left s) (λ x l t. Some (arrays zs x q, l, t))
+
+pub array_step : (left : List ℕ) (s : State) → read_name array left s
+    ≡ and_then (read_name dimension left s) (λ n l t. and_then (read_name (lengths n) l t)
+    (λ zs k u. and_then (read array_class k u) (elements zs)))
+unfolding grammar read read_by
+array_step left s =
+    read_name-is array left s
+    ∙ λ i. and_then (read_name dimension left s) (λ n l t. and_then (read_name (lengths n) l t)
+    (λ zs k u. (literal_or-is {a = type_tree} (codes "$$C")
+    (do q ← letter bits qualifiers_of_arrays; t ← call (any_type 0); give (arrays zs t q))
+    (do t ← call (any_type 0); give (arrays zs t 0)) k u
+    ∙ go zs k u (after (codes "$$C") k) ∙ ap (λ o. and_then o (elements zs)) (sym (array_class_step k u))) i))
+  where
+    go : (zs : List ℤ) (k : List ℕ) (u : State) (o : Option (List ℕ))
+        → chosen o (λ rest. and_then (letter_here qualifiers_of_arrays rest u) (elements zs)) (elements zs 0 k u)
+        ≡ and_then (chosen o (λ rest. and_then (byte_here rest u)
+        (λ b l t. with_value (lookup b qualifiers_of_arrays) l t)) (Some (0, k, u))) (elements zs)
+    go zs k u None = refl
+    go zs k u (Some rest) = ap (λ o. and_then o (elements zs)) (letter_step qualifiers_of_arrays rest u)
+
+pub ruleset array_is = (array_step)
+
+abbrev pub dimension_by : ℤ → List ℕ → State → Found ℕ
+dimension_by (pos zero) left s = None
+dimension_by (pos (suc n)) left s = Some (suc n, left, s)
+dimension_by (negsuc n) left s = None
+
+positive_step : (z : ℤ) (left : List ℕ) (s : State) → read_name (positive z) left s ≡ dimension_by z left s
+unfolding grammar read read_by
+positive_step (pos zero) [] s = read_name-is (positive (pos zero)) [] s
+positive_step (pos zero) (b ∷ bs) s = read_name-is (positive (pos zero)) (b ∷ bs) s
+positive_step (pos (suc n)) left s = read_name-is (positive (pos (suc n))) left s
+positive_step (negsuc n) [] s = read_name-is (positive (negsuc n)) [] s
+positive_step (negsuc n) (b ∷ bs) s = read_name-is (positive (negsuc n)) (b ∷ bs) s
+
+pub dimension_step : (left : List ℕ) (s : State)
+    → read_name dimension left s ≡ and_then (read_name number left s) dimension_by
+unfolding grammar read read_by
+dimension_step left s = read_name-is dimension left s
+    ∙ λ i. and_then (read_name number left s) (λ z l t. positive_step z l t i)
+
+pub ruleset dimension_is = (dimension_step)

@@ -10,8 +10,8 @@ use Rattle.msvc_read.specs.Grammar.{third_special_letters, type_information_lett
 use Rattle.msvc_read.specs.declared.operators.SpecialForm.{SpecialForm}
 use Rattle.msvc_read.specs.Reads.{Found, and_then, read_name}
 use Rattle.msvc_read.specs.declared.forms.TypeForm.{TypeForm}
-use Rattle.msvc_read.specs.Rules.{after, encoding_behind, guard_index, lookup, nested_name, scope, type_behind}
-use Rattle.msvc_read.specs.Sorts.{EncodingLetter, TypeLetter, member_of}
+use Rattle.msvc_read.specs.Rules.{after, encoding_behind, guard_index, lookup, type_behind}
+use Rattle.msvc_read.specs.Sorts.{EncodingLetter, TypeLetter}
 use Rattle.msvc_read.specs.State as state
 use Rattle.msvc_read.specs.declared.parser.BackReference.{BackReference}
 use Rattle.msvc_read.specs.declared.parser.Entry.{Entry}
@@ -29,6 +29,7 @@ abbrev pub state_of : Parser → state.State
 state_of p =
     record {
       whole = p.whole;
+      room = p.room;
       names = map name_of p.names.items;
       types = map entry_of p.types.items;
       notes = map note_of p.notes.items;
@@ -49,7 +50,7 @@ unfoldable pub byte_here : List ℕ → state.State → Found ℕ
 byte_here [] s = None
 byte_here (b ∷ bs) s = Some (b, bs, s)
 
--- what is read behind the first letter of a type, of the type of a symbol, and of that of a member function
+-- what is read behind the first letter of a type, and of the type of a symbol
 unfoldable pub type_by : ℕ → Option TypeLetter → List ℕ → state.State → Found TypeTree
 type_by q None left s = None
 type_by q (Some l) left s = read_name (type_behind q l) left s
@@ -57,10 +58,6 @@ type_by q (Some l) left s = read_name (type_behind q l) left s
 unfoldable pub encoding_by : Option EncodingLetter → List ℕ → state.State → Found TypeTree
 encoding_by None left s = None
 encoding_by (Some l) left s = read_name (encoding_behind l) left s
-
-unfoldable pub member_by : Option ℕ → List ℕ → state.State → Found TypeTree
-member_by None left s = None
-member_by (Some class) left s = read_name (encoding_behind (member_of class)) left s
 
 -- a template's name enters the table if it is not a symbol's own
 abbrev pub kept_name : Bool → NameTree → state.State → state.State
@@ -141,11 +138,6 @@ guard_of _ = None
 abbrev pub indexed : NameTree → List NameTree → List ℕ → state.State → Found (NameTree × List NameTree)
 indexed n ns left s =
     and_then (read_name (guard_index (is_guard n)) left s) (λ index l t. Some ((with_index index n, ns), l, t))
-
--- a nested name in its scope
-abbrev pub nested_in_scope : List ℕ → state.State → Found (NameTree × List NameTree)
-nested_in_scope left s =
-    and_then (read_name nested_name left s) (λ n l t. and_then (read_name scope l t) (λ ns k u. Some ((n, ns), k, u)))
 
 -- the digits of a hash before a place, and the bytes behind the one there
 abbrev pub hash_at : Option ℕ → List ℕ → state.State → Found (List ℕ)

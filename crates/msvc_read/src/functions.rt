@@ -74,7 +74,7 @@ impl<'a> Parser<'a> {
     }
 
     /// The qualifiers of what a function returns that is part of a type.
-    #[tactic(auto, using(crate::proofs::TypeSteps::class_of_returned_is))]
+    #[tactic(auto, using(crate::proofs::FunctionSteps::class_of_returned_is))]
     fn class_of_returned(&mut self) -> StorageClass
         ensures value { read class_of_returned self.old.rest.now (state_of self.old)
             ≡ Some (result.0, self.new.rest.now, state_of self.new) }
@@ -129,7 +129,7 @@ impl<'a> Parser<'a> {
     }
 
     /// `THUNK_NUMBER = NUMBER`: a thunk has a number, which is dropped.
-    #[tactic(auto, using(crate::proofs::Steps::thunk_number_is))]
+    #[tactic(auto, using(crate::proofs::FunctionSteps::thunk_number_is))]
     fn thunk_number(&mut self, class: FuncClass) -> Result<(), Refusal>
         ensures value { Gives (λ _. (tt, self.new.rest.now, state_of self.new)) result
             (read_name (thunk_number (has class.0 128)) self.old.rest.now (state_of self.old)) }
@@ -142,7 +142,7 @@ impl<'a> Parser<'a> {
     }
 
     /// `OWN_QUALIFIERS = FUNCTION_QUALIFIERS`: a bare function, as a static one, has no qualifiers of its own.
-    #[tactic(auto, using(crate::proofs::Steps::own_qualifiers_is))]
+    #[tactic(auto, using(crate::proofs::FunctionSteps::own_qualifiers_is))]
     fn own_qualifiers(&mut self, bare: bool) -> StorageClass
         ensures value { read_name (own_qualifiers bare) self.old.rest.now (state_of self.old)
             ≡ Some (result.0, self.new.rest.now, state_of self.new) }
@@ -156,7 +156,7 @@ impl<'a> Parser<'a> {
 
     /// `SIGNATURE = convention RETURN_QUALIFIERS RETURNED FUNCTION_PARAMETERS`.
     #[cycle(readers)]
-    #[tactic(auto, using(crate::proofs::Steps::signature_is))]
+    #[tactic(auto, using(crate::proofs::FunctionSteps::signature_is))]
     fn signature(&mut self, member: bool) -> Result<Signature<'a>, Refusal>
         ensures value { Gives (λ f. (
           (f.convention, (type_of f.returned.value, map type_of f.parameters.types.items)),
@@ -178,7 +178,7 @@ impl<'a> Parser<'a> {
     }
 
     /// How a function is called.
-    #[tactic(auto, using(crate::proofs::Steps::letter_is))]
+    #[tactic(auto, using(crate::proofs::Choices::letter_is))]
     pub fn convention(&mut self) -> Result<CallingConv, Refusal>
         ensures value { Gives (λ c. (c, self.new.rest.now, state_of self.new)) result
             (letter_here conventions self.old.rest.now (state_of self.old)) }
@@ -192,7 +192,7 @@ impl<'a> Parser<'a> {
     }
 
     /// `RETURN_QUALIFIERS = ["?" qualifier of what is returned]`.
-    #[tactic(auto, using(crate::proofs::Steps::return_qualifiers_is))]
+    #[tactic(auto, using(crate::proofs::FunctionSteps::return_qualifiers_is))]
     fn return_qualifiers(&mut self) -> Result<StorageClass, Refusal>
         ensures value { Gives (λ q. (q.0, self.new.rest.now, state_of self.new)) result
             (read_name return_qualifiers self.old.rest.now (state_of self.old)) }
@@ -217,20 +217,17 @@ impl<'a> Parser<'a> {
             (read_name (returned member q.0) self.old.rest.now (state_of self.old)) }
         ensures shorter { IfOk result (λ _. length self.new.rest.now < length self.old.rest.now) }
     {
-        if !member {
-            return self.boxed_type(q);
-        }
-        match self.after(b"@") {
-            Some(behind) => {
+        if member {
+            if let Some(behind) = self.after(b"@") {
                 self.rest = behind;
-                boxed_made(self.alloc, Ok(Type::None))
+                return boxed_made(self.alloc, Ok(Type::None));
             }
-            None => self.boxed_type(q),
         }
+        self.boxed_type(q)
     }
 
     /// `FUNCTION_QUALIFIERS = ["E"] ["I"] ["F"] ["G" | "H"] [qualifier]`.
-    #[tactic(auto, using(crate::proofs::Steps::function_qualifiers_is))]
+    #[tactic(auto, using(crate::proofs::FunctionSteps::function_qualifiers_is))]
     fn function_qualifiers(&mut self) -> StorageClass
         ensures value { read_name function_qualifiers self.old.rest.now (state_of self.old)
             ≡ Some (result.0, self.new.rest.now, state_of self.new) }

@@ -1,13 +1,15 @@
 //! The guards of static variables in functions: their indices, and the numbers of thread-safe ones.
 
-ghost use Rattle.std.specs.Prelude.{◌≡◌, ◌<◌, ◌≤◌, ◌+◌, ◌*◌, None, Some, length, map, true, IfOk};
+ghost use Rattle.std.specs.Prelude.{◌≡◌, ◌<◌, ◌≤◌, ◌+◌, ◌*◌, None, Some, codes, length, map, true, IfOk};
 ghost use Rattle.std.specs.Prelude.{if◌then◌else◌};
 ghost use Rattle.msvc_tree.specs.Trees as tree;
+ghost use Rattle.msvc_tree.specs.Trees.{name_trees, numbered};
 ghost use Rattle.msvc_tree.specs.View.{name_of, tree_of};
+ghost use Rattle.msvc_tree.specs.declared.kinds.NumberedType.TheVariants as number_kind;
 ghost use Rattle.msvc_read.specs.Grammar.{digits, guard_marker, is_in_range, numbered_guard};
-ghost use Rattle.msvc_read.specs.Parser.{Gives, guard_of, indexed, nested_in_scope, state_of};
+ghost use Rattle.msvc_read.specs.Parser.{Gives, guard_of, indexed, state_of};
 ghost use Rattle.msvc_read.specs.Reads.{and_then, letter_here, read, read_name};
-ghost use Rattle.msvc_read.specs.Rules.{decimal, guard_index};
+ghost use Rattle.msvc_read.specs.Rules.{decimal, guard_index, literal};
 
 use crate::parser::Parser;
 use crate::refusal::{Message, Refusal};
@@ -38,7 +40,7 @@ impl<'a> Parser<'a> {
     }
 
     /// `GUARD_INDEX = GUARD_MARKER end | GUARD_MARKER NUMBER`: the number is at least 0.
-    #[tactic(auto, using(crate::proofs::SymbolSteps::guard_index_is))]
+    #[tactic(auto, using(crate::proofs::GuardSteps::guard_index_is))]
     fn guard_index(&mut self) -> Result<Option<u32>, Refusal>
         ensures value { Gives (λ i. (i, self.new.rest.now, state_of self.new)) result
             (read_name (guard_index true) self.old.rest.now (state_of self.old)) }
@@ -56,7 +58,7 @@ impl<'a> Parser<'a> {
     }
 
     /// `GUARD_MARKER = "4IA" | "5"`.
-    #[tactic(auto, using(crate::proofs::SymbolSteps::guard_marker_is))]
+    #[tactic(auto, using(crate::proofs::GuardSteps::guard_marker_is))]
     fn guard_marker(&mut self) -> Result<(), Refusal>
         ensures value { Gives (λ _. (tt, self.new.rest.now, state_of self.new)) result
             (read guard_marker self.old.rest.now (state_of self.old)) }
@@ -78,32 +80,42 @@ impl<'a> Parser<'a> {
         ensures shorter { IfOk result (λ _. length self.new.rest.now < length self.old.rest.now) }
     {
         let number = self.guard_number()?;
-        let symbol = self.nested_symbol_name()?;
+        let name = self.nested_name()?;
+        let scope = self.scope()?;
+        self.guard_of_number(number.cast_signed(), Symbol { name, scope })
+    }
+
+    /// The guard of this number for a symbol, whose `4HA` is left.
+    #[tactic(auto, using(crate::proofs::Readers::numbered_end), unfolding(msvc_tree::specs::View::type_of))]
+    fn guard_of_number(
+        &mut self,
+        number: i32,
+        symbol: Symbol<'a>,
+    ) -> Result<ParseResult<'a>, Refusal>
+        ensures value { Gives (λ r. (tree_of r, self.new.rest.now, state_of self.new)) result
+            (and_then (read (literal (codes "4HA")) self.old.rest.now (state_of self.old)) (λ _ left s. Some (
+              record {
+                name = name_of symbol.entry.name;
+                scope = name_trees (map name_of symbol.entry.scope.names.items);
+                symbol_type = numbered number_kind.ThreadSafeGuard number;
+              },
+              left,
+              s,
+            ))) }
+        ensures shorter { IfOk result (λ _. length self.new.rest.now ≤ length self.old.rest.now) }
+    {
         if let Err(refusal) = self.expected(b"4HA", Message::GuardTypeExpected) {
             drop(symbol);
             return Err(refusal);
         }
         Ok(ParseResult {
             symbol,
-            symbol_type: Type::ThreadSafeStaticGuard(number.cast_signed()),
+            symbol_type: Type::ThreadSafeStaticGuard(number),
         })
     }
 
-    /// A nested name in its scope.
-    #[cycle(readers)]
-    fn nested_symbol_name(&mut self) -> Result<Symbol<'a>, Refusal>
-        ensures value { Gives
-            (λ n. ((name_of n.name, map name_of n.scope.names.items), self.new.rest.now, state_of self.new)) result
-            (nested_in_scope self.old.rest.now (state_of self.old)) }
-        ensures shorter { IfOk result (λ _. length self.new.rest.now < length self.old.rest.now) }
-    {
-        let name = self.nested_name()?;
-        let scope = self.scope()?;
-        Ok(Symbol { name, scope })
-    }
-
     /// `GUARD_NUMBER = digit {digit} "@"`: to base 10, at most 2147483647.
-    #[tactic(auto, using(crate::proofs::SymbolSteps::decimal_goes_on))]
+    #[tactic(auto, using(crate::proofs::GuardSteps::decimal_goes_on))]
     fn guard_number(&mut self) -> Result<u32, Refusal>
         ensures value { Gives (λ n. (n, self.new.rest.now, state_of self.new)) result
             (and_then (letter_here digits self.old.rest.now (state_of self.old)) (λ d. read_name (decimal d))) }

@@ -8,10 +8,9 @@ ghost use Rattle.msvc_read.specs.Reads.{read};
 ghost use Rattle.msvc_read.specs.Rules.{every, lookup};
 
 use crate::letters;
-use crate::names::name_length;
 use crate::parser::Parser;
 use crate::refusal::{Message, Refusal};
-use msvc_tree::tree::{Name, NameSequence, ParseResult, Symbol, Type};
+use msvc_tree::tree::{Name, ParseResult};
 
 impl<'a> Parser<'a> {
     /// `HASHED_SYMBOL = 32 * hexadecimal digit "@"`, behind its `??@`.
@@ -22,16 +21,7 @@ impl<'a> Parser<'a> {
         ensures shorter { IfOk result (λ _. length self.new.rest.now < length self.old.rest.now) }
     {
         let digits = self.hash()?;
-        let scope = NameSequence {
-            names: Vec::new(self.alloc),
-        };
-        Ok(ParseResult {
-            symbol: Symbol {
-                name: Name::Md5(digits),
-                scope,
-            },
-            symbol_type: Type::None,
-        })
+        Ok(self.alone(Name::Md5(digits)))
     }
 
     /// The digits of a hash, up to the next `@`, which is eaten.
@@ -40,15 +30,11 @@ impl<'a> Parser<'a> {
             (hash_at (name_length self.old.rest.now) self.old.rest.now (state_of self.old)) }
         ensures shorter { IfOk result (λ _. length self.new.rest.now < length self.old.rest.now) }
     {
-        let bytes = self.rest;
-        if let Some(end) = name_length(bytes) {
-            let digits = &bytes[..end];
-            if is_hash(digits) {
-                self.rest = &bytes[end + 1..];
-                return Ok(digits);
-            }
+        let left = self.rest;
+        match self.up_to_at() {
+            Some(digits) if is_hash(digits) => Ok(digits),
+            _ => Err(Refusal::Unread(Message::HashLength, behind_digits(left))),
         }
-        Err(Refusal::Unread(Message::HashLength, behind_digits(bytes)))
     }
 }
 
@@ -63,12 +49,9 @@ fn is_hash(digits: &[u8]) -> bool
 fn are_digits(bytes: &[u8]) -> bool
     ensures { result ≡ every (λ b. is_some (lookup b hexadecimal_codes)) bytes.now }
 {
-    match bytes {
-        [first, others @ ..] => {
-            letters::hexadecimal_code(*first).is_some() && are_digits(others)
-        }
-        [] => true,
-    }
+    bytes
+        .iter()
+        .all(|byte| letters::hexadecimal_code(*byte).is_some())
 }
 
 /// How many bytes follow all the hexadecimal digits that these begin with.

@@ -3,14 +3,15 @@
 ghost use Rattle.std.specs.Prelude.{◌≡◌, ◌<◌, ◌++◌, Some, codes, length, map, slice_get, string_bytes, IfOk};
 ghost use Rattle.std.specs.Prelude.{IfSome, false};
 ghost use Rattle.std.specs.List.{list_any};
+ghost use Rattle.std.specs.Option.{option_map};
 ghost use Rattle.msvc_tree.specs.Equality.{same_name};
 ghost use Rattle.msvc_tree.specs.View.{name_of};
-ghost use Rattle.msvc_read.specs.Grammar.{hexadecimal_codes, nested_symbol, new_interface, new_source_name};
+ghost use Rattle.msvc_read.specs.Grammar.{hexadecimal_codes, new_interface, new_source_name};
 ghost use Rattle.msvc_read.specs.Grammar.{template_inside, template_kept};
 ghost use Rattle.msvc_read.specs.Parser.{Gives, state_of, cut_at, kept_name, name_length};
 ghost use Rattle.msvc_read.specs.Reads.{and_then, letter_here, read, read_name, with_value};
 ghost use Rattle.msvc_read.specs.Rules.{anonymous_namespace, hexadecimal_digits, marked_name, nested_name};
-ghost use Rattle.msvc_read.specs.Rules.{qualified_name, scope, special_name, template_name};
+ghost use Rattle.msvc_read.specs.Rules.{qualified_name, scope, special_name};
 ghost use Rattle.msvc_read.specs.Rules.{unqualified_name};
 ghost use Rattle.msvc_read.specs.State.{remember_name};
 
@@ -23,21 +24,33 @@ use std::alloc::AllocError;
 
 impl<'a> Parser<'a> {
     /// `SOURCE_NAME = {byte} "@"`: the bytes up to the next `@`, possibly none.
+    #[inline(always)]
     fn source_name(&mut self) -> Result<&'a [u8], Refusal>
         ensures value { Gives (λ n. (n.now, self.new.rest.now, state_of self.new)) result
             (cut_at (name_length self.old.rest.now) self.old.rest.now (state_of self.old)) }
         ensures shorter { IfOk result (λ _. length self.new.rest.now < length self.old.rest.now) }
     {
+        match self.up_to_at() {
+            Some(text) => Ok(text),
+            None => Err(self.refuse(Message::MissingAt)),
+        }
+    }
+
+    /// The bytes up to the next `@`, which is eaten too, if there is one.
+    pub fn up_to_at(&mut self) -> Option<&'a [u8]>
+        ensures value { option_map (λ n. (n.now, self.new.rest.now, state_of self.new)) result
+            ≡ cut_at (name_length self.old.rest.now) self.old.rest.now (state_of self.old) }
+        ensures shorter { IfSome result (λ _. length self.new.rest.now < length self.old.rest.now) }
+    {
         let bytes = self.rest;
-        let Some(end) = name_length(bytes) else {
-            return Err(self.refuse(Message::MissingAt));
-        };
+        let end = name_length(bytes)?;
         self.rest = &bytes[end + 1..];
-        Ok(&bytes[..end])
+        Some(&bytes[..end])
     }
 
     /// A source name, which enters the table of names.
-    #[tactic(auto, using(crate::proofs::Steps::new_source_name_is), unfolding(msvc_tree::specs::View::name_of))]
+    #[tactic(auto, using(crate::proofs::NameSteps::new_source_name_is), unfolding(msvc_tree::specs::View::name_of))]
+    #[inline(always)]
     fn new_source_name(&mut self) -> Result<Name<'a>, Refusal>
         ensures value { Gives (λ n. (name_of n, self.new.rest.now, state_of self.new)) result
             (read new_source_name self.old.rest.now (state_of self.old)) }
@@ -48,6 +61,7 @@ impl<'a> Parser<'a> {
     }
 
     /// A name that enters the table of names.
+    #[inline(always)]
     fn entered_name(&mut self, name: Name<'a>) -> Result<Name<'a>, Refusal>
         ensures value { Gives (λ n. (name_of n, self.new.rest.now, state_of self.new)) result
             (with_value (Some (name_of name.entry)) self.old.rest.now
@@ -59,6 +73,7 @@ impl<'a> Parser<'a> {
     }
 
     /// A template's name, which enters the table of names if it isn't a symbol's own.
+    #[inline(always)]
     fn kept_name(&mut self, name: Name<'a>, own: bool) -> Result<Name<'a>, Refusal>
         ensures value { Gives (λ n. (name_of n, self.new.rest.now, state_of self.new)) result
             (with_value (Some (name_of name.entry)) self.old.rest.now
@@ -74,7 +89,8 @@ impl<'a> Parser<'a> {
     /// `UNQUALIFIED_NAME = digit | "?$" TEMPLATE_NAME | "?" SPECIAL_NAME | SOURCE_NAME`: a digit stands for an entry of
     /// the table. A template enters the table if it isn't a symbol's own name.
     #[cycle(readers)]
-    #[tactic(auto, using(crate::proofs::Steps::unqualified_name_is))]
+    #[tactic(auto, using(crate::proofs::NameSteps::unqualified_name_is))]
+    #[inline(always)]
     pub fn unqualified_name(&mut self, own: bool) -> Result<Name<'a>, Refusal>
         ensures value { Gives (λ n. (name_of n, self.new.rest.now, state_of self.new)) result
             (read_name (unqualified_name own) self.old.rest.now (state_of self.old)) }
@@ -85,7 +101,7 @@ impl<'a> Parser<'a> {
         }
         if let Some(behind) = self.after(b"?$") {
             self.rest = behind;
-            return self.template_kept(own);
+            return self.template_name(own);
         }
         if let Some(behind) = self.after(b"?") {
             self.rest = behind;
@@ -94,35 +110,25 @@ impl<'a> Parser<'a> {
         self.new_source_name()
     }
 
-    /// A template, which enters the table of names if it isn't a symbol's own name.
+    /// `TEMPLATE_NAME = UNQUALIFIED_NAME PARAMETERS`, with tables of its own. The name enters the table of names if it
+    /// isn't a symbol's own.
     #[cycle(readers)]
-    #[tactic(auto, using(crate::proofs::Steps::template_kept_is))]
-    fn template_kept(&mut self, own: bool) -> Result<Name<'a>, Refusal>
+    #[tactic(auto, using(crate::proofs::NameSteps::template_kept_is))]
+    pub fn template_name(&mut self, own: bool) -> Result<Name<'a>, Refusal>
         ensures value { Gives (λ n. (name_of n, self.new.rest.now, state_of self.new)) result
             (read (template_kept own) self.old.rest.now (state_of self.old)) }
-        ensures shorter { IfOk result (λ _. length self.new.rest.now < length self.old.rest.now) }
-    {
-        let name = self.template_name()?;
-        self.kept_name(name, own)
-    }
-
-    /// `TEMPLATE_NAME = UNQUALIFIED_NAME PARAMETERS`, with tables of its own.
-    #[cycle(readers)]
-    #[tactic(auto, using(crate::proofs::Steps::template_name_is))]
-    pub fn template_name(&mut self) -> Result<Name<'a>, Refusal>
-        ensures value { Gives (λ n. (name_of n, self.new.rest.now, state_of self.new)) result
-            (read_name template_name self.old.rest.now (state_of self.old)) }
         ensures shorter { IfOk result (λ _. length self.new.rest.now < length self.old.rest.now) }
     {
         let outer = self.empty_tables();
         let made = self.template();
         self.put_back(outer);
-        made
+        self.kept_name(made?, own)
     }
 
     /// A name and arguments.
     #[cycle(readers)]
     #[tactic(auto, using(crate::proofs::Readers::template_split))]
+    #[inline(always)]
     fn template(&mut self) -> Result<Name<'a>, Refusal>
         ensures value { Gives (λ n. (name_of n, self.new.rest.now, state_of self.new)) result
             (read template_inside self.old.rest.now (state_of self.old)) }
@@ -135,6 +141,7 @@ impl<'a> Parser<'a> {
 
     /// A name in a box of its own.
     #[cycle(readers)]
+    #[inline(always)]
     fn boxed_name(&mut self) -> Result<Box<Name<'a>>, Refusal>
         ensures value { Gives (λ b. (name_of b.value, self.new.rest.now, state_of self.new)) result
             (read_name (unqualified_name false) self.old.rest.now (state_of self.old)) }
@@ -146,7 +153,8 @@ impl<'a> Parser<'a> {
 
     /// `NESTED_NAME = digit | "?" MARKED_NAME | SOURCE_NAME`.
     #[cycle(readers)]
-    #[tactic(auto, using(crate::proofs::Steps::nested_name_is))]
+    #[tactic(auto, using(crate::proofs::NameSteps::nested_name_is))]
+    #[inline(always)]
     pub fn nested_name(&mut self) -> Result<Name<'a>, Refusal>
         ensures value { Gives (λ n. (name_of n, self.new.rest.now, state_of self.new)) result
             (read_name nested_name self.old.rest.now (state_of self.old)) }
@@ -172,11 +180,13 @@ impl<'a> Parser<'a> {
     {
         if let Some(behind) = self.after(b"?") {
             self.rest = behind;
-            return self.nested_symbol();
+            let made = self.symbol_body();
+            let symbol = boxed_made(self.alloc, made)?;
+            return Ok(Name::ParsedName(symbol));
         }
         if let Some(behind) = self.after(b"$") {
             self.rest = behind;
-            return self.template_kept(false);
+            return self.template_name(false);
         }
         if let Some(behind) = self.after(b"A") {
             self.rest = behind;
@@ -187,19 +197,6 @@ impl<'a> Parser<'a> {
             return self.interface();
         }
         Ok(Name::Discriminator(self.number()?))
-    }
-
-    /// A whole symbol inside a scope, behind its `?`.
-    #[cycle(readers)]
-    #[tactic(auto, using(crate::proofs::Readers::nested_symbol_split))]
-    fn nested_symbol(&mut self) -> Result<Name<'a>, Refusal>
-        ensures value { Gives (λ n. (name_of n, self.new.rest.now, state_of self.new)) result
-            (read nested_symbol self.old.rest.now (state_of self.old)) }
-        ensures shorter { IfOk result (λ _. length self.new.rest.now < length self.old.rest.now) }
-    {
-        let made = self.symbol_body();
-        let symbol = boxed_made(self.alloc, made)?;
-        Ok(Name::ParsedName(symbol))
     }
 
     /// An interface, behind its `?Q`.
@@ -231,7 +228,7 @@ impl<'a> Parser<'a> {
     }
 
     /// `HEXADECIMAL_DIGITS = {hexadecimal digit} "@"`: the digits, behind `0x`.
-    #[tactic(auto, using(crate::proofs::Steps::hexadecimal_digits_go_on))]
+    #[tactic(auto, using(crate::proofs::RowSteps::hexadecimal_digits_go_on))]
     fn hexadecimal_digits(&mut self) -> Result<String, Refusal>
         ensures value { Gives (λ t. (string_bytes t, self.new.rest.now, state_of self.new)) result
             (and_then (read_name hexadecimal_digits self.old.rest.now (state_of self.old))
@@ -250,7 +247,7 @@ impl<'a> Parser<'a> {
     }
 
     /// A digit to base 16, as its own code.
-    #[tactic(auto, using(crate::proofs::Steps::letter_is))]
+    #[tactic(auto, using(crate::proofs::Choices::letter_is))]
     fn hexadecimal_digit(&mut self) -> Result<u8, Refusal>
         ensures value { Gives (λ d. (d, self.new.rest.now, state_of self.new)) result
             (letter_here hexadecimal_codes self.old.rest.now (state_of self.old)) }
@@ -268,6 +265,7 @@ impl<'a> Parser<'a> {
     }
 
     /// The entry of the table of names that a digit stands for.
+    #[inline(always)]
     fn name_entry(&self, index: u8) -> Result<Name<'a>, Refusal>
         ensures { Gives (λ n. (name_of n, self.now.rest.now, state_of self.now)) result
             (with_value (slice_get (map name_of self.now.names.items) index) self.now.rest.now (state_of self.now)) }
@@ -279,6 +277,7 @@ impl<'a> Parser<'a> {
     }
 
     /// Enters a name into the table, if there is room and no equal name.
+    #[inline(always)]
     fn remember_name(&mut self, name: &Name<'a>) -> Result<(), AllocError>
         ensures value { IfOk result (λ _. state_of self.new ≡ remember_name (name_of name.now) (state_of self.old)) }
         ensures rest { IfOk result (λ _. self.new.rest.now ≡ self.old.rest.now) }
@@ -291,7 +290,8 @@ impl<'a> Parser<'a> {
 
     /// `SCOPE = {NESTED_NAME} "@"`, the innermost name first.
     #[cycle(readers)]
-    #[tactic(auto, using(crate::proofs::Steps::scope_goes_on))]
+    #[tactic(auto, using(crate::proofs::RowSteps::scope_goes_on))]
+    #[inline(always)]
     pub fn scope(&mut self) -> Result<NameSequence<'a>, Refusal>
         ensures value { Gives (λ n. (map name_of n.names.items, self.new.rest.now, state_of self.new)) result
             (read_name scope self.old.rest.now (state_of self.old)) }
@@ -310,7 +310,8 @@ impl<'a> Parser<'a> {
 
     /// `QUALIFIED_NAME = UNQUALIFIED_NAME SCOPE`.
     #[cycle(readers)]
-    #[tactic(auto, using(crate::proofs::Steps::qualified_name_is))]
+    #[tactic(auto, using(crate::proofs::NameSteps::qualified_name_is))]
+    #[inline(always)]
     pub fn qualified_name(&mut self, own: bool) -> Result<Symbol<'a>, Refusal>
         ensures value { Gives
             (λ n. ((name_of n.name, map name_of n.scope.names.items), self.new.rest.now, state_of self.new)) result
@@ -325,7 +326,7 @@ impl<'a> Parser<'a> {
 
 /// How many bytes stand before the first `@`.
 #[tactic(auto, unfolding(crate::specs::Parser::name_length))]
-pub fn name_length(bytes: &[u8]) -> Option<usize>
+fn name_length(bytes: &[u8]) -> Option<usize>
     ensures value { result ≡ name_length bytes.now }
     ensures inside { IfSome result (λ n. n < length bytes.now) }
 {
@@ -333,6 +334,7 @@ pub fn name_length(bytes: &[u8]) -> Option<usize>
 }
 
 /// Whether a table has an equal name.
+#[inline(always)]
 fn is_known<'a>(names: &[Name<'a>], name: &Name<'a>) -> bool
     ensures { result ≡ list_any (same_name (name_of name.now)) (map name_of names.now) }
 {

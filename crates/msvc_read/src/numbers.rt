@@ -12,7 +12,7 @@ use crate::refusal::{Message, Refusal};
 
 impl<'a> Parser<'a> {
     /// `NUMBER = ["?"] MAGNITUDE`: a `?` negates.
-    #[tactic(auto, using(crate::proofs::Steps::number_is))]
+    #[tactic(auto, using(crate::proofs::NumberSteps::number_is))]
     pub fn number(&mut self) -> Result<i32, Refusal>
         ensures value { Gives (λ z. (z, self.new.rest.now, state_of self.new)) result
             (read_name number self.old.rest.now (state_of self.old)) }
@@ -27,7 +27,7 @@ impl<'a> Parser<'a> {
     }
 
     /// `MAGNITUDE = digit | LETTERS`: a digit stands for one more than itself.
-    #[tactic(auto, using(crate::proofs::Steps::magnitude_is))]
+    #[tactic(auto, using(crate::proofs::NumberSteps::magnitude_is))]
     fn magnitude(&mut self) -> Result<i32, Refusal>
         ensures value { Gives (λ z. (z, self.new.rest.now, state_of self.new)) result
             (read_name magnitude self.old.rest.now (state_of self.old)) }

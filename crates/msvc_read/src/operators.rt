@@ -195,7 +195,8 @@ fn unknown_code(left: &[u8]) -> (Message, usize) {
 }
 
 impl<'a> Parser<'a> {
-    /// `SPECIAL_NAME = code of special names, and what its row asks for`.
+    /// `SPECIAL_NAME = code of special names, and what its row asks for`: behind that of the descriptor of a type,
+    /// `"?" [storage class] TYPE`.
     #[cycle(readers)]
     #[tactic(auto, using(crate::proofs::Readers::special_split), unfolding(msvc_tree::specs::View::name_of))]
     pub fn special_name(&mut self) -> Result<Name<'a>, Refusal>
@@ -211,23 +212,14 @@ impl<'a> Parser<'a> {
         match form {
             SpecialForm::Plain(operator) => Ok(Name::Operator(operator.operator())),
             SpecialForm::Guard(guard) => Ok(Name::Operator(guard.operator(None))),
-            SpecialForm::TypeDescriptor => self.type_descriptor(),
+            SpecialForm::TypeDescriptor => {
+                self.expected(b"?", Message::QuestionMarkExpected)?;
+                let class = self.optional_storage_class();
+                let described = self.boxed_type(class)?;
+                Ok(Name::Operator(Operator::RTTITypeDescriptor(class, described)))
+            }
             SpecialForm::BaseClass => self.base_class_descriptor(),
         }
-    }
-
-    /// The descriptor of a type, behind its code: `"?" [storage class] TYPE`.
-    #[cycle(readers)]
-    #[tactic(auto, using(crate::proofs::Readers::descriptor_split), unfolding(msvc_tree::specs::View::name_of))]
-    fn type_descriptor(&mut self) -> Result<Name<'a>, Refusal>
-        ensures value { Gives (λ n. (name_of n, self.new.rest.now, state_of self.new)) result
-            (read_name (special_behind special.TypeDescriptor) self.old.rest.now (state_of self.old)) }
-        ensures shorter { IfOk result (λ _. length self.new.rest.now < length self.old.rest.now) }
-    {
-        self.expected(b"?", Message::QuestionMarkExpected)?;
-        let class = self.optional_storage_class();
-        let described = self.boxed_type(class)?;
-        Ok(Name::Operator(Operator::RTTITypeDescriptor(class, described)))
     }
 
     /// The place of a base class, behind its code: four numbers.

@@ -1,6 +1,7 @@
 //! Parameters, and the table of types that they enter.
 
-ghost use Rattle.std.specs.Prelude.{◌≡◌, ◌<◌, ◌≤◌, ◌-◌, nat_lt, ◌∷◌, ◌++◌, [], length, map, slice_get, IfOk, IfSome, Ok};
+ghost use Rattle.std.specs.Prelude.{◌≡◌, ◌<◌, ◌≤◌, ◌-◌, nat_lt, ◌∷◌, ◌++◌, [], length, map, slice_get, IfOk, IfSome};
+ghost use Rattle.std.specs.Prelude.{Ok};
 ghost use Rattle.std.specs.Option.{option_map};
 ghost use Rattle.std.specs.List.{list_any};
 ghost use Rattle.msvc_tree.specs.Equality.{same_type};
@@ -8,8 +9,8 @@ ghost use Rattle.msvc_tree.specs.Trees.{base};
 ghost use Rattle.msvc_tree.specs.declared.kinds.BaseType.TheVariants as base_kind;
 ghost use Rattle.msvc_tree.specs.View.{type_of};
 ghost use Rattle.msvc_read.specs.Parser.{Gives, state_of, entry_of, ellipsis, parameters_stop};
-ghost use Rattle.msvc_read.specs.Reads.{read_name, entered_by, type_noted};
-ghost use Rattle.msvc_read.specs.Rules.{any_type, function_parameters, parameter, parameters};
+ghost use Rattle.msvc_read.specs.Reads.{read_name, type_noted};
+ghost use Rattle.msvc_read.specs.Rules.{function_parameters, parameter, parameters};
 ghost use Rattle.msvc_read.specs.State.{remember_type, span_of};
 
 use crate::parser::{BackReference, Entry, Parser};
@@ -51,7 +52,8 @@ impl<'a> Parser<'a> {
 
     /// `PARAMETERS = {PARAMETER} ("@" | "Z" | end)`: a `Z` adds an ellipsis.
     #[cycle(readers)]
-    #[tactic(auto, using(crate::proofs::Steps::parameters_go_on))]
+    #[tactic(auto, using(crate::proofs::RowSteps::parameters_go_on))]
+    #[inline(always)]
     pub fn parameters(&mut self) -> Result<Params<'a>, Refusal>
         ensures value { Gives (λ p. (map type_of p.types.items, self.new.rest.now, state_of self.new)) result
             (read_name parameters self.old.rest.now (state_of self.old)) }
@@ -68,22 +70,32 @@ impl<'a> Parser<'a> {
         }
     }
 
-    /// `PARAMETER = digit | TYPE`: a digit stands for an entry of the table of types.
+    /// `PARAMETER = digit | TYPE`: a digit stands for an entry of the table of types, which a type enters if more than
+    /// one byte is read for it.
     #[cycle(readers)]
-    #[tactic(auto, using(crate::proofs::Steps::parameter_is))]
+    #[tactic(auto, using(crate::proofs::FunctionSteps::parameter_is))]
+    #[inline(always)]
     fn parameter(&mut self) -> Result<Type<'a>, Refusal>
         ensures value { Gives (λ t. (type_of t, self.new.rest.now, state_of self.new)) result
             (read_name parameter self.old.rest.now (state_of self.old)) }
         ensures shorter { IfOk result (λ _. length self.new.rest.now < length self.old.rest.now) }
     {
         let left = self.rest;
-        match self.digit() {
-            Some(index) => self.noted_entry(index, left),
-            None => self.new_parameter(),
+        if let Some(index) = self.digit() {
+            return self.noted_entry(index, left);
         }
+        let parameter = self.any_type(StorageClass::empty());
+        let entered: Result<(), Refusal> = match &parameter {
+            Ok(parameter) if is_long(left, self.rest) => {
+                made_as(self.remember_type(parameter, left))
+            }
+            _ => Ok(()),
+        };
+        entered.and(parameter)
     }
 
     /// The entry of the table of types that a digit stands for. The digit, with which `left` begins, is noted.
+    #[inline(always)]
     fn noted_entry(&mut self, index: u8, left: &[u8]) -> Result<Type<'a>, Refusal>
         ensures value { Gives (λ t. (type_of t, self.new.rest.now, state_of self.new)) result
             (type_noted (slice_get (map entry_of self.old.types.items) index) left.now self.old.rest.now
@@ -103,32 +115,15 @@ impl<'a> Parser<'a> {
         noted.and(entered)
     }
 
-    /// A type that enters the table if more than one byte is read for it.
-    #[cycle(readers)]
-    fn new_parameter(&mut self) -> Result<Type<'a>, Refusal>
-        ensures value { Gives (λ t. (type_of t, self.new.rest.now, state_of self.new)) result
-            (entered_by self.old.rest.now (read_name (any_type 0) self.old.rest.now (state_of self.old))) }
-        ensures shorter { IfOk result (λ _. length self.new.rest.now < length self.old.rest.now) }
-    {
-        let left = self.rest;
-        let parameter = self.any_type(StorageClass::empty());
-        let entered: Result<(), Refusal> = match &parameter {
-            Ok(parameter) if is_long(left, self.rest) => {
-                made_as(self.remember_type(parameter, left))
-            }
-            _ => Ok(()),
-        };
-        entered.and(parameter)
-    }
-
     /// Enters the type of the bytes from `left` up to those left into the table, if there is room and no equal type.
+    #[inline(always)]
     fn remember_type(&mut self, entered: &Type<'a>, left: &[u8]) -> Result<(), AllocError>
         ensures value { IfOk result (λ _. state_of self.new
             ≡ remember_type (span_of (type_of entered.now) left.now self.old.rest.now (state_of self.old))
             (state_of self.old)) }
         ensures rest { self.new.rest.now ≡ self.old.rest.now }
     {
-        if self.types.len() < 10 && !is_known(&self.types, entered) {
+        if self.types.len() < self.room && !is_known(&self.types, entered) {
             let start = self.place_of(left);
             let entry = entry(entered.clone(self.alloc), start, self.place_of(self.rest));
             return push_made(&mut self.types, entry);
@@ -138,6 +133,7 @@ impl<'a> Parser<'a> {
 }
 
 /// An entry of a type, if it was made.
+#[inline(always)]
 fn entry<'a>(
     made: Result<Type<'a>, AllocError>,
     start: usize,
@@ -154,6 +150,7 @@ fn entry<'a>(
 
 /// Where parameters stop: whether at a `Z`, and what is behind.
 #[tactic(auto, unfolding(crate::specs::Parser::parameters_stop))]
+#[inline(always)]
 fn parameters_stop<'a>(left: &'a [u8]) -> Option<(bool, &'a [u8])>
     ensures value { option_map (λ stop. (stop.0, stop.1.now)) result ≡ parameters_stop left.now }
     ensures shorter { IfSome result (λ stop. length stop.1.now ≤ length left.now) }
@@ -168,6 +165,7 @@ fn parameters_stop<'a>(left: &'a [u8]) -> Option<(bool, &'a [u8])>
 
 /// A list of parameters, with an ellipsis behind them if there is one.
 #[tactic(auto, using(crate::proofs::Readers::parameters_end))]
+#[inline(always)]
 fn with_ellipsis<'a>(mut types: Vec<Type<'a>>, variadic: bool) -> Result<Params<'a>, AllocError>
     ensures { IfOk result (λ p. map type_of p.types.items ≡ map type_of types.entry.items ++ ellipsis variadic) }
 {
@@ -179,6 +177,7 @@ fn with_ellipsis<'a>(mut types: Vec<Type<'a>>, variadic: bool) -> Result<Params<
 }
 
 /// Whether more than one byte was read.
+#[inline(always)]
 fn is_long(left: &[u8], rest: &[u8]) -> bool
     ensures { result ≡ nat_lt 1 (length left.now - length rest.now) }
 {
@@ -186,6 +185,7 @@ fn is_long(left: &[u8], rest: &[u8]) -> bool
 }
 
 /// Whether a table has an equal type.
+#[inline(always)]
 fn is_known<'a>(types: &[Entry<'a>], entered: &Type<'a>) -> bool
     ensures { result ≡ list_any (λ known. same_type (type_of entered.now) known.entered) (map entry_of types.now) }
 {

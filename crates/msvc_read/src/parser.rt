@@ -41,6 +41,8 @@ pub struct Parser<'a> {
     pub alloc: Global,
     /// How many bytes the whole text has.
     pub whole: usize,
+    /// How many entries the table of types has room for.
+    pub room: usize,
     /// The bytes left.
     pub rest: &'a [u8],
     /// The names that a digit can stand for.
@@ -63,16 +65,17 @@ impl<'a> Parser<'a> {
     ghost use Rattle.msvc_tree.specs.View.{name_of};
     ghost use Rattle.msvc_read.specs.Parser.{entry_of, state_of};
     ghost use Rattle.msvc_read.specs.Reads.{emptied};
-    ghost use Rattle.msvc_read.specs.State.{beginning};
+    ghost use Rattle.msvc_read.specs.State.{beginning_with};
 
-    /// A parser at the beginning of a text.
-    pub fn new(alloc: Global, text: &'a [u8]) -> Parser<'a>
+    /// A parser at the beginning of a text, with room for so many types that a digit can stand for.
+    pub fn new(alloc: Global, text: &'a [u8], room: usize) -> Parser<'a>
         ensures rest { result.rest.now ≡ text.now }
-        ensures state { state_of result ≡ beginning text.now }
+        ensures state { state_of result ≡ beginning_with room text.now }
     {
         Parser {
             alloc,
             whole: text.len(),
+            room,
             rest: text,
             names: Vec::new(alloc),
             types: Vec::new(alloc),
@@ -121,6 +124,7 @@ impl<'a> Parser<'a> {
 
     /// The next byte, if one is left.
     #[tactic(auto, unfolding(crate::specs::Parser::byte_here))]
+    #[inline(always)]
     pub fn next_byte(&mut self) -> Option<u8>
         ensures value { option_map (λ b. (b, self.new.rest.now, state_of self.new)) result
             ≡ byte_here self.old.rest.now (state_of self.old) }
@@ -136,6 +140,7 @@ impl<'a> Parser<'a> {
     }
 
     /// The next byte.
+    #[inline(always)]
     pub fn byte(&mut self) -> Result<u8, Refusal>
         ensures value { Gives (λ b. (b, self.new.rest.now, state_of self.new)) result
             (byte_here self.old.rest.now (state_of self.old)) }
@@ -148,6 +153,7 @@ impl<'a> Parser<'a> {
     }
 
     /// The entry of a table that the next byte stands for, if it is a digit.
+    #[inline(always)]
     pub fn digit(&mut self) -> Option<u8>
         ensures value { option_map (λ d. (d, self.new.rest.now, state_of self.new)) result
             ≡ letter_here digits self.old.rest.now (state_of self.old) }
@@ -164,12 +170,24 @@ impl<'a> Parser<'a> {
         None
     }
 
-    /// What follows a literal, if the bytes left begin with it.
+    /// What follows a literal, if the bytes left begin with it. The first byte is looked at here, in the caller's own
+    /// code: most literals have one byte, and most tests fail at it.
+    #[inline(always)]
     pub fn after(&self, literal: &[u8]) -> Option<&'a [u8]>
         ensures value { option_map (λ behind. behind.now) result ≡ after literal.now self.now.rest.now }
         ensures shorter { IfSome result (λ behind. length literal.now + length behind.now ≡ length self.now.rest.now) }
     {
-        bytes_after(self.rest, literal)
+        let [expected, others @ ..] = literal else {
+            return Some(self.rest);
+        };
+        match self.rest {
+            [first, behind @ ..] if *first == *expected => match others {
+                [] => Some(behind),
+                [_, ..] => bytes_after(behind, others),
+            },
+            [_, ..] => None,
+            [] => None,
+        }
     }
 
     /// A text that has to stand here.

@@ -12,7 +12,7 @@ ghost use Rattle.msvc_read.specs.Parts.{NamesAreParts};
 ghost use Rattle.msvc_read.specs.Reads.{Derives, read_name};
 ghost use Rattle.msvc_read.specs.Refusals.{IsRefusedRightly, IsRefusalAt, begins_with};
 ghost use Rattle.msvc_read.specs.Rules.{after, symbol};
-ghost use Rattle.msvc_read.specs.State.{Note, beginning};
+ghost use Rattle.msvc_read.specs.State.{Note, beginning, beginning_with};
 ghost use Rattle.msvc_read.specs.Written.{DigitsCanBeWrittenOut};
 
 use crate::parser::Parser;
@@ -44,13 +44,29 @@ pub fn parse<'a>(alloc: Global, input: &'a str) -> Result<ParseResult<'a>, Error
     }
 }
 
-/// The symbol at the beginning of a text.
+/// The symbol at the beginning of a text. It is read without the table of types first, since few symbols have a digit
+/// that stands for a type, and the table has a copy of each type. What is read so is the same with the table; where
+/// nothing is, the text is read again.
 fn read<'a>(alloc: Global, input: &'a str) -> Result<ParseResult<'a>, Refusal>
     ensures value { Gives (λ r. tree_of r) result
         (option_map (λ r. r.0) (read_name symbol input.now (beginning input.now))) }
     ensures start { after (codes "?") input.now ≡ None
         → result ≡ Err (Refusal.Unread Message.NoQuestionMark (length input.now)) }
 {
-    let mut parser = Parser::new(alloc, input.as_bytes());
+    match read_with(alloc, input, 0) {
+        Ok(symbol) => Ok(symbol),
+        Err(Refusal::Memory) => Err(Refusal::Memory),
+        Err(Refusal::Unread(_, _)) => read_with(alloc, input, 10),
+    }
+}
+
+/// The symbol at the beginning of a text, where the table has room for so many types.
+fn read_with<'a>(alloc: Global, input: &'a str, room: usize) -> Result<ParseResult<'a>, Refusal>
+    ensures value { Gives (λ r. tree_of r) result
+        (option_map (λ r. r.0) (read_name symbol input.now (beginning_with room input.now))) }
+    ensures start { after (codes "?") input.now ≡ None
+        → result ≡ Err (Refusal.Unread Message.NoQuestionMark (length input.now)) }
+{
+    let mut parser = Parser::new(alloc, input.as_bytes(), room);
     parser.symbol()
 }

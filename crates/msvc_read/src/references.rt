@@ -45,7 +45,7 @@ fn notes(alloc: Global, input: &str) -> Result<Vec<BackReference>, Refusal>
     ensures start { after (codes "?") input.now ≡ None
         → result ≡ Err (Refusal.Unread Message.NoQuestionMark (length input.now)) }
 {
-    let mut parser = Parser::new(alloc, input.as_bytes());
+    let mut parser = Parser::new(alloc, input.as_bytes(), 10);
     let symbol = parser.symbol()?;
     discard(symbol);
     Ok(parser.notes)

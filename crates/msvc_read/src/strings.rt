@@ -29,7 +29,7 @@ impl<'a> Parser<'a> {
     }
 
     /// How many bytes a character has.
-    #[tactic(auto, using(crate::proofs::Steps::letter_is))]
+    #[tactic(auto, using(crate::proofs::Choices::letter_is))]
     fn character_size(&mut self) -> Result<u8, Refusal>
         ensures value { Gives (λ n. (n, self.new.rest.now, state_of self.new)) result
             (letter_here character_sizes self.old.rest.now (state_of self.old)) }
@@ -43,7 +43,7 @@ impl<'a> Parser<'a> {
     }
 
     /// As many characters.
-    #[tactic(auto, using(crate::proofs::SymbolSteps::characters_go_on))]
+    #[tactic(auto, using(crate::proofs::StringSteps::characters_go_on))]
     fn characters(&mut self, count: u32) -> Result<Vec<u8>, Refusal>
         ensures value { Gives (λ v. (v.items, self.new.rest.now, state_of self.new)) result
             (read_name (characters count) self.old.rest.now (state_of self.old)) }
@@ -57,7 +57,7 @@ impl<'a> Parser<'a> {
     }
 
     /// `CHARACTER = plain character | "?" ESCAPED_CHARACTER`.
-    #[tactic(auto, using(crate::proofs::SymbolSteps::character_is))]
+    #[tactic(auto, using(crate::proofs::StringSteps::character_is))]
     fn character(&mut self) -> Result<u8, Refusal>
         ensures value { Gives (λ n. (n, self.new.rest.now, state_of self.new)) result
             (read_name character self.old.rest.now (state_of self.old)) }
@@ -74,7 +74,7 @@ impl<'a> Parser<'a> {
     }
 
     /// `ESCAPED_CHARACTER = escaped character | "$" HALVES`.
-    #[tactic(auto, using(crate::proofs::SymbolSteps::escaped_is))]
+    #[tactic(auto, using(crate::proofs::StringSteps::escaped_is))]
     fn escaped_character(&mut self) -> Result<u8, Refusal>
         ensures value { Gives (λ n. (n, self.new.rest.now, state_of self.new)) result
             (read escaped_character self.old.rest.now (state_of self.old)) }
@@ -91,7 +91,7 @@ impl<'a> Parser<'a> {
     }
 
     /// `HALVES = hexadecimal hexadecimal`: the high half of a byte, then the low one.
-    #[tactic(auto, using(crate::proofs::SymbolSteps::halves_is))]
+    #[tactic(auto, using(crate::proofs::StringSteps::halves_is))]
     fn halves(&mut self) -> Result<u8, Refusal>
         ensures value { Gives (λ n. (n, self.new.rest.now, state_of self.new)) result
             (read halves self.old.rest.now (state_of self.old)) }
@@ -103,7 +103,7 @@ impl<'a> Parser<'a> {
     }
 
     /// Half of a byte.
-    #[tactic(auto, using(crate::proofs::Steps::letter_is))]
+    #[tactic(auto, using(crate::proofs::Choices::letter_is))]
     fn half(&mut self) -> Result<u8, Refusal>
         ensures value { Gives (λ n. (n, self.new.rest.now, state_of self.new)) result
             (letter_here hexadecimal self.old.rest.now (state_of self.old)) }

@@ -1,11 +1,13 @@
 //! Symbols, and the types behind their names.
 
 ghost use Rattle.std.specs.Prelude.{◌≡◌, ◌<◌, ◌≤◌, codes, length, None, Err, IfOk};
-ghost use Rattle.msvc_tree.specs.View.{type_of, tree_of};
-ghost use Rattle.msvc_read.specs.Grammar.{encoding_letters, function_classes, named_symbol, template_symbol};
-ghost use Rattle.msvc_read.specs.Parser.{Gives, encoding_by, member_by, state_of};
+ghost use Rattle.msvc_tree.specs.Trees.{no_names, plain};
+ghost use Rattle.msvc_tree.specs.View.{name_of, type_of, tree_of};
+ghost use Rattle.msvc_tree.specs.declared.kinds.PlainType.TheVariants as plain_kind;
+ghost use Rattle.msvc_read.specs.Grammar.{named_symbol};
+ghost use Rattle.msvc_read.specs.Parser.{Gives, state_of};
 ghost use Rattle.msvc_read.specs.Reads.{read, read_name};
-ghost use Rattle.msvc_read.specs.Rules.{after, lookup, encoding, encoding_behind, symbol, symbol_body};
+ghost use Rattle.msvc_read.specs.Rules.{after, encoding, encoding_behind, symbol, symbol_body};
 ghost use Rattle.msvc_read.specs.Sorts.{member_of, table_of, variable_of, virtual_call};
 
 use crate::letters;
@@ -14,7 +16,7 @@ use crate::refusal::{Message, Refusal};
 use bitflags::Flags;
 use msvc_tree::flags::StorageClass;
 use msvc_tree::kinds::Table;
-use msvc_tree::tree::{NameSequence, ParseResult, Symbol, Type, VarStorageKind};
+use msvc_tree::tree::{Name, NameSequence, ParseResult, Symbol, Type, VarStorageKind};
 
 impl<'a> Parser<'a> {
     /// `SYMBOL = "?" SYMBOL_BODY`.
@@ -51,27 +53,25 @@ impl<'a> Parser<'a> {
         }
         if let Some(behind) = self.after(b"$") {
             self.rest = behind;
-            return self.template_symbol();
+            let name = self.template_name(true)?;
+            return Ok(self.alone(name));
         }
         self.named_symbol()
     }
 
-    /// A symbol that is a template and nothing else, behind its `?$`.
-    #[cycle(readers)]
-    #[tactic(auto, using(crate::proofs::Readers::template_symbol_split))]
-    fn template_symbol(&mut self) -> Result<ParseResult<'a>, Refusal>
-        ensures value { Gives (λ r. (tree_of r, self.new.rest.now, state_of self.new)) result
-            (read template_symbol self.old.rest.now (state_of self.old)) }
-        ensures shorter { IfOk result (λ _. length self.new.rest.now < length self.old.rest.now) }
+    /// A symbol that is a name and nothing else.
+    #[tactic(auto, using(crate::proofs::Readers::alone_split))]
+    pub fn alone(&self, name: Name<'a>) -> ParseResult<'a>
+        ensures { tree_of result ≡
+            record { name = name_of name.entry; scope = no_names; symbol_type = plain plain_kind.None } }
     {
-        let name = self.template_name()?;
         let scope = NameSequence {
             names: Vec::new(self.alloc),
         };
-        Ok(ParseResult {
+        ParseResult {
             symbol: Symbol { name, scope },
             symbol_type: Type::None,
-        })
+        }
     }
 
     /// A name in its scope, the index of a guard, and a type.
@@ -91,29 +91,19 @@ impl<'a> Parser<'a> {
         })
     }
 
-    /// `ENCODING = end | letter of encodings, and what its row asks for`: at the end of the text there is no type.
+    /// `ENCODING = end | letter of encodings, and what its row asks for`: no type at the end of the text, a variable
+    /// behind `0` to `4`, a table behind `6` and `7`, nothing behind `8` and `9`, a string behind `_`, a thunk behind
+    /// `$`, a function behind `Y`, else a member function: `MEMBER_ENCODING = function class MEMBER`.
     #[cycle(readers)]
-    #[tactic(auto, using(crate::proofs::Readers::encoding_split))]
-    pub fn encoding(&mut self) -> Result<Type<'a>, Refusal>
+    #[tactic(auto, using(crate::proofs::Readers::encoding_split), unfolding(crate::specs::Parser::encoding_by))]
+    fn encoding(&mut self) -> Result<Type<'a>, Refusal>
         ensures value { Gives (λ t. (type_of t, self.new.rest.now, state_of self.new)) result
             (read_name encoding self.old.rest.now (state_of self.old)) }
         ensures shorter { IfOk result (λ _. length self.new.rest.now ≤ length self.old.rest.now) }
     {
-        match self.next_byte() {
-            Some(letter) => self.encoding_behind(letter),
-            None => Ok(Type::None),
-        }
-    }
-
-    /// What follows the first letter of an encoding: a variable behind `0` to `4`, a table behind `6` and `7`, nothing
-    /// behind `8` and `9`, a function behind `Y`, a string behind `_`, a thunk behind `$`, else a member function.
-    #[cycle(readers)]
-    #[tactic(auto, using(crate::proofs::Readers::encoding_split), unfolding(crate::specs::Parser::encoding_by))]
-    fn encoding_behind(&mut self, letter: u8) -> Result<Type<'a>, Refusal>
-        ensures value { Gives (λ t. (type_of t, self.new.rest.now, state_of self.new)) result
-            (encoding_by (lookup letter encoding_letters) self.old.rest.now (state_of self.old)) }
-        ensures shorter { IfOk result (λ _. length self.new.rest.now ≤ length self.old.rest.now) }
-    {
+        let Some(letter) = self.next_byte() else {
+            return Ok(Type::None);
+        };
         match letter {
             b'0' => self.variable(VarStorageKind::PrivateStatic),
             b'1' => self.variable(VarStorageKind::ProtectedStatic),
@@ -127,22 +117,10 @@ impl<'a> Parser<'a> {
             b'_' => self.encoded_string(),
             b'$' => self.virtual_call(),
             b'Y' => self.function(),
-            _ => self.member_encoding(letter),
-        }
-    }
-
-    /// `MEMBER_ENCODING = function class MEMBER`.
-    #[cycle(readers)]
-    #[tactic(auto, unfolding(crate::specs::Parser::member_by))]
-    fn member_encoding(&mut self, letter: u8) -> Result<Type<'a>, Refusal>
-        ensures value { Gives (λ t. (type_of t, self.new.rest.now, state_of self.new)) result
-            (member_by (lookup letter function_classes)
-            self.old.rest.now (state_of self.old)) }
-        ensures shorter { IfOk result (λ _. length self.new.rest.now ≤ length self.old.rest.now) }
-    {
-        match letters::function_class(letter) {
-            Some(class) => self.member(class),
-            None => Err(self.refuse(Message::UnknownFuncClass)),
+            _ => match letters::function_class(letter) {
+                Some(class) => self.member(class),
+                None => Err(self.refuse(Message::UnknownFuncClass)),
+            },
         }
     }
 

@@ -1,16 +1,16 @@
 //! Types, and the table of types.
 
-ghost use Rattle.std.specs.Prelude.{◌≡◌, ◌<◌, ◌≤◌, Some, codes, false, length, map, slice_get, true};
+ghost use Rattle.std.specs.Prelude.{◌≡◌, ◌<◌, ◌≤◌, Some, length, map, slice_get, true};
 ghost use Rattle.std.specs.Prelude.{IfOk};
 ghost use Rattle.std.specs.Int.{int_wrapping_neg, w32};
 ghost use Rattle.msvc_tree.specs.Trees.{numbered};
 ghost use Rattle.msvc_tree.specs.declared.kinds.NumberedType.TheVariants as number_kind;
 ghost use Rattle.msvc_tree.specs.View.{type_of};
-ghost use Rattle.msvc_read.specs.Grammar.{compound_letters, digits, array_class, arrays, qualifiers};
-ghost use Rattle.msvc_read.specs.Parser.{Gives, state_of, entry_of, type_by};
+ghost use Rattle.msvc_read.specs.Grammar.{array_class, arrays, digits};
+ghost use Rattle.msvc_read.specs.Parser.{Gives, state_of, entry_of};
 ghost use Rattle.msvc_read.specs.Reads.{read, read_name, and_then, with_value, type_known};
 ghost use Rattle.msvc_read.specs.Rules.{lookup, any_type, array, dimension, lengths, number, plain_type, pointee};
-ghost use Rattle.msvc_read.specs.Rules.{function_type, literal, member_pointer, optional, type_behind, type_form};
+ghost use Rattle.msvc_read.specs.Rules.{function_type, type_behind, type_form};
 ghost use Rattle.msvc_read.specs.Sorts.{extended};
 
 use crate::forms::{TypeForm, type_form};
@@ -65,59 +65,31 @@ impl<'a> Parser<'a> {
             TypeForm::Array => self.array(),
             TypeForm::Function => self.function_type(true),
             TypeForm::QualifiedFunction => self.function_type(false),
-            TypeForm::Requalified => self.requalified_type(),
+            TypeForm::Requalified => {
+                let own = self.optional_qualifier();
+                self.plain_type(own)
+            }
             TypeForm::QualifiedMemberPointer => self.member_pointer(true),
-            TypeForm::MemberPointer => self.marked_member_pointer(),
+            TypeForm::MemberPointer => {
+                self.expected(b"?", Message::QuestionMarkExpected)?;
+                self.member_pointer(false)
+            }
         }
     }
 
-    /// A plain type with qualifiers of its own, whatever stands before.
+    /// `PLAIN_TYPE = base letter | letter of types, and what its row asks for`.
     #[cycle(readers)]
-    fn requalified_type(&mut self) -> Result<Type<'a>, Refusal>
-        ensures value { Gives (λ t. (type_of t, self.new.rest.now, state_of self.new)) result
-            (and_then (read (optional qualifiers) self.old.rest.now (state_of self.old))
-            (λ own left s. read_name (plain_type own) left s)) }
-        ensures shorter { IfOk result (λ _. length self.new.rest.now < length self.old.rest.now) }
-    {
-        let own = self.optional_qualifier();
-        self.plain_type(own)
-    }
-
-    /// A pointer to a member function, behind a `?`.
-    #[cycle(readers)]
-    fn marked_member_pointer(&mut self) -> Result<Type<'a>, Refusal>
-        ensures value { Gives (λ t. (type_of t, self.new.rest.now, state_of self.new)) result
-            (and_then (read (literal (codes "?")) self.old.rest.now (state_of self.old))
-            (λ _ left s. read_name (member_pointer false) left s)) }
-        ensures shorter { IfOk result (λ _. length self.new.rest.now < length self.old.rest.now) }
-    {
-        self.expected(b"?", Message::QuestionMarkExpected)?;
-        self.member_pointer(false)
-    }
-
-    /// `PLAIN_TYPE = base letter | COMPOUND_TYPE`.
-    #[cycle(readers)]
-    #[tactic(auto, using(crate::proofs::Steps::plain_type_is))]
+    #[tactic(auto, using(crate::proofs::Readers::plain_split), unfolding(crate::specs::Parser::type_by))]
+    #[inline(always)]
     fn plain_type(&mut self, q: StorageClass) -> Result<Type<'a>, Refusal>
         ensures value { Gives (λ t. (type_of t, self.new.rest.now, state_of self.new)) result
             (read_name (plain_type q.0) self.old.rest.now (state_of self.old)) }
         ensures shorter { IfOk result (λ _. length self.new.rest.now < length self.old.rest.now) }
     {
         let letter = self.byte()?;
-        match letters::base_type(letter, q) {
-            Some(base) => Ok(base),
-            None => self.compound_type(letter, q),
+        if let Some(base) = letters::base_type(letter, q) {
+            return Ok(base);
         }
-    }
-
-    /// What follows the first letter of a type that isn't one of the base types.
-    #[cycle(readers)]
-    #[tactic(auto, using(crate::proofs::Readers::compound_split), unfolding(crate::specs::Parser::type_by))]
-    fn compound_type(&mut self, letter: u8, q: StorageClass) -> Result<Type<'a>, Refusal>
-        ensures value { Gives (λ t. (type_of t, self.new.rest.now, state_of self.new)) result
-            (type_by q.0 (lookup letter compound_letters) self.old.rest.now (state_of self.old)) }
-        ensures shorter { IfOk result (λ _. length self.new.rest.now ≤ length self.old.rest.now) }
-    {
         let both = StorageClass::CONST.union(StorageClass::VOLATILE);
         match letter {
             b'T' => Ok(Type::Union(self.qualified_name(false)?, q)),
@@ -138,7 +110,7 @@ impl<'a> Parser<'a> {
 
     /// `POINTEE = ["E"] [storage class] TYPE`.
     #[cycle(readers)]
-    #[tactic(auto, using(crate::proofs::Steps::pointee_is))]
+    #[tactic(auto, using(crate::proofs::TypeSteps::pointee_is))]
     fn pointee(&mut self) -> Result<Box<Type<'a>>, Refusal>
         ensures value { Gives (λ b. (type_of b.value, self.new.rest.now, state_of self.new)) result
             (read_name pointee self.old.rest.now (state_of self.old)) }
@@ -151,6 +123,7 @@ impl<'a> Parser<'a> {
 
     /// A type in a box of its own.
     #[cycle(readers)]
+    #[inline(always)]
     pub fn boxed_type(&mut self, q: StorageClass) -> Result<Box<Type<'a>>, Refusal>
         ensures value { Gives (λ b. (type_of b.value, self.new.rest.now, state_of self.new)) result
             (read_name (any_type q.0) self.old.rest.now (state_of self.old)) }
@@ -162,6 +135,7 @@ impl<'a> Parser<'a> {
 
     /// A function without qualifiers of its own, in a box.
     #[cycle(readers)]
+    #[inline(always)]
     fn boxed_function(&mut self) -> Result<Box<Type<'a>>, Refusal>
         ensures value { Gives (λ b. (type_of b.value, self.new.rest.now, state_of self.new)) result
             (read_name (function_type true) self.old.rest.now (state_of self.old)) }
@@ -173,7 +147,7 @@ impl<'a> Parser<'a> {
 
     /// `ARRAY = NUMBER {NUMBER} ["$$C" plain qualifier] TYPE`: the first number says how many lengths follow.
     #[cycle(readers)]
-    #[tactic(auto, using(crate::proofs::Steps::array_is))]
+    #[tactic(auto, using(crate::proofs::TypeSteps::array_is))]
     #[inline(never)]
     fn array(&mut self) -> Result<Type<'a>, Refusal>
         ensures value { Gives (λ t. (type_of t, self.new.rest.now, state_of self.new)) result
@@ -190,7 +164,7 @@ impl<'a> Parser<'a> {
 
 impl<'a> Parser<'a> {
     /// A number above 0.
-    #[tactic(auto, using(crate::proofs::Steps::dimension_is))]
+    #[tactic(auto, using(crate::proofs::TypeSteps::dimension_is))]
     fn dimension(&mut self) -> Result<u32, Refusal>
         ensures value { Gives (λ n. (n, self.new.rest.now, state_of self.new)) result
             (read_name dimension self.old.rest.now (state_of self.old)) }
@@ -204,7 +178,7 @@ impl<'a> Parser<'a> {
     }
 
     /// As many numbers.
-    #[tactic(auto, using(crate::proofs::Steps::lengths_go_on))]
+    #[tactic(auto, using(crate::proofs::RowSteps::lengths_go_on))]
     fn lengths(&mut self, count: u32) -> Result<Vec<i32>, Refusal>
         ensures value { Gives (λ v. (v.items, self.new.rest.now, state_of self.new)) result
             (read_name (lengths count) self.old.rest.now (state_of self.old)) }
@@ -218,7 +192,7 @@ impl<'a> Parser<'a> {
     }
 
     /// The qualifiers of each level of an array.
-    #[tactic(auto, using(crate::proofs::Steps::array_class_is))]
+    #[tactic(auto, using(crate::proofs::TypeSteps::array_class_is))]
     fn array_class(&mut self) -> Result<StorageClass, Refusal>
         ensures value { Gives (λ q. (q.0, self.new.rest.now, state_of self.new)) result
             (read array_class self.old.rest.now (state_of self.old)) }
@@ -256,7 +230,7 @@ impl<'a> Parser<'a> {
     }
 
     /// The base type of a second letter.
-    #[tactic(auto, using(crate::proofs::Steps::extended_is))]
+    #[tactic(auto, using(crate::proofs::TypeSteps::extended_is))]
     #[inline(never)]
     fn extended_type(&mut self, q: StorageClass) -> Result<Type<'a>, Refusal>
         ensures value { Gives (λ t. (type_of t, self.new.rest.now, state_of self.new)) result

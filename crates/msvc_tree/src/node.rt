@@ -59,6 +59,7 @@ pub enum TypeNode<'t, 'a> {
 }
 
 /// The node of a name.
+#[inline(always)]
 pub fn name_node<'t, 'a>(tree: &'t Name<'a>) -> NameNode<'t, 'a>
     ensures { name_in result ≡ name_of tree.now }
 {
@@ -75,6 +76,7 @@ pub fn name_node<'t, 'a>(tree: &'t Name<'a>) -> NameNode<'t, 'a>
 }
 
 /// The node of an operator.
+#[inline(always)]
 pub fn operator_node<'t, 'a>(tree: &'t Operator<'a>) -> OperatorNode<'t, 'a>
     ensures { operator_in result ≡ operator_of tree.now }
 {
@@ -168,6 +170,7 @@ pub fn operator_node<'t, 'a>(tree: &'t Operator<'a>) -> OperatorNode<'t, 'a>
 }
 
 /// The node of a type.
+#[inline(always)]
 pub fn type_node<'t, 'a>(tree: &'t Type<'a>) -> TypeNode<'t, 'a>
     ensures { type_in result ≡ without_class (type_of tree.now) }
 {

@@ -5,7 +5,7 @@
 ghost use Rattle.std.specs.Prelude.{◌≡◌, IfOk, option_map, string_bytes};
 ghost use Rattle.msvc_tree.specs.View.{name_of, operator_of, type_of, scope_of, params_of, tree_of};
 
-use crate::made::{boxed_made, push_made};
+use crate::made::{boxed_made, push_item, push_made};
 use crate::node::{
     NameNode, OperatorNode, TypeNode, name_node, operator_node, pointed_class, type_node,
 };
@@ -15,6 +15,7 @@ use std::alloc::{AllocError, Global};
 impl<'a> Name<'a> {
     /// A copy of the name, with the same parts of the text.
     #[cycle(clone)]
+    #[inline(always)]
     pub fn clone(&self, alloc: Global) -> Result<Self, AllocError>
         ensures { IfOk result (λ n. name_of n ≡ name_of self.now) }
     {
@@ -36,28 +37,36 @@ impl<'a> Name<'a> {
 }
 
 impl<'a> NameSequence<'a> {
-    /// A copy of the scope, name by name.
+    /// A copy of the scope, name by name. A name that is only spelled, as most are, is made where it stays.
     #[cycle(clone)]
+    #[inline(always)]
     pub fn clone(&self, alloc: Global) -> Result<Self, AllocError>
         ensures { IfOk result (λ s. scope_of s ≡ scope_of self.now) }
     {
         let mut names = Vec::with_capacity(alloc, self.names.len())?;
         for name in &self.names {
-            push_made(&mut names, name.clone(alloc))?;
+            match name_node(name) {
+                NameNode::Spelled(how, text) => push_item(&mut names, how.name(text))?,
+                _ => push_made(&mut names, name.clone(alloc))?,
+            }
         }
         Ok(NameSequence { names })
     }
 }
 
 impl<'a> Params<'a> {
-    /// A copy of the list, type by type.
+    /// A copy of the list, type by type. A base type, as most are, is made where it stays.
     #[cycle(clone)]
+    #[inline(always)]
     pub fn clone(&self, alloc: Global) -> Result<Self, AllocError>
         ensures { IfOk result (λ p. params_of p ≡ params_of self.now) }
     {
         let mut types = Vec::with_capacity(alloc, self.types.len())?;
         for item in &self.types {
-            push_made(&mut types, item.clone(alloc))?;
+            match type_node(item) {
+                TypeNode::Base(base, set) => push_item(&mut types, base.base_type(set))?,
+                _ => push_made(&mut types, item.clone(alloc))?,
+            }
         }
         Ok(Params { types })
     }
@@ -66,6 +75,7 @@ impl<'a> Params<'a> {
 impl<'a> Symbol<'a> {
     /// A copy of the name and of its scope.
     #[cycle(clone)]
+    #[inline(always)]
     pub fn clone(&self, alloc: Global) -> Result<Self, AllocError>
         ensures name { IfOk result (λ s. name_of s.name ≡ name_of self.now.name) }
         ensures scope { IfOk result (λ s. scope_of s.scope ≡ scope_of self.now.scope) }
@@ -159,6 +169,7 @@ impl<'a> Type<'a> {
 }
 
 #[cycle(clone)]
+#[inline(always)]
 fn clone_boxed<'a>(inner: &Type<'a>, alloc: Global) -> Result<Box<Type<'a>>, AllocError>
     ensures { IfOk result (λ b. type_of b.value ≡ type_of inner.now) }
 {

@@ -1,6 +1,6 @@
 use mir.Val.{to_z, of_z}
-use Rattle.std.proofs.Common.{◌≡◌, ◌<◌, rules, [], ◌∷◌, ◌++◌, get_or, refl, sym, ap, ◌∙◌, subst, map, take, arith}
-use Rattle.std.proofs.lemmas.List.{map_more, take_all}
+use Rattle.std.proofs.Common.{◌≡◌, ◌<◌, ◌+◌, rules, [], ◌∷◌, ◌++◌, get_or, refl, sym, ap, ◌∙◌, subst, map, take, arith}
+use Rattle.std.proofs.lemmas.List.{map-append, map_more, take_all}
 use Rattle.std.specs.Int.{w32}
 use Rattle.msvc_tree.specs.Sizes.{name_size, names_size, type_size, types_size}
 use Rattle.msvc_tree.specs.Trees.{array, function, member_function, member_pointer, pointing, template, variable}
@@ -12,6 +12,8 @@ use Rattle.msvc_tree.proofs.Nodes.{without-is, pointer-is}
 use Rattle.msvc_tree.proofs.Views.{name_of-Template, operator_of-RTTIBaseClassDescriptor, type_of-Array}
 use Rattle.msvc_tree.proofs.Views.{type_of-NonMemberFunction, type_of-MemberFunction, type_of-MemberFunctionPointer}
 use Rattle.msvc_tree.proofs.Views.{type_of-Var}
+use Rattle.msvc_tree.proofs.tree.+clone.Goals.{Params::clone-in-Base+in_ok-push_item-in-Base}
+use Rattle.msvc_tree.proofs.tree.+clone.Goals.{Params::clone-in_default+in_ok-push_made-in_default}
 use Rattle.msvc_tree.proofs.tree.+clone.Goals as goal
 
 pub Name::clone-returns-in_ok-boxed_made-in-Template : goal.Name::clone-returns-in_ok-boxed_made-in-Template
@@ -58,11 +60,21 @@ pub Params::clone-loop-item-preserved : goal.Params::clone-loop-item-preserved
 Params::clone-loop-item-preserved t c =
     let x = c.item-item.result in
     let items = c.deref-item-items.result.now in
-    let before = take c.loop-item.item-index items in
-    pushed-seen _ type_of _ _ _ _ (type_of x) c.in_ok-push_made.ensures c.clone.ensures
-    ∙ ap (λ ts. ts ++ type_of x ∷ []) c.loop-item.invariant
-    ∙ ap (λ y. map type_of before ++ type_of y ∷ []) c.item-item.is
-    ∙ sym (map_more type_of items c.loop-item.item-index x (omega arith))
+    let copied = map type_of c.loop-item.types.items in
+    let next : copied ++ type_of x ∷ [] ≡ map type_of (take (c.loop-item.item-index + 1) items) =
+    ap (λ ts. ts ++ type_of x ∷ []) c.loop-item.invariant
+    ∙ ap (λ y. map type_of (take c.loop-item.item-index items) ++ type_of y ∷ []) c.item-item.is
+    ∙ sym (map_more type_of items c.loop-item.item-index x (omega arith)) in
+    elim c.match-type_node.branch [
+      | Params::clone-in-Base+in_ok-push_item-in-Base w ↦
+          ap (λ v. map type_of v.items) w.types-is ∙ ap (map type_of) w.in_ok-push_item-in-Base.ensures
+          ∙ map-append type_of c.loop-item.types.items (w.base_type.result ∷ [])
+          ∙ ap (λ y. copied ++ y ∷ []) (w.base_type.ensures ∙ without-is (type_of x) _ refl w.in-Base.ensures)
+          ∙ next
+      | Params::clone-in_default+in_ok-push_made-in_default w ↦
+          ap (λ v. map type_of v.items) w.types-is
+          ∙ pushed-seen _ type_of _ _ _ _ (type_of x) w.in_ok-push_made-in_default.ensures w.clone.ensures ∙ next
+    ]
 
 pub Params::clone-returns : goal.Params::clone-returns
 Params::clone-returns t c =

@@ -1,43 +1,152 @@
-use Rattle.std.proofs.Common.{rules, ◌≡◌, ◌∷◌, [], ◌++◌, ◌<◌, Some, None, List, true, false, sym, ap, ◌∙◌, arith, length}
-use Rattle.std.proofs.Common.{◌≤◌, of_z, pos, to_z, w32}
+use Rattle.std.proofs.Common.{rules, ◌≡◌, ◌∷◌, [], ◌++◌, ◌<◌, Some, None, List, true, false, sym, ap, ◌∙◌, arith}
+use Rattle.std.proofs.Common.{length}
+use Rattle.std.proofs.Common.{◌≤◌, of_z, pos, refl, to_z, w32}
 use Rattle.std.proofs.lemmas.Int.{to_z-of_z, to_z_pos}
 use Rattle.std.specs.Prelude.{bit_or, codes, map, slice_get}
-use Rattle.msvc_tree.proofs.Views.{type_of-MemberFunctionPointer, type_of-NonMemberFunction}
-use Rattle.msvc_tree.specs.Trees.{NameTree, TypeTree, function, name_trees, numbered, type_trees}
+use Rattle.msvc_tree.proofs.Views.{type_of-MemberFunctionPointer, type_of-NonMemberFunction, type_of-Ptr}
+use Rattle.msvc_tree.specs.Trees.{NameTree, TypeTree, function, name_trees, numbered, pointing, type_trees}
+use Rattle.msvc_tree.specs.declared.kinds.Mark.TheVariants as mark_kind
 use Rattle.msvc_tree.specs.declared.kinds.NumberedType.TheVariants as number_kind
 use Rattle.msvc_tree.specs.Trees.{member_pointer as member_pointer_tree}
 use Rattle.msvc_tree.specs.View.{name_of, type_of, types_in}
-use Rattle.msvc_tree.specs.declared.tree.Type.{MemberFunctionPointer, NonMemberFunction, ThreadSafeStaticGuard}
+use Rattle.msvc_tree.specs.declared.tree.Type.{MemberFunctionPointer, NonMemberFunction}
 use Rattle.msvc_read.proofs.Carried.{pushed, map_last}
-use Rattle.msvc_read.proofs.Readers.{names_in-is, type_of-ThreadSafeStaticGuard, types_in-is}
-use Rattle.msvc_read.proofs.Steps.{function_step, member_letter, named_symbol_is, parameters_more, referred_step}
-use Rattle.msvc_read.proofs.Steps.{scope_more, with_front}
-use Rattle.msvc_read.proofs.SymbolSteps.{decimals, numbered_guard_reads}
-use Rattle.msvc_read.proofs.TypeSteps.{function_type_reads, member_pointer_reads}
+use Rattle.msvc_read.proofs.Readers.{names_in-is, types_in-is}
+use Rattle.msvc_read.proofs.FunctionSteps.{function_type_reads, member_pointer_reads}
+use Rattle.msvc_read.proofs.GuardSteps.{decimals, numbered_guard_reads}
+use Rattle.msvc_read.proofs.RowSteps.{parameters_more, scope_more, with_front}
+use Rattle.msvc_read.proofs.SymbolSteps.{encoding_first, function_step, member_letter, named_symbol_is}
+use Rattle.msvc_read.proofs.SymbolSteps.{no_member_letter}
+use Rattle.msvc_read.proofs.TypeSteps.{plain_other, points_step, referred_step}
 use Rattle.msvc_read.specs.Grammar.{class_of_returned, compound_letters, conventions, digits, encoding_letters}
-use Rattle.msvc_read.specs.Grammar.{function_classes, pointer_sizes}
-use Rattle.msvc_read.specs.Parser.{encoding_by, indexed, member_by, nested_in_scope, parameters_stop, state_of, type_by}
+use Rattle.msvc_read.specs.Grammar.{function_classes, numbered_guard, pointer_sizes, rows_of}
+use Rattle.msvc_read.specs.Parser.{byte_here, encoding_by, indexed, parameters_stop, state_of, type_by}
 use Rattle.msvc_read.specs.Reads.{and_then, letter_here, read, read_name, type_known, with_value}
-use Rattle.msvc_read.specs.Rules.{after, encoding, literal, lookup, nested_name, parameter, parameters, qualified_name, scope}
+use Rattle.msvc_read.specs.Rules.{after, encoding, literal, lookup, nested_name, parameter, parameters, plain_type}
+use Rattle.msvc_read.specs.Rules.{encoding_behind, pointee, qualified_name, scope}
+use Rattle.msvc_read.specs.Sorts.{member_of}
 use Rattle.msvc_read.specs.Rules.{any_type, class_part, function_parameters, optional, own_qualifiers, signature}
 use Rattle.msvc_read.proofs.parser.Parser.+readers.Goals as goal
 
--- a letter that isn't one of the others is a digit or none
-pub compound_type-returns-in_default-clause-value : goal.compound_type-returns-in_default-clause-value
-compound_type-returns-in_default-clause-value t c =
-    let same : type_by c.args.q.0 (lookup c.args.letter compound_letters) c.args.self.now.rest.now
-    (state_of c.args.self.now)
-    ≡ and_then (with_value (lookup c.args.letter digits) c.args.self.now.rest.now (state_of c.args.self.now))
+-- a letter that is none of the others is a digit or none
+pub plain_type-returns-in_default-letter-clause-value : goal.plain_type-returns-in_default-letter-clause-value
+plain_type-returns-in_default-letter-clause-value t c =
+    let first : byte_here c.args.self.now.rest.now (state_of c.args.self.now)
+    ≡ Some (c.in_ok-letter.letter, c.byte.new.self.rest.now, state_of c.byte.new.self) = c.in_ok-letter.ensures.value in
+    let same : type_by c.args.q.0 (lookup c.in_ok-letter.letter compound_letters) c.byte.new.self.rest.now
+    (state_of c.byte.new.self)
+    ≡ and_then (with_value (lookup c.in_ok-letter.letter digits) c.byte.new.self.rest.now (state_of c.byte.new.self))
     (λ i left s. type_known (slice_get s.types i) left s) = search (rules, referred_step) in
-    rw same c.type_entry.ensures
+    let read : read_name (plain_type c.args.q.0) c.args.self.now.rest.now (state_of c.args.self.now)
+    ≡ and_then (with_value (lookup c.in_ok-letter.letter digits) c.byte.new.self.rest.now (state_of c.byte.new.self))
+    (λ i left s. type_known (slice_get s.types i) left s) =
+    plain_other c.args.q.0 c.in_ok-letter.letter c.args.self.now.rest.now c.byte.new.self.rest.now
+    (state_of c.args.self.now) (state_of c.byte.new.self) first (sym c.in_default.ensures) ∙ same in
+    rw read c.type_entry.ensures
 
--- a letter that isn't one of the others is that of a member function or none
-pub encoding_behind-returns-in_default-clause-value : goal.encoding_behind-returns-in_default-clause-value
-encoding_behind-returns-in_default-clause-value t c =
-    let same : encoding_by (lookup c.args.letter encoding_letters) c.args.self.now.rest.now (state_of c.args.self.now)
-    ≡ member_by (lookup c.args.letter function_classes) c.args.self.now.rest.now (state_of c.args.self.now) =
-    search (rules, member_letter) in
-    rw same c.member_encoding.ensures.value
+-- a pointer with both qualifiers
+pub plain_type-returns-in_ok-pointee-in-83-clause-value : goal.plain_type-returns-in_ok-pointee-in-83-clause-value
+unfolding type_by
+plain_type-returns-in_ok-pointee-in-83-clause-value t c =
+    let letter : c.in_ok-letter.letter ≡ 83 = c.in-83.is in
+    let first : byte_here c.args.self.now.rest.now (state_of c.args.self.now)
+    ≡ Some (c.in_ok-letter.letter, c.byte.new.self.rest.now, state_of c.byte.new.self) = c.in_ok-letter.ensures.value in
+    let type : TypeTree = type_of c.in_ok-pointee-in-83.field-0.value in
+    let pointed : read_name pointee c.byte.new.self.rest.now (state_of c.byte.new.self)
+    ≡ Some (type, c.pointee-in-83.new.self.rest.now, state_of c.pointee-in-83.new.self) =
+    c.in_ok-pointee-in-83.ensures.value in
+    let both : c.union-both.result.0 ≡ 3 = search rules in
+    plain_other c.args.q.0 83 c.args.self.now.rest.now c.byte.new.self.rest.now (state_of c.args.self.now)
+    (state_of c.byte.new.self) (rw letter at first) refl
+    ∙ points_step c.args.q.0 mark_kind.Pointer (Some 3) c.byte.new.self.rest.now (state_of c.byte.new.self)
+    ∙ ap (λ o. and_then o (λ x l u. Some (pointing mark_kind.Pointer x 3, l, u))) pointed
+    ∙ ap (λ w. Some (
+      pointing mark_kind.Pointer type w,
+      c.pointee-in-83.new.self.rest.now,
+      state_of c.pointee-in-83.new.self,
+    )) (sym both)
+    ∙ ap (λ (x : TypeTree). Some (x, c.pointee-in-83.new.self.rest.now, state_of c.pointee-in-83.new.self))
+    (sym (type_of-Ptr c.in_ok-pointee-in-83.field-0 c.union-both.result))
+
+-- a letter that is none of the others is that of a member function or none
+
+pub encoding-returns-in-Some-function_class-clause-value : goal.encoding-returns-in-Some-function_class-clause-value
+encoding-returns-in-Some-function_class-clause-value t c =
+    let first : byte_here c.args.self.now.rest.now (state_of c.args.self.now)
+    ≡ Some (c.in-Some.letter, c.next_byte.new.self.rest.now, state_of c.next_byte.new.self) =
+    sym c.in-Some.ensures.value in
+    let others : encoding_by (lookup c.in-Some.letter encoding_letters) c.next_byte.new.self.rest.now
+    (state_of c.next_byte.new.self)
+    ≡ encoding_by (lookup c.in-Some.letter (rows_of member_of function_classes [])) c.next_byte.new.self.rest.now
+    (state_of c.next_byte.new.self) = search rules in
+    let class : lookup c.in-Some.letter function_classes ≡ Some c.in-Some-function_class.class.0 =
+    sym c.in-Some-function_class.ensures in
+    let read : read_name encoding c.args.self.now.rest.now (state_of c.args.self.now)
+    ≡ read_name (encoding_behind (member_of c.in-Some-function_class.class.0)) c.next_byte.new.self.rest.now
+    (state_of c.next_byte.new.self) =
+    encoding_first c.in-Some.letter c.args.self.now.rest.now c.next_byte.new.self.rest.now (state_of c.args.self.now)
+    (state_of c.next_byte.new.self) first
+    ∙ others
+    ∙ member_letter c.in-Some.letter c.in-Some-function_class.class.0 c.next_byte.new.self.rest.now
+    (state_of c.next_byte.new.self) class in
+    rw read c.member.ensures.value
+
+pub encoding-returns-in-None-clause-value : goal.encoding-returns-in-None-clause-value
+encoding-returns-in-None-clause-value t c =
+    let first : byte_here c.args.self.now.rest.now (state_of c.args.self.now)
+    ≡ Some (c.in-Some.letter, c.next_byte.new.self.rest.now, state_of c.next_byte.new.self) =
+    sym c.in-Some.ensures.value in
+    let others : encoding_by (lookup c.in-Some.letter encoding_letters) c.next_byte.new.self.rest.now
+    (state_of c.next_byte.new.self)
+    ≡ encoding_by (lookup c.in-Some.letter (rows_of member_of function_classes [])) c.next_byte.new.self.rest.now
+    (state_of c.next_byte.new.self) = search rules in
+    let none : lookup c.in-Some.letter function_classes ≡ None = sym c.in-None.ensures in
+    let read : read_name encoding c.args.self.now.rest.now (state_of c.args.self.now) ≡ None =
+    encoding_first c.in-Some.letter c.args.self.now.rest.now c.next_byte.new.self.rest.now (state_of c.args.self.now)
+    (state_of c.next_byte.new.self) first
+    ∙ others
+    ∙ no_member_letter c.in-Some.letter c.next_byte.new.self.rest.now (state_of c.next_byte.new.self) none in
+    rw c.refuse.ensures read
+
+-- a guard of its number, and of a name in its scope
+pub numbered_guard-returns-clause-value : goal.numbered_guard-returns-clause-value
+numbered_guard-returns-clause-value t c =
+    let name : NameTree = name_of c.in_ok-name.name in
+    let names : List NameTree = map name_of c.in_ok-scope.scope.names.items in
+    let number : decimals c.args.self.now.rest.now (state_of c.args.self.now)
+    ≡ Some (c.in_ok-number.number, c.guard_number.new.self.rest.now, state_of c.guard_number.new.self) =
+    c.in_ok-number.ensures.value in
+    let named : read_name nested_name c.guard_number.new.self.rest.now (state_of c.guard_number.new.self)
+    ≡ Some (name, c.nested_name.new.self.rest.now, state_of c.nested_name.new.self) = c.in_ok-name.ensures.value in
+    let scoped : read_name scope c.nested_name.new.self.rest.now (state_of c.nested_name.new.self)
+    ≡ Some (names, c.scope.new.self.rest.now, state_of c.scope.new.self) = c.in_ok-scope.ensures.value in
+    let small : c.in_ok-number.number < 2147483648 = omega (arith, c.in_ok-number.ensures.small) in
+    let same : to_z w32 (of_z w32 c.cast_signed.result) ≡ c.cast_signed.result = search (rules, to_z-of_z) in
+    let value : to_z w32 (of_z w32 c.cast_signed.result) ≡ pos c.in_ok-number.number =
+    same ∙ c.cast_signed.ensures ∙ to_z_pos w32 c.in_ok-number.number small in
+    let read : read numbered_guard c.args.self.now.rest.now (state_of c.args.self.now)
+    ≡ and_then (read (literal (codes "4HA")) c.scope.new.self.rest.now (state_of c.scope.new.self))
+    (λ _ left s. Some (
+      record {
+        name = name;
+        scope = name_trees names;
+        symbol_type = numbered number_kind.ThreadSafeGuard (to_z w32 (of_z w32 c.cast_signed.result));
+      },
+      left,
+      s,
+    )) =
+    numbered_guard_reads c.args.self.now.rest.now c.guard_number.new.self.rest.now c.nested_name.new.self.rest.now
+    c.scope.new.self.rest.now (state_of c.args.self.now) (state_of c.guard_number.new.self)
+    (state_of c.nested_name.new.self) (state_of c.scope.new.self) c.in_ok-number.number name names number named scoped
+    ∙ ap
+    (λ z. and_then (read (literal (codes "4HA")) c.scope.new.self.rest.now (state_of c.scope.new.self))
+    (λ _ left s. Some (
+      record { name = name; scope = name_trees names; symbol_type = numbered number_kind.ThreadSafeGuard z },
+      left,
+      s,
+    )))
+    (sym value) in
+    rw read c.guard_of_number.ensures.value
 
 -- the new name goes behind those so far
 pub scope-names-preserved : goal.scope-names-preserved
@@ -105,51 +214,6 @@ named_symbol-returns-clause-value t c =
       record { name = name; scope = ns; symbol_type = type },
       c.encoding.new.self.rest.now,
       state_of c.encoding.new.self,
-    ))
-    (sym (names_in-is c.in_ok-symbol.symbol.scope.names.items))
-
--- a guard of its number, and of a name in its scope
-pub numbered_guard-returns-clause-value : goal.numbered_guard-returns-clause-value
-numbered_guard-returns-clause-value t c =
-    let name : NameTree = name_of c.in_ok-symbol.symbol.name in
-    let scope : List NameTree = map name_of c.in_ok-symbol.symbol.scope.names.items in
-    let number : decimals c.args.self.now.rest.now (state_of c.args.self.now)
-    ≡ Some (c.in_ok-number.number, c.guard_number.new.self.rest.now, state_of c.guard_number.new.self) =
-    c.in_ok-number.ensures.value in
-    let named : nested_in_scope c.guard_number.new.self.rest.now (state_of c.guard_number.new.self)
-    ≡ Some ((name, scope), c.nested_symbol_name.new.self.rest.now, state_of c.nested_symbol_name.new.self) =
-    c.in_ok-symbol.ensures.value in
-    let ended : read (literal (codes "4HA")) c.nested_symbol_name.new.self.rest.now
-    (state_of c.nested_symbol_name.new.self)
-    ≡ Some (tt, c.expected.new.self.rest.now, state_of c.expected.new.self) = c.in_default.ensures.value in
-    let small : c.in_ok-number.number < 2147483648 = omega (arith, c.in_ok-number.ensures.small) in
-    let value : c.cast_signed.result ≡ pos c.in_ok-number.number =
-    c.cast_signed.ensures ∙ to_z_pos w32 c.in_ok-number.number small in
-    let same : to_z w32 (of_z w32 c.cast_signed.result) ≡ c.cast_signed.result = search (rules, to_z-of_z) in
-    let view : type_of (ThreadSafeStaticGuard (to_z w32 (of_z w32 c.cast_signed.result)))
-    ≡ numbered number_kind.ThreadSafeGuard (pos c.in_ok-number.number) =
-    type_of-ThreadSafeStaticGuard (to_z w32 (of_z w32 c.cast_signed.result))
-    ∙ ap (numbered number_kind.ThreadSafeGuard) (same ∙ value) in
-    numbered_guard_reads c.args.self.now.rest.now c.guard_number.new.self.rest.now
-    c.nested_symbol_name.new.self.rest.now c.expected.new.self.rest.now (state_of c.args.self.now)
-    (state_of c.guard_number.new.self) (state_of c.nested_symbol_name.new.self) (state_of c.expected.new.self)
-    c.in_ok-number.number name scope number named ended
-    ∙ ap
-    (λ (x : TypeTree). Some (
-      record { name = name; scope = name_trees scope; symbol_type = x },
-      c.expected.new.self.rest.now,
-      state_of c.expected.new.self,
-    ))
-    (sym view)
-    ∙ ap
-    (λ ns. Some (
-      record {
-        name = name;
-        scope = ns;
-        symbol_type = type_of (ThreadSafeStaticGuard (to_z w32 (of_z w32 c.cast_signed.result)));
-      },
-      c.expected.new.self.rest.now,
-      state_of c.expected.new.self,
     ))
     (sym (names_in-is c.in_ok-symbol.symbol.scope.names.items))
 

@@ -4,7 +4,7 @@ use Rattle.msvc_tree.specs.View.{name_of, type_of}
 use Rattle.msvc_read.specs.Parser.{state_of}
 use Rattle.msvc_read.specs.Reads.{read_name}
 use Rattle.msvc_read.specs.Rules.{parameters, scope}
-use Rattle.msvc_read.proofs.Steps.{with_front}
+use Rattle.msvc_read.proofs.RowSteps.{with_front}
 use Rattle.msvc_read.proofs.parser.Parser.+readers.Given as goal
 
 -- Where as many bytes are left, a reader calls only those with a smaller number.
@@ -24,20 +24,11 @@ decreases-boxed_type l = level l.self.now.rest.now 2
 abbrev pub decreases-boxed_name : goal.decreases-boxed_name
 decreases-boxed_name l = level l.self.now.rest.now 2
 
-abbrev pub decreases-compound_type : goal.decreases-compound_type
-decreases-compound_type l = level l.self.now.rest.now 4
+abbrev pub decreases-boxed_function : goal.decreases-boxed_function
+decreases-boxed_function l = level l.self.now.rest.now 5
 
 abbrev pub decreases-formed_type : goal.decreases-formed_type
 decreases-formed_type l = level l.self.now.rest.now 6
-
-abbrev pub decreases-requalified_type : goal.decreases-requalified_type
-decreases-requalified_type l = level l.self.now.rest.now 1
-
-abbrev pub decreases-marked_member_pointer : goal.decreases-marked_member_pointer
-decreases-marked_member_pointer l = level l.self.now.rest.now 5
-
-abbrev pub decreases-boxed_function : goal.decreases-boxed_function
-decreases-boxed_function l = level l.self.now.rest.now 5
 
 abbrev pub decreases-function_type : goal.decreases-function_type
 decreases-function_type l = level l.self.now.rest.now 4
@@ -47,9 +38,6 @@ decreases-member_pointer l = level l.self.now.rest.now 4
 
 abbrev pub decreases-encoding : goal.decreases-encoding
 decreases-encoding l = level l.self.now.rest.now 10
-
-abbrev pub decreases-encoding_behind : goal.decreases-encoding_behind
-decreases-encoding_behind l = level l.self.now.rest.now 9
 
 abbrev pub decreases-function : goal.decreases-function
 decreases-function l = level l.self.now.rest.now 7
@@ -63,20 +51,11 @@ decreases-marked_name l = level l.self.now.rest.now 7
 abbrev pub decreases-member : goal.decreases-member
 decreases-member l = level l.self.now.rest.now 7
 
-abbrev pub decreases-member_encoding : goal.decreases-member_encoding
-decreases-member_encoding l = level l.self.now.rest.now 8
-
 abbrev pub decreases-named_symbol : goal.decreases-named_symbol
 decreases-named_symbol l = level l.self.now.rest.now 4
 
 abbrev pub decreases-nested_name : goal.decreases-nested_name
 decreases-nested_name l = level l.self.now.rest.now 1
-
-abbrev pub decreases-nested_symbol : goal.decreases-nested_symbol
-decreases-nested_symbol l = level l.self.now.rest.now 6
-
-abbrev pub decreases-new_parameter : goal.decreases-new_parameter
-decreases-new_parameter l = level l.self.now.rest.now 2
 
 abbrev pub decreases-parameter : goal.decreases-parameter
 decreases-parameter l = level l.self.now.rest.now 3
@@ -108,14 +87,8 @@ decreases-symbol_body l = level l.self.now.rest.now 5
 abbrev pub decreases-template : goal.decreases-template
 decreases-template l = level l.self.now.rest.now 5
 
-abbrev pub decreases-template_kept : goal.decreases-template_kept
-decreases-template_kept l = level l.self.now.rest.now 7
-
 abbrev pub decreases-template_name : goal.decreases-template_name
 decreases-template_name l = level l.self.now.rest.now 6
-
-abbrev pub decreases-template_symbol : goal.decreases-template_symbol
-decreases-template_symbol l = level l.self.now.rest.now 8
 
 abbrev pub decreases-unqualified_name : goal.decreases-unqualified_name
 decreases-unqualified_name l = level l.self.now.rest.now 1
@@ -126,14 +99,8 @@ decreases-variable l = level l.self.now.rest.now 8
 abbrev pub decreases-special_name : goal.decreases-special_name
 decreases-special_name l = level l.self.now.rest.now 8
 
-abbrev pub decreases-type_descriptor : goal.decreases-type_descriptor
-decreases-type_descriptor l = level l.self.now.rest.now 8
-
 abbrev pub decreases-numbered_guard : goal.decreases-numbered_guard
 decreases-numbered_guard l = level l.self.now.rest.now 8
-
-abbrev pub decreases-nested_symbol_name : goal.decreases-nested_symbol_name
-decreases-nested_symbol_name l = level l.self.now.rest.now 3
 
 abbrev pub decreases-table : goal.decreases-table
 decreases-table l = level l.self.now.rest.now 8

@@ -2,7 +2,7 @@ use Rattle.std.proofs.Common.{◌≡◌, Some, None, sym}
 use Rattle.msvc_read.specs.Parser.{byte_here, state_of}
 use Rattle.msvc_read.specs.Reads.{read_name}
 use Rattle.msvc_read.specs.Rules.{character}
-use Rattle.msvc_read.proofs.SymbolSteps.{character_other}
+use Rattle.msvc_read.proofs.StringSteps.{character_other}
 use Rattle.msvc_read.proofs.parser.Parser.character.Goals as goal
 
 -- the letter is one of the table

@@ -1,7 +1,7 @@
 use Rattle.std.proofs.Common.{rules, ◌≡◌, ◌∷◌, ◌+◌, ◌-◌, suc, List, [], ◌++◌, Some, sym, ap, ◌∙◌, arith, ℕ}
 use Rattle.std.proofs.lemmas.Grind.{common_steps}
-use Rattle.msvc_read.proofs.Steps.{with_front}
-use Rattle.msvc_read.proofs.SymbolSteps.{characters_more}
+use Rattle.msvc_read.proofs.RowSteps.{with_front}
+use Rattle.msvc_read.proofs.StringSteps.{characters_more}
 use Rattle.msvc_read.specs.Parser.{state_of}
 use Rattle.msvc_read.specs.Reads.{read_name}
 use Rattle.msvc_read.specs.Rules.{character, characters}

@@ -2,7 +2,7 @@ use Rattle.std.proofs.Common.{◌≡◌, ◌≤◌, ◌-◌, length}
 use Rattle.msvc_read.specs.Parser.{state_of}
 use Rattle.msvc_read.specs.Reads.{read_name}
 use Rattle.msvc_read.specs.Rules.{characters}
-use Rattle.msvc_read.proofs.Steps.{with_front}
+use Rattle.msvc_read.proofs.RowSteps.{with_front}
 use Rattle.msvc_read.proofs.parser.Parser.characters.Given as goal
 
 -- the characters so far, before those that are still to be read, are all the characters

@@ -2,7 +2,7 @@ use Rattle.std.proofs.Common.{◌≡◌, Some, None, sym}
 use Rattle.msvc_read.specs.Parser.{byte_here, state_of}
 use Rattle.msvc_read.specs.Reads.{read}
 use Rattle.msvc_read.specs.Grammar.{escaped_character}
-use Rattle.msvc_read.proofs.SymbolSteps.{escaped_other}
+use Rattle.msvc_read.proofs.StringSteps.{escaped_other}
 use Rattle.msvc_read.proofs.parser.Parser.escaped_character.Goals as goal
 
 -- the letter is one of the table

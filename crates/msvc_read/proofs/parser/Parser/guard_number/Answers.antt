@@ -3,7 +3,7 @@ use Rattle.msvc_read.specs.Grammar.{digits}
 use Rattle.msvc_read.specs.Parser.{state_of}
 use Rattle.msvc_read.specs.Reads.{letter_here, read_name}
 use Rattle.msvc_read.specs.Rules.{decimal}
-use Rattle.msvc_read.proofs.SymbolSteps.{decimal_more, kept}
+use Rattle.msvc_read.proofs.GuardSteps.{decimal_more, kept}
 use Rattle.msvc_read.proofs.parser.Parser.guard_number.Goals as goal
 
 -- the value with one more digit, before the rest

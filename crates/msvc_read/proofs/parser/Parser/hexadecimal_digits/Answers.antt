@@ -1,6 +1,6 @@
 use Rattle.std.proofs.Common.{rules, ◌≡◌, ◌∷◌, [], ◌++◌, ◌<◌, Some, None, sym, ap, ◌∙◌, arith, length}
 use Rattle.std.specs.Prelude.{string_bytes}
-use Rattle.msvc_read.proofs.Steps.{digits_more, with_front}
+use Rattle.msvc_read.proofs.RowSteps.{digits_more, with_front}
 use Rattle.msvc_read.specs.Grammar.{hexadecimal_codes}
 use Rattle.msvc_read.specs.Parser.{state_of}
 use Rattle.msvc_read.specs.Reads.{letter_here, read_name}

@@ -3,7 +3,7 @@ use Rattle.std.specs.Prelude.{codes, string_bytes}
 use Rattle.msvc_read.specs.Parser.{state_of}
 use Rattle.msvc_read.specs.Reads.{and_then, read_name}
 use Rattle.msvc_read.specs.Rules.{hexadecimal_digits}
-use Rattle.msvc_read.proofs.Steps.{with_front}
+use Rattle.msvc_read.proofs.RowSteps.{with_front}
 use Rattle.msvc_read.proofs.parser.Parser.hexadecimal_digits.Given as goal
 
 -- the digits so far, before what is read of the rest, are what is read of all

@@ -1,6 +1,6 @@
 use Rattle.std.proofs.Common.{rules, ◌≡◌, ◌∷◌, ◌+◌, ◌-◌, suc, List, [], ◌++◌, Some, sym, ap, ◌∙◌, arith, ℤ}
 use Rattle.std.proofs.lemmas.Grind.{common_steps}
-use Rattle.msvc_read.proofs.Steps.{lengths_more, with_front}
+use Rattle.msvc_read.proofs.RowSteps.{lengths_more, with_front}
 use Rattle.msvc_read.specs.Parser.{state_of}
 use Rattle.msvc_read.specs.Reads.{read_name}
 use Rattle.msvc_read.specs.Rules.{lengths, number}

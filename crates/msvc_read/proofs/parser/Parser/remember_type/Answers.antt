@@ -15,14 +15,14 @@ pub returns-then-not-is_known-clause-value : goal.returns-then-not-is_known-clau
 returns-then-not-is_known-clause-value c =
     let s : State = state_of c.args.self.now in
     let span : state.Entry = span_of (type_of c.args.entered.now) c.args.left.now c.args.self.now.rest.now s in
-    let room : length (map entry_of c.args.self.now.types.items) < 10 =
+    let room : length (map entry_of c.args.self.now.types.items) < c.args.self.now.room =
     omega (
       arith,
       length-map c.args.self.now.types.items entry_of,
       ap length c.deref.ensures.value,
       c.deref.ensures.len,
       c.len.ensures,
-      c.if-len-lt10.true,
+      c.if-len-self.true,
     ) in
     let new : list_any (λ known. same_type (type_of c.args.entered.now) known.entered)
     (map entry_of c.args.self.now.types.items) ≡ false = search rules in
@@ -41,4 +41,4 @@ returns-then-not-is_known-clause-value c =
     ap (map entry_of) last ∙ map_last entry_of c.args.self.now.types.items x
     ∙ ap (λ e. map entry_of c.args.self.now.types.items ++ e ∷ []) seen in
     ap (λ (ts : List state.Entry). record s { types = ts })
-    (types ∙ sym (with_type-new span (map entry_of c.args.self.now.types.items) room new))
+    (types ∙ sym (with_type-new c.args.self.now.room span (map entry_of c.args.self.now.types.items) room new))

@@ -1,5 +1,0 @@
-use Rattle.std.proofs.Common.{length}
-use Rattle.msvc_read.proofs.hash.+are_digits.Given as goal
-
-abbrev pub decreases-are_digits : goal.decreases-are_digits
-decreases-are_digits l = length l.bytes.now
