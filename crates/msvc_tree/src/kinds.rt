@@ -11,7 +11,7 @@ use crate::flags::StorageClass;
 use crate::tree::{Name, NameSequence, Operator, Symbol, Type};
 
 /// How a name that is a part of the text is to be read.
-#[derive(Clone, Copy, PartialEq, Eq, Debug)]
+#[derive(Clone, Copy, PartialEq, Eq)]
 pub enum Spelling {
     /// As it stands in the source.
     Source,
@@ -35,7 +35,7 @@ impl Spelling {
 }
 
 /// The operators with nothing in them, as `Operator` names them.
-#[derive(Clone, Copy, PartialEq, Eq, Debug)]
+#[derive(Clone, Copy, PartialEq, Eq)]
 pub enum PlainOperator {
     Ctor,
     Dtor,
@@ -197,7 +197,7 @@ impl PlainOperator {
 }
 
 /// The guards of static variables in functions.
-#[derive(Clone, Copy, PartialEq, Eq, Debug)]
+#[derive(Clone, Copy, PartialEq, Eq)]
 pub enum Guard {
     /// Of any.
     Static,
@@ -218,7 +218,7 @@ impl Guard {
 }
 
 /// What stands in the place of a type and has nothing in it.
-#[derive(Clone, Copy, PartialEq, Eq, Debug)]
+#[derive(Clone, Copy, PartialEq, Eq)]
 pub enum PlainType {
     /// No type.
     None,
@@ -248,7 +248,7 @@ impl PlainType {
 }
 
 /// The types that are one word of the language, or a few, as `Type` names them.
-#[derive(Clone, Copy, PartialEq, Eq, Debug)]
+#[derive(Clone, Copy, PartialEq, Eq)]
 pub enum BaseType {
     Void,
     Char,
@@ -307,7 +307,7 @@ impl BaseType {
 }
 
 /// The types that are named.
-#[derive(Clone, Copy, PartialEq, Eq, Debug)]
+#[derive(Clone, Copy, PartialEq, Eq)]
 pub enum Tag {
     Class,
     Struct,
@@ -332,7 +332,7 @@ impl Tag {
 }
 
 /// What stands in the place of a type and has one number.
-#[derive(Clone, Copy, PartialEq, Eq, Debug)]
+#[derive(Clone, Copy, PartialEq, Eq)]
 pub enum NumberedType {
     /// A number as a template argument.
     Constant,
@@ -356,7 +356,7 @@ impl NumberedType {
 }
 
 /// Pointers and references.
-#[derive(Clone, Copy, PartialEq, Eq, Debug)]
+#[derive(Clone, Copy, PartialEq, Eq)]
 pub enum Mark {
     /// `*`.
     Pointer,
@@ -380,7 +380,7 @@ impl Mark {
 }
 
 /// Tables that the compiler makes.
-#[derive(Clone, Copy, PartialEq, Eq, Debug)]
+#[derive(Clone, Copy, PartialEq, Eq)]
 pub enum Table {
     /// Of virtual functions.
     Functions,
