@@ -4,14 +4,14 @@ use Rattle.std.specs.Str.{IsUtf8}
 use Rattle.msvc_tree.specs.EachName.{EachName}
 use Rattle.msvc_tree.specs.Trees.{SymbolTree}
 use Rattle.msvc_read.specs.Hashes.{HashesStand}
-use Rattle.msvc_write.proofs.Laws.{hashes-are-shown}
+use Rattle.msvc_write.proofs.Laws.{hash-is-its-text}
 use Rattle.msvc_write.specs.Declaration.{declaration}
 use Rattle.msvc_demangler.specs.Hashes.{HashesAreShown}
 
 declared-shown : (input shown : List ℕ) (tree : SymbolTree) (flags : ℕ) → HashesStand input tree
     → shown ≡ declaration tree flags → HashesAreShown input shown
 declared-shown input shown tree flags stands same digits rest hash begins =
-    same ∙ ap (λ t. declaration t flags) (stands digits rest hash begins) ∙ hashes-are-shown digits flags
+    same ∙ ap (λ t. declaration t flags) (stands digits rest hash begins) ∙ hash-is-its-text digits flags
 
 -- where a tree of a text is printed, and the text begins with a hash, this is what is printed
 pub hashes-shown : {A B : Type 0} (printed : Result A B) (bytes : A → List ℕ) (input : List ℕ) (tree : SymbolTree)

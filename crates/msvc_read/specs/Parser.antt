@@ -5,13 +5,15 @@ use Rattle.msvc_tree.specs.declared.kinds.PlainType.TheVariants as plain_kind
 use Rattle.msvc_tree.specs.declared.kinds.Guard.{Guard}
 use Rattle.msvc_tree.specs.Trees.{NameTree, TypeTree, guard, plain}
 use Rattle.msvc_tree.specs.View.{name_of, type_of}
-use Rattle.msvc_read.specs.Grammar.{is_guard, is_hash, second_special_letters, special_letters}
-use Rattle.msvc_read.specs.Grammar.{third_special_letters, type_information_letters, type_texts, with_index}
+use Rattle.msvc_read.specs.Grammar.{is_guard, is_hash, qualifiers, reference_qualifiers, second_special_letters}
+use Rattle.msvc_read.specs.Grammar.{special_letters, storage_classes, third_special_letters, type_information_letters}
+use Rattle.msvc_read.specs.Grammar.{type_texts, with_index}
 use Rattle.msvc_read.specs.declared.operators.SpecialForm.{SpecialForm}
 use Rattle.msvc_read.specs.Reads.{Found, and_then, read_name}
 use Rattle.msvc_read.specs.declared.forms.TypeForm.{TypeForm}
-use Rattle.msvc_read.specs.Rules.{after, encoding_behind, guard_index, lookup, type_behind}
-use Rattle.msvc_read.specs.Sorts.{EncodingLetter, TypeLetter}
+use Rattle.msvc_read.specs.declared.letters.OptionalLetters.{OptionalLetters}
+use Rattle.msvc_read.specs.declared.letters.OptionalLetters.TheVariants as letters
+use Rattle.msvc_read.specs.Rules.{after, guard_index, lookup}
 use Rattle.msvc_read.specs.State as state
 use Rattle.msvc_read.specs.declared.parser.BackReference.{BackReference}
 use Rattle.msvc_read.specs.declared.parser.Entry.{Entry}
@@ -45,19 +47,16 @@ abbrev pub Gives : {X Y : Type 0} → (X → Y) → Result X Refusal → Option 
 Gives view (Ok x) read = read ≡ Some (view x)
 Gives view (Err e) read = Refuses e read
 
+-- the letters of a table of qualifiers, and the bits of each
+abbrev pub optional_letters : OptionalLetters → List (ℕ × ℕ)
+optional_letters letters.StorageClasses = storage_classes
+optional_letters letters.Qualifiers = qualifiers
+optional_letters letters.ReferenceQualifiers = reference_qualifiers
+
 -- the next byte
 unfoldable pub byte_here : List ℕ → state.State → Found ℕ
 byte_here [] s = None
 byte_here (b ∷ bs) s = Some (b, bs, s)
-
--- what is read behind the first letter of a type, and of the type of a symbol
-unfoldable pub type_by : ℕ → Option TypeLetter → List ℕ → state.State → Found TypeTree
-type_by q None left s = None
-type_by q (Some l) left s = read_name (type_behind q l) left s
-
-unfoldable pub encoding_by : Option EncodingLetter → List ℕ → state.State → Found TypeTree
-encoding_by None left s = None
-encoding_by (Some l) left s = read_name (encoding_behind l) left s
 
 -- a template's name enters the table if it is not a symbol's own
 abbrev pub kept_name : Bool → NameTree → state.State → state.State

@@ -9,7 +9,7 @@ ghost use Rattle.msvc_read.specs.Rules.{encoding_behind, function_qualifiers, ow
 ghost use Rattle.msvc_read.specs.Rules.{class_part, function_type, member_pointer, returned, signature, thunk_number};
 ghost use Rattle.msvc_read.specs.Sorts.{member_of, plain_function};
 
-use crate::letters;
+use crate::letters::{self, OptionalLetters};
 use crate::parser::Parser;
 use crate::refusal::{Message, Refusal};
 use bitflags::Flags;
@@ -84,7 +84,7 @@ impl<'a> Parser<'a> {
             return StorageClass::empty();
         };
         self.rest = behind;
-        self.optional_storage_class()
+        self.optional(OptionalLetters::StorageClasses)
     }
 
     /// `MEMBER_POINTER = QUALIFIED_NAME ["E"] CLASS_PART SIGNATURE`.
@@ -118,7 +118,10 @@ impl<'a> Parser<'a> {
         ensures shorter { IfOk result (λ _. length self.new.rest.now ≤ length self.old.rest.now) }
     {
         if qualified {
-            return Ok((FuncClass::empty(), self.optional_qualifier()));
+            return Ok((
+                FuncClass::empty(),
+                self.optional(OptionalLetters::Qualifiers),
+            ));
         }
         let letter = self.byte()?;
         let Some(class) = letters::function_class(letter) else {
@@ -236,8 +239,8 @@ impl<'a> Parser<'a> {
         let size = self.optional_mark(b'E', StorageClass::PTR64);
         let restrict = self.optional_mark(b'I', StorageClass::RESTRICT);
         let alignment = self.optional_mark(b'F', StorageClass::UNALIGNED);
-        let reference = self.optional_reference();
-        let qualifier = self.optional_qualifier();
+        let reference = self.optional(OptionalLetters::ReferenceQualifiers);
+        let qualifier = self.optional(OptionalLetters::Qualifiers);
         size.union(restrict.union(alignment.union(reference.union(qualifier))))
     }
 }

@@ -8,6 +8,7 @@ ghost use Rattle.msvc_read.specs.Grammar.{digits, hexadecimal, hexadecimal_codes
 ghost use Rattle.msvc_read.specs.Grammar.{qualifiers_of_returns, qualifiers_of_arrays, reference_qualifiers};
 ghost use Rattle.msvc_read.specs.Grammar.{conventions, base_types, extended_types, function_classes};
 ghost use Rattle.msvc_read.specs.Grammar.{character_sizes, escaped_characters, plain_characters};
+ghost use Rattle.msvc_read.specs.Parser.{optional_letters};
 ghost use Rattle.msvc_read.specs.Rules.{lookup};
 
 use bitflags::Flags;
@@ -72,7 +73,7 @@ pub fn array_qualifier(letter: u8) -> Option<StorageClass>
 }
 
 /// `const` and `volatile` of the object of a member function.
-pub fn qualifier(letter: u8) -> Option<StorageClass>
+fn qualifier(letter: u8) -> Option<StorageClass>
     ensures { option_map (λ (q : StorageClass). q.0) result ≡ lookup letter qualifiers }
 {
     let bits = match letter {
@@ -86,7 +87,7 @@ pub fn qualifier(letter: u8) -> Option<StorageClass>
 }
 
 /// `&` and `&&` behind a member function.
-pub fn reference_qualifier(letter: u8) -> Option<StorageClass>
+fn reference_qualifier(letter: u8) -> Option<StorageClass>
     ensures { option_map (λ (q : StorageClass). q.0) result ≡ lookup letter reference_qualifiers }
 {
     match letter {
@@ -97,7 +98,7 @@ pub fn reference_qualifier(letter: u8) -> Option<StorageClass>
 }
 
 /// `const`, `volatile` and `far` of a variable or of what is pointed to.
-pub fn storage_class(letter: u8) -> Option<StorageClass>
+fn storage_class(letter: u8) -> Option<StorageClass>
     ensures { option_map (λ (q : StorageClass). q.0) result ≡ lookup letter storage_classes }
 {
     let bits = match letter {
@@ -112,6 +113,29 @@ pub fn storage_class(letter: u8) -> Option<StorageClass>
         _ => return None,
     };
     Some(StorageClass::from_bits_retain(bits))
+}
+
+/// The tables of qualifiers of which one letter may stand, or none.
+#[derive(Clone, Copy)]
+pub enum OptionalLetters {
+    /// Those of a variable or of what is pointed to.
+    StorageClasses,
+    /// `const` and `volatile` of a member function.
+    Qualifiers,
+    /// `&` and `&&` behind a member function.
+    ReferenceQualifiers,
+}
+
+/// What a letter stands for in a table of qualifiers.
+#[inline(always)]
+pub fn optional_letter(letters: OptionalLetters, letter: u8) -> Option<StorageClass>
+    ensures { option_map (λ (q : StorageClass). q.0) result ≡ lookup letter (optional_letters letters) }
+{
+    match letters {
+        OptionalLetters::StorageClasses => storage_class(letter),
+        OptionalLetters::Qualifiers => qualifier(letter),
+        OptionalLetters::ReferenceQualifiers => reference_qualifier(letter),
+    }
 }
 
 /// The base type of one letter.

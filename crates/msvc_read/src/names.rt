@@ -16,7 +16,7 @@ ghost use Rattle.msvc_read.specs.Rules.{unqualified_name};
 ghost use Rattle.msvc_read.specs.State.{remember_name};
 
 use crate::letters;
-use crate::parser::Parser;
+use crate::parser::{Parser, TABLE_ROOM};
 use crate::refusal::{Message, Refusal};
 use msvc_tree::made::{boxed_made, made_as, push_made};
 use msvc_tree::tree::{Name, NameSequence, Symbol};
@@ -282,7 +282,7 @@ impl<'a> Parser<'a> {
         ensures value { IfOk result (λ _. state_of self.new ≡ remember_name (name_of name.now) (state_of self.old)) }
         ensures rest { IfOk result (λ _. self.new.rest.now ≡ self.old.rest.now) }
     {
-        if self.names.len() < 10 && !is_known(&self.names, name) {
+        if self.names.len() < TABLE_ROOM && !is_known(&self.names, name) {
             return push_made(&mut self.names, name.clone(self.alloc));
         }
         Ok(())

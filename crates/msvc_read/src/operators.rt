@@ -10,6 +10,7 @@ ghost use Rattle.msvc_read.specs.Reads.{read_name};
 ghost use Rattle.msvc_read.specs.Rules.{lookup, special_behind, special_name};
 ghost use Rattle.msvc_read.specs.declared.operators.SpecialForm.TheVariants as special;
 
+use crate::letters::OptionalLetters;
 use crate::parser::Parser;
 use crate::refusal::{Message, Refusal};
 use msvc_tree::kinds::{Guard, PlainOperator};
@@ -214,7 +215,7 @@ impl<'a> Parser<'a> {
             SpecialForm::Guard(guard) => Ok(Name::Operator(guard.operator(None))),
             SpecialForm::TypeDescriptor => {
                 self.expected(b"?", Message::QuestionMarkExpected)?;
-                let class = self.optional_storage_class();
+                let class = self.optional(OptionalLetters::StorageClasses);
                 let described = self.boxed_type(class)?;
                 Ok(Name::Operator(Operator::RTTITypeDescriptor(class, described)))
             }

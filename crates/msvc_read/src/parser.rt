@@ -2,19 +2,22 @@
 
 ghost use Rattle.std.specs.Prelude.{◌≡◌, ◌≤◌, ◌<◌, ◌+◌, ◌∷◌, [], Some, length, IfOk, IfSome, MatchOption};
 ghost use Rattle.std.specs.Option.{option_map};
-ghost use Rattle.msvc_read.specs.Grammar.{digits, qualifiers, storage_classes, reference_qualifiers};
-ghost use Rattle.msvc_read.specs.Parser.{Gives, byte_here};
+ghost use Rattle.msvc_read.specs.Grammar.{digits};
+ghost use Rattle.msvc_read.specs.Parser.{Gives, byte_here, optional_letters};
 ghost use Rattle.msvc_read.specs.Reads.{read, letter_here};
 ghost use Rattle.msvc_read.specs.Rules.{after, literal, optional};
 ghost use Rattle.msvc_read.specs.State.{place};
 
-use crate::letters;
+use crate::letters::{self, OptionalLetters};
 use crate::refusal::{Message, Refusal};
 use bitflags::Flags;
 use msvc_tree::flags::StorageClass;
 use msvc_tree::tree::{Name, Type};
 use std::alloc::Global;
 use std::mem::replace;
+
+/// How many entries a table has room for.
+pub const TABLE_ROOM: usize = 10;
 
 /// A type of the table, with the places where its bytes start and end.
 #[derive(Drop)]
@@ -204,49 +207,17 @@ impl<'a> Parser<'a> {
         Ok(())
     }
 
-    /// A storage class, if the next byte is the letter of one; else no bits.
+    /// The bits of a letter of a table of qualifiers, if the next byte is one; else no bits.
     #[tactic(auto, unfolding(crate::specs::Reads::read, crate::specs::Reads::read_by))]
-    pub fn optional_storage_class(&mut self) -> StorageClass
-        ensures value { read (optional storage_classes) self.old.rest.now (state_of self.old)
+    pub fn optional(&mut self, letters: OptionalLetters) -> StorageClass
+        ensures value { read (optional (optional_letters letters)) self.old.rest.now (state_of self.old)
             ≡ Some (result.0, self.new.rest.now, state_of self.new) }
         ensures shorter { length self.new.rest.now ≤ length self.old.rest.now }
     {
         if let [first, rest @ ..] = self.rest {
-            if let Some(class) = letters::storage_class(*first) {
+            if let Some(bits) = letters::optional_letter(letters, *first) {
                 self.rest = rest;
-                return class;
-            }
-        }
-        StorageClass::empty()
-    }
-
-    /// `const` and `volatile` of a member function, if the next byte is the letter of these; else no bits.
-    #[tactic(auto, unfolding(crate::specs::Reads::read, crate::specs::Reads::read_by))]
-    pub fn optional_qualifier(&mut self) -> StorageClass
-        ensures value { read (optional qualifiers) self.old.rest.now (state_of self.old)
-            ≡ Some (result.0, self.new.rest.now, state_of self.new) }
-        ensures shorter { length self.new.rest.now ≤ length self.old.rest.now }
-    {
-        if let [first, rest @ ..] = self.rest {
-            if let Some(qualifier) = letters::qualifier(*first) {
-                self.rest = rest;
-                return qualifier;
-            }
-        }
-        StorageClass::empty()
-    }
-
-    /// `&` or `&&` behind a member function, if the next byte is the letter of one; else no bits.
-    #[tactic(auto, unfolding(crate::specs::Reads::read, crate::specs::Reads::read_by))]
-    pub fn optional_reference(&mut self) -> StorageClass
-        ensures value { read (optional reference_qualifiers) self.old.rest.now (state_of self.old)
-            ≡ Some (result.0, self.new.rest.now, state_of self.new) }
-        ensures shorter { length self.new.rest.now ≤ length self.old.rest.now }
-    {
-        if let [first, rest @ ..] = self.rest {
-            if let Some(reference) = letters::reference_qualifier(*first) {
-                self.rest = rest;
-                return reference;
+                return bits;
             }
         }
         StorageClass::empty()

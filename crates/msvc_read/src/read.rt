@@ -15,7 +15,7 @@ ghost use Rattle.msvc_read.specs.Rules.{after, symbol};
 ghost use Rattle.msvc_read.specs.State.{Note, beginning, beginning_with};
 ghost use Rattle.msvc_read.specs.Written.{DigitsCanBeWrittenOut};
 
-use crate::parser::Parser;
+use crate::parser::{Parser, TABLE_ROOM};
 use crate::refusal::{Message, Refusal};
 use msvc_tree::error::Error;
 use msvc_tree::tree::ParseResult;
@@ -56,7 +56,7 @@ fn read<'a>(alloc: Global, input: &'a str) -> Result<ParseResult<'a>, Refusal>
     match read_with(alloc, input, 0) {
         Ok(symbol) => Ok(symbol),
         Err(Refusal::Memory) => Err(Refusal::Memory),
-        Err(Refusal::Unread(_, _)) => read_with(alloc, input, 10),
+        Err(Refusal::Unread(_, _)) => read_with(alloc, input, TABLE_ROOM),
     }
 }
 

@@ -10,7 +10,7 @@ ghost use Rattle.msvc_read.specs.Rules.{after, symbol};
 ghost use Rattle.msvc_read.specs.State.{Note, beginning};
 ghost use Rattle.msvc_read.specs.Written.{AreRising, CanBeWrittenOut};
 
-use crate::parser::{BackReference, Parser};
+use crate::parser::{BackReference, Parser, TABLE_ROOM};
 use crate::refusal::{Message, Refusal};
 use msvc_tree::error::Error;
 use msvc_tree::tree::discard;
@@ -45,7 +45,7 @@ fn notes(alloc: Global, input: &str) -> Result<Vec<BackReference>, Refusal>
     ensures start { after (codes "?") input.now ≡ None
         → result ≡ Err (Refusal.Unread Message.NoQuestionMark (length input.now)) }
 {
-    let mut parser = Parser::new(alloc, input.as_bytes(), 10);
+    let mut parser = Parser::new(alloc, input.as_bytes(), TABLE_ROOM);
     let symbol = parser.symbol()?;
     discard(symbol);
     Ok(parser.notes)

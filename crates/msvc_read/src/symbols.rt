@@ -10,7 +10,7 @@ ghost use Rattle.msvc_read.specs.Reads.{read, read_name};
 ghost use Rattle.msvc_read.specs.Rules.{after, encoding, encoding_behind, symbol, symbol_body};
 ghost use Rattle.msvc_read.specs.Sorts.{member_of, table_of, variable_of, virtual_call};
 
-use crate::letters;
+use crate::letters::{self, OptionalLetters};
 use crate::parser::Parser;
 use crate::refusal::{Message, Refusal};
 use bitflags::Flags;
@@ -95,7 +95,7 @@ impl<'a> Parser<'a> {
     /// behind `0` to `4`, a table behind `6` and `7`, nothing behind `8` and `9`, a string behind `_`, a thunk behind
     /// `$`, a function behind `Y`, else a member function: `MEMBER_ENCODING = function class MEMBER`.
     #[cycle(readers)]
-    #[tactic(auto, using(crate::proofs::Readers::encoding_split), unfolding(crate::specs::Parser::encoding_by))]
+    #[tactic(auto, using(crate::proofs::Readers::encoding_split), unfolding(crate::proofs::SymbolSteps::encoding_by))]
     fn encoding(&mut self) -> Result<Type<'a>, Refusal>
         ensures value { Gives (λ t. (type_of t, self.new.rest.now, state_of self.new)) result
             (read_name encoding self.old.rest.now (state_of self.old)) }
@@ -133,7 +133,7 @@ impl<'a> Parser<'a> {
         ensures shorter { IfOk result (λ _. length self.new.rest.now ≤ length self.old.rest.now) }
     {
         let variable = self.boxed_type(StorageClass::empty())?;
-        let class = self.optional_storage_class();
+        let class = self.optional(OptionalLetters::StorageClasses);
         Ok(Type::Var(variable, kind, class))
     }
 
@@ -145,7 +145,7 @@ impl<'a> Parser<'a> {
             (read_name (encoding_behind (table_of table)) self.old.rest.now (state_of self.old)) }
         ensures shorter { IfOk result (λ _. length self.new.rest.now ≤ length self.old.rest.now) }
     {
-        let class = self.optional_qualifier();
+        let class = self.optional(OptionalLetters::Qualifiers);
         let scope = self.scope()?;
         Ok(table.table_type(scope, class))
     }

@@ -14,7 +14,7 @@ ghost use Rattle.msvc_read.specs.Rules.{function_type, type_behind, type_form};
 ghost use Rattle.msvc_read.specs.Sorts.{extended};
 
 use crate::forms::{TypeForm, type_form};
-use crate::letters;
+use crate::letters::{self, OptionalLetters};
 use crate::parser::Parser;
 use crate::refusal::{Message, Refusal};
 use bitflags::Flags;
@@ -66,7 +66,7 @@ impl<'a> Parser<'a> {
             TypeForm::Function => self.function_type(true),
             TypeForm::QualifiedFunction => self.function_type(false),
             TypeForm::Requalified => {
-                let own = self.optional_qualifier();
+                let own = self.optional(OptionalLetters::Qualifiers);
                 self.plain_type(own)
             }
             TypeForm::QualifiedMemberPointer => self.member_pointer(true),
@@ -79,7 +79,7 @@ impl<'a> Parser<'a> {
 
     /// `PLAIN_TYPE = base letter | letter of types, and what its row asks for`.
     #[cycle(readers)]
-    #[tactic(auto, using(crate::proofs::Readers::plain_split), unfolding(crate::specs::Parser::type_by))]
+    #[tactic(auto, using(crate::proofs::Readers::plain_split), unfolding(crate::proofs::TypeSteps::type_by))]
     #[inline(always)]
     fn plain_type(&mut self, q: StorageClass) -> Result<Type<'a>, Refusal>
         ensures value { Gives (λ t. (type_of t, self.new.rest.now, state_of self.new)) result
@@ -117,7 +117,7 @@ impl<'a> Parser<'a> {
         ensures shorter { IfOk result (λ _. length self.new.rest.now < length self.old.rest.now) }
     {
         let size = self.optional_mark(b'E', StorageClass::PTR64);
-        let class = self.optional_storage_class();
+        let class = self.optional(OptionalLetters::StorageClasses);
         self.boxed_type(size.union(class))
     }
 

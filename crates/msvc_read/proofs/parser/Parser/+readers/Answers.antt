@@ -20,7 +20,9 @@ use Rattle.msvc_read.proofs.SymbolSteps.{no_member_letter}
 use Rattle.msvc_read.proofs.TypeSteps.{plain_other, points_step, referred_step}
 use Rattle.msvc_read.specs.Grammar.{class_of_returned, compound_letters, conventions, digits, encoding_letters}
 use Rattle.msvc_read.specs.Grammar.{function_classes, numbered_guard, pointer_sizes, rows_of}
-use Rattle.msvc_read.specs.Parser.{byte_here, encoding_by, indexed, parameters_stop, state_of, type_by}
+use Rattle.msvc_read.proofs.SymbolSteps.{encoding_by}
+use Rattle.msvc_read.proofs.TypeSteps.{type_by}
+use Rattle.msvc_read.specs.Parser.{byte_here, indexed, parameters_stop, state_of}
 use Rattle.msvc_read.specs.Reads.{and_then, letter_here, read, read_name, type_known, with_value}
 use Rattle.msvc_read.specs.Rules.{after, encoding, literal, lookup, nested_name, parameter, parameters, plain_type}
 use Rattle.msvc_read.specs.Rules.{encoding_behind, pointee, qualified_name, scope}
