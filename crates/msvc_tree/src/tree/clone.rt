@@ -2,6 +2,8 @@
 
 #![tactic(auto, using(crate::proofs::Views::rows, crate::proofs::Nodes::nodes), unfolding(crate::specs::View::name_of, crate::specs::View::operator_of, crate::specs::View::type_of))]
 
+mod types;
+
 ghost use Rattle.std.specs.Prelude.{◌≡◌, IfOk, option_map, string_bytes};
 ghost use Rattle.msvc_tree.specs.View.{name_of, operator_of, type_of, scope_of, params_of, tree_of};
 
@@ -11,6 +13,10 @@ use crate::node::{
 };
 use crate::tree::{Name, NameSequence, Operator, Params, ParseResult, Symbol, Type};
 use std::alloc::{AllocError, Global};
+use types::{
+    array_made, constant_string_made, function_made, member_function_made, member_pointer_made,
+    pointing_made, table_made, tagged_made, variable_made,
+};
 
 impl<'a> Name<'a> {
     /// A copy of the name, with the same parts of the text.
@@ -129,40 +135,47 @@ impl<'a> Type<'a> {
         match type_node(self) {
             TypeNode::Plain(plain) => Ok(plain.plain_type()),
             TypeNode::Base(base, set) => Ok(base.base_type(set)),
-            TypeNode::Tagged(tag, symbol, set) => Ok(tag.tagged_type(symbol.clone(alloc)?, set)),
+            TypeNode::Tagged(tag, symbol, set) => tagged_made(tag, symbol.clone(alloc), set),
             TypeNode::Numbered(kind, number) => Ok(kind.numbered_type(number)),
-            TypeNode::ConstantString(text) => Ok(Type::ConstantString(clone_bytes(text, alloc)?)),
+            TypeNode::ConstantString(text) => constant_string_made(clone_bytes(text, alloc)),
             TypeNode::Pointing(mark, inner, set) => {
-                Ok(mark.pointing_type(clone_boxed(inner, alloc)?, set))
+                pointing_made(mark, clone_boxed(inner, alloc), set)
             }
             TypeNode::Array(length, inner, set) => {
-                Ok(Type::Array(length, clone_boxed(inner, alloc)?, set))
+                array_made(length, clone_boxed(inner, alloc), set)
             }
-            TypeNode::Function(convention, parameters, set, returned) => {
-                let parameters = parameters.clone(alloc)?;
-                let returned = clone_boxed(returned, alloc)?;
-                Ok(Type::NonMemberFunction(convention, parameters, set, returned))
-            }
+            TypeNode::Function(convention, parameters, set, returned) => function_made(
+                convention,
+                parameters.clone(alloc),
+                set,
+                clone_boxed(returned, alloc),
+            ),
             TypeNode::MemberFunction(class, convention, parameters, set, returned) => {
-                let parameters = parameters.clone(alloc)?;
-                let returned = clone_boxed(returned, alloc)?;
-                Ok(Type::MemberFunction(class, convention, parameters, set, returned))
+                member_function_made(
+                    class,
+                    convention,
+                    parameters.clone(alloc),
+                    set,
+                    clone_boxed(returned, alloc),
+                )
             }
             TypeNode::MemberPointer(class, convention, parameters, set, returned) => {
                 let Some(pointed) = pointed_class(self) else {
                     unreachable!();
                 };
-                let parameters = parameters.clone(alloc)?;
-                let returned = clone_boxed(returned, alloc)?;
-                let pointed = pointed.clone(alloc)?;
-                Ok(Type::MemberFunctionPointer(
-                    pointed, class, convention, parameters, set, returned,
-                ))
+                member_pointer_made(
+                    pointed.clone(alloc),
+                    class,
+                    convention,
+                    parameters.clone(alloc),
+                    set,
+                    clone_boxed(returned, alloc),
+                )
             }
             TypeNode::Variable(inner, kind, set) => {
-                Ok(Type::Var(clone_boxed(inner, alloc)?, kind, set))
+                variable_made(clone_boxed(inner, alloc), kind, set)
             }
-            TypeNode::Table(table, scope, set) => Ok(table.table_type(scope.clone(alloc)?, set)),
+            TypeNode::Table(table, scope, set) => table_made(table, scope.clone(alloc), set),
             TypeNode::VcallThunk(number, convention) => Ok(Type::VCallThunk(number, convention)),
         }
     }

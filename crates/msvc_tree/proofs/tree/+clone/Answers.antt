@@ -3,15 +3,13 @@ use Rattle.std.proofs.Common.{◌≡◌, ◌<◌, ◌+◌, rules, [], ◌∷◌,
 use Rattle.std.proofs.lemmas.List.{map-append, map_more, take_all}
 use Rattle.std.specs.Int.{w32}
 use Rattle.msvc_tree.specs.Sizes.{name_size, names_size, type_size, types_size}
-use Rattle.msvc_tree.specs.Trees.{array, function, member_function, member_pointer, pointing, template, variable}
+use Rattle.msvc_tree.specs.Trees.{template}
 use Rattle.msvc_tree.specs.View.{name_of, type_of, scope_of, params_of}
 use Rattle.msvc_tree.proofs.CopiedLists.{names_in-from_map, types_in-from_map}
 use Rattle.msvc_tree.proofs.Kept.{boxed-seen, pushed-seen}
 use Rattle.msvc_tree.proofs.Lists.{names_in-size, types_in-size}
-use Rattle.msvc_tree.proofs.Nodes.{without-is, pointer-is}
-use Rattle.msvc_tree.proofs.Views.{name_of-Template, operator_of-RTTIBaseClassDescriptor, type_of-Array}
-use Rattle.msvc_tree.proofs.Views.{type_of-NonMemberFunction, type_of-MemberFunction, type_of-MemberFunctionPointer}
-use Rattle.msvc_tree.proofs.Views.{type_of-Var}
+use Rattle.msvc_tree.proofs.Nodes.{without-is}
+use Rattle.msvc_tree.proofs.Views.{name_of-Template, operator_of-RTTIBaseClassDescriptor}
 use Rattle.msvc_tree.proofs.tree.+clone.Goals.{Params::clone-in-Base+in_ok-push_item-in-Base}
 use Rattle.msvc_tree.proofs.tree.+clone.Goals.{Params::clone-in_default+in_ok-push_made-in_default}
 use Rattle.msvc_tree.proofs.tree.+clone.Goals as goal
@@ -90,61 +88,3 @@ Operator::clone-returns-in-BaseClassDescriptor t c =
     let third : to_z w32 (of_z w32 w.c) ≡ w.c = search rules in
     let fourth : to_z w32 (of_z w32 w.d) ≡ w.d = search rules in
     rw (first, second, third, fourth) (operator_of-RTTIBaseClassDescriptor w.a w.b w.c w.d ∙ w.ensures)
-
-pub Type::clone-returns-in_ok-clone_boxed-in-Pointing : goal.Type::clone-returns-in_ok-clone_boxed-in-Pointing
-Type::clone-returns-in_ok-clone_boxed-in-Pointing t c =
-    let w = c.in-Pointing in
-    c.pointing_type.ensures ∙ ap (λ i. pointing w.mark i w.set.0) c.in_ok-clone_boxed-in-Pointing.ensures
-    ∙ without-is (type_of c.args.self.now) _ refl w.ensures
-
-pub Type::clone-returns-in_ok-clone_boxed-in-Array : goal.Type::clone-returns-in_ok-clone_boxed-in-Array
-Type::clone-returns-in_ok-clone_boxed-in-Array t c =
-    let w = c.in-Array in
-    let n : to_z w32 (of_z w32 w.length) ≡ w.length = search rules in
-    rw n (type_of-Array w.length c.in_ok-clone_boxed-in-Array.field-0 w.set
-    ∙ ap (λ i. array w.length i w.set.0) c.in_ok-clone_boxed-in-Array.ensures
-    ∙ without-is (type_of c.args.self.now) _ refl w.ensures)
-
-pub Type::clone-returns-in_ok-returned-in-Function : goal.Type::clone-returns-in_ok-returned-in-Function
-Type::clone-returns-in_ok-returned-in-Function t c =
-    let w = c.in-Function in
-    let p = c.in_ok-parameters-in-Function in
-    let r = c.in_ok-returned-in-Function in
-    type_of-NonMemberFunction w.convention p.parameters w.set r.returned
-    ∙ ap (λ ts. function w.convention ts w.set.0 (type_of r.returned.value)) p.ensures
-    ∙ ap (function w.convention (params_of w.parameters.now) w.set.0) r.ensures
-    ∙ without-is (type_of c.args.self.now) _ refl w.ensures
-
-pub Type::clone-returns-in_ok-returned-in-MemberFunction : goal.Type::clone-returns-in_ok-returned-in-MemberFunction
-Type::clone-returns-in_ok-returned-in-MemberFunction t c =
-    let w = c.in-MemberFunction in
-    let p = c.in_ok-parameters-in-MemberFunction in
-    let r = c.in_ok-returned-in-MemberFunction in
-    type_of-MemberFunction w.class w.convention p.parameters w.set r.returned
-    ∙ ap (λ ts. member_function w.class.0 w.convention ts w.set.0 (type_of r.returned.value)) p.ensures
-    ∙ ap (member_function w.class.0 w.convention (params_of w.parameters.now) w.set.0) r.ensures
-    ∙ without-is (type_of c.args.self.now) _ refl w.ensures
-
-pub Type::clone-returns-in_ok-pointed-in-MemberPointer : goal.Type::clone-returns-in_ok-pointed-in-MemberPointer
-Type::clone-returns-in_ok-pointed-in-MemberPointer t c =
-    let w = c.in-MemberPointer in
-    let p = c.in_ok-parameters-in-MemberPointer in
-    let r = c.in_ok-returned-in-MemberPointer in
-    let s = c.in_ok-pointed-in-MemberPointer in
-    type_of-MemberFunctionPointer s.pointed w.class w.convention p.parameters w.set r.returned
-    ∙ ap (λ n. member_pointer n (scope_of s.pointed.scope) w.class.0 w.convention (params_of p.parameters) w.set.0
-    (type_of r.returned.value)) s.ensures.name
-    ∙ ap (λ ns. member_pointer (name_of c.in-Some.pointed.now.name) ns w.class.0 w.convention (params_of p.parameters)
-    w.set.0 (type_of r.returned.value)) s.ensures.scope
-    ∙ ap (λ ts. member_pointer (name_of c.in-Some.pointed.now.name) (scope_of c.in-Some.pointed.now.scope) w.class.0
-    w.convention ts w.set.0 (type_of r.returned.value)) p.ensures
-    ∙ ap (member_pointer (name_of c.in-Some.pointed.now.name) (scope_of c.in-Some.pointed.now.scope) w.class.0
-    w.convention (params_of w.parameters.now) w.set.0) r.ensures
-    ∙ pointer-is (type_of c.args.self.now) _ _ _ _ _ _ _ c.in-Some.ensures w.ensures
-
-pub Type::clone-returns-in_ok-clone_boxed-in-Variable : goal.Type::clone-returns-in_ok-clone_boxed-in-Variable
-Type::clone-returns-in_ok-clone_boxed-in-Variable t c =
-    let w = c.in-Variable in
-    type_of-Var c.in_ok-clone_boxed-in-Variable.field-0 w.kind w.set
-    ∙ ap (λ i. variable i w.kind w.set.0) c.in_ok-clone_boxed-in-Variable.ensures
-    ∙ without-is (type_of c.args.self.now) _ refl w.ensures
