@@ -35,7 +35,7 @@ pub fn hexadecimal(letter: u8) -> Option<u8>
     }
 }
 
-/// A digit of the number of an anonymous namespace, as it stands.
+/// A digit of a hash or of the number of an anonymous namespace, as it stands.
 pub fn hexadecimal_code(letter: u8) -> Option<u8>
     ensures { result ≡ lookup letter hexadecimal_codes }
 {

@@ -145,7 +145,7 @@ impl<'a> Parser<'a> {
         boxed_made(self.alloc, made)
     }
 
-    /// `ARRAY = NUMBER {NUMBER} ["$$C" plain qualifier] TYPE`: the first number says how many lengths follow.
+    /// `ARRAY = NUMBER {NUMBER} ["$$C" array qualifier] TYPE`: the first number says how many lengths follow.
     #[cycle(readers)]
     #[tactic(auto, using(crate::proofs::TypeSteps::array_is))]
     #[inline(never)]

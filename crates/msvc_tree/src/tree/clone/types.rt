@@ -1,5 +1,5 @@
-//! A type of parts that were copied, if they were. What a copy gave is opened here, and not in `Type::clone`: there each
-//! arm would have to let go what it holds, and the whole would mean twice as much to the prover.
+//! A type of parts that were copied, if they were. What a copy gave is opened here, and not in `Type::clone`: there
+//! each arm would have to let go what it holds, and the whole would mean twice as much to the prover.
 
 #![tactic(auto, using(crate::proofs::Views::rows), unfolding(crate::specs::View::type_of))]
 
