@@ -4,7 +4,7 @@
 #![tactic(auto, using(crate::proofs::Views::rows), unfolding(crate::specs::View::type_of))]
 
 ghost use Rattle.std.specs.Prelude.{◌≡◌, IfOk};
-ghost use Rattle.msvc_tree.specs.Made.{IsMade};
+ghost use Rattle.std.specs.Result.{IsOkAnd};
 ghost use Rattle.msvc_tree.specs.Trees.{array, constant_string, function, member_function, member_pointer, pointing};
 ghost use Rattle.msvc_tree.specs.Trees.{table, tagged, variable};
 ghost use Rattle.msvc_tree.specs.View.{name_of, params_of, scope_of, type_of};
@@ -20,8 +20,8 @@ pub(super) fn tagged_made<'a>(
     symbol: Result<Symbol<'a>, AllocError>,
     set: StorageClass,
 ) -> Result<Type<'a>, AllocError>
-    ensures { IfOk result (λ t. IsMade (λ s. type_of t ≡ tagged tag (name_of s.name) (scope_of s.scope) set.0)
-        symbol.entry) }
+    ensures { IfOk result (λ t. IsOkAnd symbol.entry (λ s. type_of t
+        ≡ tagged tag (name_of s.name) (scope_of s.scope) set.0)) }
 {
     Ok(tag.tagged_type(symbol?, set))
 }
@@ -30,7 +30,7 @@ pub(super) fn tagged_made<'a>(
 pub(super) fn constant_string_made<'a>(
     text: Result<Vec<u8>, AllocError>,
 ) -> Result<Type<'a>, AllocError>
-    ensures { IfOk result (λ t. IsMade (λ v. type_of t ≡ constant_string v.items) text) }
+    ensures { IfOk result (λ t. IsOkAnd text (λ v. type_of t ≡ constant_string v.items)) }
 {
     Ok(Type::ConstantString(text?))
 }
@@ -41,7 +41,7 @@ pub(super) fn pointing_made<'a>(
     inner: Result<Box<Type<'a>>, AllocError>,
     set: StorageClass,
 ) -> Result<Type<'a>, AllocError>
-    ensures { IfOk result (λ t. IsMade (λ b. type_of t ≡ pointing mark (type_of b.value) set.0) inner.entry) }
+    ensures { IfOk result (λ t. IsOkAnd inner.entry (λ b. type_of t ≡ pointing mark (type_of b.value) set.0)) }
 {
     Ok(mark.pointing_type(inner?, set))
 }
@@ -52,7 +52,7 @@ pub(super) fn array_made<'a>(
     inner: Result<Box<Type<'a>>, AllocError>,
     set: StorageClass,
 ) -> Result<Type<'a>, AllocError>
-    ensures { IfOk result (λ t. IsMade (λ b. type_of t ≡ array length (type_of b.value) set.0) inner.entry) }
+    ensures { IfOk result (λ t. IsOkAnd inner.entry (λ b. type_of t ≡ array length (type_of b.value) set.0)) }
 {
     Ok(Type::Array(length, inner?, set))
 }
@@ -64,8 +64,8 @@ pub(super) fn function_made<'a>(
     set: StorageClass,
     returned: Result<Box<Type<'a>>, AllocError>,
 ) -> Result<Type<'a>, AllocError>
-    ensures { IfOk result (λ t. IsMade (λ p. IsMade (λ b. type_of t
-        ≡ function convention (params_of p) set.0 (type_of b.value)) returned.entry) parameters.entry) }
+    ensures { IfOk result (λ t. IsOkAnd parameters.entry (λ p. IsOkAnd returned.entry (λ b. type_of t
+        ≡ function convention (params_of p) set.0 (type_of b.value)))) }
 {
     Ok(Type::NonMemberFunction(convention, parameters?, set, returned?))
 }
@@ -78,8 +78,8 @@ pub(super) fn member_function_made<'a>(
     set: StorageClass,
     returned: Result<Box<Type<'a>>, AllocError>,
 ) -> Result<Type<'a>, AllocError>
-    ensures { IfOk result (λ t. IsMade (λ p. IsMade (λ b. type_of t
-        ≡ member_function class.0 convention (params_of p) set.0 (type_of b.value)) returned.entry) parameters.entry) }
+    ensures { IfOk result (λ t. IsOkAnd parameters.entry (λ p. IsOkAnd returned.entry (λ b. type_of t
+        ≡ member_function class.0 convention (params_of p) set.0 (type_of b.value)))) }
 {
     Ok(Type::MemberFunction(class, convention, parameters?, set, returned?))
 }
@@ -93,9 +93,9 @@ pub(super) fn member_pointer_made<'a>(
     set: StorageClass,
     returned: Result<Box<Type<'a>>, AllocError>,
 ) -> Result<Type<'a>, AllocError>
-    ensures { IfOk result (λ t. IsMade (λ s. IsMade (λ p. IsMade (λ b. type_of t
-        ≡ member_pointer (name_of s.name) (scope_of s.scope) class.0 convention (params_of p) set.0
-        (type_of b.value)) returned.entry) parameters.entry) pointed.entry) }
+    ensures { IfOk result (λ t. IsOkAnd pointed.entry (λ s. IsOkAnd parameters.entry (λ p. IsOkAnd returned.entry (λ b.
+        type_of t ≡ member_pointer (name_of s.name) (scope_of s.scope) class.0 convention (params_of p) set.0
+        (type_of b.value))))) }
 {
     Ok(Type::MemberFunctionPointer(pointed?, class, convention, parameters?, set, returned?))
 }
@@ -106,7 +106,7 @@ pub(super) fn variable_made<'a>(
     kind: VarStorageKind,
     set: StorageClass,
 ) -> Result<Type<'a>, AllocError>
-    ensures { IfOk result (λ t. IsMade (λ b. type_of t ≡ variable (type_of b.value) kind set.0) inner.entry) }
+    ensures { IfOk result (λ t. IsOkAnd inner.entry (λ b. type_of t ≡ variable (type_of b.value) kind set.0)) }
 {
     Ok(Type::Var(inner?, kind, set))
 }
@@ -117,7 +117,7 @@ pub(super) fn table_made<'a>(
     scope: Result<NameSequence<'a>, AllocError>,
     set: StorageClass,
 ) -> Result<Type<'a>, AllocError>
-    ensures { IfOk result (λ t. IsMade (λ s. type_of t ≡ table which (scope_of s) set.0) scope.entry) }
+    ensures { IfOk result (λ t. IsOkAnd scope.entry (λ s. type_of t ≡ table which (scope_of s) set.0)) }
 {
     Ok(which.table_type(scope?, set))
 }
