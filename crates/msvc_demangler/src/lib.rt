@@ -16,8 +16,9 @@ mod debug;
 mod lines;
 mod watched;
 
+pub use bitflags::Flags;
 pub use lines::{undname_lines, undname_one, undname_run};
-pub use msvc_read::{BackReference, back_references, parse};
+pub use msvc_read::{BackReference, back_references, parse, parse_prefix};
 pub use msvc_tree::error::{Error, ErrorRepr};
 pub use msvc_tree::flags::{DemangleFlags, FuncClass, StorageClass};
 use msvc_tree::tree::discard;

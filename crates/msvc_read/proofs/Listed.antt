@@ -7,7 +7,7 @@ use Rattle.msvc_read.proofs.Laws.{derived-only, symbol-derived}
 use Rattle.msvc_read.proofs.Rising.{derived_rising}
 use Rattle.msvc_read.proofs.Whole.{error-refused}
 use Rattle.msvc_read.proofs.Written.{all_written_out}
-use Rattle.msvc_read.specs.Parser.{Refuses}
+use Rattle.msvc_read.specs.Parser.{Refuses, with_length}
 use Rattle.msvc_read.specs.Reads.{Derives, Found, read_name}
 use Rattle.msvc_read.specs.Refusals.{IsErrorOf, IsRefusedRightly}
 use Rattle.msvc_read.specs.Rules.{symbol}
@@ -58,7 +58,7 @@ pub noted-refused : (text : List ℕ) (r : Refusal) (e : ErrorRepr) → Refuses 
 noted-refused text r e h is = error-refused text r e (no_tree r (read_name symbol text (beginning text)) h) is
   where
     no_tree : (r : Refusal) (found : Found SymbolTree) → Refuses r (option_map (λ x. x.2.notes) found)
-        → Refuses r (option_map (λ x. x.0) found)
+        → Refuses r (with_length text found)
     no_tree refusal.Memory found h = tt
     no_tree (refusal.Unread message left) None h = refl
     no_tree (refusal.Unread message left) (Some x) h = absurd (cc)

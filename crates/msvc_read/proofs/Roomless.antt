@@ -1,10 +1,10 @@
 -- What is read where no type has room in the table is read where types have room: no digit stood for one.
 use Rattle.std.proofs.Common.{ℕ, List, [], length, Some, None, Bool, true, false, cond, nat_lt, ◌≡◌}
 use Rattle.std.proofs.Common.{◌-◌, refl, sym, ap, ◌∙◌, arith, inl}
-use Rattle.std.specs.Option.{option_map}
 use Rattle.std.specs.Prelude.{slice_get}
 use Rattle.msvc_tree.specs.Equality.{same_type}
 use Rattle.msvc_tree.specs.Trees.{SymbolTree}
+use Rattle.msvc_read.specs.Parser.{with_length}
 use Rattle.msvc_read.specs.Sorts.{Sort, Value}
 use Rattle.msvc_read.specs.State.{Entry, State, span_of, beginning, beginning_with, with_name, with_type}
 use Rattle.msvc_read.specs.State.{remember_name, remember_type}
@@ -68,20 +68,20 @@ with_room (set_apart {s = s} d) s' h =
     let found = with_room d (emptied s') (refl, refl, h.2) in
     (put_back s' found.0, set_apart found.1, (h.0, h.1, found.2.2))
 
-tree_with_room : (text : List ℕ) (o : Found SymbolTree) (tree : SymbolTree)
-    → read_name symbol text (beginning_with 0 text) ≡ o → option_map (λ x. x.0) o ≡ Some tree
-    → option_map (λ x. x.0) (read_name symbol text (beginning text)) ≡ Some tree
+symbol_with_room : (text : List ℕ) (o : Found SymbolTree) (found : SymbolTree × ℕ)
+    → read_name symbol text (beginning_with 0 text) ≡ o → with_length text o ≡ Some found
+    → with_length text (read_name symbol text (beginning text)) ≡ Some found
 unfolding read read_by
-tree_with_room text None tree e h = absurd (cc)
-tree_with_room text (Some x) tree e h =
-    let found : WithRoom (call symbol) text (beginning text) x.0 x.1 x.2 =
+symbol_with_room text None found e h = absurd (cc)
+symbol_with_room text (Some x) found e h =
+    let again : WithRoom (call symbol) text (beginning text) x.0 x.1 x.2 =
     with_room (if_is (Derived (call symbol) text (beginning_with 0 text))
     (read (call symbol) text (beginning_with 0 text)) x e
     (read-sound (call symbol) text (beginning_with 0 text))) (beginning text) (refl, refl, refl) in
-    ap (option_map (λ y. y.0)) (name-complete symbol text (beginning text) x.0 x.1 found.0 found.1) ∙ h
+    ap (with_length text) (name-complete symbol text (beginning text) x.0 x.1 again.0 again.1) ∙ h
 
--- the tree of a text that was read so
-pub same-tree : (text : List ℕ) (tree : SymbolTree)
-    → option_map (λ x. x.0) (read_name symbol text (beginning_with 0 text)) ≡ Some tree
-    → option_map (λ x. x.0) (read_name symbol text (beginning text)) ≡ Some tree
-same-tree text tree h = tree_with_room text (read_name symbol text (beginning_with 0 text)) tree refl h
+-- the symbol of a text that was read so, and how much of the text was read
+pub same-symbol : (text : List ℕ) (found : SymbolTree × ℕ)
+    → with_length text (read_name symbol text (beginning_with 0 text)) ≡ Some found
+    → with_length text (read_name symbol text (beginning text)) ≡ Some found
+same-symbol text found h = symbol_with_room text (read_name symbol text (beginning_with 0 text)) found refl h

@@ -2,6 +2,7 @@ pub mod Grammar
 pub mod Hashes
 pub mod Parser
 pub mod Parts
+pub mod Prefix
 pub mod Reads
 pub mod Refusals
 pub mod Rules

@@ -1,9 +1,10 @@
 -- The state that a parser of the program stands for, and what its readers give.
-use Rattle.std.specs.Prelude.{ℕ, List, [], ◌∷◌, Option, Some, None, Result, Ok, Err, Bool, true, false, ◌≡◌, ◌==◌, ◌+◌}
-use Rattle.std.specs.Prelude.{map, position, take, drop, if◌then◌else◌}
+use Rattle.std.specs.Prelude.{ℕ, List, [], ◌∷◌, Option, Some, None, Result, Ok, Err, Bool, true, false, ◌≡◌, ◌==◌, ◌+◌, ◌-◌}
+use Rattle.std.specs.Prelude.{length, map, position, take, drop, if◌then◌else◌}
+use Rattle.std.specs.Option.{option_map}
 use Rattle.msvc_tree.specs.declared.kinds.PlainType.TheVariants as plain_kind
 use Rattle.msvc_tree.specs.declared.kinds.Guard.{Guard}
-use Rattle.msvc_tree.specs.Trees.{NameTree, TypeTree, guard, plain}
+use Rattle.msvc_tree.specs.Trees.{NameTree, SymbolTree, TypeTree, guard, plain}
 use Rattle.msvc_tree.specs.View.{name_of, type_of}
 use Rattle.msvc_read.specs.Grammar.{is_guard, is_hash, qualifiers, reference_qualifiers, second_special_letters}
 use Rattle.msvc_read.specs.Grammar.{special_letters, storage_classes, third_special_letters, type_information_letters}
@@ -46,6 +47,10 @@ Refuses (refusal.Unread message left) read = read ≡ None
 abbrev pub Gives : {X Y : Type 0} → (X → Y) → Result X Refusal → Option Y → Type 0
 Gives view (Ok x) read = read ≡ Some (view x)
 Gives view (Err e) read = Refuses e read
+
+-- the symbol that was read of a text, and how many bytes of it were read
+abbrev pub with_length : List ℕ → Found SymbolTree → Option (SymbolTree × ℕ)
+with_length text found = option_map (λ r. (r.0, length text - length r.1)) found
 
 -- the letters of a table of qualifiers, and the bits of each
 abbrev pub optional_letters : OptionalLetters → List (ℕ × ℕ)

@@ -19,5 +19,5 @@ mod symbols;
 mod types;
 
 pub use parser::BackReference;
-pub use read::parse;
+pub use read::{parse, parse_prefix};
 pub use references::back_references;
