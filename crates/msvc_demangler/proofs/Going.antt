@@ -1,12 +1,12 @@
 -- A run over lines, on its way.
-use Rattle.std.proofs.Common.{◌≡◌, ◌≢◌, ◌++◌, ◌∷◌, [], ℕ, List, Bool, true, false, Result, Ok, Err}
+use Rattle.std.proofs.Common.{◌≡◌, ◌≢◌, ◌++◌, ◌∷◌, [], ℕ, List, true, false, Result, Ok, Err, ◌⊎◌}
 use Rattle.std.proofs.Common.{ap, sym, subst, refl, ◌∙◌, append_assoc, append-nil, inl, inr, length, arith}
 use Rattle.std.specs.declared.option.Option.{Option}
 use Rattle.std.specs.Io.KnownBytes.{Appends, Consumes}
 use Rattle.std.proofs.KnownBytes.{Appends-nil, Appends-trans, Consumes-nil, Consumes-trans}
 use Rattle.std.proofs.lemmas.List.Elements.{All-nil, All-append}
 use Rattle.msvc_demangler.specs.Answers.{IsFilterText, IsText, nothing}
-use Rattle.msvc_demangler.specs.Faults.{HasFailed}
+use Rattle.msvc_demangler.specs.Faults.{IsSet, Mark, MarksAt, Stays, no_mark}
 use Rattle.msvc_demangler.specs.Lines.{line_of, lines_of}
 use Rattle.msvc_demangler.specs.Runs.{IsLines, IsOfOneLine, LeavesOff, Writes, WritesLines, WritesPart}
 use Rattle.msvc_demangler.specs.Taking.{IsWithoutEnd}
@@ -112,14 +112,18 @@ LeavesOff-line Write finished part text more lines some one is h =
 LeavesOff-line Memory finished part text more lines some one is h =
     (finished, part, refl, lines, one, IsFilterText-of _ _ (rw (h, append-nil text) is))
 
+-- where there is no writer, none has failed
+no_writer : (IsSet no_mark × Stays no_mark) ⊎ (Stays no_mark × IsSet no_mark) → ⊥
+no_writer (inl out) = let no : false ≡ true = out.0 in cc
+no_writer (inr err) = let no : false ≡ true = err.1 in cc
+
 -- a fault of the reader, or no memory for what it shows
-pub LeavesOff-part : (e : Fault) (failed : Bool) (finished part text : List ℕ) → HasFailed e failed false false
+pub LeavesOff-part : (e : Fault) (reader : Mark) (finished part text : List ℕ) → MarksAt e reader no_mark no_mark
     → IsLines finished → IsWithoutEnd part → IsText (lines_of finished) text → LeavesOff e (finished ++ part) text
-LeavesOff-part Read failed finished part text h lines unended is =
+LeavesOff-part Read reader finished part text marks lines unended is =
     (finished, part, refl, lines, unended, IsFilterText-of _ _ is)
-LeavesOff-part Write failed finished part text (inl h) lines unended is = let no : false ≡ true = h in cc
-LeavesOff-part Write failed finished part text (inr h) lines unended is = let no : false ≡ true = h in cc
-LeavesOff-part Memory failed finished part text h lines unended is =
+LeavesOff-part Write reader finished part text marks lines unended is = absurd (no_writer marks.1)
+LeavesOff-part Memory reader finished part text marks lines unended is =
     (finished, part, refl, lines, inl unended, IsFilterText-of _ _ is)
 
 -- the answer to a line, or the fault that came
@@ -148,15 +152,15 @@ Consumes-none reader reads later bytes more first second none =
     subst (Consumes reader later) (ap (λ l. bytes ++ l) none ∙ append-nil bytes) (Consumes-trans _ _ _ _ _ first second)
 
 -- it ended where the reader was asked
-pub Going-asked : (e : Fault) (failed : Bool) (reader reads later writer writes : Option (List ℕ)) (part more : List ℕ)
-    → Going reader reads writer writes part → Consumes reads later more → more ≡ [] → HasFailed e failed false false
+pub Going-asked : (e : Fault) (mark : Mark) (reader reads later writer writes : Option (List ℕ)) (part more : List ℕ)
+    → Going reader reads writer writes part → Consumes reads later more → more ≡ [] → MarksAt e mark no_mark no_mark
     → DidPart e reader later writer writes
-Going-asked e failed reader reads later writer writes part more so taken none h = (
+Going-asked e mark reader reads later writer writes part more so taken none marks = (
   so.finished ++ part,
   so.text,
   Consumes-none _ _ _ _ _ so.taken taken none,
   so.written,
-  LeavesOff-part e failed so.finished part so.text h so.lines so.unended so.is,
+  LeavesOff-part e mark so.finished part so.text marks so.lines so.unended so.is,
 )
 
 -- it ended where a line was answered

@@ -1,7 +1,7 @@
 -- What is written when one call follows another.
-use Rattle.std.proofs.Common.{◌≡◌, ◌++◌, [], ℕ, List, Result, Ok, Err, IfErr, Bool, true, false, ap, sym, refl}
+use Rattle.std.proofs.Common.{◌≡◌, ◌++◌, [], ℕ, List, Result, Ok, Err, IfErr, true, false, ap, sym, refl}
 use Rattle.std.proofs.Common.{◌∙◌, append_assoc, take, drop, length, ◌-◌, length-drop, take_all, arith}
-use Rattle.msvc_demangler.specs.Faults.{HasFailed}
+use Rattle.msvc_demangler.specs.Faults.{Mark, MarksAt, no_mark}
 use Rattle.msvc_demangler.specs.Runs.{Writes, WritesPart}
 use Rattle.msvc_demangler.specs.declared.watched.Fault.{Fault}
 use Rattle.msvc_demangler.specs.declared.watched.Fault.TheVariants.{Read, Write, Memory}
@@ -28,17 +28,16 @@ WritesPart-first Write bytes end text h = (h.0 ++ end, sym (append_assoc text h.
 WritesPart-first Memory bytes end text h = h
 
 -- the second of two parts, where the first was written
-pub Writes-second : {A : Type 0} (r : Result A Fault) (B : Fault → Type 0) (bytes end text : List ℕ)
-    → IfErr r (λ e. (e ≡ Write) × B e) → Writes r (λ whole. whole ≡ end) text
-    → Writes r (λ whole. whole ≡ bytes ++ end) (bytes ++ text)
-Writes-second (Ok done) B bytes end text e h = ap (λ l. bytes ++ l) h
-Writes-second (Err Read) B bytes end text e h = absurd h
-Writes-second (Err Write) B bytes end text e h = (h.0, append_assoc bytes text h.0 ∙ ap (λ l. bytes ++ l) h.1)
-Writes-second (Err Memory) B bytes end text e h = let no : Memory ≡ Write = e.0 in cc
+pub Writes-second : {A : Type 0} (r : Result A Fault) (bytes end text : List ℕ) → IfErr r (λ e. e ≡ Write)
+    → Writes r (λ whole. whole ≡ end) text → Writes r (λ whole. whole ≡ bytes ++ end) (bytes ++ text)
+Writes-second (Ok done) bytes end text e h = ap (λ l. bytes ++ l) h
+Writes-second (Err Read) bytes end text e h = absurd h
+Writes-second (Err Write) bytes end text e h = (h.0, append_assoc bytes text h.0 ∙ ap (λ l. bytes ++ l) h.1)
+Writes-second (Err Memory) bytes end text e h = let no : Memory ≡ Write = e in cc
 
 -- nothing, where a fault came before the first byte
-pub WritesPart-nothing : (e : Fault) (out err : Bool) (P : List ℕ → Type 0) (whole : List ℕ) → P whole
-    → HasFailed e false out err → WritesPart e P []
-WritesPart-nothing Read out err P whole h failed = let no : false ≡ true = failed in cc
-WritesPart-nothing Write out err P whole h failed = (whole, h)
-WritesPart-nothing Memory out err P whole h failed = refl
+pub WritesPart-nothing : (e : Fault) (out err : Mark) (P : List ℕ → Type 0) (whole : List ℕ) → P whole
+    → MarksAt e no_mark out err → WritesPart e P []
+WritesPart-nothing Read out err P whole h marks = let no : false ≡ true = marks.0 in cc
+WritesPart-nothing Write out err P whole h marks = (whole, h)
+WritesPart-nothing Memory out err P whole h marks = refl

@@ -14,7 +14,7 @@ IsWithEnd bytes = (front : List ℕ) × IsWithoutEnd front × (bytes ≡ front +
 
 -- what was taken is what the answer says
 abbrev pub IsCut : Taken → List ℕ → Type 0
-IsCut Part bytes = IsWithoutEnd bytes
+IsCut Part bytes = (bytes ≢ []) × IsWithoutEnd bytes
 IsCut Line bytes = IsWithEnd bytes
 IsCut End bytes = bytes ≡ []
 

@@ -1,12 +1,11 @@
 //! `undname` over symbols and lines: what the program does, over readers and writers.
 
-ghost use Rattle.std.specs.Prelude.{◌≡◌, ◌≢◌, ◌++◌, ◌∷◌, ◌≤◌, ℕ, List, [], IfErr, IfOk, IsTrue, OnOk, OnSome, true};
-ghost use Rattle.std.specs.Prelude.{false, string_bytes};
+ghost use Rattle.std.specs.Prelude.{◌≡◌, ◌≢◌, ◌++◌, ◌∷◌, ℕ, List, [], IfErr, IfOk, OnOk, OnSome, string_bytes};
 ghost use Rattle.std.specs.Io.KnownBytes.{Appends, Consumes, IsAtEnd};
 ghost use Rattle.msvc_tree.specs.declared.error.ErrorRepr.TheVariants.{Memory};
 ghost use Rattle.msvc_demangler.specs.Answers.{IsAnswer, IsLineText, IsText};
 ghost use Rattle.msvc_demangler.specs.Lines.{line_of};
-ghost use Rattle.msvc_demangler.specs.Faults.{HasFailed};
+ghost use Rattle.msvc_demangler.specs.Faults.{Marks, mark, no_mark};
 ghost use Rattle.msvc_demangler.specs.Runs.{Writes, WritesLines};
 
 use crate::debug::with_texts;
@@ -31,9 +30,7 @@ pub fn undname_run<R: BufRead, W: Write, E: Write>(
     out: &mut Watched<W>,
     err: &mut Watched<E>,
 ) -> Result<(), Fault>
-    ensures failed { IfErr result (λ fault. HasFailed fault input.new.failed out.new.failed err.new.failed) }
-    ensures kept { OnOk result ((input.new.failed ≡ input.old.failed) × (out.new.failed ≡ out.old.failed)
-        × (err.new.failed ≡ err.old.failed)) }
+    ensures marks { Marks result (mark input.old input.new) (mark out.old out.new) (mark err.old err.new) }
 {
     let (symbols, verbose) = options(words);
     if symbols.is_empty() {
@@ -58,8 +55,7 @@ fn undname_all<W: Write, E: Write>(
     err: &mut Watched<E>,
     verbose: bool,
 ) -> Result<(), Fault>
-    ensures failed { IfErr result (λ fault. HasFailed fault false out.new.failed err.new.failed) }
-    ensures kept { OnOk result ((out.new.failed ≡ out.old.failed) × (err.new.failed ≡ err.old.failed)) }
+    ensures marks { Marks result no_mark (mark out.old out.new) (mark err.old err.new) }
 {
     for symbol in symbols {
         undname_one(alloc, symbol.as_str(), out, err, verbose)?;
@@ -78,8 +74,7 @@ pub fn undname_one<W: Write, E: Write>(
 ) -> Result<(), Fault>
     ensures text { (text : List ℕ) × Appends (W.contents out.old.stream) (W.contents out.new.stream) text
         × Writes result (IsLineText symbol.now) text }
-    ensures failed { IfErr result (λ fault. HasFailed fault false out.new.failed err.new.failed) }
-    ensures kept { OnOk result ((out.new.failed ≡ out.old.failed) × (err.new.failed ≡ err.old.failed)) }
+    ensures marks { Marks result no_mark (mark out.old out.new) (mark err.old err.new) }
 {
     match answer(alloc, symbol) {
         Ok(text) => {
@@ -108,8 +103,7 @@ fn answer(alloc: Global, symbol: &str) -> Result<String, Error>
 
 /// Writes why a symbol was refused.
 fn report<E: Write>(alloc: Global, refusal: &Error, err: &mut Watched<E>) -> Result<(), Fault>
-    ensures failed { IfErr result (λ fault. HasFailed fault false false err.new.failed) }
-    ensures kept { OnOk result (err.new.failed ≡ err.old.failed) }
+    ensures marks { Marks result no_mark no_mark (mark err.old err.new) }
 {
     match format!(in alloc; "error: {refusal}\n") {
         Ok(text) => put_all(err, text.as_bytes()),
@@ -119,8 +113,7 @@ fn report<E: Write>(alloc: Global, refusal: &Error, err: &mut Watched<E>) -> Res
 
 /// Writes a symbol's tree, where it has one.
 fn show_tree<E: Write>(alloc: Global, symbol: &str, err: &mut Watched<E>) -> Result<(), Fault>
-    ensures failed { IfErr result (λ fault. HasFailed fault false false err.new.failed) }
-    ensures kept { OnOk result (err.new.failed ≡ err.old.failed) }
+    ensures marks { Marks result no_mark no_mark (mark err.old err.new) }
 {
     match tree_text(alloc, symbol) {
         Ok(text) => put_all(err, text.as_bytes()),
@@ -140,8 +133,7 @@ fn tree_text(alloc: Global, symbol: &str) -> Result<String, Error> {
 fn put_line<W: Write>(out: &mut Watched<W>, text: &str) -> Result<(), Fault>
     ensures text { (written : List ℕ) × Appends (W.contents out.old.stream) (W.contents out.new.stream) written
         × Writes result (λ whole. whole ≡ text.now ++ 10 ∷ []) written }
-    ensures failed { IfErr result (λ fault. HasFailed fault false out.new.failed false) }
-    ensures kept { OnOk result (out.new.failed ≡ out.old.failed) }
+    ensures marks { Marks result no_mark (mark out.old out.new) no_mark }
 {
     put_all(out, text.as_bytes())?;
     put_all(out, b"\n")
@@ -151,8 +143,8 @@ fn put_line<W: Write>(out: &mut Watched<W>, text: &str) -> Result<(), Fault>
 fn put_all<W: Write>(out: &mut Watched<W>, bytes: &[u8]) -> Result<(), Fault>
     ensures text { (written : List ℕ) × Appends (W.contents out.old.stream) (W.contents out.new.stream) written
         × Writes result (λ whole. whole ≡ bytes.now) written }
-    ensures failed { IfErr result (λ fault. (fault ≡ Fault.Write) × IsTrue out.new.failed) }
-    ensures kept { OnOk result (out.new.failed ≡ out.old.failed) }
+    ensures fault { IfErr result (λ fault. fault ≡ Fault.Write) }
+    ensures marks { Marks result no_mark (mark out.old out.new) no_mark }
 {
     let mut sent = 0;
     'writes: while sent < bytes.len() {
@@ -172,9 +164,7 @@ pub fn undname_lines<R: BufRead, W: Write, E: Write>(
     ensures text { (taken text : List ℕ) × Consumes (R.remaining input.old.stream) (R.remaining input.new.stream) taken
         × Appends (W.contents out.old.stream) (W.contents out.new.stream) text × WritesLines result taken text }
     ensures end { OnOk result (OnSome (R.remaining input.old.stream) (IsAtEnd (R.remaining input.new.stream))) }
-    ensures failed { IfErr result (λ fault. HasFailed fault input.new.failed out.new.failed err.new.failed) }
-    ensures kept { OnOk result ((input.new.failed ≡ input.old.failed) × (out.new.failed ≡ out.old.failed)
-        × (err.new.failed ≡ err.old.failed)) }
+    ensures marks { Marks result (mark input.old input.new) (mark out.old out.new) (mark err.old err.new) }
 {
     let mut piece = Vec::new(alloc);
     'pieces: for asked in 0..u64::MAX {
@@ -208,8 +198,7 @@ fn filter_line<W: Write, E: Write>(
 ) -> Result<(), Fault>
     ensures text { (text : List ℕ) × Appends (W.contents out.old.stream) (W.contents out.new.stream) text
         × Writes result (IsText (line_of piece.now ∷ [])) text }
-    ensures failed { IfErr result (λ fault. HasFailed fault false out.new.failed err.new.failed) }
-    ensures kept { OnOk result ((out.new.failed ≡ out.old.failed) × (err.new.failed ≡ err.old.failed)) }
+    ensures marks { Marks result no_mark (mark out.old out.new) (mark err.old err.new) }
 {
     match from_utf8(without_end(piece)) {
         Ok(line) => undname_one(alloc, line, out, err, verbose),

@@ -1,11 +1,10 @@
 //! Streams that are watched: whether a call on a reader or a writer has failed. The engine over lines moves bytes by
 //! `take` and `put` alone, and the mark of a stream turns true in these alone.
 
-ghost use Rattle.std.specs.Prelude.{◌≡◌, ◌+◌, ◌≤◌, ◌^◌, ◌-◌, ◌++◌, ℕ, List, [], Err, IfErr, IfOk, IsTrue, OnOk, true};
-ghost use Rattle.std.specs.Prelude.{false};
-ghost use Rattle.std.specs.Prelude.{length, take, ◌<◌, OnErr, OnSome};
+ghost use Rattle.std.specs.Prelude.{◌≡◌, ◌+◌, ◌≤◌, ◌<◌, ◌^◌, ◌-◌, ◌++◌, ℕ, List, [], Err, IfErr, IfOk, OnErr, OnSome};
+ghost use Rattle.std.specs.Prelude.{false, length, take};
 ghost use Rattle.std.specs.Io.KnownBytes.{Appends, Consumes, IsAtEnd, Keeps};
-ghost use Rattle.msvc_demangler.specs.Faults.{HasFailed};
+ghost use Rattle.msvc_demangler.specs.Faults.{Marks, mark, no_mark};
 ghost use Rattle.msvc_demangler.specs.Streams.{Stream};
 ghost use Rattle.msvc_demangler.specs.Taking.{IsCut, TakenAs};
 
@@ -78,13 +77,15 @@ impl<T> Watched<T> {
 impl<R: BufRead> Watched<R> {
     /// Asks the reader once, and appends what it takes to `bytes`: up to a line feed, or all that the reader shows. The
     /// reader has been asked so many times before; it has failed where it was asked 2^64 - 1 times.
+    ///
+    /// A failed call is answered at once, an interrupted one too, and nothing is taken then. That the reader is asked no
+    /// second time can't be said by a clause, since a reader's contract tells its bytes and counts no calls.
     pub(crate) fn take(&mut self, asked: u64, bytes: &mut Vec<u8>) -> Result<Taken, Fault>
         ensures taken { (taken : List ℕ) × (bytes.new.items ≡ bytes.old.items ++ taken)
             × Consumes (R.remaining self.old.stream) (R.remaining self.new.stream) taken × TakenAs result taken }
         ensures end { IfOk result (λ t. t ≡ Taken.End →
             OnSome (R.remaining self.old.stream) (IsAtEnd (R.remaining self.new.stream))) }
-        ensures kept { OnOk result (self.new.failed ≡ self.old.failed) }
-        ensures fault { IfErr result (λ f. HasFailed f self.new.failed false false) }
+        ensures marks { Marks result (mark self.old self.new) no_mark no_mark }
         ensures asked { asked ≡ 2 ^ 64 - 1 → result ≡ Err Fault.Read }
     {
         if asked == u64::MAX {
@@ -124,14 +125,17 @@ fn cut(shown: &[u8]) -> (usize, Taken)
 
 impl<W: Write> Watched<W> {
     /// Writes once, of some bytes, and says how many the writer took. A writer that takes none has failed.
+    ///
+    /// A failed call is answered at once, an interrupted one too. That nothing is written after it can't be said by a
+    /// clause, for the reason given at `take`.
     pub(crate) fn put(&mut self, bytes: &[u8]) -> Result<usize, Fault>
         ensures bound { IfOk result (λ n. n ≤ length bytes.now) }
         ensures moves { IfOk result (λ n. 0 < n) }
         ensures ok { IfOk result (λ n.
             Appends (W.contents self.old.stream) (W.contents self.new.stream) (take n bytes.now)) }
         ensures err { OnErr result (Keeps (W.contents self.old.stream) (W.contents self.new.stream)) }
-        ensures kept { OnOk result (self.new.failed ≡ self.old.failed) }
-        ensures fault { IfErr result (λ f. (f ≡ Fault.Write) × IsTrue self.new.failed) }
+        ensures fault { IfErr result (λ f. f ≡ Fault.Write) }
+        ensures marks { Marks result no_mark (mark self.old self.new) no_mark }
     {
         match self.stream.write(bytes) {
             Ok(n) if n > 0 => Ok(n),

@@ -9,7 +9,7 @@ pub returns-in_err-sent-clause-text : goal.returns-in_err-sent-clause-text
 returns-in_err-sent-clause-text g c =
     let p = err_from_is_err_and c.from_residual.result c.from_residual.ensures.1 in
     let e = c.in_err-sent.ensures in
-    rw (p.1, p.2, e.fault.0) (
+    rw (p.1, p.2, e.fault) (
       take c.writes.sent c.args.bytes.now,
       Appends-kept _ _ _ _ c.writes.invariant.1 e.err,
       (drop c.writes.sent c.args.bytes.now, take-append-drop c.writes.sent c.args.bytes.now),
@@ -26,5 +26,5 @@ writes-preserved g c =
     rw (take-add sent c.in_ok-sent.field-0 all) (
       omega (arith, inv.0, bound, length-drop sent all),
       Appends-trans _ _ _ _ _ inv.1 more,
-      e.kept ∙ inv.2,
+      e.marks.1 ∙ inv.2,
     )

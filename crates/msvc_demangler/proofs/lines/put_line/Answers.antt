@@ -17,5 +17,5 @@ returns-clause-text g c =
     rw (← c.as_bytes.ensures.value, ← first.2) (
       first.0 ++ second.text.0,
       Appends-trans _ _ _ _ _ first.1 second.text.1,
-      Writes-second _ _ _ _ _ second.failed second.text.2,
+      Writes-second _ _ _ _ second.fault second.text.2,
     )

@@ -5,7 +5,8 @@ use Rattle.std.specs.Io.KnownBytes.{Consumes}
 use Rattle.msvc_demangler.specs.Answers.{IsText}
 use Rattle.msvc_demangler.specs.Lines.{line_of}
 use Rattle.msvc_demangler.specs.Runs.{Writes, WritesPart}
-use Rattle.msvc_demangler.specs.Taking.{IsCut, IsWithEnd, IsWithoutEnd}
+use Rattle.msvc_demangler.specs.Taking.{IsCut, IsWithEnd}
+use Rattle.msvc_demangler.specs.declared.watched.Taken.TheVariants.{Part}
 use Rattle.msvc_demangler.proofs.Going.{empty-of_length, Going-asked, Going-end, Going-fault, Going-line}
 use Rattle.msvc_demangler.proofs.Going.{Going-part, Going-rest, Going-start}
 use Rattle.msvc_demangler.proofs.lines.undname_lines.Goals.{in-Part, in-Line+in_ok-filter_line-in-Line}
@@ -18,7 +19,7 @@ pub returns-in_err-take-clause-text : goal.returns-in_err-take-clause-text
 returns-in_err-take-clause-text g c =
     let p = err_from_is_err_and c.from_residual.result c.from_residual.ensures.1 in
     let e = c.in_err-take.ensures in
-    rw (p.1, p.2) (Going-asked _ _ _ _ _ _ _ _ e.taken.0 c.pieces.invariant.0 e.taken.2 e.taken.3 e.fault)
+    rw (p.1, p.2) (Going-asked _ _ _ _ _ _ _ _ e.taken.0 c.pieces.invariant.0 e.taken.2 e.taken.3 e.marks)
 
 pub returns-in_err-filter_line-in-Line-clause-text : goal.returns-in_err-filter_line-in-Line-clause-text
 returns-in_err-filter_line-in-Line-clause-text g c =
@@ -60,10 +61,10 @@ pieces-preserved g c =
     let e = c.in_ok-take.ensures in
     elim c.match-branch-2.branch [
       | in-Part w ↦
-          let cut : IsWithoutEnd e.taken.0 = subst (λ t. IsCut t e.taken.0) w.in-Part.is e.taken.3 in
+          let cut : IsCut Part e.taken.0 = subst (λ t. IsCut t e.taken.0) w.in-Part.is e.taken.3 in
           rw (w.out-is, w.err-is, w.piece-is, e.taken.1) (
-            Going-part _ _ _ _ _ _ _ c.pieces.invariant.0 e.taken.2 cut,
-            e.kept ∙ c.pieces.invariant.1,
+            Going-part _ _ _ _ _ _ _ c.pieces.invariant.0 e.taken.2 cut.1,
+            e.marks.0 ∙ c.pieces.invariant.1,
             c.pieces.invariant.2,
             c.pieces.invariant.3,
           )
@@ -74,13 +75,13 @@ pieces-preserved g c =
           rw (w.out-is, w.err-is, w.piece-is, w.clear.ensures.items) (
             Going-line _ _ _ _ _ _ _ cut.0 c.pieces.invariant.0 (subst (Consumes _ _) cut.2 e.taken.2) cut.1 text.0
                 text.1 (subst (λ l. IsText (line_of l ∷ []) text.0) whole text.2),
-            e.kept ∙ c.pieces.invariant.1,
-            w.in_ok-filter_line-in-Line.ensures.kept.0 ∙ c.pieces.invariant.2,
-            w.in_ok-filter_line-in-Line.ensures.kept.1 ∙ c.pieces.invariant.3,
+            e.marks.0 ∙ c.pieces.invariant.1,
+            w.in_ok-filter_line-in-Line.ensures.marks.1 ∙ c.pieces.invariant.2,
+            w.in_ok-filter_line-in-Line.ensures.marks.2 ∙ c.pieces.invariant.3,
           )
     ]
 
 pub returns-clause-text : goal.returns-clause-text
 returns-clause-text g c =
     let e = c.in-Err.ensures in
-    Going-asked _ _ _ _ _ _ _ _ e.taken.0 c.pieces.invariant.0 e.taken.2 e.taken.3 e.fault
+    Going-asked _ _ _ _ _ _ _ _ e.taken.0 c.pieces.invariant.0 e.taken.2 e.taken.3 e.marks

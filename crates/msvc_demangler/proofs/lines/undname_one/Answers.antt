@@ -7,7 +7,7 @@ use Rattle.msvc_demangler.proofs.lines.undname_one.Goals as goal
 pub returns-in_err-show_tree-in-Ok-clause-text : goal.returns-in_err-show_tree-in-Ok-clause-text
 returns-in_err-show_tree-in-Ok-clause-text g c =
     let p = err_from_is_err_and c.from_residual.result c.from_residual.ensures.1 in
-    let e = c.in_err-show_tree-in-Ok.ensures.failed in
+    let e = c.in_err-show_tree-in-Ok.ensures.marks in
     rw (p.1, p.2) (
       [],
       Appends-nil _,
@@ -19,7 +19,7 @@ pub returns-in_err-report-in-Err-clause-text : goal.returns-in_err-report-in-Err
 returns-in_err-report-in-Err-clause-text g c =
     let at = c.from_residual-in_err-report-in-Err in
     let p = err_from_is_err_and at.result at.ensures.1 in
-    let e = c.in_err-report-in-Err.ensures.failed in
+    let e = c.in_err-report-in-Err.ensures.marks in
     rw (p.1, p.2) (
       [],
       Appends-nil _,
