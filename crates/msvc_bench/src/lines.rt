@@ -3,9 +3,10 @@
 
 #[cfg(test)]
 mod tests {
-    use crate::streams::{FailingReader, FailingWriter, SlowReader, SlowWriter};
+    use crate::streams::{Failing, Reader, Writer};
     use msvc_demangler::{Fault, Watched, undname_lines, undname_run};
     use std::alloc::{AllocError, Global};
+    use std::io::ErrorKind;
     use std::test::Fail;
 
     /// A line that is demangled, one that is refused, one that is not UTF-8, and one that no line feed ends.
@@ -25,7 +26,7 @@ mod tests {
     }
 
     #[test]
-    fn lines(rt: HostRuntime) {
+    fn lines(rt: HostRuntime) -> Result<(), Fail> {
         let refused: &[u8] = b"error: unknown func class (offset: 5, remaining: \"\")\n";
         let empty: &[u8] = b"error: does not start with b'?' (offset: 0, remaining: \"\")\n";
         let rows: [(&[u8], &[u8], &[u8]); 9] = [
@@ -42,89 +43,183 @@ mod tests {
         for (bytes, text, refusals) in rows {
             let (out, err, done) = filtered(rt.alloc(), bytes);
             assert_eq!(rt; done, Ok(()));
-            assert_eq!(rt; out.as_slice(), text);
-            assert_eq!(rt; err.as_slice(), refusals);
+            let filtered = (out, err);
+            assert!(rt; filtered == run(rt.alloc(), &[], bytes)?);
+            assert_eq!(rt; filtered.0.as_slice(), text);
+            assert_eq!(rt; filtered.1.as_slice(), refusals);
         }
+        Ok(())
+    }
+
+    /// The streams of a run.
+    #[derive(Drop)]
+    struct Streams<'a> {
+        input: Reader<'a>,
+        out: Writer,
+        err: Writer,
+    }
+
+    /// How a run ended: why, whether the reader, `out` and `err` are marked, and how many calls came after a failed one.
+    #[derive(Debug, PartialEq, Eq, Drop)]
+    struct End {
+        done: Result<(), Fault>,
+        marked: (bool, bool, bool),
+        late: usize,
+    }
+
+    /// Runs over a reader of `LINES` and two writers, all of so many bytes at a time at most, which fail as is said.
+    fn run_over(
+        alloc: Global,
+        most: usize,
+        input: Failing,
+        out: Failing,
+        err: Failing,
+    ) -> (End, Streams<'static>) {
+        let mut input = Watched::new(Reader::new(LINES, most, input));
+        let mut out = Watched::new(Writer::new(alloc, most, out));
+        let mut err = Watched::new(Writer::new(alloc, most, err));
+        let done = undname_lines(alloc, &mut input, &mut out, &mut err, false);
+        let marked = (input.failed(), out.failed(), err.failed());
+        let (input, out, err) = (input.into_inner(), out.into_inner(), err.into_inner());
+        let late = input.failing.late().saturating_add(out.failing.late());
+        let late = late.saturating_add(err.failing.late());
+        (End { done, marked, late }, Streams { input, out, err })
+    }
+
+    /// What the reader has left, and what `out` and `err` have.
+    fn contents<'a>(streams: &'a Streams<'_>) -> (&'a [u8], &'a [u8], &'a [u8]) {
+        let Streams { input, out, err } = streams;
+        (input.bytes, out.taken.as_slice(), err.taken.as_slice())
     }
 
     #[test]
+    fn single_bytes(rt: HostRuntime) {
+        let unmarked = End {
+            done: Ok(()),
+            marked: (false, false, false),
+            late: 0,
+        };
+        let (input, out, err) = (Failing::never(), Failing::never(), Failing::never());
+        let (end, streams) = run_over(rt.alloc(), 1, input, out, err);
+        assert_eq!(rt; end, unmarked);
+        assert_eq!(rt; contents(&streams), (b"".as_slice(), TEXT, REFUSAL));
+    }
+
+    /// How many bytes at a time a stream moves at most, and how it fails: a reader by an error, a writer also by
+    /// taking no byte.
+    const FAILURES: [(usize, Option<ErrorKind>); 6] = [
+        (1, Some(ErrorKind::Other)),
+        (1, Some(ErrorKind::Interrupted)),
+        (usize::MAX, Some(ErrorKind::Other)),
+        (usize::MAX, Some(ErrorKind::Interrupted)),
+        (1, None),
+        (usize::MAX, None),
+    ];
+
+    #[test]
     fn failing_readers(rt: HostRuntime) {
-        let rows: [&[u8]; 2] = [b"?x@@3HA\r\n", b"?x@@3HA\r\nno"];
-        for bytes in rows {
-            let mut input = Watched::new(FailingReader { bytes });
-            let mut out = Watched::new(Vec::new(rt.alloc()));
-            let mut err = Watched::new(Vec::new(rt.alloc()));
-            let done = undname_lines(rt.alloc(), &mut input, &mut out, &mut err, false);
-            assert_eq!(rt; done, Err(Fault::Read));
-            assert!(rt; input.failed());
-            assert!(rt; !out.failed());
-            assert!(rt; !err.failed());
-            assert_eq!(rt; out.into_inner().as_slice(), b"int x\n".as_slice());
+        let failed = End {
+            done: Err(Fault::Read),
+            marked: (true, false, false),
+            late: 0,
+        };
+        // From where to where the reader fails, and what has gone out then: the answers to the lines that ended before.
+        let rows: [(usize, usize, &[u8], &[u8]); 3] = [
+            (0, 9, b"", b""),
+            (9, 14, b"int x\n", b""),
+            (14, 21, b"int x\nnope\n", REFUSAL),
+        ];
+        for (first, end, text, refusals) in rows {
+            for place in first..end {
+                for (most, error) in &FAILURES[..4] {
+                    let fails = Failing::after(place, *error);
+                    let (end, streams) = run_over(
+                        rt.alloc(),
+                        *most,
+                        fails,
+                        Failing::never(),
+                        Failing::never(),
+                    );
+                    assert_eq!(rt; end, failed, "at {place}");
+                    assert_eq!(rt;
+                        contents(&streams),
+                        (&LINES[place..], text, refusals),
+                        "at {place}"
+                    );
+                }
+            }
         }
     }
 
     #[test]
     fn failing_writers(rt: HostRuntime) {
-        // The text and its line feed are a write each.
-        let rows: [(usize, &[u8]); 6] = [
-            (0, b""),
-            (1, b"int x"),
-            (2, b"int x\n"),
-            (3, b"int x\nnope"),
-            (4, b"int x\nnope\n"),
-            (5, b"int x\nnope\nf"),
+        let failed = End {
+            done: Err(Fault::Write),
+            marked: (false, true, false),
+            late: 0,
+        };
+        // From where to where `out` fails, what the reader has left then, and what `err` has.
+        let rows: [(usize, usize, &[u8], &[u8]); 3] = [
+            (0, 6, b"nope\n\xFF\n?f@@", b""),
+            (6, 11, b"\xFF\n?f@@", REFUSAL),
+            (11, 13, b"", REFUSAL),
         ];
-        for (writes, text) in rows {
-            let mut input = Watched::new(LINES);
-            let mut out = Watched::new(FailingWriter {
-                taken: Vec::new(rt.alloc()),
-                writes,
-            });
-            let mut err = Watched::new(Vec::new(rt.alloc()));
-            let done = undname_lines(rt.alloc(), &mut input, &mut out, &mut err, false);
-            assert_eq!(rt; done, Err(Fault::Write));
-            assert!(rt; out.failed());
-            assert!(rt; !err.failed());
-            assert!(rt; !input.failed());
-            assert_eq!(rt; out.into_inner().taken.as_slice(), text);
+        for (first, end, left, refusals) in rows {
+            for place in first..end {
+                for (most, error) in &FAILURES {
+                    let fails = Failing::after(place, *error);
+                    let (end, streams) = run_over(
+                        rt.alloc(),
+                        *most,
+                        Failing::never(),
+                        fails,
+                        Failing::never(),
+                    );
+                    assert_eq!(rt; end, failed, "at {place}");
+                    assert_eq!(rt;
+                        contents(&streams),
+                        (left, &TEXT[..place], refusals),
+                        "at {place}"
+                    );
+                }
+            }
         }
     }
 
     #[test]
-    fn failing_writer_of_refusals(rt: HostRuntime) {
-        let mut input = Watched::new(LINES);
-        let mut out = Watched::new(Vec::new(rt.alloc()));
-        let mut err = Watched::new(FailingWriter {
-            taken: Vec::new(rt.alloc()),
-            writes: 0,
-        });
-        let done = undname_lines(rt.alloc(), &mut input, &mut out, &mut err, false);
-        assert_eq!(rt; done, Err(Fault::Write));
-        assert!(rt; err.failed());
-        assert!(rt; !out.failed());
-        assert_eq!(rt; out.into_inner().as_slice(), b"int x\n".as_slice());
+    fn failing_writers_of_refusals(rt: HostRuntime) {
+        let failed = End {
+            done: Err(Fault::Write),
+            marked: (false, false, true),
+            late: 0,
+        };
+        let (left, text): (&[u8], &[u8]) = (b"\xFF\n?f@@", b"int x\n");
+        for place in 0..REFUSAL.len() {
+            for (most, error) in &FAILURES {
+                let fails = Failing::after(place, *error);
+                let (end, streams) = run_over(
+                    rt.alloc(),
+                    *most,
+                    Failing::never(),
+                    Failing::never(),
+                    fails,
+                );
+                assert_eq!(rt; end, failed, "at {place}");
+                assert_eq!(rt;
+                    contents(&streams),
+                    (left, text, &REFUSAL[..place]),
+                    "at {place}"
+                );
+            }
+        }
     }
 
-    #[test]
-    fn single_bytes(rt: HostRuntime) {
-        let mut input = Watched::new(SlowReader { bytes: LINES });
-        let mut out = Watched::new(SlowWriter {
-            taken: Vec::new(rt.alloc()),
-        });
-        let mut err = Watched::new(Vec::new(rt.alloc()));
-        let done = undname_lines(rt.alloc(), &mut input, &mut out, &mut err, false);
-        assert_eq!(rt; done, Ok(()));
-        assert_eq!(rt; out.into_inner().taken.as_slice(), TEXT);
-        assert_eq!(rt; err.into_inner().as_slice(), REFUSAL);
-    }
-
-    /// What a run writes that is given these words, and the one line `?f@@` to read.
-    fn run(alloc: Global, words: &[&str]) -> Result<(Vec<u8>, Vec<u8>), AllocError> {
+    /// What a run writes that is given these words, and these bytes to read.
+    fn run(alloc: Global, words: &[&str], bytes: &[u8]) -> Result<(Vec<u8>, Vec<u8>), AllocError> {
         let mut owned = Vec::new(alloc);
         for word in words {
             owned.push(String::from_str(alloc, word)?)?;
         }
-        let bytes: &[u8] = b"?f@@";
         let mut input = Watched::new(bytes);
         let mut out = Watched::new(Vec::new(alloc));
         let mut err = Watched::new(Vec::new(alloc));
@@ -146,11 +241,11 @@ mod tests {
             (&["-v", "-v"], b"-v\n", dashed),
         ];
         for (words, text, refusals) in rows {
-            let (out, err) = run(rt.alloc(), words)?;
+            let (out, err) = run(rt.alloc(), words, b"?f@@")?;
             assert_eq!(rt; out.as_slice(), text);
             assert_eq!(rt; err.as_slice(), refusals);
         }
-        let (out, err) = run(rt.alloc(), &["-v"])?;
+        let (out, err) = run(rt.alloc(), &["-v"], b"?f@@")?;
         assert_eq!(rt; out.as_slice(), b"f\n".as_slice());
         assert!(rt; !err.is_empty());
         Ok(())
