@@ -59,7 +59,7 @@ mod tests {
         err: Writer,
     }
 
-    /// How a run ended: why, whether the reader, `out` and `err` are marked, and how many calls came after a failed one.
+    /// How a run ended: why, whether the reader, `out` and `err` are marked, and how many calls came after a failure.
     #[derive(Debug, PartialEq, Eq, Drop)]
     struct End {
         done: Result<(), Fault>,
