@@ -6,9 +6,13 @@
 //! standard error says which, and what was finished before is printed.
 #![tactic(auto)]
 
+mod outputs;
+
 use msvc_demangler::{Fault, Watched, undname_run};
+use outputs::{Answers, Remarks};
+use std::cell::RefCell;
 use std::env;
-use std::io::{BufReader, BufWriter, Read, Write};
+use std::io::{BufReader, BufWriter, IsTerminal, Read, Write};
 use std::process::ExitCode;
 
 /// How many bytes are read, or written, at once.
@@ -30,8 +34,13 @@ fn main(rt: HostRuntime) -> ExitCode {
 fn run(rt: &HostRuntime) -> Result<(), Fault> {
     let words = words(rt)?;
     let mut input = reader(rt, rt.stdin())?;
-    let mut out = writer(rt, rt.stdout())?;
-    let mut err = writer(rt, rt.stderr())?;
+    let remarks = RefCell::new(writer(rt, rt.stderr(), BUFFER_LENGTH)?);
+    let answers = writer(rt, rt.stdout(), answers_length(rt))?;
+    let mut out = Watched::new(Answers {
+        held: answers,
+        remarks: &remarks,
+    });
+    let mut err = Watched::new(Remarks { held: &remarks });
     let done = undname_run(rt.alloc(), &words, &mut input, &mut out, &mut err);
     let explained = flush(err);
     let printed = flush(out);
@@ -55,15 +64,25 @@ fn reader<R: Read + Drop>(rt: &HostRuntime, stream: R) -> Result<Watched<BufRead
     }
 }
 
-/// A stream that is written in large pieces.
-fn writer<W: Write + Drop>(rt: &HostRuntime, stream: W) -> Result<Watched<BufWriter<W>>, Fault> {
-    match BufWriter::with_capacity(rt.alloc(), BUFFER_LENGTH, stream) {
-        Ok(stream) => Ok(Watched::new(stream)),
-        Err(_) => Err(Fault::Memory),
+/// A stream that is written in pieces of so many bytes.
+fn writer<W: Write + Drop>(
+    rt: &HostRuntime,
+    stream: W,
+    length: usize,
+) -> Result<BufWriter<W>, Fault> {
+    BufWriter::with_capacity(rt.alloc(), length, stream).map_err(|_| Fault::Memory)
+}
+
+/// How many bytes of answers are held back: none where lines are typed, so that an answer is seen before the next one.
+fn answers_length(rt: &HostRuntime) -> usize {
+    if rt.stdin().is_terminal() {
+        0
+    } else {
+        BUFFER_LENGTH
     }
 }
 
 /// Writes what a stream holds back.
-fn flush<W: Write + Drop>(stream: Watched<BufWriter<W>>) -> Result<(), Fault> {
+fn flush<W: Write + Drop>(stream: Watched<W>) -> Result<(), Fault> {
     stream.into_inner().flush().map_err(|_| Fault::Write)
 }
