@@ -30,21 +30,27 @@ mod tests {
         Ok(())
     }
 
+    /// What remains is shown up to 20 bytes, also where they end inside of a character.
     #[test]
     fn refusals(rt: HostRuntime) -> Result<(), Fail> {
-        let refusal = demangle(
-            rt.alloc(),
-            "nopenopenopenopenopenope",
-            DemangleFlags::llvm(),
-        )
-        .err()
-        .ok_or("read")?;
-        assert_eq!(rt; refusal.offset(), Some(0));
-        let shown = format!(in rt.alloc(); "{refusal}")?;
-        assert_eq!(rt;
-            shown.as_str(),
-            "does not start with b'?' (offset: 0, remaining: \"nopenopenopenopenope...\")"
-        );
+        let rows = [
+            (
+                "nopenopenopenopenopenope",
+                "does not start with b'?' (offset: 0, remaining: \"nopenopenopenopenope...\")",
+            ),
+            (
+                "aaaaaaaaaaaaaaaaaaa\u{E9}",
+                "does not start with b'?' (offset: 0, remaining: \"aaaaaaaaaaaaaaaaaaa\u{FFFD}...\")",
+            ),
+        ];
+        for (text, wanted) in rows {
+            let refusal = demangle(rt.alloc(), text, DemangleFlags::llvm())
+                .err()
+                .ok_or("read")?;
+            assert_eq!(rt; refusal.offset(), Some(0));
+            let shown = format!(in rt.alloc(); "{refusal}")?;
+            assert_eq!(rt; shown.as_str(), wanted);
+        }
         Ok(())
     }
 

@@ -1,62 +1,42 @@
-//! Compares the demangler with answers that come from outside. Each line of standard input is a row: flags in
-//! hexadecimal, a symbol, and `ok` with the text or `err` with the offset and the message, parted by tabs. A row that
-//! differs is printed; the last line counts. A line that begins with `#` and a space is a heading, which says what the
-//! rows below it show. With an argument it measures instead: see `measure`.
+//! Compares the demangler with answers that come from outside, and its calls with one another.
+//!
+//!     msvc_bench < stdin
+//!     msvc_bench prefix < prefix.tsv
+//!     msvc_bench hostile SEED COUNT < stdin
+//!     msvc_bench measure ROUNDS < names
 #![tactic(auto)]
 
+mod answers;
 mod calls;
+mod grammar;
+mod hostile;
 mod lines;
 mod measure;
+mod multiplied;
+mod prefix;
 mod references;
+mod rows;
 mod streams;
+mod written;
 
-use bitflags::Flags;
-use msvc_demangler::{DemangleFlags, demangle};
-use std::alloc::{AllocError, Global};
 use std::{env, io};
 
 fn main(rt: HostRuntime) -> io::Result<()> {
-    if let Some(rounds) = env::args(&rt)?.nth(1) {
-        return measure::measure(&rt, rounds.as_str().parse().unwrap_or(1));
+    let mut words = env::args(&rt)?.skip(1);
+    let Some(command) = words.next() else {
+        return rows::compare(&rt);
+    };
+    let first = number(words.next());
+    let second = number(words.next());
+    match command.as_str() {
+        "prefix" => prefix::compare(&rt),
+        "hostile" => hostile::run(&rt, first, second),
+        _ => measure::measure(&rt, first),
     }
-    let mut agree = 0u64;
-    let mut differ = 0u64;
-    for line in rt.lines(rt.alloc()) {
-        let line = line?;
-        if line.starts_with("# ") {
-            continue;
-        }
-        if agrees(rt.alloc(), line.as_str())? {
-            agree = agree.saturating_add(1);
-        } else {
-            differ = differ.saturating_add(1);
-            println!(rt; "{line}")?;
-        }
-    }
-    println!(rt; "{agree} rows agree, {differ} differ")
 }
 
-/// Whether the demangler answers what the row says.
-fn agrees(alloc: Global, row: &str) -> Result<bool, AllocError> {
-    let mut fields = row.splitn(5, '\t');
-    let flags = fields.next().unwrap_or("");
-    let symbol = fields.next().unwrap_or("");
-    let kind = fields.next().unwrap_or("");
-    let first = fields.next().unwrap_or("");
-    let message = fields.next().unwrap_or("");
-    let Ok(bits) = u32::from_str_radix(flags, 16) else {
-        return Ok(false);
-    };
-    let flags = DemangleFlags::from_bits_retain(bits);
-    if !references::agrees(alloc, symbol, flags).unwrap_or(false) {
-        return Ok(false);
-    }
-    match demangle(alloc, symbol, flags) {
-        Ok(text) => Ok(kind == "ok" && text.as_str() == first),
-        Err(refusal) => {
-            let shown = format!(in alloc; "{refusal}")?;
-            let expected = format!(in alloc; "{message} (offset: {first}, remaining: ")?;
-            Ok(kind == "err" && shown.as_str().starts_with(expected.as_str()))
-        }
-    }
+/// The number that a word stands for, and 0 for any other word or none.
+fn number(word: Option<String>) -> u64 {
+    word.and_then(|digits| digits.as_str().parse().ok())
+        .unwrap_or(0)
 }

@@ -44,7 +44,7 @@ fn all_agree(
 }
 
 /// The symbol with the bytes in place of the digit that stands for their type.
-fn written_out(
+pub fn written_out(
     alloc: Global,
     symbol: &str,
     reference: BackReference,

@@ -1,0 +1,161 @@
+//! The grammar of symbols as tables of rows, for texts to be written by it.
+//!
+//! A row is a list of words: the name of a table, of which one row is written there; a mark, which the writer acts on;
+//! or a text that stands for itself. The first row of each table leads to an end soon.
+//!
+//! What is written is read as it was written, since what stands in the place of an optional part begins with none of
+//! its letters: the rows of a table whose name ends in `clear` begin with no letter of a storage class and no `?`.
+
+/// The table that a text begins with.
+pub const TEXT: &str = "text";
+
+/// Marks: a name was written that the table of names takes up, or a parameter that the table of types takes up.
+pub const NAME_DONE: &str = "name_done";
+
+pub const TYPE_DONE: &str = "type_done";
+
+/// Marks: what stands between these two has a table of names and one of types of its own.
+pub const TEMPLATE_BEGINS: &str = "template_begins";
+
+pub const TEMPLATE_ENDS: &str = "template_ends";
+
+/// The tables whose rows after the first are the digits of the table of names, and of the table of types: as a whole
+/// parameter, and elsewhere.
+pub const KNOWN_NAME: &str = "known_name";
+
+pub const KNOWN_PARAMETER: &str = "known_parameter";
+
+pub const KNOWN_TYPE: &str = "known_type";
+
+/// A line for each table: its name, and its rows, parted by bars.
+pub const TABLES: &str = "
+# Symbols. Only a whole text can end before a type, an index, or the end of parameters.
+text = ? function_name scope encoding | ? symbol | ? symbol_at_the_end
+symbol = function_name scope encoding | other_symbol
+other_symbol = guard_name scope guard_marker guard_index encoding | $ template | $TSS guard_number @ nested_name \
+    scope 4HA | ?@ eight_hex eight_hex eight_hex eight_hex @
+symbol_at_the_end = function_name scope | guard_name scope guard_marker | $ template_begins class_name \
+    parameters_to_the_end
+guard_name = ?_B | ?__J
+guard_marker = 5 | 4IA
+guard_index = digit | @ | half @ | half half half @ | HPPPPPPP@
+guard_number = digit | digit digit digit | 2147483647
+eight_hex = hex hex hex hex hex hex hex hex
+hex = 0 | 1 | 2 | 3 | 4 | 5 | 6 | 7 | 8 | 9 | a | b | c | d | e | f | A | B | C | D | E | F
+
+# Encodings.
+encoding = 9 | variable type | variable type storage | function | other_encoding
+function = Y convention returned function_parameters | static_class convention signature | member_class \
+    own_convention signature | thunk_class number own_convention signature
+other_encoding = 8 | class_table scope | class_table qualifier scope | $B number A convention | _0 string | _1 \
+    string | _0 CB@ number eight eight eight eight | _1 EB@ number eight eight eight eight eight eight eight \
+    eight
+variable = 0 | 1 | 2 | 3 | 4
+class_table = 6 | 7
+static_class = C | D | K | L | S | T
+member_class = member_class_but_e | E
+member_class_but_e = A | B | F | I | J | M | N | Q | R | U | V | Z
+thunk_class = G | H | O | P | W | X
+signature = @ function_parameters | returned function_parameters
+returned = certain_type | ? return_qualifier type
+return_qualifier = A | B | C | D
+convention = A | B | C | E | G | I
+late_convention = E | G | I
+
+# A function's own qualifiers and its convention.
+own_convention = own_e own_i own_f own_reference qualifier convention | own_e own_i own_f reference late_convention \
+    | own_e own_i F convention_behind_f | own_e I convention_behind_f | E E
+convention_behind_f = E | I
+own_e = | E
+own_i = | I
+own_f = | F
+own_reference = | reference
+reference = G | H
+qualifier = A | B | C | D | Q | R | S | T
+storage = A | B | C | D | E | F | G | H | Q | R | S | T
+storage_without_e = A | B | C | D | F | G | H | Q | R | S | T
+
+# Parameters. Void begins no list of a function's.
+function_parameters = X Z | parameters_end Z | known_parameter parameters Z
+parameters = parameters_end | parameter parameters_end | parameter parameters | new_parameter new_parameter new_parameter parameters
+parameters_end = @ | Z
+parameters_to_the_end = | parameter parameters_to_the_end
+parameter = known_parameter | X
+known_parameter = new_parameter | 0 | 1 | 2 | 3 | 4 | 5 | 6 | 7 | 8 | 9
+new_parameter = letter_clear | letter | long_type type_done
+
+# Numbers.
+number = digit | ? digit | letters @ | ? letters @
+letters = | half letters
+half = A | B | C | D | E | F | G | H | I | J | K | L | M | N | O | P
+digit = 0 | 1 | 2 | 3 | 4 | 5 | 6 | 7 | 8 | 9
+later_half = B | C | D | E | F | G | H | I | J | K | L | M | N | O | P
+
+# Names.
+function_name = known_name | @ name_done | ? operator | ?$ template
+any_function_name = known_name | @ name_done | ? operator | guard_name | ?$ template
+class_name = known_name | @ name_done | ? operator | guard_name | ?$ template name_done
+scope = @ | nested_name @ | nested_name scope | known_name known_name known_name known_name known_name nested_name scope
+nested_name = known_name | ?? symbol | ?$ template name_done | ?A@ | ?A0x @ name_done | ?A0x hex @ name_done | \
+    ?A0x eight_hex @ name_done | ?Q@@ name_done | ?Q source_name @ name_done | ?@ | ? digit | ? later_half letters \
+    @
+template = template_begins class_name parameters template_ends
+known_name = source_name name_done | 0 | 1 | 2 | 3 | 4 | 5 | 6 | 7 | 8 | 9
+source_name = small @ | small small @ | x1@ | is_open@ | \u{E9}@ | x\u{20AC}y@
+small = a | b | c | d | e | f | g | h | i | j | k | l | m | n | o | p | q | r | s | t | u | v | w | x | y | z
+
+# Special names.
+operator = operator_letter | _ operator_behind_one | __ operator_behind_two | _R0? clear | _R0? storage type | \
+    _R1 number number number number | _R operator_of_types
+operator_letter = 0 | 1 | 2 | 3 | 4 | 5 | 6 | 7 | 8 | 9 | A | B | C | D | E | F | G | H | I | J | K | L | M | N \
+    | O | P | Q | R | S | T | U | V | W | X | Y | Z
+operator_behind_one = 0 | 1 | 2 | 3 | 4 | 5 | 6 | 7 | 8 | 9 | A | C | D | E | F | G | H | I | J | K | L | M | N \
+    | O | S | T | U | V | X | Y
+operator_behind_two = E | F | K | L
+operator_of_types = 2 | 3 | 4
+
+# Types. A type that is certain begins with no question mark.
+type = certain_type | ? number
+certain_type = clear | letter | long | A6 function_type | known_type
+clear = plain_clear | form_clear
+plain = plain_clear | letter | long | ? number | known_type
+plain_clear = letter_clear | X | long_clear
+long_type = long_clear | long | form_clear | A6 function_type | ? number
+letter_clear = I | J | K | M | N | O
+letter = C | D | E | F | G | H
+long_clear = _ extended | U class_name scope | V class_name scope | P pointee | Y array
+long = T class_name scope | A pointee | B pointee | Q pointee | R pointee | S pointee
+extended = N | W | Q | S | U | J | K | L | M
+form_clear = $S | $$V | $$Z | $$$V | $$T | $0 number | $D number | W4 class_name scope | P6 function_type | P8 \
+    any_function_name scope member_pointer | $$BY array | $$Q pointee | $$A6 function_type | $$A8@@ \
+    own_convention function_result function_parameters | $$Y any_function_name scope | $$C plain_clear | $$C \
+    qualifier plain | member_form any_function_name scope class_part convention signature | $ dropped
+member_form = $1? | $H? | $I? | $J?
+dropped = X | C | E | F | G | K | M | N | O | ? number | _ extended | long_clear | T class_name scope | A \
+    pointee | B pointee | Q pointee | R pointee
+pointee = clear | E clear | storage_without_e type | E storage type
+array = lengths plain | lengths $$C array_qualifier type
+lengths = 0 number | B@ number | 1 number number | C@ number number | 2 number number number
+array_qualifier = A | B | C | D
+function_type = convention function_result function_parameters
+function_result = certain_type | ? clear | ? storage type
+member_pointer = own_e qualifier convention signature | E late_convention signature | bare_convention signature
+bare_convention = G | I
+class_part = class_but_e | E class_but_e | E E
+class_but_e = member_class_but_e | static_class | thunk_class number | Y
+known_type = letter_clear | 0 | 1 | 2 | 3 | 4 | 5 | 6 | 7 | 8 | 9
+
+# Strings.
+string = @ number | A@ number | ? digit number | 0 number character | 1 number character character | 3 number \
+    character character character character
+eight = plain_character plain_character plain_character plain_character plain_character plain_character \
+    plain_character plain_character
+character = plain_character | ? letter_of_a_string | ? sign | ?$ half half
+plain_character = 0 | 1 | 2 | 3 | 4 | 5 | 6 | 7 | 8 | 9 | a | b | c | d | e | f | g | h | i | j | k | l | m | n \
+    | o | p | q | r | s | t | u | v | w | x | y | z | A | B | C | D | E | F | G | H | I | J | K | L | M | N | O \
+    | P | Q | R | S | T | U | V | W | X | Y | Z | _ | $
+letter_of_a_string = a | b | c | d | e | f | g | h | i | j | k | l | m | n | o | p | q | r | s | t | u | v | w | \
+    x | y | z | A | B | C | D | E | F | G | H | I | J | K | L | M | N | O | P | Q | R | S | T | U | V | W | X | \
+    Y | Z
+sign = 0 | 1 | 2 | 3 | 4 | 5 | 6 | 7 | 8 | 9
+";

@@ -1,0 +1,31 @@
+//! Compares with rows how much of a text is read. Each line of standard input is a text, and how many of its bytes are
+//! read or the word `refused`, parted by a tab. A row that differs is printed; the last line counts.
+
+use crate::answers::{Answer, all_answers};
+use std::alloc::Global;
+use std::io;
+
+pub fn compare(rt: &HostRuntime) -> io::Result<()> {
+    let mut agree = 0u64;
+    let mut differ = 0u64;
+    for line in rt.lines(rt.alloc()) {
+        let line = line?;
+        if agrees(rt.alloc(), line.as_str()) {
+            agree = agree.saturating_add(1);
+        } else {
+            differ = differ.saturating_add(1);
+            println!(rt; "{line}")?;
+        }
+    }
+    println!(rt; "{agree} texts are read so far, {differ} otherwise")
+}
+
+/// Whether so much of the text is read as the row says.
+fn agrees(alloc: Global, row: &str) -> bool {
+    let (text, wanted) = row.split_once('\t').unwrap_or((row, ""));
+    match all_answers(alloc, text) {
+        Answer::Refused => wanted == "refused",
+        Answer::Accepted { bytes, .. } => wanted.parse() == Ok(bytes),
+        Answer::Contradicted => false,
+    }
+}

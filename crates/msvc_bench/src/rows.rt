@@ -1,0 +1,52 @@
+//! Compares the demangler with rows. Each line of standard input is one: flags in hexadecimal, a symbol, and `ok` with
+//! the text or `err` with the offset and the message, parted by tabs. A row that differs is printed; the last line
+//! counts. A line that begins with `#` and a space is a heading, which says what the rows below it show.
+
+use crate::references;
+use bitflags::Flags;
+use msvc_demangler::{DemangleFlags, demangle};
+use std::alloc::{AllocError, Global};
+use std::io;
+
+pub fn compare(rt: &HostRuntime) -> io::Result<()> {
+    let mut agree = 0u64;
+    let mut differ = 0u64;
+    for line in rt.lines(rt.alloc()) {
+        let line = line?;
+        if line.starts_with("# ") {
+            continue;
+        }
+        if agrees(rt.alloc(), line.as_str())? {
+            agree = agree.saturating_add(1);
+        } else {
+            differ = differ.saturating_add(1);
+            println!(rt; "{line}")?;
+        }
+    }
+    println!(rt; "{agree} rows agree, {differ} differ")
+}
+
+/// Whether the demangler answers what the row says.
+fn agrees(alloc: Global, row: &str) -> Result<bool, AllocError> {
+    let mut fields = row.splitn(5, '\t');
+    let flags = fields.next().unwrap_or("");
+    let symbol = fields.next().unwrap_or("");
+    let kind = fields.next().unwrap_or("");
+    let first = fields.next().unwrap_or("");
+    let message = fields.next().unwrap_or("");
+    let Ok(bits) = u32::from_str_radix(flags, 16) else {
+        return Ok(false);
+    };
+    let flags = DemangleFlags::from_bits_retain(bits);
+    if !references::agrees(alloc, symbol, flags).unwrap_or(false) {
+        return Ok(false);
+    }
+    match demangle(alloc, symbol, flags) {
+        Ok(text) => Ok(kind == "ok" && text.as_str() == first),
+        Err(refusal) => {
+            let shown = format!(in alloc; "{refusal}")?;
+            let expected = format!(in alloc; "{message} (offset: {first}, remaining: ")?;
+            Ok(kind == "err" && shown.as_str().starts_with(expected.as_str()))
+        }
+    }
+}
