@@ -44,12 +44,11 @@ eight_hex = hex hex hex hex hex hex hex hex
 hex = 0 | 1 | 2 | 3 | 4 | 5 | 6 | 7 | 8 | 9 | a | b | c | d | e | f | A | B | C | D | E | F
 
 # Encodings.
-encoding = 9 | variable type | variable type storage | function | other_encoding
-function = Y convention returned function_parameters | static_class convention signature | member_class \
-    own_convention signature | thunk_class number own_convention signature
-other_encoding = 8 | class_table scope | class_table qualifier scope | $B number A convention | _0 string | _1 \
-    string | _0 CB@ number eight eight eight eight | _1 EB@ number eight eight eight eight eight eight eight \
-    eight
+encoding = 9 | variable type | variable type storage | Y convention returned function_parameters \
+    | static_class convention signature | member_class own_convention signature \
+    | thunk_class number own_convention signature | _0 string | _1 string | other_encoding
+other_encoding = 8 | class_table scope | class_table qualifier scope | $B number A convention \
+    | _0 CB@ number eight eight eight eight | _1 EB@ number eight eight eight eight eight eight eight eight
 variable = 0 | 1 | 2 | 3 | 4
 class_table = 6 | 7
 static_class = C | D | K | L | S | T
@@ -77,7 +76,10 @@ storage_without_e = A | B | C | D | F | G | H | Q | R | S | T
 
 # Parameters. Void begins no list of a function's.
 function_parameters = X Z | parameters_end Z | known_parameter parameters Z
-parameters = parameters_end | parameter parameters_end | parameter parameters | new_parameter new_parameter new_parameter parameters
+parameters = parameters_end | parameter parameters_end | parameter parameters | ten_pointers parameters
+ten_pointers = pointer pointer pointer pointer pointer pointer pointer pointer pointer pointer \
+    P storage_without_e known_type type_done
+pointer = P storage_without_e letter type_done | P storage_without_e letter_clear type_done
 parameters_end = @ | Z
 parameters_to_the_end = | parameter parameters_to_the_end
 parameter = known_parameter | X
@@ -95,13 +97,16 @@ later_half = B | C | D | E | F | G | H | I | J | K | L | M | N | O | P
 function_name = known_name | @ name_done | ? operator | ?$ template
 any_function_name = known_name | @ name_done | ? operator | guard_name | ?$ template
 class_name = known_name | @ name_done | ? operator | guard_name | ?$ template name_done
-scope = @ | nested_name @ | nested_name scope | known_name known_name known_name known_name known_name nested_name scope
+scope = @ | nested_name @ | nested_name scope | ten_names known_name scope
+ten_names = new_name new_name new_name new_name new_name new_name new_name new_name new_name new_name
 nested_name = known_name | ?? symbol | ?$ template name_done | ?A@ | ?A0x @ name_done | ?A0x hex @ name_done | \
     ?A0x eight_hex @ name_done | ?Q@@ name_done | ?Q source_name @ name_done | ?@ | ? digit | ? later_half letters \
     @
 template = template_begins class_name parameters template_ends
-known_name = source_name name_done | 0 | 1 | 2 | 3 | 4 | 5 | 6 | 7 | 8 | 9
-source_name = small @ | small small @ | x1@ | is_open@ | \u{E9}@ | x\u{20AC}y@
+known_name = new_name | 0 | 1 | 2 | 3 | 4 | 5 | 6 | 7 | 8 | 9
+new_name = source_name name_done
+source_name = small @ | small small @ | small other_character @
+other_character = 1 | _ | $ | ? | O | \u{E9} | \u{20AC}
 small = a | b | c | d | e | f | g | h | i | j | k | l | m | n | o | p | q | r | s | t | u | v | w | x | y | z
 
 # Special names.
@@ -146,8 +151,8 @@ class_but_e = member_class_but_e | static_class | thunk_class number | Y
 known_type = letter_clear | 0 | 1 | 2 | 3 | 4 | 5 | 6 | 7 | 8 | 9
 
 # Strings.
-string = @ number | A@ number | ? digit number | 0 number character | 1 number character character | 3 number \
-    character character character character
+string = @ number | A@ number | ? digit number | 0 number character | 1 number character character \
+    | 9 number character character character character character character character character character character
 eight = plain_character plain_character plain_character plain_character plain_character plain_character \
     plain_character plain_character
 character = plain_character | ? letter_of_a_string | ? sign | ?$ half half

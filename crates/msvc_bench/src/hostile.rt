@@ -3,7 +3,7 @@
 //!
 //! - the symbol of each row, its beginnings, and the symbol with another character in the place of each of its own,
 //! - symbols whose digits multiply,
-//! - COUNT texts that are drawn from an alphabet,
+//! - COUNT texts that are drawn from an alphabet, and COUNT that are drawn so behind a question mark,
 //! - COUNT texts that the grammar writes; these are read whole, or refused for a digit that has no entry.
 //!
 //! A text for which they don't is printed. Each kind of text has a line that counts, and so has each table of the
@@ -82,14 +82,16 @@ pub fn run(rt: &HostRuntime, seed: u64, count: u64) -> io::Result<()> {
     changed.print(rt, "rows and their changes")?;
     let multiplied = multiplied_digits(rt)?;
     multiplied.print(rt, "digits that multiply")?;
-    let drawn = drawn_texts(rt, seed, count)?;
+    let drawn = drawn_texts(rt, seed, count, "")?;
     drawn.print(rt, "drawn from an alphabet")?;
+    let marked = drawn_texts(rt, seed, count, "?")?;
+    marked.print(rt, "drawn behind a question mark")?;
     let mut tables = tables(rt.alloc())?;
     let written = written_texts(rt, seed, count, &mut tables)?;
     written.print(rt, "written by the grammar")?;
     let all_read = print_read(rt, &tables)?;
     if all_read
-        && [changed, multiplied, drawn, written]
+        && [changed, multiplied, drawn, marked, written]
             .iter()
             .all(|tally| tally.wrong == 0)
     {
@@ -147,21 +149,21 @@ fn multiplied_digits(rt: &HostRuntime) -> io::Result<Tally> {
     Ok(tally)
 }
 
-/// Tries so many texts that are drawn.
-fn drawn_texts(rt: &HostRuntime, seed: u64, count: u64) -> io::Result<Tally> {
+/// Tries so many texts that begin so and go on as it is drawn.
+fn drawn_texts(rt: &HostRuntime, seed: u64, count: u64, beginning: &str) -> io::Result<Tally> {
     let mut tally = Tally::new();
     let mut random = Pcg32::new(seed, 0);
     for _ in 0..count {
-        let text = drawn(rt.alloc(), &mut random)?;
+        let text = drawn(rt.alloc(), &mut random, beginning)?;
         tally.count(rt, text.as_str())?;
     }
     Ok(tally)
 }
 
-/// A text that is drawn: its length, and then each of its characters.
-fn drawn(alloc: Global, random: &mut Pcg32) -> Result<String, AllocError> {
-    let mut text = String::new(alloc);
-    for _ in 0..below(random, DRAWN.saturating_add(1)) {
+/// A text with this beginning, and a rest that is drawn: its length, and then each of its characters.
+fn drawn(alloc: Global, random: &mut Pcg32, beginning: &str) -> Result<String, AllocError> {
+    let mut text = String::from_str(alloc, beginning)?;
+    for _ in beginning.len()..below(random, DRAWN.saturating_add(1)) {
         let letter = ALPHABET
             .get(below(random, ALPHABET.len()))
             .copied()
