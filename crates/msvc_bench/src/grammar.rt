@@ -63,8 +63,8 @@ late_convention = E | G | I
 
 # A function's own qualifiers and its convention.
 own_convention = own_e own_i own_f own_reference qualifier convention | own_e own_i own_f reference late_convention \
-    | own_e own_i F convention_behind_f | own_e I convention_behind_f | E E
-convention_behind_f = E | I
+    | own_e own_i F convention_after_f | own_e I convention_after_f | E E
+convention_after_f = E | I
 own_e = | E
 own_i = | I
 own_f = | F
@@ -76,7 +76,7 @@ storage_without_e = A | B | C | D | F | G | H | Q | R | S | T
 
 # Parameters. Void begins no list of a function's.
 function_parameters = X Z | parameters_end Z | known_parameter parameters Z
-parameters = parameters_end | parameter parameters_end | parameter parameters | ten_pointers parameters
+parameters = parameters_end | parameter parameters | parameter parameter parameters | ten_pointers parameters
 ten_pointers = pointer pointer pointer pointer pointer pointer pointer pointer pointer pointer \
     P storage_without_e known_type type_done
 pointer = P storage_without_e letter type_done | P storage_without_e letter_clear type_done
@@ -99,9 +99,9 @@ any_function_name = known_name | @ name_done | ? operator | guard_name | ?$ temp
 class_name = known_name | @ name_done | ? operator | guard_name | ?$ template name_done
 scope = @ | nested_name @ | nested_name scope | ten_names known_name scope
 ten_names = new_name new_name new_name new_name new_name new_name new_name new_name new_name new_name
-nested_name = known_name | ?? symbol | ?$ template name_done | ?A@ | ?A0x @ name_done | ?A0x hex @ name_done | \
-    ?A0x eight_hex @ name_done | ?Q@@ name_done | ?Q source_name @ name_done | ?@ | ? digit | ? later_half letters \
-    @
+nested_name = known_name | ?? symbol | ?$ template name_done | ?A@ | ?A0x @ name_done | ?A0x hex @ name_done \
+    | ?A0x eight_hex @ name_done | ?Q@@ name_done | ?Q source_name @ name_done | ?@ | ? digit \
+    | ? later_half letters @
 template = template_begins class_name parameters template_ends
 known_name = new_name | 0 | 1 | 2 | 3 | 4 | 5 | 6 | 7 | 8 | 9
 new_name = source_name name_done
@@ -110,44 +110,46 @@ other_character = 1 | _ | $ | ? | O | \u{E9} | \u{20AC}
 small = a | b | c | d | e | f | g | h | i | j | k | l | m | n | o | p | q | r | s | t | u | v | w | x | y | z
 
 # Special names.
-operator = operator_letter | _ operator_behind_one | __ operator_behind_two | _R0? clear | _R0? storage type | \
-    _R1 number number number number | _R operator_of_types
+operator = operator_letter | _ letter_after_one | __ letter_after_two | _R0? clear | _R0? storage type \
+    | _R1 number number number number | _R letter_after_r
 operator_letter = 0 | 1 | 2 | 3 | 4 | 5 | 6 | 7 | 8 | 9 | A | B | C | D | E | F | G | H | I | J | K | L | M | N \
     | O | P | Q | R | S | T | U | V | W | X | Y | Z
-operator_behind_one = 0 | 1 | 2 | 3 | 4 | 5 | 6 | 7 | 8 | 9 | A | C | D | E | F | G | H | I | J | K | L | M | N \
+letter_after_one = 0 | 1 | 2 | 3 | 4 | 5 | 6 | 7 | 8 | 9 | A | C | D | E | F | G | H | I | J | K | L | M | N \
     | O | S | T | U | V | X | Y
-operator_behind_two = E | F | K | L
-operator_of_types = 2 | 3 | 4
+letter_after_two = E | F | K | L
+letter_after_r = 2 | 3 | 4
 
 # Types. A type that is certain begins with no question mark.
 type = certain_type | ? number
 certain_type = clear | letter | long | A6 function_type | known_type
-clear = plain_clear | form_clear
+clear = plain_clear | form_clear | member_form | $ dropped
 plain = plain_clear | letter | long | ? number | known_type
 plain_clear = letter_clear | X | long_clear
-long_type = long_clear | long | form_clear | A6 function_type | ? number
+long_type = long_clear | long | form_clear | member_form | $ dropped | A6 function_type | ? number
 letter_clear = I | J | K | M | N | O
 letter = C | D | E | F | G | H
 long_clear = _ extended | U class_name scope | V class_name scope | P pointee | Y array
 long = T class_name scope | A pointee | B pointee | Q pointee | R pointee | S pointee
 extended = N | W | Q | S | U | J | K | L | M
-form_clear = $S | $$V | $$Z | $$$V | $$T | $0 number | $D number | W4 class_name scope | P6 function_type | P8 \
-    any_function_name scope member_pointer | $$BY array | $$Q pointee | $$A6 function_type | $$A8@@ \
-    own_convention function_result function_parameters | $$Y any_function_name scope | $$C plain_clear | $$C \
-    qualifier plain | member_form any_function_name scope class_part convention signature | $ dropped
-member_form = $1? | $H? | $I? | $J?
-dropped = X | C | E | F | G | K | M | N | O | ? number | _ extended | long_clear | T class_name scope | A \
-    pointee | B pointee | Q pointee | R pointee
+form_clear = $S | $$V | $$Z | $$$V | $$T | $0 number | $D number | W4 class_name scope | P6 function_type \
+    | P8 any_function_name scope pointer_to_member | $$BY array | $$Q pointee | $$A6 function_type \
+    | $$A8@@ own_convention function_result function_parameters | $$Y any_function_name scope | $$C plain_clear \
+    | $$C qualifier plain
+pointer_to_member = own_e qualifier convention signature | E late_convention signature | bare_convention signature
+bare_convention = G | I
+member_form = member_code any_function_name scope class_part convention signature
+member_code = $1? | $H? | $I? | $J?
+class_part = class_but_e | E class_but_e | E E
+class_but_e = member_class_but_e | static_class | thunk_class number | Y
+dropped = dropped_letter | ? number | _ extended | long_clear | dropped_long
+dropped_letter = X | C | E | F | G | K | M | N | O
+dropped_long = T class_name scope | A pointee | B pointee | Q pointee | R pointee
 pointee = clear | E clear | storage_without_e type | E storage type
 array = lengths plain | lengths $$C array_qualifier type
 lengths = 0 number | B@ number | 1 number number | C@ number number | 2 number number number
 array_qualifier = A | B | C | D
 function_type = convention function_result function_parameters
 function_result = certain_type | ? clear | ? storage type
-member_pointer = own_e qualifier convention signature | E late_convention signature | bare_convention signature
-bare_convention = G | I
-class_part = class_but_e | E class_but_e | E E
-class_but_e = member_class_but_e | static_class | thunk_class number | Y
 known_type = letter_clear | 0 | 1 | 2 | 3 | 4 | 5 | 6 | 7 | 8 | 9
 
 # Strings.

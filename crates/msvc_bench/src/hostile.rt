@@ -3,7 +3,7 @@
 //!
 //! - the symbol of each row, its beginnings, and the symbol with another character in the place of each of its own,
 //! - symbols whose digits multiply,
-//! - COUNT texts that are drawn from an alphabet, and COUNT that are drawn so behind a question mark,
+//! - COUNT texts that are drawn from an alphabet, and COUNT that are drawn so after a question mark,
 //! - COUNT texts that the grammar writes; these are read whole, or refused for a digit that has no entry.
 //!
 //! A text for which they don't is printed. Each kind of text has a line that counts, and so has each table of the
@@ -85,7 +85,7 @@ pub fn run(rt: &HostRuntime, seed: u64, count: u64) -> io::Result<()> {
     let drawn = drawn_texts(rt, seed, count, "")?;
     drawn.print(rt, "drawn from an alphabet")?;
     let marked = drawn_texts(rt, seed, count, "?")?;
-    marked.print(rt, "drawn behind a question mark")?;
+    marked.print(rt, "drawn after a question mark")?;
     let mut tables = tables(rt.alloc())?;
     let written = written_texts(rt, seed, count, &mut tables)?;
     written.print(rt, "written by the grammar")?;
@@ -121,19 +121,19 @@ fn changes(rt: &HostRuntime, tally: &mut Tally, symbol: &str) -> io::Result<()> 
     tally.count(rt, symbol)?;
     for (at, character) in symbol.char_indices() {
         let before = symbol.get(..at).unwrap_or("");
-        let behind = symbol
+        let after = symbol
             .get(at.saturating_add(character.len_utf8())..)
             .unwrap_or("");
         tally.count(rt, before)?;
-        replacements(rt, tally, before, behind)?;
+        replacements(rt, tally, before, after)?;
     }
     Ok(())
 }
 
 /// Tries a symbol with each replacement between its parts.
-fn replacements(rt: &HostRuntime, tally: &mut Tally, before: &str, behind: &str) -> io::Result<()> {
+fn replacements(rt: &HostRuntime, tally: &mut Tally, before: &str, after: &str) -> io::Result<()> {
     for replacement in REPLACEMENTS.chars() {
-        let text = format!(in rt.alloc(); "{before}{replacement}{behind}")?;
+        let text = format!(in rt.alloc(); "{before}{replacement}{after}")?;
         tally.count(rt, text.as_str())?;
     }
     Ok(())
