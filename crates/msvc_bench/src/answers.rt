@@ -41,10 +41,10 @@ pub fn all_answers(alloc: Global, text: &str) -> Answer {
 
 /// The answer for a text that has this tree, of which so many bytes were read. When they stand alone, they are read
 /// whole, and to the same tree with as many digits.
-fn accepted(
+fn accepted<'a>(
     alloc: Global,
-    text: &str,
-    tree: &ParseResult<'_>,
+    text: &'a str,
+    tree: &ParseResult<'a>,
     bytes: usize,
 ) -> Result<Answer, Error> {
     let Some(cut) = text.get(..bytes) else {
@@ -62,7 +62,7 @@ fn accepted(
 }
 
 /// Whether `parse` gives this tree for a text.
-fn is_tree_of(alloc: Global, tree: &ParseResult<'_>, text: &str) -> Result<bool, Error> {
+fn is_tree_of<'a>(alloc: Global, tree: &ParseResult<'a>, text: &'a str) -> Result<bool, Error> {
     let other = parse(alloc, text)?;
     let same = other == *tree;
     discard(other);
@@ -70,7 +70,11 @@ fn is_tree_of(alloc: Global, tree: &ParseResult<'_>, text: &str) -> Result<bool,
 }
 
 /// Whether `parse_prefix` gives this tree for a text and reads all of it.
-fn is_whole_tree_of(alloc: Global, tree: &ParseResult<'_>, text: &str) -> Result<bool, Error> {
+fn is_whole_tree_of<'a>(
+    alloc: Global,
+    tree: &ParseResult<'a>,
+    text: &'a str,
+) -> Result<bool, Error> {
     let (other, bytes) = parse_prefix(alloc, text)?;
     let same = other == *tree && bytes == text.len();
     discard(other);
