@@ -73,6 +73,7 @@ pub fn parse_prefix<'a>(alloc: Global, input: &'a str) -> Result<(ParseResult<'a
 /// The symbol at the beginning of a text, and how many bytes of it were read. It is read without the table of types
 /// first, since few symbols have a digit that stands for a type, and the table has a copy of each type. What is read so
 /// is the same with the table; where nothing is, the text is read again.
+#[inline(always)]
 fn read<'a>(alloc: Global, input: &'a str) -> Result<(ParseResult<'a>, usize), Refusal>
     ensures value { Gives (λ r. (tree_of r.0, r.1)) result
         (with_length input.now (read_name symbol input.now (beginning input.now))) }
@@ -88,6 +89,7 @@ fn read<'a>(alloc: Global, input: &'a str) -> Result<(ParseResult<'a>, usize), R
 
 /// The symbol at the beginning of a text, and how many bytes of it were read, where the table has room for so many
 /// types.
+#[inline(always)]
 fn read_with<'a>(
     alloc: Global,
     input: &'a str,
