@@ -3,7 +3,8 @@
 use crate::references;
 use bitflags::Flags;
 use msvc_demangler::{
-    DemangleFlags, Error, ParseResult, back_references, demangle, parse, parse_prefix, serialize,
+    BackReference, DemangleFlags, Error, ParseResult, back_references, demangle, parse,
+    parse_prefix, serialize,
 };
 use msvc_tree::tree::discard;
 use std::alloc::{AllocError, Global};
@@ -40,7 +41,7 @@ pub fn all_answers(alloc: Global, text: &str) -> Answer {
 }
 
 /// The answer for a text that has this tree, of which so many bytes were read. When they stand alone, they are read
-/// whole, and to the same tree with as many digits.
+/// whole, and to the same tree with the same digits.
 fn accepted<'a>(
     alloc: Global,
     text: &'a str,
@@ -50,13 +51,16 @@ fn accepted<'a>(
     let Some(cut) = text.get(..bytes) else {
         return Ok(Answer::Contradicted);
     };
-    let digits = back_references(alloc, text)?.len();
+    let found = back_references(alloc, text)?;
     if is_tree_of(alloc, tree, text)?
         && is_whole_tree_of(alloc, tree, cut)?
-        && back_references(alloc, cut)?.len() == digits
-        && is_printed(alloc, tree, text)?
+        && back_references(alloc, cut)? == found
+        && is_printed(alloc, tree, text, &found)?
     {
-        return Ok(Answer::Accepted { bytes, digits });
+        return Ok(Answer::Accepted {
+            bytes,
+            digits: found.len(),
+        });
     }
     Ok(Answer::Contradicted)
 }
@@ -81,12 +85,18 @@ fn is_whole_tree_of<'a>(
     Ok(same)
 }
 
-/// Whether a text's declaration is that of its tree under each word, and that of the text with a digit written out.
-fn is_printed(alloc: Global, tree: &ParseResult<'_>, text: &str) -> Result<bool, Error> {
+/// Whether a text's declaration is that of its tree under each word, and stays so where a digit is written out.
+fn is_printed(
+    alloc: Global,
+    tree: &ParseResult<'_>,
+    text: &str,
+    found: &[BackReference],
+) -> Result<bool, Error> {
     for word in WORDS {
         let flags = DemangleFlags::from_bits_retain(word);
-        if serialize(alloc, tree, flags)? != demangle(alloc, text, flags)?
-            || !references::agrees(alloc, text, flags)?
+        let declaration = demangle(alloc, text, flags)?;
+        if serialize(alloc, tree, flags)? != declaration
+            || !references::all_agree(alloc, text, flags, declaration.as_str(), found)?
         {
             return Ok(false);
         }

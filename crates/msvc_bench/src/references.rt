@@ -25,7 +25,7 @@ fn same_text(alloc: Global, refusal: &Error, other: &Error) -> Result<bool, Allo
 }
 
 /// Whether each of these digits can be written out.
-fn all_agree(
+pub fn all_agree(
     alloc: Global,
     symbol: &str,
     flags: DemangleFlags,
