@@ -3,8 +3,7 @@
 
 #[cfg(test)]
 mod tests {
-    use bitflags::Flags;
-    use msvc_demangler::{DemangleFlags, Error, FuncClass, StorageClass, demangle};
+    use msvc_demangler::{DemangleFlags, Error, Flags, FuncClass, StorageClass, demangle};
     use std::str::from_utf8;
     use std::test::Fail;
 
