@@ -2,10 +2,9 @@
 
 #[cfg(test)]
 mod tests {
-    use bitflags::Flags;
     use msvc_demangler::{
-        CallingConv, DemangleFlags, Error, FuncClass, Name, NameSequence, Params, ParseResult, StorageClass, Symbol,
-        Type, parse, serialize,
+        CallingConv, DemangleFlags, Error, Flags, FuncClass, Name, NameSequence, Params, ParseResult, StorageClass,
+        Symbol, Type, parse, parse_prefix, serialize,
     };
     use std::alloc::{AllocError, Global};
     use std::test::Fail;
@@ -21,6 +20,32 @@ mod tests {
         let copy = parse(alloc, symbol)?.clone(alloc)?;
         let tree = parse(alloc, other)?;
         Ok(copy == tree)
+    }
+
+    /// Whether a text has the tree of another, and so many of its bytes are read.
+    fn reads(alloc: Global, text: &str, other: &str, length: usize) -> Result<bool, Error> {
+        let (tree, read) = parse_prefix(alloc, text)?;
+        Ok(read == length && tree == parse(alloc, other)?)
+    }
+
+    /// Texts, of each one that has the same tree, and how many of its bytes are read.
+    const PREFIXES: [(&str, &str, usize); 8] = [
+        ("?x@@3PEBHEB", "?x@@3PEBHE", 10),
+        ("?x@@3PEBHE", "?x@@3PEBHEB", 10),
+        ("?f@@", "?f@@", 4),
+        ("?x@@3HZ", "?x@@3H", 6),
+        ("?$f@PAH@x", "?$f@PAH@", 8),
+        ("?$f@PAH0", "?$f@PAHPAH", 8),
+        ("??_C@_02PCEFGMJL@hi?$AA@", "??_C@_02PCEFGMJL@hi?$AA", 23),
+        ("??@8ba8d245c9eca390356129098dbe9f73@?x", "??@8ba8d245c9eca390356129098dbe9f73@", 36),
+    ];
+
+    #[test]
+    fn prefixes(rt: HostRuntime) -> Result<(), Fail> {
+        for (text, other, length) in PREFIXES {
+            assert!(rt; reads(rt.alloc(), text, other, length)?, "at {text}");
+        }
+        Ok(())
     }
 
     /// The debug text of a symbol's tree.
