@@ -13,7 +13,7 @@ use std::alloc::{AllocError, Global};
 const WORDS: [u32; 2] = [0, 0xE00400];
 
 /// What all calls answer for a text.
-#[derive(Clone, Copy, PartialEq, Eq, Drop)]
+#[derive(Clone, Copy, Drop)]
 pub enum Answer {
     /// Each refuses it alike, at a place within it.
     Refused,
