@@ -132,12 +132,12 @@ long_clear = _ extended | U class_name scope | V class_name scope | P pointee | 
 long = T class_name scope | A pointee | B pointee | Q pointee | R pointee | S pointee
 extended = N | W | Q | S | U | J | K | L | M
 form_clear = $S | $$V | $$Z | $$$V | $$T | $0 number | $D number | W4 class_name scope | P6 function_type \
-    | P8 any_function_name scope pointer_to_member | $$BY array | $$Q pointee | $$A6 function_type \
-    | $$A8@@ own_convention function_result function_parameters | $$Y any_function_name scope | $$C plain_clear \
-    | $$C qualifier plain
+    | $$BY array | $$Q pointee | $$A6 function_type | $$A8@@ own_convention function_result function_parameters \
+    | $$Y any_function_name scope | $$C plain_clear | $$C qualifier plain
 pointer_to_member = own_e qualifier convention signature | E late_convention signature | bare_convention signature
 bare_convention = G | I
-member_form = member_code any_function_name scope class_part convention signature
+member_form = P8 any_function_name scope pointer_to_member \
+    | member_code any_function_name scope class_part convention signature
 member_code = $1? | $H? | $I? | $J?
 class_part = class_but_e | E class_but_e | E E
 class_but_e = member_class_but_e | static_class | thunk_class number | Y
