@@ -1,4 +1,4 @@
-//! The calls that take memory, for runs in which one request is refused. .ci/trees adds the runs, as tests, and
+//! The calls that take memory, for runs in which one request is refused. .ci/refused adds the runs, as tests, and
 //! compares what they print. A call that answers want of memory is named and asked again, and has to give its usual
 //! answer then.
 
@@ -65,27 +65,62 @@ fn check(rt: &HostRuntime, name: &str, right: bool) {
 /// Asks each call on a symbol, after so many boxes.
 fn answer_symbol(rt: &HostRuntime, boxes: u32, row: &Row<'_>) {
     take_boxes(rt.alloc(), boxes);
+    ask_texts(rt, row);
+    ask_digits(rt, row);
+    ask_trees(rt, row);
+    end(rt);
+}
+
+/// Asks the calls that give a text.
+fn answer_texts(rt: &HostRuntime, boxes: u32, row: &Row<'_>) {
+    take_boxes(rt.alloc(), boxes);
+    ask_texts(rt, row);
+    end(rt);
+}
+
+/// Asks the call that lists digits.
+fn answer_digits(rt: &HostRuntime, boxes: u32, row: &Row<'_>) {
+    take_boxes(rt.alloc(), boxes);
+    ask_digits(rt, row);
+    end(rt);
+}
+
+/// Asks the calls that give a tree, and those on it.
+fn answer_trees(rt: &HostRuntime, boxes: u32, row: &Row<'_>) {
+    take_boxes(rt.alloc(), boxes);
+    ask_trees(rt, row);
+    end(rt);
+}
+
+fn ask_texts(rt: &HostRuntime, row: &Row<'_>) {
     let alloc = rt.alloc();
     let symbol = row.symbol;
     let error = asked(rt, "Error::new", || made(alloc, symbol));
     check(rt, "Error::new", error.is_ok_and(|error| prints(&error, symbol)));
     let text = asked(rt, "demangle", || demangle(alloc, symbol, DemangleFlags::COMPLETE));
     check(rt, "demangle", agrees(row, &text, |text| text.as_str() == row.text));
-    let found = asked(rt, "back_references", || back_references(alloc, symbol));
+}
+
+fn ask_digits(rt: &HostRuntime, row: &Row<'_>) {
+    let found = asked(rt, "back_references", || back_references(rt.alloc(), row.symbol));
     check(rt, "back_references", agrees(row, &found, |found| lists(found, row.digits)));
+}
+
+fn ask_trees(rt: &HostRuntime, row: &Row<'_>) {
+    let alloc = rt.alloc();
+    let symbol = row.symbol;
     let tree = asked(rt, "parse", || parse(alloc, symbol));
     check(rt, "parse", agrees(row, &tree, |_| true));
     let prefix = asked(rt, "parse_prefix", || parse_prefix(alloc, symbol));
     check(rt, "parse_prefix", agrees(row, &prefix, |prefix| prints(&prefix.1, row.length)));
     if let (Ok(tree), Ok((other, _))) = (&tree, &prefix) {
         check(rt, "parse_prefix", tree == other);
-        answer_tree(rt, row, tree);
+        ask_tree(rt, row, tree);
     }
-    end(rt);
 }
 
 /// Asks each call on a symbol's tree.
-fn answer_tree(rt: &HostRuntime, row: &Row<'_>, tree: &ParseResult<'_>) {
+fn ask_tree(rt: &HostRuntime, row: &Row<'_>, tree: &ParseResult<'_>) {
     let alloc = rt.alloc();
     let text = asked(rt, "serialize", || serialize(alloc, tree, DemangleFlags::COMPLETE));
     check(rt, "serialize", text.is_ok_and(|text| text.as_str() == row.text));
