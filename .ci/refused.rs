@@ -1,6 +1,5 @@
 //! The calls that take memory, for runs in which one request is refused. .ci/refused adds the runs, as tests, and
-//! compares what they print. A call that answers want of memory is named and asked again, and has to give its usual
-//! answer then.
+//! compares what they print. A run ends at the call that answers want of memory, and names it.
 
 use msvc_demangler::{
     BackReference, DemangleFlags, Error, Fault, ParseResult, Watched, back_references, demangle, parse, parse_prefix,
@@ -31,27 +30,18 @@ struct Row<'a> {
     digits: &'a str,
 }
 
-/// Takes so many boxes, and lets each go at once.
-fn take_boxes(alloc: Global, count: u32) {
-    for _ in 0..count {
-        let _ = Box::new(alloc, 0u8);
+/// Takes so many boxes, and lets each go at once: a run begins so.
+fn take_boxes(rt: &HostRuntime, boxes: u32) {
+    for _ in 0..boxes {
+        let _ = Box::new(rt.alloc(), 0u8);
     }
 }
 
-/// Takes a box that is named where it is refused. So a run in which the last call passes over a refused request is told
-/// from one in which none is refused.
-fn end(rt: &HostRuntime) {
-    check(rt, "the end", asked(rt, "the end", || Ok(Box::new(rt.alloc(), 0u8)?)).is_ok());
-}
-
-/// What a call answers. Where it answers want of memory it is named, and asked again.
-fn asked<T>(rt: &HostRuntime, name: &str, call: impl Fn() -> Result<T, Error> + Drop) -> Result<T, Error> {
-    match call() {
-        Err(error) if error.is_out_of_memory() => {
-            let _ = println!(rt; "{name}");
-            call()
-        }
-        answer => answer,
+/// Takes a box after calls that met no refused request, and says where it is refused: a run ends so. Then a run in which
+/// the last call passes over a refused request is told from one in which none is refused.
+fn end(rt: &HostRuntime, calls: Result<(), AllocError>) {
+    if calls.is_ok() && Box::new(rt.alloc(), 0u8).is_err() {
+        let _ = println!(rt; "the end");
     }
 }
 
@@ -62,84 +52,89 @@ fn check(rt: &HostRuntime, name: &str, right: bool) {
     }
 }
 
-/// Asks each call on a symbol, after so many boxes.
-fn answer_symbol(rt: &HostRuntime, boxes: u32, row: &Row<'_>) {
-    take_boxes(rt.alloc(), boxes);
-    ask_texts(rt, row);
-    ask_digits(rt, row);
-    ask_trees(rt, row);
-    end(rt);
-}
-
-/// Asks the calls that give a text.
-fn answer_texts(rt: &HostRuntime, boxes: u32, row: &Row<'_>) {
-    take_boxes(rt.alloc(), boxes);
-    ask_texts(rt, row);
-    end(rt);
-}
-
-/// Asks the call that lists digits.
-fn answer_digits(rt: &HostRuntime, boxes: u32, row: &Row<'_>) {
-    take_boxes(rt.alloc(), boxes);
-    ask_digits(rt, row);
-    end(rt);
-}
-
-/// Asks the calls that give a tree, and those on it.
-fn answer_trees(rt: &HostRuntime, boxes: u32, row: &Row<'_>) {
-    take_boxes(rt.alloc(), boxes);
-    ask_trees(rt, row);
-    end(rt);
-}
-
-fn ask_texts(rt: &HostRuntime, row: &Row<'_>) {
-    let alloc = rt.alloc();
-    let symbol = row.symbol;
-    let error = asked(rt, "Error::new", || made(alloc, symbol));
-    check(rt, "Error::new", error.is_ok_and(|error| prints(&error, symbol)));
-    let text = asked(rt, "demangle", || demangle(alloc, symbol, DemangleFlags::COMPLETE));
-    check(rt, "demangle", agrees(row, &text, |text| text.as_str() == row.text));
-}
-
-fn ask_digits(rt: &HostRuntime, row: &Row<'_>) {
-    let found = asked(rt, "back_references", || back_references(rt.alloc(), row.symbol));
-    check(rt, "back_references", agrees(row, &found, |found| lists(found, row.digits)));
-}
-
-fn ask_trees(rt: &HostRuntime, row: &Row<'_>) {
-    let alloc = rt.alloc();
-    let symbol = row.symbol;
-    let tree = asked(rt, "parse", || parse(alloc, symbol));
-    check(rt, "parse", agrees(row, &tree, |_| true));
-    let prefix = asked(rt, "parse_prefix", || parse_prefix(alloc, symbol));
-    check(rt, "parse_prefix", agrees(row, &prefix, |prefix| prints(&prefix.1, row.length)));
-    if let (Ok(tree), Ok((other, _))) = (&tree, &prefix) {
-        check(rt, "parse_prefix", tree == other);
-        ask_tree(rt, row, tree);
-    }
-}
-
-/// Asks each call on a symbol's tree.
-fn ask_tree(rt: &HostRuntime, row: &Row<'_>, tree: &ParseResult<'_>) {
-    let alloc = rt.alloc();
-    let text = asked(rt, "serialize", || serialize(alloc, tree, DemangleFlags::COMPLETE));
-    check(rt, "serialize", text.is_ok_and(|text| text.as_str() == row.text));
-    let copy = asked(rt, "clone", || Ok(tree.clone(alloc)?));
-    check(rt, "clone", copy.is_ok_and(|copy| copy == *tree));
-}
-
-/// The error of a message.
-fn made(alloc: Global, message: &str) -> Result<Error, Error> {
-    let error = Error::new(alloc, message);
-    if error.is_out_of_memory() { Err(error) } else { Ok(error) }
-}
-
-/// Whether a call's answer is that of the row: the refusal, or something that is right.
-fn agrees<T>(row: &Row<'_>, answer: &Result<T, Error>, is_right: impl Fn(&T) -> bool + Drop) -> bool {
-    match answer {
+/// Names a call that answers want of memory. Else its answer has to be that of the row: the refusal, or what is right.
+fn answered<T: Drop>(
+    rt: &HostRuntime,
+    name: &str,
+    row: &Row<'_>,
+    answer: Result<T, Error>,
+    is_right: impl Fn(&T) -> bool + Drop,
+) -> Result<Option<T>, AllocError> {
+    let right = match &answer {
         Ok(given) => !row.length.is_empty() && is_right(given),
-        Err(refusal) => row.length.is_empty() && prints(refusal, row.text),
+        Err(refusal) => {
+            granted(rt, name, refusal)?;
+            row.length.is_empty() && prints(refusal, row.text)
+        }
+    };
+    check(rt, name, right);
+    Ok(answer.ok())
+}
+
+/// Names a call whose error is want of memory.
+fn granted(rt: &HostRuntime, name: &str, error: &Error) -> Result<(), AllocError> {
+    if !error.is_out_of_memory() {
+        return Ok(());
     }
+    let _ = println!(rt; "{name}");
+    Err(AllocError)
+}
+
+/// All calls on a symbol.
+fn every(rt: &HostRuntime, row: &Row<'_>) -> Result<(), AllocError> {
+    message(rt, row)?;
+    declaration(rt, row)?;
+    digits(rt, row)?;
+    tree(rt, row)?;
+    prefix(rt, row)
+}
+
+fn message(rt: &HostRuntime, row: &Row<'_>) -> Result<(), AllocError> {
+    let error = Error::new(rt.alloc(), row.symbol);
+    granted(rt, "Error::new", &error)?;
+    check(rt, "Error::new", prints(&error, row.symbol));
+    Ok(())
+}
+
+fn declaration(rt: &HostRuntime, row: &Row<'_>) -> Result<(), AllocError> {
+    let text = demangle(rt.alloc(), row.symbol, DemangleFlags::COMPLETE);
+    answered(rt, "demangle", row, text, |text| text.as_str() == row.text)?;
+    Ok(())
+}
+
+fn digits(rt: &HostRuntime, row: &Row<'_>) -> Result<(), AllocError> {
+    let found = back_references(rt.alloc(), row.symbol);
+    answered(rt, "back_references", row, found, |found| lists(found, row.digits))?;
+    Ok(())
+}
+
+fn tree(rt: &HostRuntime, row: &Row<'_>) -> Result<(), AllocError> {
+    let tree = parse(rt.alloc(), row.symbol);
+    let Some(tree) = answered(rt, "parse", row, tree, |_| true)? else {
+        return Ok(());
+    };
+    printed(rt, row, &tree)?;
+    let copy = copied(rt.alloc(), &tree);
+    answered(rt, "clone", row, copy, |copy| *copy == tree)?;
+    Ok(())
+}
+
+fn prefix(rt: &HostRuntime, row: &Row<'_>) -> Result<(), AllocError> {
+    let prefix = parse_prefix(rt.alloc(), row.symbol);
+    match answered(rt, "parse_prefix", row, prefix, |prefix| prints(&prefix.1, row.length))? {
+        Some((tree, _)) => printed(rt, row, &tree),
+        None => Ok(()),
+    }
+}
+
+fn printed(rt: &HostRuntime, row: &Row<'_>, tree: &ParseResult<'_>) -> Result<(), AllocError> {
+    let text = serialize(rt.alloc(), tree, DemangleFlags::COMPLETE);
+    answered(rt, "serialize", row, text, |text| text.as_str() == row.text)?;
+    Ok(())
+}
+
+fn copied<'a>(alloc: Global, tree: &ParseResult<'a>) -> Result<ParseResult<'a>, Error> {
+    Ok(tree.clone(alloc)?)
 }
 
 /// A text that is awaited, and compared while it is written, which takes no memory.
@@ -173,36 +168,30 @@ fn lists(found: &[BackReference], digits: &str) -> bool {
     awaited.rest.is_empty()
 }
 
-/// Asks the call over lines, after so many boxes.
-fn answer_lines(rt: &HostRuntime, boxes: u32) {
-    take_boxes(rt.alloc(), boxes);
-    let done = asked(rt, "undname_lines", || filtered(rt));
-    check(rt, "undname_lines", done.is_ok());
-    end(rt);
-}
-
-/// A run over lines, into vectors with room. What it wrote is compared here, of a run that was refused memory too.
-fn filtered(rt: &HostRuntime) -> Result<(), Error> {
+/// A run over lines, into vectors with room. What it has written is compared at want of memory too.
+fn lines(rt: &HostRuntime) -> Result<(), AllocError> {
     let mut input = Watched::new(LINES);
-    let mut out = Watched::new(asked(rt, "room", || room(rt.alloc()))?);
-    let mut err = Watched::new(asked(rt, "room", || room(rt.alloc()))?);
+    let mut out = Watched::new(room(rt)?);
+    let mut err = Watched::new(room(rt)?);
     let done = undname_lines(rt.alloc(), &mut input, &mut out, &mut err, false);
     check(rt, "failed", !input.failed() && !out.failed() && !err.failed());
     let (out, err) = (out.into_inner(), err.into_inner());
-    match done {
-        Ok(()) => check(rt, "undname_lines", *out == *TEXT && *err == *REFUSAL),
-        Err(Fault::Memory) => {
-            check(rt, "undname_lines", begins_with_lines(TEXT, &out) && begins_with_lines(REFUSAL, &err));
-            return Err(Error::from(AllocError));
-        }
-        Err(_) => check(rt, "undname_lines", false),
+    if done == Err(Fault::Memory) {
+        let _ = println!(rt; "undname_lines");
+        check(rt, "undname_lines", begins_with_lines(TEXT, &out) && begins_with_lines(REFUSAL, &err));
+        return Err(AllocError);
     }
+    check(rt, "undname_lines", done == Ok(()) && *out == *TEXT && *err == *REFUSAL);
     Ok(())
 }
 
 /// A vector that a run over lines need not make longer.
-fn room(alloc: Global) -> Result<Vec<u8>, Error> {
-    Ok(Vec::with_capacity(alloc, ROOM)?)
+fn room(rt: &HostRuntime) -> Result<Vec<u8>, AllocError> {
+    let room = Vec::with_capacity(rt.alloc(), ROOM);
+    if room.is_err() {
+        let _ = println!(rt; "room");
+    }
+    room
 }
 
 /// Whether a text begins with these lines, each whole.
