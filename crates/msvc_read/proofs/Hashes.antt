@@ -9,7 +9,8 @@ use Rattle.msvc_tree.specs.Trees.{SymbolTree}
 use Rattle.msvc_read.specs.State.{State, Note, beginning}
 use Rattle.msvc_read.specs.Sorts.{symbol_tree}
 use Rattle.msvc_read.specs.Rules.{call, every, lookup, required}
-use Rattle.msvc_read.specs.Grammar.{grammar, hashed_symbol, hexadecimal_codes, is_hash}
+use Rattle.msvc_read.specs.Grammar.{grammar, hashed_symbol, is_hash}
+use Rattle.msvc_read.specs.Letters.{hexadecimal_codes}
 use Rattle.msvc_tree.specs.Trees.{md5_symbol}
 use Rattle.msvc_read.specs.Hashes.{HashesStand, hashed_text}
 use Rattle.msvc_read.specs.Reads.{Derives, Reads, a_literal, a_part, called, given, in_a_row, the_first}

@@ -1,4 +1,3 @@
-pub mod Carried
 pub mod Characters
 pub mod Checks
 pub mod Choices
@@ -14,11 +13,10 @@ pub mod Laws
 pub mod Listed
 pub mod Local
 pub mod NameSteps
+pub mod Nodes
 pub mod NumberSteps
 pub mod Placed
-pub mod Readers
 pub mod Rising
-pub mod Roomless
 pub mod RowSteps
 pub mod Soundness
 pub mod Sources

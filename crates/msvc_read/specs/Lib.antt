@@ -1,5 +1,6 @@
 pub mod Grammar
 pub mod Hashes
+pub mod Letters
 pub mod Parser
 pub mod Parts
 pub mod Prefix
@@ -7,5 +8,6 @@ pub mod Reads
 pub mod Refusals
 pub mod Rules
 pub mod Sorts
+pub mod Stack
 pub mod State
 pub mod Written

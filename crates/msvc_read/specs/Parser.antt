@@ -1,29 +1,45 @@
 -- The state that a parser of the program stands for, and what its readers give.
-use Rattle.std.specs.Prelude.{ℕ, List, [], ◌∷◌, Option, Some, None, Result, Ok, Err, Bool, true, false, ◌≡◌, ◌==◌, ◌+◌, ◌-◌}
-use Rattle.std.specs.Prelude.{length, map, position, take, drop, if◌then◌else◌}
+use Rattle.std.specs.Prelude.{ℕ, List, [], ◌∷◌, Option, Some, None, Result, Ok, Err, Bool, true, false, ◌≡◌, ◌==◌, ◌+◌}
+use Rattle.std.specs.Prelude.{◌<◌, ◌≤◌, ◌-◌, IfOk, length, map, position, take, drop, if◌then◌else◌}
 use Rattle.std.specs.Option.{option_map}
 use Rattle.msvc_tree.specs.declared.kinds.PlainType.TheVariants as plain_kind
 use Rattle.msvc_tree.specs.declared.kinds.Guard.{Guard}
 use Rattle.msvc_tree.specs.Trees.{NameTree, SymbolTree, TypeTree, guard, plain}
-use Rattle.msvc_tree.specs.View.{name_of, type_of}
-use Rattle.msvc_read.specs.Grammar.{is_guard, is_hash, qualifiers, reference_qualifiers, second_special_letters}
-use Rattle.msvc_read.specs.Grammar.{special_letters, storage_classes, third_special_letters, type_information_letters}
-use Rattle.msvc_read.specs.Grammar.{type_texts, with_index}
-use Rattle.msvc_read.specs.declared.operators.SpecialForm.{SpecialForm}
+use Rattle.msvc_tree.specs.NodeView.{name_at, type_at}
+use Rattle.std.specs.Borrow.{Bor}
+use Rattle.msvc_tree.specs.declared.list.List.{List as NodeList}
+use Rattle.msvc_tree.specs.declared.nodes.Name.{Name}
+use Rattle.msvc_tree.specs.declared.nodes.Type.{«Type»}
+use Rattle.msvc_read.specs.Stack.{here, outer}
+use Rattle.msvc_read.specs.Grammar.{is_guard, is_hash, with_index}
+use Rattle.msvc_read.specs.Letters.{qualifiers, reference_qualifiers, second_special_letters, special_letters}
+use Rattle.msvc_read.specs.Letters.{storage_classes, third_special_letters, type_information_letters, type_texts}
+use Rattle.msvc_read.specs.declared.special_names.SpecialForm.{SpecialForm}
 use Rattle.msvc_read.specs.Reads.{Found, and_then, read_name}
-use Rattle.msvc_read.specs.declared.forms.TypeForm.{TypeForm}
+use Rattle.msvc_read.specs.declared.type_forms.TypeForm.{TypeForm}
 use Rattle.msvc_read.specs.declared.letters.OptionalLetters.{OptionalLetters}
 use Rattle.msvc_read.specs.declared.letters.OptionalLetters.TheVariants as letters
 use Rattle.msvc_read.specs.Rules.{after, guard_index, lookup}
 use Rattle.msvc_read.specs.State as state
-use Rattle.msvc_read.specs.declared.parser.BackReference.{BackReference}
-use Rattle.msvc_read.specs.declared.parser.Entry.{Entry}
+use Rattle.msvc_read.specs.declared.memorized.BackReference.{BackReference}
+use Rattle.msvc_read.specs.declared.memorized.MemorizedType.{MemorizedType}
+use Rattle.msvc_read.specs.declared.function_types.FunctionKind.{FunctionKind}
+use Rattle.msvc_read.specs.declared.function_types.FunctionKind.TheVariants as function_kind
+use Rattle.msvc_read.specs.declared.function_types.MemberPointerForm.{MemberPointerForm}
+use Rattle.msvc_read.specs.declared.function_types.MemberPointerForm.TheVariants as pointer_form
+use Rattle.msvc_read.specs.declared.function_types.ObjectQualifiers.{ObjectQualifiers}
+use Rattle.msvc_read.specs.declared.function_types.ObjectQualifiers.TheVariants as qualifiers_of
+use Rattle.msvc_read.specs.declared.parameters.Ellipsis.{Ellipsis}
+use Rattle.msvc_read.specs.declared.parameters.Ellipsis.TheVariants as ellipsis
+use Rattle.msvc_read.specs.declared.qualified_names.TemplateNames.{TemplateNames}
+use Rattle.msvc_read.specs.declared.qualified_names.TemplateNames.TheVariants as templates
 use Rattle.msvc_read.specs.declared.parser.Parser.{Parser}
 use Rattle.msvc_read.specs.declared.refusal.Refusal.{Refusal}
+use Rattle.msvc_read.specs.declared.refusal.Refused.{Refused}
 use Rattle.msvc_read.specs.declared.refusal.Refusal.TheVariants as refusal
 
-abbrev pub entry_of : Entry → state.Entry
-entry_of e = record { entered = type_of e.entered; start = e.start; end = e.end }
+abbrev pub memorized_of : MemorizedType → state.Entry
+memorized_of e = record { entered = type_at e.memorized; start = e.start; end = e.end }
 
 abbrev pub note_of : BackReference → state.Note
 note_of n = record { at = n.at; start = n.start; end = n.end }
@@ -32,10 +48,29 @@ abbrev pub state_of : Parser → state.State
 state_of p =
     record {
       whole = p.whole;
-      room = p.room;
-      names = map name_of p.names.items;
-      types = map entry_of p.types.items;
+      names = map name_at (here p.memorized.names);
+      types = map memorized_of (here p.memorized.types);
       notes = map note_of p.notes.items;
+    }
+
+-- what a reader leaves as it was: the entries that stand before the tables in use, and the lists that others gather
+pub record Frame : Type 0 where
+  pub names : List (Bor Name)
+  pub types : List MemorizedType
+  pub listed_names : List (Bor Name)
+  pub names_before : List (Bor Name)
+  pub listed_types : List (Bor «Type»)
+  pub types_before : List (Bor «Type»)
+
+abbrev pub frame_of : Parser → Frame
+frame_of p =
+    record {
+      names = outer p.memorized.names;
+      types = outer p.memorized.types;
+      listed_names = here p.listed_names;
+      names_before = outer p.listed_names;
+      listed_types = here p.listed_types;
+      types_before = outer p.listed_types;
     }
 
 -- a refusal that isn't for want of memory says that nothing is read
@@ -43,14 +78,53 @@ abbrev pub Refuses : {Y : Type 0} → Refusal → Option Y → Type 0
 Refuses refusal.Memory read = Unit {0}
 Refuses (refusal.Unread message left) read = read ≡ None
 
--- what a reader of the program returned, seen by view, is what is read
-abbrev pub Gives : {X Y : Type 0} → (X → Y) → Result X Refusal → Option Y → Type 0
-Gives view (Ok x) read = read ≡ Some (view x)
-Gives view (Err e) read = Refuses e read
+-- what a reader of the program returned, seen by view, is what is read; else the reason says why not
+abbrev pub Gives : {X Y : Type 0} → (X → Y) → Refusal → Result X Refused → Option Y → Type 0
+Gives view why (Ok x) read = read ≡ Some (view x)
+Gives view why (Err e) read = Refuses why read
+
+-- likewise where the reason is returned
+abbrev pub IsRead : {X Y : Type 0} → (X → Y) → Result X Refusal → Option Y → Type 0
+IsRead view (Ok x) read = read ≡ Some (view x)
+IsRead view (Err e) read = Refuses e read
+
+-- What a reader of the program returned, seen by view, is what a rule reads of the bytes that were left: its value, the
+-- bytes left and the state after it.
+abbrev pub ReadsAs : {X Y : Type 0} → (X → Y) → Parser → Parser → Result X Refused
+    → (List ℕ → state.State → Found Y) → Type 0
+ReadsAs view before after result reading =
+    Gives (λ x. (view x, after.rest.now, state_of after)) after.why result (reading before.rest.now (state_of before))
+
+-- a reader that reads has eaten bytes, and leaves alone what is not its own
+abbrev pub Eats : {X : Type 0} → Parser → Parser → Result X Refused → Type 0
+Eats before after result =
+    IfOk result (λ _. (length after.rest.now < length before.rest.now) × (frame_of after ≡ frame_of before))
+
+-- or may have eaten none
+abbrev pub MayEat : {X : Type 0} → Parser → Parser → Result X Refused → Type 0
+MayEat before after result =
+    IfOk result (λ _. (length after.rest.now ≤ length before.rest.now) × (frame_of after ≡ frame_of before))
+
+-- what is made of what was read leaves the bytes alone too
+abbrev pub Stays : {X : Type 0} → Parser → Parser → Result X Refused → Type 0
+Stays before after result =
+    IfOk result (λ _. (after.rest.now ≡ before.rest.now) × (frame_of after ≡ frame_of before))
+
+-- what follows a literal, where it was eaten
+abbrev pub eaten : Bool → List ℕ → Option (List ℕ)
+eaten true rest = Some rest
+eaten false rest = None
 
 -- the symbol that was read of a text, and how many bytes of it were read
 abbrev pub with_length : List ℕ → Found SymbolTree → Option (SymbolTree × ℕ)
 with_length text found = option_map (λ r. (r.0, length text - length r.1)) found
+
+-- the names and the types of a list in the arena
+abbrev pub names_at : NodeList (Bor Name) → List NameTree
+names_at list = map name_at list.items.now
+
+abbrev pub types_at : NodeList (Bor «Type») → List TypeTree
+types_at list = map type_at list.items.now
 
 -- the letters of a table of qualifiers, and the bits of each
 abbrev pub optional_letters : OptionalLetters → List (ℕ × ℕ)
@@ -101,15 +175,34 @@ abbrev pub cut_at : Option ℕ → List ℕ → state.State → Found (List ℕ)
 cut_at None left s = None
 cut_at (Some i) left s = Some (take i left, drop (i + 1) left, s)
 
--- where a list of parameters stops, whether at a Z, and the bytes behind it
-unfoldable pub parameters_stop : List ℕ → Option (Bool × List ℕ)
-parameters_stop [] = Some (false, [])
-parameters_stop (b ∷ bs) = if b == 64 then Some (false, bs) else (if b == 90 then Some (true, bs) else None)
+-- where a list of parameters stops, whether it has an ellipsis, and the bytes after it
+unfoldable pub parameters_stop : List ℕ → Option (Ellipsis × List ℕ)
+parameters_stop [] = Some (ellipsis.Absent, [])
+parameters_stop (b ∷ bs) =
+    if b == 64 then Some (ellipsis.Absent, bs) else (if b == 90 then Some (ellipsis.Present, bs) else None)
 
--- what a list of parameters has behind its last one
-abbrev pub ellipsis : Bool → List TypeTree
-ellipsis true = plain plain_kind.Variadic ∷ []
-ellipsis false = []
+-- what a list of parameters has after its last one
+abbrev pub ellipsis_types : Ellipsis → List TypeTree
+ellipsis_types ellipsis.Absent = []
+ellipsis_types ellipsis.Present = plain plain_kind.Variadic ∷ []
+
+-- what the grammar tells apart by a test
+
+abbrev pub is_own : TemplateNames → Bool
+is_own templates.Memorized = false
+is_own templates.NotMemorized = true
+
+abbrev pub is_bare : ObjectQualifiers → Bool
+is_bare qualifiers_of.Absent = true
+is_bare qualifiers_of.Present = false
+
+abbrev pub is_qualified : MemberPointerForm → Bool
+is_qualified pointer_form.Qualified = true
+is_qualified pointer_form.OfClass = false
+
+abbrev pub is_member : FunctionKind → Bool
+is_member function_kind.Free = false
+is_member function_kind.Member = true
 
 -- what a code stands for, if it is one, and the bytes behind it
 abbrev pub at_rest : {A : Type 0} → Option A → List ℕ → Option (A × List ℕ)

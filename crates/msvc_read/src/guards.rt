@@ -1,50 +1,51 @@
 //! The guards of static variables in functions: their indices, and the numbers of thread-safe ones.
 
-ghost use Rattle.std.specs.Prelude.{◌≡◌, ◌<◌, ◌≤◌, ◌+◌, ◌*◌, None, Some, codes, length, map, true, IfOk};
+ghost use Rattle.std.specs.Prelude.{◌≡◌, ◌<◌, ◌≤◌, ◌+◌, ◌*◌, None, Some, codes, map, true, IfOk, IfSome};
 ghost use Rattle.std.specs.Prelude.{if◌then◌else◌};
-ghost use Rattle.msvc_tree.specs.Trees as tree;
+ghost use Rattle.msvc_tree.specs.NodeView.{name_at, name_of, whole_of};
 ghost use Rattle.msvc_tree.specs.Trees.{name_trees, numbered};
-ghost use Rattle.msvc_tree.specs.View.{name_of, tree_of};
-ghost use Rattle.msvc_tree.specs.declared.kinds.NumberedType.TheVariants as number_kind;
-ghost use Rattle.msvc_read.specs.Grammar.{digits, guard_marker, is_in_range, numbered_guard};
-ghost use Rattle.msvc_read.specs.Parser.{Gives, guard_of, indexed, state_of};
+ghost use Rattle.msvc_read.specs.Grammar.{guard_marker, is_in_range, numbered_guard};
+ghost use Rattle.msvc_read.specs.Letters.{digits};
+ghost use Rattle.msvc_read.specs.Parser.{Eats, MayEat, ReadsAs, guard_of, indexed};
 ghost use Rattle.msvc_read.specs.Reads.{and_then, letter_here, read, read_name};
 ghost use Rattle.msvc_read.specs.Rules.{decimal, guard_index, literal};
+ghost use Rattle.msvc_tree.specs.declared.kinds.NumberedType.TheVariants as number_kind;
 
 use crate::parser::Parser;
-use crate::refusal::{Message, Refusal};
-use msvc_tree::kinds::Guard;
-use msvc_tree::node::{NameNode, OperatorNode, name_node, operator_node};
-use msvc_tree::tree::{Name, ParseResult, Symbol, Type};
+use crate::refusal::{Message, Refused};
+use msvc_tree::kinds::{Guard, NumberedType};
+use msvc_tree::nodes::{Name, Symbol, Type, Whole};
 
-impl<'a> Parser<'a> {
+/// What the digits of the number of a guard count to.
+const BASE: u64 = 10;
+
+/// The greatest number of a guard.
+const GREATEST_NUMBER: u64 = 2147483647;
+
+impl<'a, 'b> Parser<'a, 'b> {
     /// A symbol's name, with the index that follows it if it is that of a guard.
-    #[tactic(auto, using(crate::proofs::Readers::indexed_split))]
-    pub fn indexed_symbol(&mut self, symbol: Symbol<'a>) -> Result<Symbol<'a>, Refusal>
-        ensures value { Gives
-            (λ x. ((name_of x.name, map name_of x.scope.names.items), self.new.rest.now, state_of self.new)) result
-            (indexed (name_of symbol.entry.name) (map name_of symbol.entry.scope.names.items)
-            self.old.rest.now (state_of self.old)) }
-        ensures shorter { IfOk result (λ _. length self.new.rest.now ≤ length self.old.rest.now) }
+    #[tactic(auto, using(crate::proofs::Nodes::indexed_split), unfolding(msvc_tree::specs::NodeView::name_of))]
+    pub fn indexed_symbol(&mut self, symbol: Symbol<'a, 'b>) -> Result<Symbol<'a, 'b>, Refused>
+        ensures value { ReadsAs (λ x. (name_of x.name.now, map name_at x.scope.now)) self.old self.new result
+            (indexed (name_of symbol.entry.name.now) (map name_at symbol.entry.scope.now)) }
+        ensures eats { MayEat self.old self.new result }
     {
-        let Some(guard) = own_guard(&symbol.name) else {
+        let Some(guard) = own_guard(symbol.name) else {
             return Ok(symbol);
         };
-        match self.guard_index() {
-            Ok(index) => Ok(guard_symbol(guard, index, symbol)),
-            Err(refusal) => {
-                drop(symbol);
-                Err(refusal)
-            }
-        }
+        let index = self.guard_index()?;
+        let name = self.put_name(Name::Guard(guard, index))?;
+        Ok(Symbol {
+            name,
+            scope: symbol.scope,
+        })
     }
 
     /// `GUARD_INDEX = GUARD_MARKER end | GUARD_MARKER NUMBER`: the number is at least 0.
     #[tactic(auto, using(crate::proofs::GuardSteps::guard_index_is))]
-    fn guard_index(&mut self) -> Result<Option<u32>, Refusal>
-        ensures value { Gives (λ i. (i, self.new.rest.now, state_of self.new)) result
-            (read_name (guard_index true) self.old.rest.now (state_of self.old)) }
-        ensures shorter { IfOk result (λ _. length self.new.rest.now < length self.old.rest.now) }
+    fn guard_index(&mut self) -> Result<Option<u32>, Refused>
+        ensures value { ReadsAs (λ i. i) self.old self.new result (read_name (guard_index true)) }
+        ensures eats { Eats self.old self.new result }
     {
         self.guard_marker()?;
         if self.rest.is_empty() {
@@ -59,85 +60,82 @@ impl<'a> Parser<'a> {
 
     /// `GUARD_MARKER = "4IA" | "5"`.
     #[tactic(auto, using(crate::proofs::GuardSteps::guard_marker_is))]
-    fn guard_marker(&mut self) -> Result<(), Refusal>
-        ensures value { Gives (λ _. (tt, self.new.rest.now, state_of self.new)) result
-            (read guard_marker self.old.rest.now (state_of self.old)) }
-        ensures shorter { IfOk result (λ _. length self.new.rest.now < length self.old.rest.now) }
+    fn guard_marker(&mut self) -> Result<(), Refused>
+        ensures value { ReadsAs (λ _. tt) self.old self.new result (read guard_marker) }
+        ensures eats { Eats self.old self.new result }
     {
-        if let Some(behind) = self.after(b"4IA") {
-            self.rest = behind;
+        if self.eat(b"4IA") {
             return Ok(());
         }
         self.expected(b"5", Message::UnexpectedLocalGuardMarker)
     }
 
-    /// `NUMBERED_GUARD = GUARD_NUMBER NESTED_NAME SCOPE "4HA"`, behind its `?$TSS`.
+    /// `NUMBERED_GUARD = GUARD_NUMBER NESTED_NAME SCOPE "4HA"`, after its `?$TSS`.
     #[cycle(readers)]
-    #[tactic(auto, using(crate::proofs::Readers::numbered_split))]
-    pub fn numbered_guard(&mut self) -> Result<ParseResult<'a>, Refusal>
-        ensures value { Gives (λ r. (tree_of r, self.new.rest.now, state_of self.new)) result
-            (read numbered_guard self.old.rest.now (state_of self.old)) }
-        ensures shorter { IfOk result (λ _. length self.new.rest.now < length self.old.rest.now) }
+    #[tactic(auto, using(crate::proofs::GuardSteps::numbered_guard_step))]
+    pub fn numbered_guard(&mut self) -> Result<Whole<'a, 'b>, Refused>
+        ensures value { ReadsAs whole_of self.old self.new result (read numbered_guard) }
+        ensures eats { Eats self.old self.new result }
     {
         let number = self.guard_number()?;
         let name = self.nested_name()?;
-        let scope = self.scope()?;
+        let scope = self.scope()?.items;
         self.guard_of_number(number.cast_signed(), Symbol { name, scope })
     }
 
     /// The guard of this number for a symbol, whose `4HA` is left.
-    #[tactic(auto, using(crate::proofs::Readers::numbered_end), unfolding(msvc_tree::specs::View::type_of))]
+    #[tactic(auto, using(crate::proofs::Nodes::whole_split), unfolding(msvc_tree::specs::NodeView::type_of))]
     fn guard_of_number(
         &mut self,
         number: i32,
-        symbol: Symbol<'a>,
-    ) -> Result<ParseResult<'a>, Refusal>
-        ensures value { Gives (λ r. (tree_of r, self.new.rest.now, state_of self.new)) result
-            (and_then (read (literal (codes "4HA")) self.old.rest.now (state_of self.old)) (λ _ left s. Some (
+        symbol: Symbol<'a, 'b>,
+    ) -> Result<Whole<'a, 'b>, Refused>
+        ensures value { ReadsAs whole_of self.old self.new result
+            (λ left s. and_then (read (literal (codes "4HA")) left s)
+            (λ _ left s. Some (
               record {
-                name = name_of symbol.entry.name;
-                scope = name_trees (map name_of symbol.entry.scope.names.items);
+                name = name_of symbol.entry.name.now;
+                scope = name_trees (map name_at symbol.entry.scope.now);
                 symbol_type = numbered number_kind.ThreadSafeGuard number;
               },
               left,
               s,
             ))) }
-        ensures shorter { IfOk result (λ _. length self.new.rest.now ≤ length self.old.rest.now) }
+        ensures eats { MayEat self.old self.new result }
     {
-        if let Err(refusal) = self.expected(b"4HA", Message::GuardTypeExpected) {
-            drop(symbol);
-            return Err(refusal);
-        }
-        Ok(ParseResult {
+        self.expected(b"4HA", Message::GuardTypeExpected)?;
+        let symbol_type = self.put_type(Type::Numbered(NumberedType::ThreadSafeGuard, number))?;
+        Ok(Whole {
             symbol,
-            symbol_type: Type::ThreadSafeStaticGuard(number),
+            symbol_type,
         })
     }
 
-    /// `GUARD_NUMBER = digit {digit} "@"`: to base 10, at most 2147483647.
+    /// `GUARD_NUMBER = digit {digit} "@"`: to base 10, at most the greatest of 32 bits with a sign.
     #[tactic(auto, using(crate::proofs::GuardSteps::decimal_goes_on))]
-    fn guard_number(&mut self) -> Result<u32, Refusal>
-        ensures value { Gives (λ n. (n, self.new.rest.now, state_of self.new)) result
-            (and_then (letter_here digits self.old.rest.now (state_of self.old)) (λ d. read_name (decimal d))) }
-        ensures shorter { IfOk result (λ _. length self.new.rest.now < length self.old.rest.now) }
+    fn guard_number(&mut self) -> Result<u32, Refused>
+        ensures value { ReadsAs (λ n. n) self.old self.new result
+            (λ left s. and_then (letter_here digits left s) (λ d. read_name (decimal d))) }
+        ensures eats { Eats self.old self.new result }
         ensures small { IfOk result (λ n. n ≤ 2147483647) }
     {
         let mut value = u32::from(self.guard_digit()?);
         'digits: loop {
-            if let Some(behind) = self.after(b"@") {
-                self.rest = behind;
+            if self.eat(b"@") {
                 return Ok(value);
             }
             let digit = self.guard_digit()?;
-            value = self.longer_number(value, digit)?;
+            let Some(longer) = longer_number(value, digit) else {
+                return Err(self.refuse(Message::GuardNumberTooLarge));
+            };
+            value = longer;
         }
     }
 
     /// A digit of the number of a guard.
-    fn guard_digit(&mut self) -> Result<u8, Refusal>
-        ensures value { Gives (λ d. (d, self.new.rest.now, state_of self.new)) result
-            (letter_here digits self.old.rest.now (state_of self.old)) }
-        ensures shorter { IfOk result (λ _. length self.new.rest.now < length self.old.rest.now) }
+    fn guard_digit(&mut self) -> Result<u8, Refused>
+        ensures value { ReadsAs (λ d. d) self.old self.new result (letter_here digits) }
+        ensures eats { Eats self.old self.new result }
         ensures small { IfOk result (λ d. d < 10) }
     {
         match self.digit() {
@@ -145,44 +143,38 @@ impl<'a> Parser<'a> {
             None => Err(self.refuse(Message::MissingDigit)),
         }
     }
-
-    /// A number with one more digit behind it, if it is at most 2147483647.
-    fn longer_number(&self, value: u32, digit: u8) -> Result<u32, Refusal>
-        ensures value { Gives (λ n. n) result
-            (if is_in_range (value * 10 + digit) then Some (value * 10 + digit) else None) }
-        ensures small { IfOk result (λ n. n ≤ 2147483647) }
-    {
-        let longer = u64::from(value) * 10 + u64::from(digit);
-        if longer > 2147483647 {
-            return Err(self.refuse(Message::GuardNumberTooLarge));
-        }
-        Ok(longer as u32)
-    }
 }
 
-/// The guard that a name is, if it is one.
-fn own_guard<'a>(name: &Name<'a>) -> Option<Guard>
+/// A number with one more digit after it, if it is not too large.
+fn longer_number(value: u32, digit: u8) -> Option<u32>
+    ensures value { result ≡ (if is_in_range (value * 10 + digit) then Some (value * 10 + digit) else None) }
+    ensures small { IfSome result (λ n. n ≤ 2147483647) }
+{
+    let longer = u64::from(value) * BASE + u64::from(digit);
+    if longer > GREATEST_NUMBER {
+        return None;
+    }
+    Some(longer as u32)
+}
+
+/// The guard that a name is, if it is one. Each other name is named, since for `_` the prover would have to be told
+/// which they are.
+#[tactic(auto, unfolding(msvc_tree::specs::NodeView::name_of))]
+fn own_guard<'a, 'b>(name: &'b Name<'a, 'b>) -> Option<Guard>
     ensures { result ≡ guard_of (name_of name.now) }
 {
-    let NameNode::Operator(operator) = name_node(name) else {
-        return None;
-    };
-    match operator_node(operator) {
-        OperatorNode::Guard(guard, _) => Some(guard),
-        _ => None,
-    }
-}
-
-/// The guard with an index, in the scope of a symbol.
-#[tactic(auto, unfolding(msvc_tree::specs::View::name_of))]
-fn guard_symbol<'a>(guard: Guard, index: Option<u32>, symbol: Symbol<'a>) -> Symbol<'a>
-    ensures name { name_of result.name ≡ tree.guard guard index }
-    ensures scope { result.scope ≡ symbol.entry.scope }
-{
-    let Symbol { name, scope } = symbol;
-    drop(name);
-    Symbol {
-        name: Name::Operator(guard.operator(index)),
-        scope,
+    match name {
+        Name::Source(_) => None,
+        Name::Interface(_) => None,
+        Name::Md5(_) => None,
+        Name::Anonymous => None,
+        Name::AnonymousDigits(_) => None,
+        Name::Plain(_) => None,
+        Name::Guard(guard, _) => Some(*guard),
+        Name::TypeDescriptor(_, _) => None,
+        Name::BaseClassDescriptor(_) => None,
+        Name::Template(_) => None,
+        Name::Discriminator(_) => None,
+        Name::Nested(_) => None,
     }
 }

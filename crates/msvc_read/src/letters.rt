@@ -1,19 +1,18 @@
 //! What the letters of a symbol stand for: one function a table of letters.
 
-ghost use Rattle.std.specs.Prelude.{◌≡◌};
 ghost use Rattle.std.specs.Option.{option_map};
-ghost use Rattle.msvc_tree.specs.View.{type_of};
-ghost use Rattle.msvc_tree.specs.Trees.{base};
-ghost use Rattle.msvc_read.specs.Grammar.{digits, hexadecimal, hexadecimal_codes, qualifiers, storage_classes};
-ghost use Rattle.msvc_read.specs.Grammar.{qualifiers_of_returns, qualifiers_of_arrays, reference_qualifiers};
-ghost use Rattle.msvc_read.specs.Grammar.{conventions, base_types, extended_types, function_classes};
-ghost use Rattle.msvc_read.specs.Grammar.{character_sizes, escaped_characters, plain_characters};
+ghost use Rattle.std.specs.Prelude.{◌≡◌};
+ghost use Rattle.msvc_read.specs.Letters.{digits, hexadecimal, hexadecimal_codes, qualifiers, storage_classes};
+ghost use Rattle.msvc_read.specs.Letters.{qualifiers_of_returns, qualifiers_of_arrays, reference_qualifiers};
+ghost use Rattle.msvc_read.specs.Letters.{conventions, base_types, extended_types, function_classes, character_sizes};
+ghost use Rattle.msvc_read.specs.Letters.{escaped_characters, plain_characters};
 ghost use Rattle.msvc_read.specs.Parser.{optional_letters};
 ghost use Rattle.msvc_read.specs.Rules.{lookup};
 
 use bitflags::Flags;
 use msvc_tree::flags::{FuncClass, StorageClass};
-use msvc_tree::tree::{CallingConv, Type};
+use msvc_tree::kinds::BaseType;
+use msvc_tree::tree::CallingConv;
 
 /// The entry of a table that a digit stands for.
 pub fn digit(letter: u8) -> Option<u8>
@@ -49,44 +48,44 @@ pub fn hexadecimal_code(letter: u8) -> Option<u8>
 pub fn return_qualifier(letter: u8) -> Option<StorageClass>
     ensures { option_map (λ (q : StorageClass). q.0) result ≡ lookup letter qualifiers_of_returns }
 {
-    let bits = match letter {
-        b'A' => 0,
-        b'B' => 1,
-        b'C' => 2,
-        b'D' => 3,
+    let qualifier = match letter {
+        b'A' => StorageClass::empty(),
+        b'B' => StorageClass::CONST,
+        b'C' => StorageClass::VOLATILE,
+        b'D' => StorageClass::CONST.union(StorageClass::VOLATILE),
         _ => return None,
     };
-    Some(StorageClass::from_bits_retain(bits))
+    Some(qualifier)
 }
 
 /// `const` and `volatile` of the elements of an array: there is no letter for `volatile` alone.
 pub fn array_qualifier(letter: u8) -> Option<StorageClass>
     ensures { option_map (λ (q : StorageClass). q.0) result ≡ lookup letter qualifiers_of_arrays }
 {
-    let bits = match letter {
-        b'A' => 0,
-        b'B' => 1,
-        b'C' | b'D' => 3,
+    let qualifier = match letter {
+        b'A' => StorageClass::empty(),
+        b'B' => StorageClass::CONST,
+        b'C' | b'D' => StorageClass::CONST.union(StorageClass::VOLATILE),
         _ => return None,
     };
-    Some(StorageClass::from_bits_retain(bits))
+    Some(qualifier)
 }
 
 /// `const` and `volatile` of the object of a member function.
 fn qualifier(letter: u8) -> Option<StorageClass>
     ensures { option_map (λ (q : StorageClass). q.0) result ≡ lookup letter qualifiers }
 {
-    let bits = match letter {
-        b'A' | b'Q' => 0,
-        b'B' | b'R' => 1,
-        b'C' | b'S' => 2,
-        b'D' | b'T' => 3,
+    let qualifier = match letter {
+        b'A' | b'Q' => StorageClass::empty(),
+        b'B' | b'R' => StorageClass::CONST,
+        b'C' | b'S' => StorageClass::VOLATILE,
+        b'D' | b'T' => StorageClass::CONST.union(StorageClass::VOLATILE),
         _ => return None,
     };
-    Some(StorageClass::from_bits_retain(bits))
+    Some(qualifier)
 }
 
-/// `&` and `&&` behind a member function.
+/// `&` and `&&` after a member function.
 fn reference_qualifier(letter: u8) -> Option<StorageClass>
     ensures { option_map (λ (q : StorageClass). q.0) result ≡ lookup letter reference_qualifiers }
 {
@@ -101,18 +100,20 @@ fn reference_qualifier(letter: u8) -> Option<StorageClass>
 fn storage_class(letter: u8) -> Option<StorageClass>
     ensures { option_map (λ (q : StorageClass). q.0) result ≡ lookup letter storage_classes }
 {
-    let bits = match letter {
-        b'A' | b'Q' => 0,
-        b'B' | b'R' => 1,
-        b'C' | b'S' => 2,
-        b'D' | b'T' => 3,
-        b'E' => 4,
-        b'F' => 5,
-        b'G' => 6,
-        b'H' => 7,
+    let class = match letter {
+        b'A' | b'Q' => StorageClass::empty(),
+        b'B' | b'R' => StorageClass::CONST,
+        b'C' | b'S' => StorageClass::VOLATILE,
+        b'D' | b'T' => StorageClass::CONST.union(StorageClass::VOLATILE),
+        b'E' => StorageClass::FAR,
+        b'F' => StorageClass::CONST.union(StorageClass::FAR),
+        b'G' => StorageClass::VOLATILE.union(StorageClass::FAR),
+        b'H' => StorageClass::CONST
+            .union(StorageClass::VOLATILE)
+            .union(StorageClass::FAR),
         _ => return None,
     };
-    Some(StorageClass::from_bits_retain(bits))
+    Some(class)
 }
 
 /// The tables of qualifiers of which one letter may stand, or none.
@@ -122,7 +123,7 @@ pub enum OptionalLetters {
     StorageClasses,
     /// `const` and `volatile` of a member function.
     Qualifiers,
-    /// `&` and `&&` behind a member function.
+    /// `&` and `&&` after a member function.
     ReferenceQualifiers,
 }
 
@@ -139,44 +140,42 @@ pub fn optional_letter(letters: OptionalLetters, letter: u8) -> Option<StorageCl
 }
 
 /// The base type of one letter.
-#[tactic(auto, unfolding(msvc_tree::specs::View::type_of))]
-pub fn base_type<'a>(letter: u8, q: StorageClass) -> Option<Type<'a>>
-    ensures { option_map type_of result ≡ option_map (λ t. base t q.0) (lookup letter base_types) }
+pub fn base_type(letter: u8) -> Option<BaseType>
+    ensures { result ≡ lookup letter base_types }
 {
     let base = match letter {
-        b'X' => Type::Void(q),
-        b'C' => Type::Schar(q),
-        b'D' => Type::Char(q),
-        b'E' => Type::Uchar(q),
-        b'F' => Type::Short(q),
-        b'G' => Type::Ushort(q),
-        b'H' => Type::Int(q),
-        b'I' => Type::Uint(q),
-        b'J' => Type::Long(q),
-        b'K' => Type::Ulong(q),
-        b'M' => Type::Float(q),
-        b'N' => Type::Double(q),
-        b'O' => Type::Ldouble(q),
+        b'X' => BaseType::Void,
+        b'C' => BaseType::Schar,
+        b'D' => BaseType::Char,
+        b'E' => BaseType::Uchar,
+        b'F' => BaseType::Short,
+        b'G' => BaseType::Ushort,
+        b'H' => BaseType::Int,
+        b'I' => BaseType::Uint,
+        b'J' => BaseType::Long,
+        b'K' => BaseType::Ulong,
+        b'M' => BaseType::Float,
+        b'N' => BaseType::Double,
+        b'O' => BaseType::Ldouble,
         _ => return None,
     };
     Some(base)
 }
 
-/// The base type of a second letter, behind an underscore.
-#[tactic(auto, unfolding(msvc_tree::specs::View::type_of))]
-pub fn extended_type<'a>(letter: u8, q: StorageClass) -> Option<Type<'a>>
-    ensures { option_map type_of result ≡ option_map (λ t. base t q.0) (lookup letter extended_types) }
+/// The base type of a second letter, after an underscore.
+pub fn extended_type(letter: u8) -> Option<BaseType>
+    ensures { result ≡ lookup letter extended_types }
 {
     let base = match letter {
-        b'N' => Type::Bool(q),
-        b'W' => Type::Wchar(q),
-        b'Q' => Type::Char8(q),
-        b'S' => Type::Char16(q),
-        b'U' => Type::Char32(q),
-        b'J' => Type::Int64(q),
-        b'K' => Type::Uint64(q),
-        b'L' => Type::Int128(q),
-        b'M' => Type::Uint128(q),
+        b'N' => BaseType::Bool,
+        b'W' => BaseType::Wchar,
+        b'Q' => BaseType::Char8,
+        b'S' => BaseType::Char16,
+        b'U' => BaseType::Char32,
+        b'J' => BaseType::Int64,
+        b'K' => BaseType::Uint64,
+        b'L' => BaseType::Int128,
+        b'M' => BaseType::Uint128,
         _ => return None,
     };
     Some(base)
@@ -203,7 +202,7 @@ pub fn character(letter: u8) -> Option<u8>
     }
 }
 
-/// The character of a string that a letter stands for behind a `?`: a capital one for the same as a small one.
+/// The character of a string that a letter stands for after a `?`: a capital one for the same as a small one.
 pub fn escaped_character(letter: u8) -> Option<u8>
     ensures { result ≡ lookup letter escaped_characters }
 {
@@ -263,37 +262,59 @@ pub fn convention(letter: u8) -> Option<CallingConv>
     }
 }
 
-/// The access and the kind of a member function, in bits: `PUBLIC` 1, `PROTECTED` 2, `PRIVATE` 4, `GLOBAL` 8,
-/// `STATIC` 16, `VIRTUAL` 32, `FAR` 64, `THUNK` 128.
+/// The access and the kind of a member function.
 pub fn function_class(letter: u8) -> Option<FuncClass>
     ensures { option_map (λ (class : FuncClass). class.0) result ≡ lookup letter function_classes }
 {
-    let bits = match letter {
-        b'A' => 4,
-        b'B' => 4 + 64,
-        b'C' | b'D' => 4 + 16,
-        b'E' | b'F' => 4 + 32,
-        b'G' => 4 + 32 + 128,
-        b'H' => 4 + 32 + 64 + 128,
-        b'I' => 2,
-        b'J' => 2 + 64,
-        b'K' => 2 + 16,
-        b'L' => 2 + 16 + 64,
-        b'M' => 2 + 32,
-        b'N' => 2 + 32 + 64,
-        b'O' => 2 + 32 + 128,
-        b'P' => 2 + 32 + 64 + 128,
-        b'Q' => 1,
-        b'R' => 1 + 64,
-        b'S' => 1 + 16,
-        b'T' => 1 + 16 + 64,
-        b'U' => 1 + 32,
-        b'V' => 1 + 32 + 64,
-        b'W' => 1 + 32 + 128,
-        b'X' => 1 + 32 + 64 + 128,
-        b'Y' => 8,
-        b'Z' => 8 + 64,
+    let class = match letter {
+        b'A' => FuncClass::PRIVATE,
+        b'B' => FuncClass::PRIVATE.union(FuncClass::FAR),
+        b'C' | b'D' => FuncClass::PRIVATE.union(FuncClass::STATIC),
+        b'E' | b'F' => FuncClass::PRIVATE.union(FuncClass::VIRTUAL),
+        b'G' => FuncClass::PRIVATE
+            .union(FuncClass::VIRTUAL)
+            .union(FuncClass::THUNK),
+        b'H' => FuncClass::PRIVATE
+            .union(FuncClass::VIRTUAL)
+            .union(FuncClass::FAR)
+            .union(FuncClass::THUNK),
+        b'I' => FuncClass::PROTECTED,
+        b'J' => FuncClass::PROTECTED.union(FuncClass::FAR),
+        b'K' => FuncClass::PROTECTED.union(FuncClass::STATIC),
+        b'L' => FuncClass::PROTECTED
+            .union(FuncClass::STATIC)
+            .union(FuncClass::FAR),
+        b'M' => FuncClass::PROTECTED.union(FuncClass::VIRTUAL),
+        b'N' => FuncClass::PROTECTED
+            .union(FuncClass::VIRTUAL)
+            .union(FuncClass::FAR),
+        b'O' => FuncClass::PROTECTED
+            .union(FuncClass::VIRTUAL)
+            .union(FuncClass::THUNK),
+        b'P' => FuncClass::PROTECTED
+            .union(FuncClass::VIRTUAL)
+            .union(FuncClass::FAR)
+            .union(FuncClass::THUNK),
+        b'Q' => FuncClass::PUBLIC,
+        b'R' => FuncClass::PUBLIC.union(FuncClass::FAR),
+        b'S' => FuncClass::PUBLIC.union(FuncClass::STATIC),
+        b'T' => FuncClass::PUBLIC
+            .union(FuncClass::STATIC)
+            .union(FuncClass::FAR),
+        b'U' => FuncClass::PUBLIC.union(FuncClass::VIRTUAL),
+        b'V' => FuncClass::PUBLIC
+            .union(FuncClass::VIRTUAL)
+            .union(FuncClass::FAR),
+        b'W' => FuncClass::PUBLIC
+            .union(FuncClass::VIRTUAL)
+            .union(FuncClass::THUNK),
+        b'X' => FuncClass::PUBLIC
+            .union(FuncClass::VIRTUAL)
+            .union(FuncClass::FAR)
+            .union(FuncClass::THUNK),
+        b'Y' => FuncClass::GLOBAL,
+        b'Z' => FuncClass::GLOBAL.union(FuncClass::FAR),
         _ => return None,
     };
-    Some(FuncClass::from_bits_retain(bits))
+    Some(class)
 }

@@ -1,23 +1,23 @@
 //! Reads a symbol as Microsoft's C++ compiler mangles it into a tree. Nothing here knows how a tree is printed.
 #![tactic(auto)]
 
-mod forms;
-mod functions;
+mod function_types;
 mod guards;
-mod hash;
+mod hashed_symbols;
 mod letters;
-mod names;
+mod memorized;
 mod numbers;
-mod operators;
 mod parameters;
 mod parser;
+mod qualified_names;
 mod read;
-mod references;
 mod refusal;
+mod special_names;
+mod stack;
 mod strings;
 mod symbols;
+mod type_forms;
 mod types;
 
-pub use parser::BackReference;
-pub use read::{parse, parse_prefix};
-pub use references::back_references;
+pub use memorized::BackReference;
+pub use read::{back_references, parse, parse_prefix};

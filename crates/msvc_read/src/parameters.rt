@@ -1,39 +1,44 @@
 //! Parameters, and the table of types that they enter.
 
-ghost use Rattle.std.specs.Prelude.{◌≡◌, ◌<◌, ◌≤◌, ◌-◌, nat_lt, ◌∷◌, ◌++◌, [], length, map, slice_get, IfOk, IfSome};
-ghost use Rattle.std.specs.Prelude.{Ok};
 ghost use Rattle.std.specs.Option.{option_map};
-ghost use Rattle.std.specs.List.{list_any};
-ghost use Rattle.msvc_tree.specs.Equality.{same_type};
+ghost use Rattle.std.specs.Prelude.{◌≡◌, ◌≤◌, ◌-◌, nat_lt, ◌∷◌, ◌++◌, [], Some, drop, length, map, take, IfOk, IfErr};
+ghost use Rattle.std.specs.Prelude.{IfSome};
+ghost use Rattle.msvc_tree.specs.NodeView.{type_at};
 ghost use Rattle.msvc_tree.specs.Trees.{base};
-ghost use Rattle.msvc_tree.specs.declared.kinds.BaseType.TheVariants as base_kind;
-ghost use Rattle.msvc_tree.specs.View.{type_of};
-ghost use Rattle.msvc_read.specs.Parser.{Gives, state_of, entry_of, ellipsis, parameters_stop};
-ghost use Rattle.msvc_read.specs.Reads.{read_name, type_noted};
+ghost use Rattle.msvc_read.specs.Parser.{ellipsis_types, Eats, MayEat, ReadsAs, Stays, frame_of, parameters_stop};
+ghost use Rattle.msvc_read.specs.Parser.{state_of, types_at};
+ghost use Rattle.msvc_read.specs.Reads.{read_name, with_value};
 ghost use Rattle.msvc_read.specs.Rules.{function_parameters, parameter, parameters};
-ghost use Rattle.msvc_read.specs.State.{remember_type, span_of};
+ghost use Rattle.msvc_read.specs.Stack.{here, outer};
+ghost use Rattle.msvc_tree.specs.declared.kinds.BaseType.TheVariants as base_kind;
 
-use crate::parser::{BackReference, Entry, Parser};
-use crate::refusal::{Message, Refusal};
+use crate::parser::Parser;
+use crate::refusal::{Message, Refusal, Refused};
 use bitflags::Flags;
 use msvc_tree::flags::StorageClass;
-use msvc_tree::made::{made_as, push_item, push_made};
-use msvc_tree::tree::{Params, Type};
-use std::alloc::AllocError;
+use msvc_tree::kinds::{BaseType, PlainType};
+use msvc_tree::list::List;
+use msvc_tree::nodes::Type;
+use msvc_tree::same::is_same_type;
 
-impl<'a> Parser<'a> {
+/// Whether a list of parameters ends with an ellipsis.
+#[derive(Clone, Copy)]
+pub enum Ellipsis {
+    Absent,
+    Present,
+}
+
+impl<'a, 'b> Parser<'a, 'b> {
     /// `FUNCTION_PARAMETERS = ("X" | PARAMETERS) "Z"`: an `X` is one void.
     #[cycle(readers)]
-    #[tactic(auto, using(crate::proofs::Readers::parameters_closed))]
-    pub fn function_parameters(&mut self) -> Result<Params<'a>, Refusal>
-        ensures value { Gives (λ p. (map type_of p.types.items, self.new.rest.now, state_of self.new)) result
-            (read_name function_parameters self.old.rest.now (state_of self.old)) }
-        ensures shorter { IfOk result (λ _. length self.new.rest.now < length self.old.rest.now) }
+    #[tactic(auto, using(crate::proofs::FunctionSteps::function_parameters_step))]
+    pub fn function_parameters(&mut self) -> Result<List<'b, &'b Type<'a, 'b>>, Refused>
+        ensures value { ReadsAs types_at self.old self.new result (read_name function_parameters) }
+        ensures eats { Eats self.old self.new result }
     {
-        if let Some(behind) = self.after(b"X") {
-            self.rest = behind;
+        if self.eat(b"X") {
             self.expected(b"Z", Message::ZExpected)?;
-            return Ok(self.no_parameters()?);
+            return self.no_parameters();
         }
         let parameters = self.parameters()?;
         self.expected(b"Z", Message::ZExpected)?;
@@ -41,139 +46,125 @@ impl<'a> Parser<'a> {
     }
 
     /// One void.
-    #[tactic(auto, unfolding(msvc_tree::specs::View::type_of))]
-    fn no_parameters(&self) -> Result<Params<'a>, AllocError>
-        ensures { IfOk result (λ p. map type_of p.types.items ≡ base base_kind.Void 0 ∷ []) }
+    #[tactic(auto, unfolding(msvc_tree::specs::NodeView::type_of))]
+    fn no_parameters(&mut self) -> Result<List<'b, &'b Type<'a, 'b>>, Refused>
+        ensures value { ReadsAs types_at self.old self.new result (with_value (Some (base base_kind.Void 0 ∷ []))) }
+        ensures stays { Stays self.old self.new result }
     {
-        let mut types = Vec::new(self.alloc);
-        push_item(&mut types, Type::Void(StorageClass::empty()))?;
-        Ok(Params { types })
+        let mark = self.listed_types.begin();
+        let void = self.put_type(Type::Base(BaseType::Void, StorageClass::empty()))?;
+        self.list_type(void)?;
+        self.listed_types(mark, Ellipsis::Absent)
     }
 
     /// `PARAMETERS = {PARAMETER} ("@" | "Z" | end)`: a `Z` adds an ellipsis.
     #[cycle(readers)]
     #[tactic(auto, using(crate::proofs::RowSteps::parameters_go_on))]
     #[inline(always)]
-    pub fn parameters(&mut self) -> Result<Params<'a>, Refusal>
-        ensures value { Gives (λ p. (map type_of p.types.items, self.new.rest.now, state_of self.new)) result
-            (read_name parameters self.old.rest.now (state_of self.old)) }
-        ensures shorter { IfOk result (λ _. length self.new.rest.now ≤ length self.old.rest.now) }
+    pub fn parameters(&mut self) -> Result<List<'b, &'b Type<'a, 'b>>, Refused>
+        ensures value { ReadsAs types_at self.old self.new result (read_name parameters) }
+        ensures eats { MayEat self.old self.new result }
     {
-        let mut types = Vec::new(self.alloc);
+        let mark = self.listed_types.begin();
         'parameters: loop {
-            if let Some((variadic, behind)) = parameters_stop(self.rest) {
-                self.rest = behind;
-                return Ok(with_ellipsis(types, variadic)?);
+            if let Some((ellipsis, rest)) = parameters_stop(self.rest) {
+                self.rest = rest;
+                return self.listed_types(mark, ellipsis);
             }
-            let made = self.parameter();
-            push_made(&mut types, made)?;
+            let parameter = self.parameter()?;
+            self.list_type(parameter)?;
         }
     }
 
-    /// `PARAMETER = digit | TYPE`: a digit stands for an entry of the table of types, which a type enters if more than
-    /// one byte is read for it.
+    /// `PARAMETER = digit | TYPE`.
     #[cycle(readers)]
     #[tactic(auto, using(crate::proofs::FunctionSteps::parameter_is))]
     #[inline(always)]
-    fn parameter(&mut self) -> Result<Type<'a>, Refusal>
-        ensures value { Gives (λ t. (type_of t, self.new.rest.now, state_of self.new)) result
-            (read_name parameter self.old.rest.now (state_of self.old)) }
-        ensures shorter { IfOk result (λ _. length self.new.rest.now < length self.old.rest.now) }
+    fn parameter(&mut self) -> Result<&'b Type<'a, 'b>, Refused>
+        ensures value { ReadsAs type_at self.old self.new result (read_name parameter) }
+        ensures eats { Eats self.old self.new result }
     {
-        let left = self.rest;
-        if let Some(index) = self.digit() {
-            return self.noted_entry(index, left);
+        let begun = self.rest;
+        if let Some(digit) = self.digit() {
+            return self.parameter_of_digit(digit, begun);
         }
-        let parameter = self.any_type(StorageClass::empty());
-        let entered: Result<(), Refusal> = match &parameter {
-            Ok(parameter) if is_long(left, self.rest) => {
-                made_as(self.remember_type(parameter, left))
-            }
-            _ => Ok(()),
-        };
-        entered.and(parameter)
+        let parameter = self.any_type(StorageClass::empty())?;
+        if is_long(begun, self.rest) {
+            return self.memorize_type(parameter, begun);
+        }
+        Ok(parameter)
     }
 
-    /// The entry of the table of types that a digit stands for. The digit, with which `left` begins, is noted.
-    #[inline(always)]
-    fn noted_entry(&mut self, index: u8, left: &[u8]) -> Result<Type<'a>, Refusal>
-        ensures value { Gives (λ t. (type_of t, self.new.rest.now, state_of self.new)) result
-            (type_noted (slice_get (map entry_of self.old.types.items) index) left.now self.old.rest.now
-            (state_of self.old)) }
-        ensures rest { self.new.rest.now ≡ self.old.rest.now }
+    /// Puts a type after those that are being read.
+    fn list_type(&mut self, parameter: &'b Type<'a, 'b>) -> Result<(), Refused>
+        ensures rest { IfOk result (λ _. self.new.rest.now ≡ self.old.rest.now) }
+        ensures state { IfOk result (λ _. state_of self.new ≡ state_of self.old) }
+        ensures kept { IfOk result (λ _. frame_of self.new
+            ≡ record (frame_of self.old) { listed_types = here self.old.listed_types ++ parameter.entry ∷ [] }) }
+        ensures why { IfErr result (λ _. self.new.why ≡ Refusal.Memory) }
     {
-        let Some(entry) = self.types.get(usize::from(index)) else {
-            return Err(self.refuse(Message::InvalidBackReference(index)));
-        };
-        let note = BackReference {
-            at: self.place_of(left),
-            start: entry.start,
-            end: entry.end,
-        };
-        let entered = made_as(entry.entered.clone(self.alloc));
-        let noted: Result<(), Refusal> = made_as(self.notes.push(note));
-        noted.and(entered)
-    }
-
-    /// Enters the type of the bytes from `left` up to those left into the table, if there is room and no equal type.
-    #[inline(always)]
-    fn remember_type(&mut self, entered: &Type<'a>, left: &[u8]) -> Result<(), AllocError>
-        ensures value { IfOk result (λ _. state_of self.new
-            ≡ remember_type (span_of (type_of entered.now) left.now self.old.rest.now (state_of self.old))
-            (state_of self.old)) }
-        ensures rest { self.new.rest.now ≡ self.old.rest.now }
-    {
-        if self.types.len() < self.room && !is_known(&self.types, entered) {
-            let start = self.place_of(left);
-            let entry = entry(entered.clone(self.alloc), start, self.place_of(self.rest));
-            return push_made(&mut self.types, entry);
+        if self.listed_types.push(parameter).is_err() {
+            return Err(self.no_memory());
         }
         Ok(())
     }
+
+    /// The types that were read, in the arena, and an ellipsis after them if there is one.
+    fn listed_types(
+        &mut self,
+        mark: usize,
+        ellipsis: Ellipsis,
+    ) -> Result<List<'b, &'b Type<'a, 'b>>, Refused>
+        requires { mark ≤ length (outer self.old.listed_types) }
+        ensures value { ReadsAs types_at self.old self.new result
+            (λ left s. with_value (Some (map type_at (here self.old.listed_types) ++ ellipsis_types ellipsis)) left s) }
+        ensures rest { IfOk result (λ _. self.new.rest.now ≡ self.old.rest.now) }
+        ensures kept { IfOk result (λ _. frame_of self.new ≡ record (frame_of self.old) {
+          listed_types = drop mark (outer self.old.listed_types);
+          types_before = take mark (outer self.old.listed_types);
+        }) }
+    {
+        self.list_ellipsis(ellipsis)?;
+        match self.listed_types.end_in(self.arena, mark) {
+            Some(types) => Ok(types),
+            None => Err(self.no_memory()),
+        }
+    }
+
+    /// Puts an ellipsis after the types that are being read, if there is one.
+    #[tactic(auto, using(crate::proofs::Nodes::map_last), unfolding(msvc_tree::specs::NodeView::type_of))]
+    fn list_ellipsis(&mut self, ellipsis: Ellipsis) -> Result<(), Refused>
+        ensures rest { IfOk result (λ _. self.new.rest.now ≡ self.old.rest.now) }
+        ensures state { IfOk result (λ _. state_of self.new ≡ state_of self.old) }
+        ensures seen { IfOk result (λ _. map type_at (here self.new.listed_types)
+            ≡ map type_at (here self.old.listed_types) ++ ellipsis_types ellipsis) }
+        ensures kept { IfOk result (λ _. frame_of self.new
+            ≡ record (frame_of self.old) { listed_types = here self.new.listed_types }) }
+        ensures why { IfErr result (λ _. self.new.why ≡ Refusal.Memory) }
+    {
+        match ellipsis {
+            Ellipsis::Absent => Ok(()),
+            Ellipsis::Present => {
+                let dots = self.put_type(Type::Plain(PlainType::Variadic))?;
+                self.list_type(dots)
+            }
+        }
+    }
 }
 
-/// An entry of a type, if it was made.
-#[inline(always)]
-fn entry<'a>(
-    made: Result<Type<'a>, AllocError>,
-    start: usize,
-    end: usize,
-) -> Result<Entry<'a>, AllocError>
-    ensures { IfOk result (λ e. (made.entry ≡ Ok e.entered) × (e.start ≡ start) × (e.end ≡ end)) }
-{
-    Ok(Entry {
-        entered: made?,
-        start,
-        end,
-    })
-}
-
-/// Where parameters stop: whether at a `Z`, and what is behind.
+/// Where parameters stop: whether an ellipsis is the last, and what follows.
 #[tactic(auto, unfolding(crate::specs::Parser::parameters_stop))]
 #[inline(always)]
-fn parameters_stop<'a>(left: &'a [u8]) -> Option<(bool, &'a [u8])>
+fn parameters_stop<'a>(left: &'a [u8]) -> Option<(Ellipsis, &'a [u8])>
     ensures value { option_map (λ stop. (stop.0, stop.1.now)) result ≡ parameters_stop left.now }
     ensures shorter { IfSome result (λ stop. length stop.1.now ≤ length left.now) }
 {
     match left {
-        [] => Some((false, left)),
-        [b'@', behind @ ..] => Some((false, behind)),
-        [b'Z', behind @ ..] => Some((true, behind)),
+        [] => Some((Ellipsis::Absent, left)),
+        [b'@', rest @ ..] => Some((Ellipsis::Absent, rest)),
+        [b'Z', rest @ ..] => Some((Ellipsis::Present, rest)),
         _ => None,
     }
-}
-
-/// A list of parameters, with an ellipsis behind them if there is one.
-#[tactic(auto, using(crate::proofs::Readers::parameters_end))]
-#[inline(always)]
-fn with_ellipsis<'a>(mut types: Vec<Type<'a>>, variadic: bool) -> Result<Params<'a>, AllocError>
-    ensures { IfOk result (λ p. map type_of p.types.items ≡ map type_of types.entry.items ++ ellipsis variadic) }
-{
-    if !variadic {
-        return Ok(Params { types });
-    }
-    push_item(&mut types, Type::VarArgs)?;
-    Ok(Params { types })
 }
 
 /// Whether more than one byte was read.
@@ -182,17 +173,4 @@ fn is_long(left: &[u8], rest: &[u8]) -> bool
     ensures { result ≡ nat_lt 1 (length left.now - length rest.now) }
 {
     left.len().saturating_sub(rest.len()) > 1
-}
-
-/// Whether a table has an equal type.
-#[inline(always)]
-fn is_known<'a>(types: &[Entry<'a>], entered: &Type<'a>) -> bool
-    ensures { result ≡ list_any (λ known. same_type (type_of entered.now) known.entered) (map entry_of types.now) }
-{
-    for known in types {
-        if known.entered == *entered {
-            return true;
-        }
-    }
-    false
 }

@@ -1,121 +1,121 @@
-//! The bytes left and the tables, and the steps that read a byte or a few.
+//! A text that is being read: the steps that read a byte or a few, that put a node into the arena, and that refuse.
 
-ghost use Rattle.std.specs.Prelude.{◌≡◌, ◌≤◌, ◌<◌, ◌+◌, ◌∷◌, [], Some, length, IfOk, IfSome, MatchOption};
 ghost use Rattle.std.specs.Option.{option_map};
-ghost use Rattle.msvc_read.specs.Grammar.{digits};
-ghost use Rattle.msvc_read.specs.Parser.{Gives, byte_here, optional_letters};
-ghost use Rattle.msvc_read.specs.Reads.{read, letter_here};
+ghost use Rattle.std.specs.Prelude.{◌≡◌, ◌≤◌, ◌<◌, ◌+◌, ◌∷◌, [], Some, length, IfOk, IfErr, IfSome, MatchOption};
+ghost use Rattle.std.specs.Prelude.{IsTrue};
+ghost use Rattle.msvc_tree.specs.NodeView.{name_of, type_of, name_at, type_at};
+ghost use Rattle.msvc_read.specs.Letters.{digits};
+ghost use Rattle.msvc_read.specs.Parser.{Eats, ReadsAs, Stays, byte_here, eaten, frame_of, optional_letters};
+ghost use Rattle.msvc_read.specs.Parser.{state_of};
+ghost use Rattle.msvc_read.specs.Reads.{read, letter_here, with_value};
 ghost use Rattle.msvc_read.specs.Rules.{after, literal, optional};
-ghost use Rattle.msvc_read.specs.State.{place};
+ghost use Rattle.msvc_read.specs.State.{place, beginning};
 
 use crate::letters::{self, OptionalLetters};
-use crate::refusal::{Message, Refusal};
+use crate::memorized::{BackReference, Memorized};
+use crate::refusal::{Message, Refusal, Refused};
+use crate::stack::Stack;
 use bitflags::Flags;
+use bumpalo::Bump;
 use msvc_tree::flags::StorageClass;
-use msvc_tree::tree::{Name, Type};
+use msvc_tree::nodes::{Name, Type};
 use std::alloc::Global;
-use std::mem::replace;
-
-/// How many entries a table has room for.
-pub const TABLE_ROOM: usize = 10;
-
-/// A type of the table, with the places where its bytes start and end.
-#[derive(Drop)]
-pub struct Entry<'a> {
-    pub entered: Type<'a>,
-    pub start: usize,
-    pub end: usize,
-}
-
-/// A digit that was read as a whole parameter. Places are offsets into the text, in bytes.
-#[derive(Clone, Copy, PartialEq, Eq, Debug)]
-pub struct BackReference {
-    /// The place of the digit.
-    pub at: usize,
-    /// Where the bytes start that entered its type into the table.
-    pub start: usize,
-    /// Where these bytes end.
-    pub end: usize,
-}
 
 /// A text that is being read.
 #[derive(Drop)]
-pub struct Parser<'a> {
+pub struct Parser<'a, 'b> {
     pub alloc: Global,
+    /// Where nodes are put.
+    pub arena: &'b Bump,
     /// How many bytes the whole text has.
     pub whole: usize,
-    /// How many entries the table of types has room for.
-    pub room: usize,
     /// The bytes left.
     pub rest: &'a [u8],
-    /// The names that a digit can stand for.
-    pub names: Vec<Name<'a>>,
-    /// The types that a digit can stand for.
-    pub types: Vec<Entry<'a>>,
+    /// What a digit can stand for.
+    pub memorized: Memorized<'a, 'b>,
+    /// The names of a scope that is being read.
+    pub listed_names: Stack<'b, &'b Name<'a, 'b>>,
+    /// The parameters that are being read.
+    pub listed_types: Stack<'b, &'b Type<'a, 'b>>,
     /// The digits that were read as whole parameters.
     pub notes: Vec<BackReference>,
+    /// Why nothing was read, where a reader says so.
+    pub why: Refusal,
 }
 
-/// Tables that are put aside.
-#[derive(Drop)]
-pub struct Tables<'a> {
-    pub names: Vec<Name<'a>>,
-    pub types: Vec<Entry<'a>>,
-}
-
-impl<'a> Parser<'a> {
-    ghost use Rattle.std.specs.Prelude.{map};
-    ghost use Rattle.msvc_tree.specs.View.{name_of};
-    ghost use Rattle.msvc_read.specs.Parser.{entry_of, state_of};
-    ghost use Rattle.msvc_read.specs.Reads.{emptied};
-    ghost use Rattle.msvc_read.specs.State.{beginning_with};
-
-    /// A parser at the beginning of a text, with room for so many types that a digit can stand for.
-    pub fn new(alloc: Global, text: &'a [u8], room: usize) -> Parser<'a>
+impl<'a, 'b> Parser<'a, 'b> {
+    /// A parser at the beginning of a text.
+    pub fn new(alloc: Global, arena: &'b Bump, text: &'a [u8]) -> Parser<'a, 'b>
         ensures rest { result.rest.now ≡ text.now }
-        ensures state { state_of result ≡ beginning_with room text.now }
+        ensures state { state_of result ≡ beginning text.now }
     {
         Parser {
             alloc,
+            arena,
             whole: text.len(),
-            room,
             rest: text,
-            names: Vec::new(alloc),
-            types: Vec::new(alloc),
+            memorized: Memorized::new(arena),
+            listed_names: Stack::new(arena),
+            listed_types: Stack::new(arena),
             notes: Vec::new(alloc),
+            why: Refusal::Memory,
         }
     }
 
-    /// Puts the tables aside: those in their place are empty.
-    pub fn empty_tables(&mut self) -> Tables<'a>
-        ensures state { state_of self.new ≡ emptied (state_of self.old) }
-        ensures rest { self.new.rest.now ≡ self.old.rest.now }
-        ensures names { map name_of result.names.items ≡ map name_of self.old.names.items }
-        ensures types { map entry_of result.types.items ≡ map entry_of self.old.types.items }
+    /// That memory was refused.
+    pub fn no_memory(&mut self) -> Refused
+        ensures why { self.new.why ≡ Refusal.Memory }
     {
-        Tables {
-            names: replace(&mut self.names, Vec::new(self.alloc)),
-            types: replace(&mut self.types, Vec::new(self.alloc)),
+        self.why = Refusal::Memory;
+        Refused
+    }
+
+    /// That no rule reads on where so many bytes are left.
+    pub fn refuse_at(&mut self, message: Message, left: usize) -> Refused
+        ensures why { self.new.why ≡ Refusal.Unread message left }
+    {
+        self.why = Refusal::Unread(message, left);
+        Refused
+    }
+
+    /// A node in the arena.
+    pub fn put<T: Copy>(&mut self, node: T) -> Result<&'b T, Refused>
+        ensures node { IfOk result (λ t. t.now ≡ node) }
+        ensures rest { IfOk result (λ _. self.new.rest.now ≡ self.old.rest.now) }
+        ensures state { IfOk result (λ _. state_of self.new ≡ state_of self.old) }
+        ensures kept { IfOk result (λ _. frame_of self.new ≡ frame_of self.old) }
+        ensures why { IfErr result (λ _. self.new.why ≡ Refusal.Memory) }
+    {
+        match self.arena.try_alloc(node) {
+            Ok(node) => Ok(node),
+            Err(_) => Err(self.no_memory()),
         }
     }
 
-    /// Puts tables back in their place.
-    pub fn put_back(&mut self, outer: Tables<'a>)
-        ensures state { state_of self.new ≡ record (state_of self.old) {
-          names = map name_of outer.entry.names.items;
-          types = map entry_of outer.entry.types.items;
-        } }
-        ensures rest { self.new.rest.now ≡ self.old.rest.now }
+    /// A name in the arena.
+    #[inline(always)]
+    pub fn put_name(&mut self, name: Name<'a, 'b>) -> Result<&'b Name<'a, 'b>, Refused>
+        ensures value { ReadsAs name_at self.old self.new result (with_value (Some (name_of name.entry))) }
+        ensures stays { Stays self.old self.new result }
     {
-        self.names = outer.names;
-        self.types = outer.types;
+        self.put(name)
+    }
+
+    /// A type in the arena.
+    #[inline(always)]
+    pub fn put_type(&mut self, node: Type<'a, 'b>) -> Result<&'b Type<'a, 'b>, Refused>
+        ensures value { ReadsAs type_at self.old self.new result (with_value (Some (type_of node.entry))) }
+        ensures stays { Stays self.old self.new result }
+    {
+        self.put(node)
     }
 
     /// That no rule reads on from here.
-    pub fn refuse(&self, message: Message) -> Refusal
-        ensures { result ≡ Refusal.Unread message (length self.now.rest.now) }
+    pub fn refuse(&mut self, message: Message) -> Refused
+        ensures why { self.new.why ≡ Refusal.Unread message (length self.old.rest.now) }
     {
-        Refusal::Unread(message, self.rest.len())
+        self.why = Refusal::Unread(message, self.rest.len());
+        Refused
     }
 
     /// The place in the text where the bytes left begin with these.
@@ -134,20 +134,20 @@ impl<'a> Parser<'a> {
         ensures shorter { IfSome result (λ b. length self.new.rest.now < length self.old.rest.now) }
         ensures still { MatchOption result (self.new.rest.now ≡ self.old.rest.now) (λ b. Unit {0}) }
         ensures state { state_of self.new ≡ state_of self.old }
+        ensures kept { frame_of self.new ≡ frame_of self.old }
     {
-        let [first, behind @ ..] = self.rest else {
+        let [first, rest @ ..] = self.rest else {
             return None;
         };
-        self.rest = behind;
+        self.rest = rest;
         Some(*first)
     }
 
     /// The next byte.
     #[inline(always)]
-    pub fn byte(&mut self) -> Result<u8, Refusal>
-        ensures value { Gives (λ b. (b, self.new.rest.now, state_of self.new)) result
-            (byte_here self.old.rest.now (state_of self.old)) }
-        ensures shorter { IfOk result (λ b. length self.new.rest.now < length self.old.rest.now) }
+    pub fn byte(&mut self) -> Result<u8, Refused>
+        ensures value { ReadsAs (λ b. b) self.old self.new result byte_here }
+        ensures eats { Eats self.old self.new result }
     {
         match self.next_byte() {
             Some(byte) => Ok(byte),
@@ -163,30 +163,49 @@ impl<'a> Parser<'a> {
         ensures shorter { IfSome result (λ d. length self.new.rest.now < length self.old.rest.now) }
         ensures still { MatchOption result (self.new.rest.now ≡ self.old.rest.now) (λ d. Unit {0}) }
         ensures state { state_of self.new ≡ state_of self.old }
+        ensures kept { frame_of self.new ≡ frame_of self.old }
     {
-        if let [first, behind @ ..] = self.rest {
+        if let [first, rest @ ..] = self.rest {
             if let Some(digit) = letters::digit(*first) {
-                self.rest = behind;
+                self.rest = rest;
                 return Some(digit);
             }
         }
         None
     }
 
-    /// What follows a literal, if the bytes left begin with it. The first byte is looked at here, in the caller's own
-    /// code: most literals have one byte, and most tests fail at it.
+    /// Eats a literal, if the bytes left begin with it, and says whether they do. The first byte is looked at here, in
+    /// the caller's own code: most literals have one byte, and most tests fail at it.
     #[inline(always)]
-    pub fn after(&self, literal: &[u8]) -> Option<&'a [u8]>
-        ensures value { option_map (λ behind. behind.now) result ≡ after literal.now self.now.rest.now }
-        ensures shorter { IfSome result (λ behind. length literal.now + length behind.now ≡ length self.now.rest.now) }
+    pub fn eat(&mut self, literal: &[u8]) -> bool
+        ensures value { eaten result self.new.rest.now ≡ after literal.now self.old.rest.now }
+        ensures shorter { IsTrue result → length literal.now + length self.new.rest.now ≡ length self.old.rest.now }
+        ensures still { (IsTrue result → ⊥) → self.new.rest.now ≡ self.old.rest.now }
+        ensures state { state_of self.new ≡ state_of self.old }
+        ensures kept { frame_of self.new ≡ frame_of self.old }
+    {
+        match self.rest_after(literal) {
+            Some(rest) => {
+                self.rest = rest;
+                true
+            }
+            None => false,
+        }
+    }
+
+    /// What follows a literal, if the bytes left begin with it.
+    #[inline(always)]
+    fn rest_after(&self, literal: &[u8]) -> Option<&'a [u8]>
+        ensures value { option_map (λ rest. rest.now) result ≡ after literal.now self.now.rest.now }
+        ensures shorter { IfSome result (λ rest. length literal.now + length rest.now ≡ length self.now.rest.now) }
     {
         let [expected, others @ ..] = literal else {
             return Some(self.rest);
         };
         match self.rest {
-            [first, behind @ ..] if *first == *expected => match others {
-                [] => Some(behind),
-                [_, ..] => bytes_after(behind, others),
+            [first, rest @ ..] if *first == *expected => match others {
+                [] => Some(rest),
+                [_, ..] => bytes_after(rest, others),
             },
             [_, ..] => None,
             [] => None,
@@ -195,15 +214,14 @@ impl<'a> Parser<'a> {
 
     /// A text that has to stand here.
     #[tactic(auto, unfolding(crate::specs::Reads::read, crate::specs::Reads::read_by))]
-    pub fn expected(&mut self, text: &[u8], message: Message) -> Result<(), Refusal>
-        ensures value { Gives (λ _. (tt, self.new.rest.now, state_of self.new)) result
-            (read (literal text.now) self.old.rest.now (state_of self.old)) }
+    pub fn expected(&mut self, text: &[u8], message: Message) -> Result<(), Refused>
+        ensures value { ReadsAs (λ _. tt) self.old self.new result (read (literal text.now)) }
         ensures shorter { IfOk result (λ _. length text.now + length self.new.rest.now ≡ length self.old.rest.now) }
+        ensures kept { IfOk result (λ _. frame_of self.new ≡ frame_of self.old) }
     {
-        let Some(behind) = self.after(text) else {
+        if !self.eat(text) {
             return Err(self.refuse(message));
-        };
-        self.rest = behind;
+        }
         Ok(())
     }
 
@@ -213,6 +231,7 @@ impl<'a> Parser<'a> {
         ensures value { read (optional (optional_letters letters)) self.old.rest.now (state_of self.old)
             ≡ Some (result.0, self.new.rest.now, state_of self.new) }
         ensures shorter { length self.new.rest.now ≤ length self.old.rest.now }
+        ensures kept { frame_of self.new ≡ frame_of self.old }
     {
         if let [first, rest @ ..] = self.rest {
             if let Some(bits) = letters::optional_letter(letters, *first) {
@@ -229,6 +248,7 @@ impl<'a> Parser<'a> {
         ensures value { read (optional ((letter, bits.0) ∷ [])) self.old.rest.now (state_of self.old)
             ≡ Some (result.0, self.new.rest.now, state_of self.new) }
         ensures shorter { length self.new.rest.now ≤ length self.old.rest.now }
+        ensures kept { frame_of self.new ≡ frame_of self.old }
     {
         match self.rest {
             [first, rest @ ..] if *first == letter => {
@@ -242,14 +262,14 @@ impl<'a> Parser<'a> {
 
 /// What follows a literal, if the bytes begin with it.
 fn bytes_after<'a>(bytes: &'a [u8], literal: &[u8]) -> Option<&'a [u8]>
-    ensures value { option_map (λ behind. behind.now) result ≡ after literal.now bytes.now }
-    ensures shorter { IfSome result (λ behind. length literal.now + length behind.now ≡ length bytes.now) }
+    ensures value { option_map (λ rest. rest.now) result ≡ after literal.now bytes.now }
+    ensures shorter { IfSome result (λ rest. length literal.now + length rest.now ≡ length bytes.now) }
 {
     let [expected, others @ ..] = literal else {
         return Some(bytes);
     };
     match bytes {
-        [first, behind @ ..] if *first == *expected => bytes_after(behind, others),
+        [first, rest @ ..] if *first == *expected => bytes_after(rest, others),
         [_, ..] => None,
         [] => None,
     }

@@ -1,25 +1,41 @@
 //! The reading of a whole text.
 
-ghost use Rattle.std.specs.Prelude.{◌≡◌, codes, ℕ, List, length, IfOk, IfErr, None, Err};
+ghost use Rattle.std.specs.Option.{option_map};
+ghost use Rattle.std.specs.Prelude.{◌≡◌, codes, ℕ, List, length, map, IfOk, IfErr, None, Err};
 ghost use Rattle.std.specs.Str.{IsCharBoundary, IsUtf8};
 ghost use Rattle.msvc_tree.specs.EachName.{EachName};
+ghost use Rattle.msvc_tree.specs.NodeView.{whole_of};
 ghost use Rattle.msvc_tree.specs.Trees.{SymbolTree};
 ghost use Rattle.msvc_tree.specs.View.{tree_of};
 ghost use Rattle.msvc_read.specs.Hashes.{HashesStand};
-ghost use Rattle.msvc_read.specs.Parser.{Gives, with_length};
+ghost use Rattle.msvc_read.specs.Parser.{IsRead, note_of, with_length, Refuses};
 ghost use Rattle.msvc_read.specs.Parts.{NamesAreParts};
 ghost use Rattle.msvc_read.specs.Prefix.{IsReadTo};
 ghost use Rattle.msvc_read.specs.Reads.{Derives, read_name};
 ghost use Rattle.msvc_read.specs.Refusals.{IsRefusedRightly, IsRefusalAt, begins_with};
 ghost use Rattle.msvc_read.specs.Rules.{after, symbol};
-ghost use Rattle.msvc_read.specs.State.{Note, beginning, beginning_with};
-ghost use Rattle.msvc_read.specs.Written.{DigitsCanBeWrittenOut};
+ghost use Rattle.msvc_read.specs.State.{Note, beginning};
+ghost use Rattle.msvc_read.specs.Written.{AreRising, CanBeWrittenOut, DigitsCanBeWrittenOut};
 
-use crate::parser::{Parser, TABLE_ROOM};
+use crate::memorized::BackReference;
+use crate::parser::Parser;
 use crate::refusal::{Message, Refusal};
+use bumpalo::Bump;
 use msvc_tree::error::Error;
+use msvc_tree::nodes::Whole;
+use msvc_tree::owned::owned_whole;
 use msvc_tree::tree::ParseResult;
 use std::alloc::Global;
+
+/// How many bytes of the arena a byte of a symbol takes at most: for a node, and its places in a list and in a table
+/// that have grown by doubling.
+const ROOM_OF_A_BYTE: usize = 96;
+
+/// How many bytes the lists and tables of a parser take at first.
+const ROOM_AT_FIRST: usize = 1024;
+
+/// How many bytes an arena begins with at most.
+const MOST_ROOM: usize = 1 << 20;
 
 /// The tree of the symbol that `input` begins with. Its names are parts of `input`, which it borrows; bytes after a
 /// finished symbol stay unread.
@@ -70,37 +86,95 @@ pub fn parse_prefix<'a>(alloc: Global, input: &'a str) -> Result<(ParseResult<'a
     }
 }
 
-/// The symbol at the beginning of a text, and how many bytes of it were read. It is read without the table of types
-/// first, since few symbols have a digit that stands for a type, and the table has a copy of each type. What is read so
-/// is the same with the table; where nothing is, the text is read again.
-#[inline(always)]
+/// The digits of the symbol that `input` begins with which were read as whole parameters, rising by place. With the
+/// bytes of one in place of its digit, the text has the same tree and leaves the same bytes unread.
+///
+/// It refuses where [`parse`] does, with the same refusal.
+pub fn back_references(alloc: Global, input: &str) -> Result<Vec<BackReference>, Error>
+    ensures listed { IfOk result (λ found. (tree : SymbolTree) × (rest : List ℕ)
+        × Derives input.now tree rest (map note_of found.items)
+        × ((other : SymbolTree) (behind : List ℕ) (others : List Note) → Derives input.now other behind others
+        → (other ≡ tree) × (behind ≡ rest) × (others ≡ map note_of found.items))) }
+    ensures rising { IfOk result (λ found. AreRising (map note_of found.items)) }
+    ensures written_out { IfOk result (λ found. (tree : SymbolTree) (rest : List ℕ) (notes : List Note)
+        → Derives input.now tree rest notes → CanBeWrittenOut input.now tree rest (map note_of found.items)) }
+    ensures refused { IfErr result (λ e. IsRefusedRightly input.now e) }
+    ensures begins { (begins_with (codes "?") input.now → ⊥) → IfErr result (λ e. IsRefusalAt input.now 0 e) }
+    ensures begins_ok { IfOk result (λ found. begins_with (codes "?") input.now) }
+{
+    match notes(alloc, input) {
+        Ok(notes) => Ok(notes),
+        Err(refusal) => Err(refusal.error(alloc, input.as_bytes())),
+    }
+}
+
+/// An arena for the nodes of a text's symbol, where the text begins as one. Its first chunk has room for all of them,
+/// so one request for memory is made and not several; of a long text, the rest is asked for as it is read.
+#[tactic(auto, using(crate::proofs::SymbolSteps::symbol_step))]
+fn arena_for(alloc: Global, input: &str) -> Result<Bump, Refusal>
+    ensures value { IfErr result (λ e. Refuses e (read_name symbol input.now (beginning input.now))) }
+    ensures start { after (codes "?") input.now ≡ None
+        → result ≡ Err (Refusal.Unread Message.NoQuestionMark (length input.now)) }
+{
+    let [b'?', ..] = input.as_bytes() else {
+        return Err(Refusal::Unread(Message::NoQuestionMark, input.len()));
+    };
+    let room = input
+        .len()
+        .saturating_mul(ROOM_OF_A_BYTE)
+        .saturating_add(ROOM_AT_FIRST)
+        .min(MOST_ROOM);
+    match Bump::try_with_capacity(alloc, room) {
+        Ok(arena) => Ok(arena),
+        Err(_) => Err(Refusal::Memory),
+    }
+}
+
+/// The tree of the symbol at the beginning of a text, and how many bytes of the text were read.
 fn read<'a>(alloc: Global, input: &'a str) -> Result<(ParseResult<'a>, usize), Refusal>
-    ensures value { Gives (λ r. (tree_of r.0, r.1)) result
+    ensures value { IsRead (λ r. (tree_of r.0, r.1)) result
         (with_length input.now (read_name symbol input.now (beginning input.now))) }
     ensures start { after (codes "?") input.now ≡ None
         → result ≡ Err (Refusal.Unread Message.NoQuestionMark (length input.now)) }
 {
-    match read_with(alloc, input, 0) {
-        Ok(symbol) => Ok(symbol),
-        Err(Refusal::Memory) => Err(Refusal::Memory),
-        Err(Refusal::Unread(_, _)) => read_with(alloc, input, TABLE_ROOM),
+    let arena = arena_for(alloc, input)?;
+    let (symbol, bytes) = read_nodes(alloc, &arena, input)?;
+    match owned_whole(alloc, &symbol) {
+        Ok(tree) => Ok((tree, bytes)),
+        Err(_) => Err(Refusal::Memory),
     }
 }
 
-/// The symbol at the beginning of a text, and how many bytes of it were read, where the table has room for so many
-/// types.
+/// The symbol at the beginning of a text as nodes of the arena, and how many bytes of the text were read.
 #[inline(always)]
-fn read_with<'a>(
+fn read_nodes<'a, 'b>(
     alloc: Global,
+    arena: &'b Bump,
     input: &'a str,
-    room: usize,
-) -> Result<(ParseResult<'a>, usize), Refusal>
-    ensures value { Gives (λ r. (tree_of r.0, r.1)) result
-        (with_length input.now (read_name symbol input.now (beginning_with room input.now))) }
+) -> Result<(Whole<'a, 'b>, usize), Refusal>
+    ensures value { IsRead (λ r. (whole_of r.0, r.1)) result
+        (with_length input.now (read_name symbol input.now (beginning input.now))) }
     ensures start { after (codes "?") input.now ≡ None
         → result ≡ Err (Refusal.Unread Message.NoQuestionMark (length input.now)) }
 {
-    let mut parser = Parser::new(alloc, input.as_bytes(), room);
-    let symbol = parser.symbol()?;
-    Ok((symbol, input.len().saturating_sub(parser.rest.len())))
+    let mut parser = Parser::new(alloc, arena, input.as_bytes());
+    match parser.symbol() {
+        Ok(symbol) => Ok((symbol, input.len().saturating_sub(parser.rest.len()))),
+        Err(_) => Err(parser.why),
+    }
+}
+
+/// The notes that were taken while the symbol at the beginning of a text was read.
+fn notes(alloc: Global, input: &str) -> Result<Vec<BackReference>, Refusal>
+    ensures value { IsRead (λ found. map note_of found.items) result
+        (option_map (λ r. r.2.notes) (read_name symbol input.now (beginning input.now))) }
+    ensures start { after (codes "?") input.now ≡ None
+        → result ≡ Err (Refusal.Unread Message.NoQuestionMark (length input.now)) }
+{
+    let arena = arena_for(alloc, input)?;
+    let mut parser = Parser::new(alloc, &arena, input.as_bytes());
+    match parser.symbol() {
+        Ok(_) => Ok(parser.notes),
+        Err(_) => Err(parser.why),
+    }
 }

@@ -1,11 +1,9 @@
 //! Why nothing was read. A refusal is a few numbers until it leaves the reader: no text is made on the way.
 
-ghost use Rattle.std.specs.Prelude.{◌≡◌, ◌-◌, length};
 ghost use Rattle.msvc_read.specs.Refusals.{IsErrorOf};
-ghost use Rattle.msvc_read.specs.declared.refusal.Refusal.TheVariants.{Memory};
 
 use msvc_tree::error::{Error, parse_error};
-use std::alloc::{AllocError, AllocFailed, Global};
+use std::alloc::{AllocError, Global};
 use std::borrow::CowStr;
 
 /// What no rule of the grammar could read.
@@ -27,7 +25,7 @@ pub enum Message {
     QuestionMarkExpected,
     AExpected,
     BExpected,
-    /// `4HA`, behind the name of a thread-safe guard.
+    /// `4HA`, after the name of a thread-safe guard.
     GuardTypeExpected,
     MissingDigit,
     GuardNumberTooLarge,
@@ -111,18 +109,6 @@ impl Refusal {
     }
 }
 
-impl From<AllocError> for Refusal {
-    ghost from_gives = { λ _ e. e ≡ Memory };
-
-    fn from(_e: AllocError) -> Refusal {
-        Refusal::Memory
-    }
-}
-
-impl<T: Drop> From<AllocFailed<T>> for Refusal {
-    ghost from_gives = { λ _ e. e ≡ Memory };
-
-    fn from(_e: AllocFailed<T>) -> Refusal {
-        Refusal::Memory
-    }
-}
+/// That nothing was read. Why, and where, stands in the parser.
+#[derive(Clone, Copy, Debug)]
+pub struct Refused;

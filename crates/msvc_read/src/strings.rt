@@ -1,39 +1,46 @@
 //! Strings that are constants: the first characters of one are written out, each as a byte.
 
-ghost use Rattle.std.specs.Prelude.{◌≡◌, ◌<◌, ◌≤◌, length, IfOk};
-ghost use Rattle.msvc_tree.specs.View.{type_of};
-ghost use Rattle.msvc_read.specs.Grammar.{character_sizes, escaped_character, halves, hexadecimal, string_length};
-ghost use Rattle.msvc_read.specs.Parser.{Gives, state_of};
+ghost use Rattle.std.specs.Prelude.{◌≡◌, ◌<◌, length, IfOk};
+ghost use Rattle.msvc_tree.specs.NodeView.{type_at};
+ghost use Rattle.msvc_read.specs.Grammar.{escaped_character, halves, string_length};
+ghost use Rattle.msvc_read.specs.Letters.{character_sizes, hexadecimal};
+ghost use Rattle.msvc_read.specs.Parser.{Eats, MayEat, ReadsAs};
 ghost use Rattle.msvc_read.specs.Reads.{letter_here, read, read_name};
 ghost use Rattle.msvc_read.specs.Rules.{character, characters, encoding_behind};
 ghost use Rattle.msvc_read.specs.Sorts.{encoded_string};
 
 use crate::letters;
 use crate::parser::Parser;
-use crate::refusal::{Message, Refusal};
-use msvc_tree::tree::Type;
+use crate::refusal::{Message, Refused};
+use bumpalo::Bump;
+use bumpalo::collections::into_bump_slice;
+use msvc_tree::nodes::Type;
 
-impl<'a> Parser<'a> {
+/// What the halves of a byte count to.
+const BASE: u8 = 16;
+
+/// How many characters of one byte a symbol has of a string at most.
+const MOST_CHARACTERS: u32 = 32;
+
+impl<'a, 'b> Parser<'a, 'b> {
     /// `ENCODED_STRING = character size NUMBER NUMBER CHARACTERS`: the second number is dropped.
-    #[tactic(auto, using(crate::proofs::Readers::string_split), unfolding(msvc_tree::specs::View::type_of))]
-    pub fn encoded_string(&mut self) -> Result<Type<'a>, Refusal>
-        ensures value { Gives (λ t. (type_of t, self.new.rest.now, state_of self.new)) result
-            (read_name (encoding_behind encoded_string) self.old.rest.now (state_of self.old)) }
-        ensures shorter { IfOk result (λ _. length self.new.rest.now ≤ length self.old.rest.now) }
+    #[tactic(auto, using(crate::proofs::StringSteps::encoded_string_step), unfolding(msvc_tree::specs::NodeView::type_of))]
+    pub fn encoded_string(&mut self) -> Result<&'b Type<'a, 'b>, Refused>
+        ensures value { ReadsAs type_at self.old self.new result (read_name (encoding_behind encoded_string)) }
+        ensures eats { MayEat self.old self.new result }
     {
         let size = self.character_size()?;
         let length = self.number()?;
         self.number()?;
         let text = self.characters(string_length(size, length))?;
-        Ok(Type::ConstantString(text))
+        self.put_type(Type::ConstantString(into_bump_slice(text)))
     }
 
     /// How many bytes a character has.
     #[tactic(auto, using(crate::proofs::Choices::letter_is))]
-    fn character_size(&mut self) -> Result<u8, Refusal>
-        ensures value { Gives (λ n. (n, self.new.rest.now, state_of self.new)) result
-            (letter_here character_sizes self.old.rest.now (state_of self.old)) }
-        ensures shorter { IfOk result (λ _. length self.new.rest.now < length self.old.rest.now) }
+    fn character_size(&mut self) -> Result<u8, Refused>
+        ensures value { ReadsAs (λ n. n) self.old self.new result (letter_here character_sizes) }
+        ensures eats { Eats self.old self.new result }
     {
         let letter = self.byte()?;
         match letters::character_size(letter) {
@@ -44,24 +51,25 @@ impl<'a> Parser<'a> {
 
     /// As many characters.
     #[tactic(auto, using(crate::proofs::StringSteps::characters_go_on))]
-    fn characters(&mut self, count: u32) -> Result<Vec<u8>, Refusal>
-        ensures value { Gives (λ v. (v.items, self.new.rest.now, state_of self.new)) result
-            (read_name (characters count) self.old.rest.now (state_of self.old)) }
-        ensures shorter { IfOk result (λ _. length self.new.rest.now ≤ length self.old.rest.now) }
+    fn characters(&mut self, count: u32) -> Result<Vec<u8, &'b Bump>, Refused>
+        ensures value { ReadsAs (λ v. v.items) self.old self.new result (read_name (characters count)) }
+        ensures eats { MayEat self.old self.new result }
     {
-        let mut text = Vec::new(self.alloc);
+        let mut text = Vec::new(self.arena);
         for _ in 0..count {
-            text.push(self.character()?)?;
+            let character = self.character()?;
+            if text.push(character).is_err() {
+                return Err(self.no_memory());
+            }
         }
         Ok(text)
     }
 
     /// `CHARACTER = plain character | "?" ESCAPED_CHARACTER`.
     #[tactic(auto, using(crate::proofs::StringSteps::character_is))]
-    fn character(&mut self) -> Result<u8, Refusal>
-        ensures value { Gives (λ n. (n, self.new.rest.now, state_of self.new)) result
-            (read_name character self.old.rest.now (state_of self.old)) }
-        ensures shorter { IfOk result (λ _. length self.new.rest.now < length self.old.rest.now) }
+    fn character(&mut self) -> Result<u8, Refused>
+        ensures value { ReadsAs (λ n. n) self.old self.new result (read_name character) }
+        ensures eats { Eats self.old self.new result }
     {
         let letter = self.byte()?;
         if letter == b'?' {
@@ -75,10 +83,9 @@ impl<'a> Parser<'a> {
 
     /// `ESCAPED_CHARACTER = escaped character | "$" HALVES`.
     #[tactic(auto, using(crate::proofs::StringSteps::escaped_is))]
-    fn escaped_character(&mut self) -> Result<u8, Refusal>
-        ensures value { Gives (λ n. (n, self.new.rest.now, state_of self.new)) result
-            (read escaped_character self.old.rest.now (state_of self.old)) }
-        ensures shorter { IfOk result (λ _. length self.new.rest.now < length self.old.rest.now) }
+    fn escaped_character(&mut self) -> Result<u8, Refused>
+        ensures value { ReadsAs (λ n. n) self.old self.new result (read escaped_character) }
+        ensures eats { Eats self.old self.new result }
     {
         let letter = self.byte()?;
         if letter == b'$' {
@@ -92,22 +99,20 @@ impl<'a> Parser<'a> {
 
     /// `HALVES = hexadecimal hexadecimal`: the high half of a byte, then the low one.
     #[tactic(auto, using(crate::proofs::StringSteps::halves_is))]
-    fn halves(&mut self) -> Result<u8, Refusal>
-        ensures value { Gives (λ n. (n, self.new.rest.now, state_of self.new)) result
-            (read halves self.old.rest.now (state_of self.old)) }
-        ensures shorter { IfOk result (λ _. length self.new.rest.now < length self.old.rest.now) }
+    fn halves(&mut self) -> Result<u8, Refused>
+        ensures value { ReadsAs (λ n. n) self.old self.new result (read halves) }
+        ensures eats { Eats self.old self.new result }
     {
         let high = self.half()?;
         let low = self.half()?;
-        Ok(high * 16 + low)
+        Ok(high * BASE + low)
     }
 
     /// Half of a byte.
     #[tactic(auto, using(crate::proofs::Choices::letter_is))]
-    fn half(&mut self) -> Result<u8, Refusal>
-        ensures value { Gives (λ n. (n, self.new.rest.now, state_of self.new)) result
-            (letter_here hexadecimal self.old.rest.now (state_of self.old)) }
-        ensures shorter { IfOk result (λ _. length self.new.rest.now < length self.old.rest.now) }
+    fn half(&mut self) -> Result<u8, Refused>
+        ensures value { ReadsAs (λ n. n) self.old self.new result (letter_here hexadecimal) }
+        ensures eats { Eats self.old self.new result }
         ensures low { IfOk result (λ n. n < 16) }
     {
         let letter = self.byte()?;
@@ -125,5 +130,5 @@ fn string_length(size: u8, length: i32) -> u32
     if length < 0 {
         return 0;
     }
-    (length as u32).min(32 * u32::from(size))
+    (length as u32).min(MOST_CHARACTERS * u32::from(size))
 }

@@ -1,108 +1,106 @@
-//! Symbols, and the types behind their names.
+//! Symbols, and the types after their names.
 
-ghost use Rattle.std.specs.Prelude.{◌≡◌, ◌<◌, ◌≤◌, codes, length, None, Err, IfOk};
-ghost use Rattle.msvc_tree.specs.Trees.{no_names, plain};
-ghost use Rattle.msvc_tree.specs.View.{name_of, type_of, tree_of};
-ghost use Rattle.msvc_tree.specs.declared.kinds.PlainType.TheVariants as plain_kind;
+ghost use Rattle.std.specs.Prelude.{◌≡◌, codes, length, map, None, Some, IfOk};
+ghost use Rattle.msvc_tree.specs.NodeView.{name_at, name_of, whole_of, type_at};
+ghost use Rattle.msvc_tree.specs.Trees.{name_trees, no_names, plain, table};
 ghost use Rattle.msvc_read.specs.Grammar.{named_symbol};
-ghost use Rattle.msvc_read.specs.Parser.{Gives, state_of};
-ghost use Rattle.msvc_read.specs.Reads.{read, read_name};
+ghost use Rattle.msvc_read.specs.Parser.{Eats, MayEat, ReadsAs, Stays};
+ghost use Rattle.msvc_read.specs.Reads.{read, read_name, with_value};
 ghost use Rattle.msvc_read.specs.Rules.{after, encoding, encoding_behind, symbol, symbol_body};
-ghost use Rattle.msvc_read.specs.Sorts.{member_of, table_of, variable_of, virtual_call};
+ghost use Rattle.msvc_read.specs.Sorts.{table_of, variable_of, virtual_call};
+ghost use Rattle.msvc_tree.specs.declared.kinds.PlainType.TheVariants as plain_kind;
 
 use crate::letters::{self, OptionalLetters};
 use crate::parser::Parser;
-use crate::refusal::{Message, Refusal};
+use crate::qualified_names::TemplateNames;
+use crate::refusal::{Message, Refusal, Refused};
 use bitflags::Flags;
 use msvc_tree::flags::StorageClass;
-use msvc_tree::kinds::Table;
-use msvc_tree::tree::{Name, NameSequence, ParseResult, Symbol, Type, VarStorageKind};
+use msvc_tree::kinds::{PlainType, Table};
+use msvc_tree::list::List;
+use msvc_tree::nodes::{Name, Scope, Symbol, Type, Whole};
+use msvc_tree::tree::VarStorageKind;
 
-impl<'a> Parser<'a> {
+impl<'a, 'b> Parser<'a, 'b> {
     /// `SYMBOL = "?" SYMBOL_BODY`.
-    #[tactic(auto, using(crate::proofs::Readers::symbol_is))]
-    pub fn symbol(&mut self) -> Result<ParseResult<'a>, Refusal>
-        ensures value { Gives (λ r. (tree_of r, self.new.rest.now, state_of self.new)) result
-            (read_name symbol self.old.rest.now (state_of self.old)) }
+    #[tactic(auto, using(crate::proofs::SymbolSteps::symbol_step))]
+    pub fn symbol(&mut self) -> Result<Whole<'a, 'b>, Refused>
+        ensures value { ReadsAs whole_of self.old self.new result (read_name symbol) }
         ensures start { after (codes "?") self.old.rest.now ≡ None
-            → result ≡ Err (Refusal.Unread Message.NoQuestionMark (length self.old.rest.now)) }
+            → (IfOk result (λ _. ⊥))
+            × (self.new.why ≡ Refusal.Unread Message.NoQuestionMark (length self.old.rest.now)) }
     {
-        let Some(behind) = self.after(b"?") else {
+        if !self.eat(b"?") {
             return Err(self.refuse(Message::NoQuestionMark));
-        };
-        self.rest = behind;
+        }
         self.symbol_body()
     }
 
-    /// `SYMBOL_BODY = "?@" HASHED_SYMBOL | "$TSS" NUMBERED_GUARD | "$" TEMPLATE_NAME | NAMED_SYMBOL`: what follows the
-    /// `?` of a symbol.
+    /// `SYMBOL_BODY = "?@" HASHED_SYMBOL | "$TSS" NUMBERED_GUARD | "$" TEMPLATE_NAME | NAMED_SYMBOL`.
     #[cycle(readers)]
-    #[tactic(auto, using(crate::proofs::Readers::symbol_body_split))]
-    pub fn symbol_body(&mut self) -> Result<ParseResult<'a>, Refusal>
-        ensures value { Gives (λ r. (tree_of r, self.new.rest.now, state_of self.new)) result
-            (read_name symbol_body self.old.rest.now (state_of self.old)) }
-        ensures shorter { IfOk result (λ _. length self.new.rest.now < length self.old.rest.now) }
+    #[tactic(auto, using(crate::proofs::Nodes::symbol_body_split))]
+    pub fn symbol_body(&mut self) -> Result<Whole<'a, 'b>, Refused>
+        ensures value { ReadsAs whole_of self.old self.new result (read_name symbol_body) }
+        ensures eats { Eats self.old self.new result }
     {
-        if let Some(behind) = self.after(b"?@") {
-            self.rest = behind;
+        if self.eat(b"?@") {
             return self.hashed_symbol();
         }
-        if let Some(behind) = self.after(b"$TSS") {
-            self.rest = behind;
+        if self.eat(b"$TSS") {
             return self.numbered_guard();
         }
-        if let Some(behind) = self.after(b"$") {
-            self.rest = behind;
-            let name = self.template_name(true)?;
-            return Ok(self.alone(name));
+        if self.eat(b"$") {
+            let name = self.template_name(TemplateNames::NotMemorized)?;
+            return self.alone(name);
         }
         self.named_symbol()
     }
 
     /// A symbol that is a name and nothing else.
-    #[tactic(auto, using(crate::proofs::Readers::alone_split))]
-    pub fn alone(&self, name: Name<'a>) -> ParseResult<'a>
-        ensures { tree_of result ≡
-            record { name = name_of name.entry; scope = no_names; symbol_type = plain plain_kind.None } }
+    #[tactic(auto, unfolding(msvc_tree::specs::NodeView::type_of))]
+    pub fn alone(&mut self, name: &'b Name<'a, 'b>) -> Result<Whole<'a, 'b>, Refused>
+        ensures value { ReadsAs whole_of self.old self.new result
+            (with_value (Some (record {
+              name = name_of name.now;
+              scope = no_names;
+              symbol_type = plain plain_kind.None;
+            }))) }
+        ensures stays { Stays self.old self.new result }
     {
-        let scope = NameSequence {
-            names: Vec::new(self.alloc),
-        };
-        ParseResult {
+        // The type is written out, since an empty slice tells the prover none.
+        let scope: &[&Name<'a, 'b>] = &[];
+        let symbol_type = self.put_type(Type::Plain(PlainType::None))?;
+        Ok(Whole {
             symbol: Symbol { name, scope },
-            symbol_type: Type::None,
-        }
+            symbol_type,
+        })
     }
 
     /// A name in its scope, the index of a guard, and a type.
     #[cycle(readers)]
-    #[tactic(auto, using(crate::proofs::Readers::symbol_split))]
-    fn named_symbol(&mut self) -> Result<ParseResult<'a>, Refusal>
-        ensures value { Gives (λ r. (tree_of r, self.new.rest.now, state_of self.new)) result
-            (read named_symbol self.old.rest.now (state_of self.old)) }
-        ensures shorter { IfOk result (λ _. length self.new.rest.now < length self.old.rest.now) }
+    #[tactic(auto, using(crate::proofs::Nodes::symbol_split))]
+    fn named_symbol(&mut self) -> Result<Whole<'a, 'b>, Refused>
+        ensures value { ReadsAs whole_of self.old self.new result (read named_symbol) }
+        ensures eats { Eats self.old self.new result }
     {
-        let named = self.qualified_name(true)?;
+        let named = self.qualified_name(TemplateNames::NotMemorized)?;
         let symbol = self.indexed_symbol(named)?;
         let symbol_type = self.encoding()?;
-        Ok(ParseResult {
+        Ok(Whole {
             symbol,
             symbol_type,
         })
     }
 
-    /// `ENCODING = end | letter of encodings, and what its row asks for`: no type at the end of the text, a variable
-    /// behind `0` to `4`, a table behind `6` and `7`, nothing behind `8` and `9`, a string behind `_`, a thunk behind
-    /// `$`, a function behind `Y`, else a member function: `MEMBER_ENCODING = function class MEMBER`.
+    /// `ENCODING = end | letter of encodings, and what its row asks for`.
     #[cycle(readers)]
-    #[tactic(auto, using(crate::proofs::Readers::encoding_split), unfolding(crate::proofs::SymbolSteps::encoding_by))]
-    fn encoding(&mut self) -> Result<Type<'a>, Refusal>
-        ensures value { Gives (λ t. (type_of t, self.new.rest.now, state_of self.new)) result
-            (read_name encoding self.old.rest.now (state_of self.old)) }
-        ensures shorter { IfOk result (λ _. length self.new.rest.now ≤ length self.old.rest.now) }
+    #[tactic(auto, using(crate::proofs::Nodes::encoding_split), unfolding(crate::proofs::SymbolSteps::encoding_by, msvc_tree::specs::NodeView::type_of))]
+    fn encoding(&mut self) -> Result<&'b Type<'a, 'b>, Refused>
+        ensures value { ReadsAs type_at self.old self.new result (read_name encoding) }
+        ensures eats { MayEat self.old self.new result }
     {
         let Some(letter) = self.next_byte() else {
-            return Ok(Type::None);
+            return self.put_type(Type::Plain(PlainType::None));
         };
         match letter {
             b'0' => self.variable(VarStorageKind::PrivateStatic),
@@ -112,8 +110,8 @@ impl<'a> Parser<'a> {
             b'4' => self.variable(VarStorageKind::FunctionLocalStatic),
             b'6' => self.table(Table::Functions),
             b'7' => self.table(Table::Bases),
-            b'8' => Ok(Type::RTTIType),
-            b'9' => Ok(Type::None),
+            b'8' => self.put_type(Type::Plain(PlainType::Rtti)),
+            b'9' => self.put_type(Type::Plain(PlainType::None)),
             b'_' => self.encoded_string(),
             b'$' => self.virtual_call(),
             b'Y' => self.function(),
@@ -126,41 +124,55 @@ impl<'a> Parser<'a> {
 
     /// `VARIABLE = TYPE [storage class]`.
     #[cycle(readers)]
-    #[tactic(auto, using(crate::proofs::Readers::variable_split))]
-    fn variable(&mut self, kind: VarStorageKind) -> Result<Type<'a>, Refusal>
-        ensures value { Gives (λ t. (type_of t, self.new.rest.now, state_of self.new)) result
-            (read_name (encoding_behind (variable_of kind)) self.old.rest.now (state_of self.old)) }
-        ensures shorter { IfOk result (λ _. length self.new.rest.now ≤ length self.old.rest.now) }
+    #[tactic(auto, using(crate::proofs::SymbolSteps::variable_step), unfolding(msvc_tree::specs::NodeView::type_of))]
+    fn variable(&mut self, kind: VarStorageKind) -> Result<&'b Type<'a, 'b>, Refused>
+        ensures value { ReadsAs type_at self.old self.new result (read_name (encoding_behind (variable_of kind))) }
+        ensures eats { MayEat self.old self.new result }
     {
-        let variable = self.boxed_type(StorageClass::empty())?;
+        let variable = self.any_type(StorageClass::empty())?;
         let class = self.optional(OptionalLetters::StorageClasses);
-        Ok(Type::Var(variable, kind, class))
+        self.put_type(Type::Variable(kind, class, variable))
     }
 
-    /// The table of a class, behind its letter: `[qualifier] SCOPE`.
+    /// The table of a class, after its letter: `[qualifier] SCOPE`.
     #[cycle(readers)]
-    #[tactic(auto, using(crate::proofs::Readers::table_split))]
-    fn table(&mut self, table: Table) -> Result<Type<'a>, Refusal>
-        ensures value { Gives (λ t. (type_of t, self.new.rest.now, state_of self.new)) result
-            (read_name (encoding_behind (table_of table)) self.old.rest.now (state_of self.old)) }
-        ensures shorter { IfOk result (λ _. length self.new.rest.now ≤ length self.old.rest.now) }
+    #[tactic(auto, using(crate::proofs::SymbolSteps::table_step))]
+    fn table(&mut self, table: Table) -> Result<&'b Type<'a, 'b>, Refused>
+        ensures value { ReadsAs type_at self.old self.new result (read_name (encoding_behind (table_of table))) }
+        ensures eats { MayEat self.old self.new result }
     {
         let class = self.optional(OptionalLetters::Qualifiers);
         let scope = self.scope()?;
-        Ok(table.table_type(scope, class))
+        self.put_table(table, class, scope)
+    }
+
+    /// The table of a class, of its parts.
+    #[tactic(auto, using(crate::proofs::Nodes::views))]
+    fn put_table(
+        &mut self,
+        kind: Table,
+        class: StorageClass,
+        scope: List<'b, &'b Name<'a, 'b>>,
+    ) -> Result<&'b Type<'a, 'b>, Refused>
+        ensures value { ReadsAs type_at self.old self.new result
+            (with_value (Some (table kind (name_trees (map name_at scope.entry.items.now)) class.0))) }
+        ensures stays { Stays self.old self.new result }
+    {
+        let names = scope.items;
+        let scope = self.put(Scope { names })?;
+        self.put_type(Type::Table(kind, class, scope))
     }
 
     /// `VIRTUAL_CALL = "B" NUMBER "A" convention`: a thunk that calls a virtual function.
-    #[tactic(auto, using(crate::proofs::Readers::virtual_call_split), unfolding(msvc_tree::specs::View::type_of))]
-    fn virtual_call(&mut self) -> Result<Type<'a>, Refusal>
-        ensures value { Gives (λ t. (type_of t, self.new.rest.now, state_of self.new)) result
-            (read_name (encoding_behind virtual_call) self.old.rest.now (state_of self.old)) }
-        ensures shorter { IfOk result (λ _. length self.new.rest.now ≤ length self.old.rest.now) }
+    #[tactic(auto, using(crate::proofs::SymbolSteps::virtual_call_step), unfolding(msvc_tree::specs::NodeView::type_of))]
+    fn virtual_call(&mut self) -> Result<&'b Type<'a, 'b>, Refused>
+        ensures value { ReadsAs type_at self.old self.new result (read_name (encoding_behind virtual_call)) }
+        ensures eats { MayEat self.old self.new result }
     {
         self.expected(b"B", Message::BExpected)?;
         let offset = self.number()?;
         self.expected(b"A", Message::AExpected)?;
         let convention = self.convention()?;
-        Ok(Type::VCallThunk(offset, convention))
+        self.put_type(Type::VcallThunk(offset, convention))
     }
 }

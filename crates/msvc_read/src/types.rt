@@ -1,106 +1,176 @@
 //! Types, and the table of types.
 
-ghost use Rattle.std.specs.Prelude.{◌≡◌, ◌<◌, ◌≤◌, Some, length, map, slice_get, true};
-ghost use Rattle.std.specs.Prelude.{IfOk};
 ghost use Rattle.std.specs.Int.{int_wrapping_neg, w32};
-ghost use Rattle.msvc_tree.specs.Trees.{numbered};
-ghost use Rattle.msvc_tree.specs.declared.kinds.NumberedType.TheVariants as number_kind;
-ghost use Rattle.msvc_tree.specs.View.{type_of};
-ghost use Rattle.msvc_read.specs.Grammar.{array_class, arrays, digits};
-ghost use Rattle.msvc_read.specs.Parser.{Gives, state_of, entry_of};
+ghost use Rattle.std.specs.Prelude.{Some, map, slice_get, true};
+ghost use Rattle.msvc_tree.specs.NodeView.{name_at, name_of, type_of, type_at};
+ghost use Rattle.msvc_tree.specs.Trees.{name_trees, numbered, pointing, tagged};
+ghost use Rattle.msvc_read.specs.Grammar.{array_class, arrays};
+ghost use Rattle.msvc_read.specs.Letters.{digits};
+ghost use Rattle.msvc_read.specs.Parser.{is_own, Eats, MayEat, ReadsAs, Stays};
 ghost use Rattle.msvc_read.specs.Reads.{read, read_name, and_then, with_value, type_known};
 ghost use Rattle.msvc_read.specs.Rules.{lookup, any_type, array, dimension, lengths, number, plain_type, pointee};
-ghost use Rattle.msvc_read.specs.Rules.{function_type, type_behind, type_form};
+ghost use Rattle.msvc_read.specs.Rules.{function_type, qualified_name, type_behind, type_form};
 ghost use Rattle.msvc_read.specs.Sorts.{extended};
+ghost use Rattle.msvc_tree.specs.declared.kinds.NumberedType.TheVariants as number_kind;
 
-use crate::forms::{TypeForm, type_form};
+use crate::function_types::{MemberPointerForm, ObjectQualifiers};
 use crate::letters::{self, OptionalLetters};
 use crate::parser::Parser;
-use crate::refusal::{Message, Refusal};
+use crate::qualified_names::TemplateNames;
+use crate::refusal::{Message, Refused};
+use crate::type_forms::{TypeForm, type_form};
 use bitflags::Flags;
+use bumpalo::Bump;
 use msvc_tree::flags::StorageClass;
-use msvc_tree::made::{boxed_made, made_as};
-use msvc_tree::tree::Type;
-use std::alloc::AllocError;
+use msvc_tree::kinds::{BaseType, Mark, NumberedType, PlainType, Tag};
+use msvc_tree::nodes::{Symbol, Type};
 
-impl<'a> Parser<'a> {
+impl<'a, 'b> Parser<'a, 'b> {
     /// `TYPE = text of a form, and what the form asks for | ["$"] PLAIN_TYPE`.
     #[cycle(readers)]
     #[tactic(auto, using(crate::proofs::TypeSteps::any_type_is))]
-    pub fn any_type(&mut self, q: StorageClass) -> Result<Type<'a>, Refusal>
-        ensures value { Gives (λ t. (type_of t, self.new.rest.now, state_of self.new)) result
-            (read_name (any_type q.0) self.old.rest.now (state_of self.old)) }
-        ensures shorter { IfOk result (λ _. length self.new.rest.now < length self.old.rest.now) }
+    pub fn any_type(&mut self, q: StorageClass) -> Result<&'b Type<'a, 'b>, Refused>
+        ensures value { ReadsAs type_at self.old self.new result (read_name (any_type q.0)) }
+        ensures eats { Eats self.old self.new result }
     {
-        if let Some((form, behind)) = type_form(self.rest) {
-            self.rest = behind;
+        if let Some((form, rest)) = type_form(self.rest) {
+            self.rest = rest;
             return self.formed_type(form, q);
         }
-        let Some(behind) = self.after(b"$") else {
+        // A `$` is dropped. The call stands on both ways, so that each ends in what its rule reads.
+        if self.eat(b"$") {
             return self.plain_type(q);
-        };
-        self.rest = behind;
+        }
         self.plain_type(q)
     }
 
     /// What follows the text of a form.
     #[cycle(readers)]
-    #[tactic(auto, using(crate::proofs::Readers::form_split))]
+    #[tactic(auto, using(crate::proofs::TypeSteps::type_form_is), unfolding(msvc_tree::specs::NodeView::type_of))]
     #[inline(never)]
-    fn formed_type(&mut self, form: TypeForm, q: StorageClass) -> Result<Type<'a>, Refusal>
-        ensures value { Gives (λ t. (type_of t, self.new.rest.now, state_of self.new)) result
-            (read_name (type_form q.0 form) self.old.rest.now (state_of self.old)) }
-        ensures shorter { IfOk result (λ _. length self.new.rest.now ≤ length self.old.rest.now) }
+    fn formed_type(&mut self, form: TypeForm, q: StorageClass) -> Result<&'b Type<'a, 'b>, Refused>
+        ensures value { ReadsAs type_at self.old self.new result (read_name (type_form q.0 form)) }
+        ensures eats { MayEat self.old self.new result }
     {
         match form {
-            TypeForm::Enumeration => Ok(Type::Enum(self.qualified_name(false)?, q)),
-            TypeForm::Alias => Ok(Type::Alias(self.qualified_name(true)?, q)),
-            TypeForm::ReferenceToFunction => Ok(Type::Ref(self.boxed_function()?, q)),
-            TypeForm::PointerToFunction => Ok(Type::Ptr(self.boxed_function()?, q)),
-            TypeForm::RValueReference => Ok(Type::RValueRef(self.pointee()?, q)),
-            TypeForm::Constant => Ok(Type::Constant(self.number()?)),
-            TypeForm::TemplateParameter => Ok(Type::TemplateParameterWithIndex(self.number()?)),
-            TypeForm::EmptyPack => Ok(Type::EmptyParameterPack),
-            TypeForm::Nullptr => Ok(Type::Nullptr),
+            TypeForm::Enumeration => self.tagged_type(Tag::Enum, TemplateNames::Memorized, q),
+            TypeForm::Alias => self.tagged_type(Tag::Alias, TemplateNames::NotMemorized, q),
+            TypeForm::ReferenceToFunction => self.pointed_function(Mark::Reference, q),
+            TypeForm::PointerToFunction => self.pointed_function(Mark::Pointer, q),
+            TypeForm::RValueReference => self.pointing_type(Mark::RValueReference, q),
+            TypeForm::Constant => self.numbered_type(NumberedType::Constant),
+            TypeForm::TemplateParameter => self.numbered_type(NumberedType::TemplateParameter),
+            TypeForm::EmptyPack => self.put_type(Type::Plain(PlainType::EmptyPack)),
+            TypeForm::Nullptr => self.put_type(Type::Plain(PlainType::Nullptr)),
             TypeForm::Array => self.array(),
-            TypeForm::Function => self.function_type(true),
-            TypeForm::QualifiedFunction => self.function_type(false),
+            TypeForm::Function => self.function_type(ObjectQualifiers::Absent),
+            TypeForm::QualifiedFunction => self.function_type(ObjectQualifiers::Present),
             TypeForm::Requalified => {
                 let own = self.optional(OptionalLetters::Qualifiers);
                 self.plain_type(own)
             }
-            TypeForm::QualifiedMemberPointer => self.member_pointer(true),
+            TypeForm::QualifiedMemberPointer => self.member_pointer(MemberPointerForm::Qualified),
             TypeForm::MemberPointer => {
                 self.expected(b"?", Message::QuestionMarkExpected)?;
-                self.member_pointer(false)
+                self.member_pointer(MemberPointerForm::OfClass)
             }
         }
     }
 
+    /// A type by its name.
+    #[cycle(readers)]
+    fn tagged_type(
+        &mut self,
+        tag: Tag,
+        templates: TemplateNames,
+        q: StorageClass,
+    ) -> Result<&'b Type<'a, 'b>, Refused>
+        ensures value { ReadsAs type_at self.old self.new result
+            (λ left s. and_then (read_name (qualified_name (is_own templates)) left s)
+            (λ n left s. Some (tagged tag n.0 (name_trees n.1) q.0, left, s))) }
+        ensures eats { Eats self.old self.new result }
+    {
+        let symbol = self.qualified_name(templates)?;
+        self.put_tagged(tag, symbol, q)
+    }
+
+    /// A type of its name. Like every `put_` of several parts it stands apart from the readers of the cycle: these then
+    /// only call, and the prover closes each by its step lemma alone.
+    #[tactic(auto, using(crate::proofs::Nodes::views))]
+    fn put_tagged(
+        &mut self,
+        tag: Tag,
+        symbol: Symbol<'a, 'b>,
+        q: StorageClass,
+    ) -> Result<&'b Type<'a, 'b>, Refused>
+        ensures value { ReadsAs type_at self.old self.new result
+            (with_value (Some (tagged tag (name_of symbol.entry.name.now)
+            (name_trees (map name_at symbol.entry.scope.now)) q.0))) }
+        ensures stays { Stays self.old self.new result }
+    {
+        let symbol = self.put(symbol)?;
+        self.put_type(Type::Tagged(tag, q, symbol))
+    }
+
+    /// What points or refers to a type.
+    #[cycle(readers)]
+    #[tactic(auto, unfolding(msvc_tree::specs::NodeView::type_of))]
+    fn pointing_type(&mut self, mark: Mark, q: StorageClass) -> Result<&'b Type<'a, 'b>, Refused>
+        ensures value { ReadsAs type_at self.old self.new result
+            (λ left s. and_then (read_name pointee left s) (λ t left s. Some (pointing mark t q.0, left, s))) }
+        ensures eats { Eats self.old self.new result }
+    {
+        let inner = self.pointee()?;
+        self.put_type(Type::Pointing(mark, q, inner))
+    }
+
+    /// What points or refers to a function.
+    #[cycle(readers)]
+    #[tactic(auto, unfolding(msvc_tree::specs::NodeView::type_of))]
+    fn pointed_function(&mut self, mark: Mark, q: StorageClass) -> Result<&'b Type<'a, 'b>, Refused>
+        ensures value { ReadsAs type_at self.old self.new result
+            (λ left s. and_then (read_name (function_type true) left s)
+            (λ t left s. Some (pointing mark t q.0, left, s))) }
+        ensures eats { Eats self.old self.new result }
+    {
+        let inner = self.function_type(ObjectQualifiers::Absent)?;
+        self.put_type(Type::Pointing(mark, q, inner))
+    }
+
+    /// What stands in the place of a type by a number.
+    #[tactic(auto, unfolding(msvc_tree::specs::NodeView::type_of))]
+    fn numbered_type(&mut self, kind: NumberedType) -> Result<&'b Type<'a, 'b>, Refused>
+        ensures value { ReadsAs type_at self.old self.new result
+            (λ left s. and_then (read_name number left s) (λ z left s. Some (numbered kind z, left, s))) }
+        ensures eats { Eats self.old self.new result }
+    {
+        let number = self.number()?;
+        self.put_type(Type::Numbered(kind, number))
+    }
+
     /// `PLAIN_TYPE = base letter | letter of types, and what its row asks for`.
     #[cycle(readers)]
-    #[tactic(auto, using(crate::proofs::Readers::plain_split), unfolding(crate::proofs::TypeSteps::type_by))]
+    #[tactic(auto, using(crate::proofs::Nodes::plain_split), unfolding(crate::proofs::TypeSteps::type_by, msvc_tree::specs::NodeView::type_of))]
     #[inline(always)]
-    fn plain_type(&mut self, q: StorageClass) -> Result<Type<'a>, Refusal>
-        ensures value { Gives (λ t. (type_of t, self.new.rest.now, state_of self.new)) result
-            (read_name (plain_type q.0) self.old.rest.now (state_of self.old)) }
-        ensures shorter { IfOk result (λ _. length self.new.rest.now < length self.old.rest.now) }
+    fn plain_type(&mut self, q: StorageClass) -> Result<&'b Type<'a, 'b>, Refused>
+        ensures value { ReadsAs type_at self.old self.new result (read_name (plain_type q.0)) }
+        ensures eats { Eats self.old self.new result }
     {
         let letter = self.byte()?;
-        if let Some(base) = letters::base_type(letter, q) {
-            return Ok(base);
+        if let Some(base) = letters::base_type(letter) {
+            return self.put_type(Type::Base(base, q));
         }
         let both = StorageClass::CONST.union(StorageClass::VOLATILE);
         match letter {
-            b'T' => Ok(Type::Union(self.qualified_name(false)?, q)),
-            b'U' => Ok(Type::Struct(self.qualified_name(false)?, q)),
-            b'V' => Ok(Type::Class(self.qualified_name(false)?, q)),
-            b'A' => Ok(Type::Ref(self.pointee()?, q)),
-            b'B' => Ok(Type::Ref(self.pointee()?, StorageClass::VOLATILE)),
-            b'P' => Ok(Type::Ptr(self.pointee()?, q)),
-            b'Q' => Ok(Type::Ptr(self.pointee()?, StorageClass::CONST)),
-            b'R' => Ok(Type::Ptr(self.pointee()?, StorageClass::VOLATILE)),
-            b'S' => Ok(Type::Ptr(self.pointee()?, both)),
+            b'T' => self.tagged_type(Tag::Union, TemplateNames::Memorized, q),
+            b'U' => self.tagged_type(Tag::Struct, TemplateNames::Memorized, q),
+            b'V' => self.tagged_type(Tag::Class, TemplateNames::Memorized, q),
+            b'A' => self.pointing_type(Mark::Reference, q),
+            b'B' => self.pointing_type(Mark::Reference, StorageClass::VOLATILE),
+            b'P' => self.pointing_type(Mark::Pointer, q),
+            b'Q' => self.pointing_type(Mark::Pointer, StorageClass::CONST),
+            b'R' => self.pointing_type(Mark::Pointer, StorageClass::VOLATILE),
+            b'S' => self.pointing_type(Mark::Pointer, both),
             b'Y' => self.array(),
             b'_' => self.extended_type(q),
             b'?' => self.template_parameter(),
@@ -111,64 +181,35 @@ impl<'a> Parser<'a> {
     /// `POINTEE = ["E"] [storage class] TYPE`.
     #[cycle(readers)]
     #[tactic(auto, using(crate::proofs::TypeSteps::pointee_is))]
-    fn pointee(&mut self) -> Result<Box<Type<'a>>, Refusal>
-        ensures value { Gives (λ b. (type_of b.value, self.new.rest.now, state_of self.new)) result
-            (read_name pointee self.old.rest.now (state_of self.old)) }
-        ensures shorter { IfOk result (λ _. length self.new.rest.now < length self.old.rest.now) }
+    fn pointee(&mut self) -> Result<&'b Type<'a, 'b>, Refused>
+        ensures value { ReadsAs type_at self.old self.new result (read_name pointee) }
+        ensures eats { Eats self.old self.new result }
     {
         let size = self.optional_mark(b'E', StorageClass::PTR64);
         let class = self.optional(OptionalLetters::StorageClasses);
-        self.boxed_type(size.union(class))
-    }
-
-    /// A type in a box of its own.
-    #[cycle(readers)]
-    #[inline(always)]
-    pub fn boxed_type(&mut self, q: StorageClass) -> Result<Box<Type<'a>>, Refusal>
-        ensures value { Gives (λ b. (type_of b.value, self.new.rest.now, state_of self.new)) result
-            (read_name (any_type q.0) self.old.rest.now (state_of self.old)) }
-        ensures shorter { IfOk result (λ _. length self.new.rest.now < length self.old.rest.now) }
-    {
-        let made = self.any_type(q);
-        boxed_made(self.alloc, made)
-    }
-
-    /// A function without qualifiers of its own, in a box.
-    #[cycle(readers)]
-    #[inline(always)]
-    fn boxed_function(&mut self) -> Result<Box<Type<'a>>, Refusal>
-        ensures value { Gives (λ b. (type_of b.value, self.new.rest.now, state_of self.new)) result
-            (read_name (function_type true) self.old.rest.now (state_of self.old)) }
-        ensures shorter { IfOk result (λ _. length self.new.rest.now < length self.old.rest.now) }
-    {
-        let made = self.function_type(true);
-        boxed_made(self.alloc, made)
+        self.any_type(size.union(class))
     }
 
     /// `ARRAY = NUMBER {NUMBER} ["$$C" array qualifier] TYPE`: the first number says how many lengths follow.
     #[cycle(readers)]
     #[tactic(auto, using(crate::proofs::TypeSteps::array_is))]
     #[inline(never)]
-    fn array(&mut self) -> Result<Type<'a>, Refusal>
-        ensures value { Gives (λ t. (type_of t, self.new.rest.now, state_of self.new)) result
-            (read_name array self.old.rest.now (state_of self.old)) }
-        ensures shorter { IfOk result (λ _. length self.new.rest.now < length self.old.rest.now) }
+    fn array(&mut self) -> Result<&'b Type<'a, 'b>, Refused>
+        ensures value { ReadsAs type_at self.old self.new result (read_name array) }
+        ensures eats { Eats self.old self.new result }
     {
         let dimension = self.dimension()?;
         let lengths = self.lengths(dimension)?;
         let class = self.array_class()?;
         let element = self.any_type(StorageClass::empty())?;
-        Ok(self.nested_arrays(lengths, element, class)?)
+        self.nested_arrays(&lengths, element, class)
     }
-}
 
-impl<'a> Parser<'a> {
     /// A number above 0.
     #[tactic(auto, using(crate::proofs::TypeSteps::dimension_is))]
-    fn dimension(&mut self) -> Result<u32, Refusal>
-        ensures value { Gives (λ n. (n, self.new.rest.now, state_of self.new)) result
-            (read_name dimension self.old.rest.now (state_of self.old)) }
-        ensures shorter { IfOk result (λ _. length self.new.rest.now < length self.old.rest.now) }
+    fn dimension(&mut self) -> Result<u32, Refused>
+        ensures value { ReadsAs (λ n. n) self.old self.new result (read_name dimension) }
+        ensures eats { Eats self.old self.new result }
     {
         let dimension = self.number()?;
         if dimension < 1 {
@@ -177,99 +218,99 @@ impl<'a> Parser<'a> {
         Ok(dimension as u32)
     }
 
+    /// The qualifiers of each level of an array.
+    #[tactic(auto, using(crate::proofs::TypeSteps::array_class_is))]
+    fn array_class(&mut self) -> Result<StorageClass, Refused>
+        ensures value { ReadsAs (λ q. q.0) self.old self.new result (read array_class) }
+        ensures eats { MayEat self.old self.new result }
+    {
+        if !self.eat(b"$$C") {
+            return Ok(StorageClass::empty());
+        }
+        let left = self.rest.len();
+        let Some(letter) = self.next_byte() else {
+            return Err(self.refuse_at(Message::UnknownStorageClass, left));
+        };
+        match letters::array_qualifier(letter) {
+            Some(class) => Ok(class),
+            None => Err(self.refuse_at(Message::UnknownStorageClass, left)),
+        }
+    }
+
     /// As many numbers.
     #[tactic(auto, using(crate::proofs::RowSteps::lengths_go_on))]
-    fn lengths(&mut self, count: u32) -> Result<Vec<i32>, Refusal>
-        ensures value { Gives (λ v. (v.items, self.new.rest.now, state_of self.new)) result
-            (read_name (lengths count) self.old.rest.now (state_of self.old)) }
-        ensures shorter { IfOk result (λ _. length self.new.rest.now ≤ length self.old.rest.now) }
+    fn lengths(&mut self, count: u32) -> Result<Vec<i32, &'b Bump>, Refused>
+        ensures value { ReadsAs (λ v. v.items) self.old self.new result (read_name (lengths count)) }
+        ensures eats { MayEat self.old self.new result }
     {
-        let mut lengths = Vec::new(self.alloc);
+        let mut lengths = Vec::new(self.arena);
         for _ in 0..count {
-            lengths.push(self.number()?)?;
+            let length = self.number()?;
+            if lengths.push(length).is_err() {
+                return Err(self.no_memory());
+            }
         }
         Ok(lengths)
     }
 
-    /// The qualifiers of each level of an array.
-    #[tactic(auto, using(crate::proofs::TypeSteps::array_class_is))]
-    fn array_class(&mut self) -> Result<StorageClass, Refusal>
-        ensures value { Gives (λ q. (q.0, self.new.rest.now, state_of self.new)) result
-            (read array_class self.old.rest.now (state_of self.old)) }
-        ensures shorter { IfOk result (λ _. length self.new.rest.now ≤ length self.old.rest.now) }
-    {
-        let Some(behind) = self.after(b"$$C") else {
-            return Ok(StorageClass::empty());
-        };
-        self.rest = behind;
-        let refusal = self.refuse(Message::UnknownStorageClass);
-        let Some(letter) = self.next_byte() else {
-            return Err(refusal);
-        };
-        match letters::array_qualifier(letter) {
-            Some(class) => Ok(class),
-            None => Err(refusal),
-        }
-    }
-
-    /// An array of these lengths, the outermost first, with qualifiers at each level.
-    #[tactic(auto, using(crate::proofs::Readers::arrays_nest), unfolding(crate::specs::Grammar::arrays))]
+    /// An array of these lengths, the outermost first, with qualifiers at each level. It calls itself for each length:
+    /// the borrow checker of the prover refuses a reference that a loop assigns anew.
+    #[tactic(auto, unfolding(crate::specs::Grammar::arrays, msvc_tree::specs::NodeView::type_of))]
     fn nested_arrays(
-        &self,
-        mut lengths: Vec<i32>,
-        element: Type<'a>,
+        &mut self,
+        lengths: &[i32],
+        element: &'b Type<'a, 'b>,
         class: StorageClass,
-    ) -> Result<Type<'a>, AllocError>
-        ensures { IfOk result (λ t. type_of t ≡ arrays lengths.items (type_of element.entry) class.0) }
+    ) -> Result<&'b Type<'a, 'b>, Refused>
+        ensures value { ReadsAs type_at self.old self.new result
+            (with_value (Some (arrays lengths.now (type_of element.now) class.0))) }
+        ensures stays { Stays self.old self.new result }
     {
-        let mut array = element;
-        while let Some(length) = lengths.pop() {
-            array = Type::Array(length, Box::new(self.alloc, array)?, class);
-        }
-        Ok(array)
+        let [length, inner @ ..] = lengths else {
+            return Ok(element);
+        };
+        let inner = self.nested_arrays(inner, element, class)?;
+        self.put_type(Type::Array(*length, class, inner))
     }
 
     /// The base type of a second letter.
-    #[tactic(auto, using(crate::proofs::TypeSteps::extended_is))]
+    #[tactic(auto, using(crate::proofs::TypeSteps::extended_is), unfolding(msvc_tree::specs::NodeView::type_of))]
     #[inline(never)]
-    fn extended_type(&mut self, q: StorageClass) -> Result<Type<'a>, Refusal>
-        ensures value { Gives (λ t. (type_of t, self.new.rest.now, state_of self.new)) result
-            (read_name (type_behind q.0 extended) self.old.rest.now (state_of self.old)) }
-        ensures shorter { IfOk result (λ _. length self.new.rest.now < length self.old.rest.now) }
+    fn extended_type(&mut self, q: StorageClass) -> Result<&'b Type<'a, 'b>, Refused>
+        ensures value { ReadsAs type_at self.old self.new result (read_name (type_behind q.0 extended)) }
+        ensures eats { Eats self.old self.new result }
     {
         let letter = self.byte()?;
-        match letters::extended_type(letter, q) {
-            Some(base) => Ok(base),
+        match letters::extended_type(letter) {
+            Some(base) => self.put_type(Type::Base(base, q)),
             None => Err(self.refuse(Message::UnknownPrimitiveType)),
         }
     }
 
     /// The number of a template's parameter, negated.
-    #[tactic(auto, using(crate::proofs::Readers::compound_split))]
+    #[tactic(auto, unfolding(msvc_tree::specs::NodeView::type_of))]
     #[inline(never)]
-    fn template_parameter(&mut self) -> Result<Type<'a>, Refusal>
-        ensures value { Gives (λ t. (type_of t, self.new.rest.now, state_of self.new)) result
-            (and_then (read_name number self.old.rest.now (state_of self.old))
+    fn template_parameter(&mut self) -> Result<&'b Type<'a, 'b>, Refused>
+        ensures value { ReadsAs type_at self.old self.new result
+            (λ left s. and_then (read_name number left s)
             (λ z left s. Some (numbered number_kind.TemplateParameter (int_wrapping_neg w32 z), left, s))) }
-        ensures shorter { IfOk result (λ _. length self.new.rest.now < length self.old.rest.now) }
+        ensures eats { Eats self.old self.new result }
     {
         let number = self.number()?;
-        Ok(Type::TemplateParameterWithIndex(number.wrapping_neg()))
+        self.put_type(Type::Numbered(NumberedType::TemplateParameter, number.wrapping_neg()))
     }
 
-    /// The entry of the table of types that a digit stands for. Any other letter begins no type.
+    /// The type that a digit stands for. Any other letter begins no type.
     #[inline(never)]
-    fn type_entry(&self, letter: u8) -> Result<Type<'a>, Refusal>
-        ensures { Gives (λ t. (type_of t, self.now.rest.now, state_of self.now)) result
-            (and_then (with_value (lookup letter digits) self.now.rest.now (state_of self.now))
+    fn type_entry(&mut self, letter: u8) -> Result<&'b Type<'a, 'b>, Refused>
+        ensures value { ReadsAs type_at self.old self.new result
+            (λ left s. and_then (with_value (lookup letter digits) left s)
             (λ i left s. type_known (slice_get s.types i) left s)) }
+        ensures stays { Stays self.old self.new result }
     {
-        let Some(index) = letters::digit(letter) else {
+        let Some(digit) = letters::digit(letter) else {
             return Err(self.refuse(Message::UnknownPrimitiveType));
         };
-        match self.types.get(usize::from(index)) {
-            Some(entry) => made_as(entry.entered.clone(self.alloc)),
-            None => Err(self.refuse(Message::InvalidBackReference(index))),
-        }
+        self.type_of_digit(digit)
     }
 }

@@ -1,7 +1,11 @@
 pub mod Contexts
 pub mod CopiedLists
+pub mod Decisions
 pub mod Kept
 pub mod Lists
-pub mod Nodes
+pub mod NodeLaws
+pub mod NodeLists
+pub mod NodeViews
+pub mod Seen
 pub mod Tests
 pub mod Views

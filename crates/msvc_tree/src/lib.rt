@@ -5,6 +5,11 @@
 pub mod error;
 pub mod flags;
 pub mod kinds;
-pub mod made;
+pub mod list;
+mod made;
 pub mod node;
+pub mod nodes;
+pub mod owned;
+mod parts;
+pub mod same;
 pub mod tree;

@@ -1,7 +1,8 @@
-use Rattle.std.proofs.Common.{ℕ, List, ◌≡◌, ◌≤◌, ◌+◌, ◌*◌, length}
+use Rattle.std.proofs.Common.{ℕ, List, ◌≡◌, ◌≤◌, ◌+◌, ◌*◌, ◌++◌, length}
 use Rattle.std.specs.Prelude.{map}
-use Rattle.msvc_tree.specs.View.{name_of, type_of}
-use Rattle.msvc_read.specs.Parser.{state_of}
+use Rattle.msvc_tree.specs.NodeView.{name_at, type_at}
+use Rattle.msvc_read.specs.Parser.{frame_of, state_of}
+use Rattle.msvc_read.specs.Stack.{here, outer}
 use Rattle.msvc_read.specs.Reads.{read_name}
 use Rattle.msvc_read.specs.Rules.{parameters, scope}
 use Rattle.msvc_read.proofs.RowSteps.{with_front}
@@ -17,15 +18,6 @@ decreases-any_type l = level l.self.now.rest.now 1
 
 abbrev pub decreases-array : goal.decreases-array
 decreases-array l = level l.self.now.rest.now 3
-
-abbrev pub decreases-boxed_type : goal.decreases-boxed_type
-decreases-boxed_type l = level l.self.now.rest.now 2
-
-abbrev pub decreases-boxed_name : goal.decreases-boxed_name
-decreases-boxed_name l = level l.self.now.rest.now 2
-
-abbrev pub decreases-boxed_function : goal.decreases-boxed_function
-decreases-boxed_function l = level l.self.now.rest.now 5
 
 abbrev pub decreases-formed_type : goal.decreases-formed_type
 decreases-formed_type l = level l.self.now.rest.now 6
@@ -75,6 +67,9 @@ decreases-qualified_name l = level l.self.now.rest.now 3
 abbrev pub decreases-returned : goal.decreases-returned
 decreases-returned l = level l.self.now.rest.now 3
 
+abbrev pub decreases-member_returned : goal.decreases-member_returned
+decreases-member_returned l = level l.self.now.rest.now 2
+
 abbrev pub decreases-scope : goal.decreases-scope
 decreases-scope l = level l.self.now.rest.now 2
 
@@ -105,22 +100,43 @@ decreases-numbered_guard l = level l.self.now.rest.now 8
 abbrev pub decreases-table : goal.decreases-table
 decreases-table l = level l.self.now.rest.now 8
 
--- the names so far, before what is read of the rest, are what is read of all
+abbrev pub decreases-tagged_type : goal.decreases-tagged_type
+decreases-tagged_type l = level l.self.now.rest.now 4
+
+abbrev pub decreases-pointing_type : goal.decreases-pointing_type
+decreases-pointing_type l = level l.self.now.rest.now 4
+
+abbrev pub decreases-pointed_function : goal.decreases-pointed_function
+decreases-pointed_function l = level l.self.now.rest.now 5
+
+-- the names so far, before what is read of the rest, are what is read of all; those that others gather stay
 abbrev pub invariant-scope-names : goal.invariant-scope-names
 invariant-scope-names l =
-    (with_front (map name_of l.names.items) (read_name scope l.self.rest.now (state_of l.self))
-    ≡ read_name scope l.initial.self.rest.now (state_of l.initial.self))
-    × (length l.self.rest.now ≤ length l.initial.self.rest.now)
+    (with_front (map name_at (here l.self.listed_names)) (read_name scope l.self.rest.now (state_of l.self))
+    ≡ read_name scope l.fn.self.rest.now (state_of l.fn.self))
+    × (length l.self.rest.now ≤ length l.fn.self.rest.now)
+    × (l.mark ≡ length (outer l.fn.self.listed_names))
+    × (frame_of l.self
+    ≡ record (frame_of l.fn.self) {
+      listed_names = here l.self.listed_names;
+      names_before = outer l.fn.self.listed_names ++ here l.fn.self.listed_names;
+    })
 
 abbrev pub decreases-scope-names : goal.decreases-scope-names
 decreases-scope-names l = length l.self.rest.now
 
--- the parameters so far, before what is read of the rest, are what is read of all
+-- the parameters so far, before what is read of the rest, are what is read of all; those that others gather stay
 abbrev pub invariant-parameters-parameters : goal.invariant-parameters-parameters
 invariant-parameters-parameters l =
-    (with_front (map type_of l.types.items) (read_name parameters l.self.rest.now (state_of l.self))
-    ≡ read_name parameters l.initial.self.rest.now (state_of l.initial.self))
-    × (length l.self.rest.now ≤ length l.initial.self.rest.now)
+    (with_front (map type_at (here l.self.listed_types)) (read_name parameters l.self.rest.now (state_of l.self))
+    ≡ read_name parameters l.fn.self.rest.now (state_of l.fn.self))
+    × (length l.self.rest.now ≤ length l.fn.self.rest.now)
+    × (l.mark ≡ length (outer l.fn.self.listed_types))
+    × (frame_of l.self
+    ≡ record (frame_of l.fn.self) {
+      listed_types = here l.self.listed_types;
+      types_before = outer l.fn.self.listed_types ++ here l.fn.self.listed_types;
+    })
 
 abbrev pub decreases-parameters-parameters : goal.decreases-parameters-parameters
 decreases-parameters-parameters l = length l.self.rest.now

@@ -10,10 +10,10 @@ use Rattle.msvc_read.proofs.parser.Parser.characters.Goals as goal
 -- the new character goes behind those so far
 pub loop-preserved : goal.loop-preserved
 loop-preserved c =
-    let items : c.push.new.self.items ≡ c.loop.text.items ++ c.in_ok-character.field-0 ∷ [] =
+    let items : c.push.new.self.items ≡ c.loop.text.items ++ c.in_ok-character.character ∷ [] =
     grind (arith, common_steps) in
     let read : read_name character c.loop.self.rest.now (state_of c.loop.self)
-    ≡ Some (c.in_ok-character.field-0, c.character.new.self.rest.now, state_of c.character.new.self) = search rules in
+    ≡ Some (c.in_ok-character.character, c.character.new.self.rest.now, state_of c.character.new.self) = search rules in
     let one_less : c.args.count - c.loop.counter ≡ suc (c.args.count - (c.loop.counter + 1)) = omega arith in (
       ap (λ (zs : List ℕ). with_front zs
           (read_name (characters (c.args.count - (c.loop.counter + 1))) c.character.new.self.rest.now
@@ -21,7 +21,8 @@ loop-preserved c =
           items
           ∙ sym (characters_more c.loop.text.items (c.args.count - c.loop.counter) (c.args.count - (c.loop.counter + 1))
           c.loop.self.rest.now c.character.new.self.rest.now (state_of c.loop.self) (state_of c.character.new.self)
-          c.in_ok-character.field-0 one_less read)
+          c.in_ok-character.character one_less read)
           ∙ c.loop.invariant.0,
-      omega (arith, c.in_ok-character.ensures.shorter),
+      omega (arith, c.in_ok-character.ensures.eats.0, c.loop.invariant.1),
+      c.in_ok-character.ensures.eats.1 ∙ c.loop.invariant.2,
     )

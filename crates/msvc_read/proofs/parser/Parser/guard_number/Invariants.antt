@@ -1,6 +1,6 @@
 use Rattle.std.proofs.Common.{◌≡◌, ◌≤◌, length}
-use Rattle.msvc_read.specs.Grammar.{digits}
-use Rattle.msvc_read.specs.Parser.{state_of}
+use Rattle.msvc_read.specs.Letters.{digits}
+use Rattle.msvc_read.specs.Parser.{frame_of, state_of}
 use Rattle.msvc_read.specs.Reads.{and_then, letter_here, read_name}
 use Rattle.msvc_read.specs.Rules.{decimal}
 use Rattle.msvc_read.proofs.parser.Parser.guard_number.Given as goal
@@ -12,6 +12,7 @@ invariant-digits l =
     ≡ and_then (letter_here digits l.fn.self.rest.now (state_of l.fn.self)) (λ d. read_name (decimal d)))
     × (length l.self.rest.now ≤ length l.fn.self.rest.now)
     × (l.value ≤ 2147483647)
+    × (frame_of l.self ≡ frame_of l.fn.self)
 
 abbrev pub decreases-digits : goal.decreases-digits
 decreases-digits l = length l.self.rest.now

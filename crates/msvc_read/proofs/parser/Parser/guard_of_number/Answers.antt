@@ -3,9 +3,8 @@ use Rattle.std.proofs.lemmas.Int.{to_z-of_z}
 use Rattle.std.specs.Prelude.{codes, map}
 use Rattle.msvc_tree.specs.declared.kinds.NumberedType.TheVariants as number_kind
 use Rattle.msvc_tree.specs.Trees.{TypeTree, name_trees, numbered}
-use Rattle.msvc_tree.specs.View.{name_of, type_of}
-use Rattle.msvc_tree.specs.declared.tree.Type.{ThreadSafeStaticGuard}
-use Rattle.msvc_read.proofs.Readers.{names_in-is, type_of-ThreadSafeStaticGuard}
+use Rattle.msvc_tree.specs.NodeView.{name_at, type_at, type_of}
+use Rattle.msvc_read.proofs.Nodes.{names_in-is}
 use Rattle.msvc_read.specs.Parser.{state_of}
 use Rattle.msvc_read.specs.Reads.{and_then, read}
 use Rattle.msvc_read.specs.Rules.{literal}
@@ -13,42 +12,53 @@ use Rattle.msvc_read.proofs.parser.Parser.guard_of_number.Goals as goal
 
 -- a guard of its number, for a symbol
 pub returns-clause-value : goal.returns-clause-value
+unfolding type_of
 returns-clause-value c =
     let ended : read (literal (codes "4HA")) c.args.self.now.rest.now (state_of c.args.self.now)
-    ≡ Some (tt, c.expected.new.self.rest.now, state_of c.expected.new.self) = c.in_default.ensures.value in
+    ≡ Some (tt, c.expected.new.self.rest.now, state_of c.expected.new.self) = c.in_ok-expected.ensures.value in
     let same : to_z w32 (of_z w32 c.args.number) ≡ c.args.number = search (rules, to_z-of_z) in
-    let view : type_of (ThreadSafeStaticGuard (to_z w32 (of_z w32 c.args.number)))
-    ≡ numbered number_kind.ThreadSafeGuard c.args.number =
-    type_of-ThreadSafeStaticGuard (to_z w32 (of_z w32 c.args.number))
-    ∙ ap (numbered number_kind.ThreadSafeGuard) same in
+    let put : Some (
+      numbered number_kind.ThreadSafeGuard (to_z w32 (of_z w32 c.args.number)),
+      c.expected.new.self.rest.now,
+      state_of c.expected.new.self,
+    )
+    ≡ Some (type_at c.in_ok-symbol_type.symbol_type, c.put_type.new.self.rest.now, state_of c.put_type.new.self) =
+    c.in_ok-symbol_type.ensures.value in
     ap (λ o. and_then o (λ _ left s. Some (
       record {
-        name = name_of c.args.symbol.name;
-        scope = name_trees (map name_of c.args.symbol.scope.names.items);
+        name = name_at c.args.symbol.name;
+        scope = name_trees (map name_at c.args.symbol.scope.now);
         symbol_type = numbered number_kind.ThreadSafeGuard c.args.number;
       },
       left,
       s,
     ))) ended
-    ∙ ap
-    (λ (x : TypeTree). Some (
+    ∙ ap (λ z. Some (
       record {
-        name = name_of c.args.symbol.name;
-        scope = name_trees (map name_of c.args.symbol.scope.names.items);
-        symbol_type = x;
+        name = name_at c.args.symbol.name;
+        scope = name_trees (map name_at c.args.symbol.scope.now);
+        symbol_type = numbered number_kind.ThreadSafeGuard z;
       },
       c.expected.new.self.rest.now,
       state_of c.expected.new.self,
-    ))
-    (sym view)
+    )) (sym same)
+    ∙ ap (λ o. and_then o (λ (x : TypeTree) left s. Some (
+      record {
+        name = name_at c.args.symbol.name;
+        scope = name_trees (map name_at c.args.symbol.scope.now);
+        symbol_type = x;
+      },
+      left,
+      s,
+    ))) put
     ∙ ap
     (λ ns. Some (
       record {
-        name = name_of c.args.symbol.name;
+        name = name_at c.args.symbol.name;
         scope = ns;
-        symbol_type = type_of (ThreadSafeStaticGuard (to_z w32 (of_z w32 c.args.number)));
+        symbol_type = type_at c.in_ok-symbol_type.symbol_type;
       },
-      c.expected.new.self.rest.now,
-      state_of c.expected.new.self,
+      c.put_type.new.self.rest.now,
+      state_of c.put_type.new.self,
     ))
-    (sym (names_in-is c.args.symbol.scope.names.items))
+    (sym (names_in-is c.args.symbol.scope.now))

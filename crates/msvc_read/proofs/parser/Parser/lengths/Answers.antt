@@ -9,10 +9,10 @@ use Rattle.msvc_read.proofs.parser.Parser.lengths.Goals as goal
 -- the new length goes behind those so far
 pub loop-preserved : goal.loop-preserved
 loop-preserved c =
-    let items : c.push.new.self.items ≡ c.loop.lengths.items ++ c.in_ok-number.field-0 ∷ [] =
+    let items : c.push.new.self.items ≡ c.loop.lengths.items ++ c.in_ok-length.length ∷ [] =
     grind (arith, common_steps) in
     let read : read_name number c.loop.self.rest.now (state_of c.loop.self)
-    ≡ Some (c.in_ok-number.field-0, c.number.new.self.rest.now, state_of c.number.new.self) = search rules in
+    ≡ Some (c.in_ok-length.length, c.number.new.self.rest.now, state_of c.number.new.self) = search rules in
     let one_less : c.args.count - c.loop.counter ≡ suc (c.args.count - (c.loop.counter + 1)) = omega arith in (
       ap (λ (zs : List ℤ). with_front zs
           (read_name (lengths (c.args.count - (c.loop.counter + 1))) c.number.new.self.rest.now
@@ -20,7 +20,8 @@ loop-preserved c =
           items
           ∙ sym (lengths_more c.loop.lengths.items (c.args.count - c.loop.counter) (c.args.count - (c.loop.counter + 1))
           c.loop.self.rest.now c.number.new.self.rest.now (state_of c.loop.self) (state_of c.number.new.self)
-          c.in_ok-number.field-0 one_less read)
+          c.in_ok-length.length one_less read)
           ∙ c.loop.invariant.0,
-      omega (arith, c.in_ok-number.ensures.shorter),
+      omega (arith, c.in_ok-length.ensures.eats.0, c.loop.invariant.1),
+      c.in_ok-length.ensures.eats.1 ∙ c.loop.invariant.2,
     )

@@ -1,0 +1,29 @@
+use Rattle.std.proofs.Common.{ℕ, drop, sym, ap, ◌∙◌, add-one}
+use Rattle.std.specs.Prelude.{map}
+use Rattle.std.specs.List.{list_any}
+use Rattle.msvc_tree.specs.Equality.{same_type}
+use Rattle.msvc_tree.specs.Trees.{TypeTree}
+use Rattle.msvc_tree.specs.NodeView.{type_of}
+use Rattle.msvc_read.specs.Parser.{memorized_of}
+use Rattle.msvc_read.proofs.Nodes.{found_here, found_later}
+use Rattle.msvc_read.proofs.memorized.is_known_type.Goals as goal
+
+-- an equal entry is found where it stands
+pub returns-then-is_same_type : goal.returns-then-is_same_type
+returns-then-is_same_type c =
+    let t : TypeTree = type_of c.args.memorized.now in
+    let same = sym (c.if-is_same_type.ensures) in
+    sym (found_here (λ known. same_type t known.entered) memorized_of c.args.types.now c.loop-known.known-index _
+    c.loop-known-test.true same)
+    ∙ c.loop-known.invariant
+
+-- an entry that is another type is passed over
+pub loop-known-preserved : goal.loop-known-preserved
+loop-known-preserved c =
+    let t : TypeTree = type_of c.args.memorized.now in
+    let other = sym (c.if-is_same_type.ensures) in
+    ap (λ (i : ℕ). list_any (λ known. same_type t known.entered) (map memorized_of (drop i c.args.types.now)))
+    (add-one c.loop-known.known-index)
+    ∙ sym (found_later (λ known. same_type t known.entered) memorized_of c.args.types.now c.loop-known.known-index _
+    c.loop-known-test.true other)
+    ∙ c.loop-known.invariant

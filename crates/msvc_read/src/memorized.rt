@@ -1,0 +1,248 @@
+//! Back references: the names and types that were memorized, and the digits that stand for them.
+
+ghost use Rattle.std.specs.List.{list_any};
+ghost use Rattle.std.specs.Prelude.{◌≡◌, ◌≤◌, ◌++◌, [], drop, length, map, slice_get, take, IfOk, Some};
+ghost use Rattle.msvc_tree.specs.Equality.{same_name, same_type};
+ghost use Rattle.msvc_tree.specs.NodeView.{name_at, name_of, type_at, type_of};
+ghost use Rattle.msvc_read.specs.Parser.{ReadsAs, Stays, memorized_of};
+ghost use Rattle.msvc_read.specs.Reads.{type_known, type_noted, with_value};
+ghost use Rattle.msvc_read.specs.Stack.{here, outer};
+ghost use Rattle.msvc_read.specs.State.{remember_name, remember_type, span_of, with_name, with_type};
+
+use crate::parser::Parser;
+use crate::refusal::{Message, Refused};
+use crate::stack::Stack;
+use bumpalo::Bump;
+use msvc_tree::nodes::{Name, Type};
+use msvc_tree::same::{is_same_name, is_same_type};
+use std::alloc::AllocError;
+
+/// How many names are memorized at most, and how many types.
+const MOST_MEMORIZED: usize = 10;
+
+/// A digit that was read as a whole parameter. Places are offsets into the text, in bytes.
+#[derive(Clone, Copy, PartialEq, Eq, Debug)]
+pub struct BackReference {
+    /// The place of the digit.
+    pub at: usize,
+    /// Where the bytes start that entered its type into the table.
+    pub start: usize,
+    /// Where these bytes end.
+    pub end: usize,
+}
+
+/// A type that was memorized, with the places where its bytes start and end.
+#[derive(Clone, Copy)]
+pub struct MemorizedType<'a, 'b> {
+    pub memorized: &'b Type<'a, 'b>,
+    pub start: usize,
+    pub end: usize,
+}
+
+/// What a digit can stand for: the names and the types that were memorized. A template has its own, and while it is
+/// read those of what is around it are kept before them.
+#[derive(Drop)]
+pub struct Memorized<'a, 'b> {
+    pub names: Stack<'b, &'b Name<'a, 'b>>,
+    pub types: Stack<'b, MemorizedType<'a, 'b>>,
+}
+
+/// Where the tables begin of what is around a template.
+#[derive(Clone, Copy)]
+pub struct Outer {
+    names: usize,
+    types: usize,
+}
+
+impl<'a, 'b> Memorized<'a, 'b> {
+    /// Tables in which nothing is memorized.
+    pub fn new(arena: &'b Bump) -> Memorized<'a, 'b>
+        ensures names { (here result.names ≡ []) × (outer result.names ≡ []) }
+        ensures types { (here result.types ≡ []) × (outer result.types ≡ []) }
+    {
+        Memorized {
+            names: Stack::new(arena),
+            types: Stack::new(arena),
+        }
+    }
+
+    /// Begins a template, in which nothing is memorized yet.
+    pub fn open_template(&mut self) -> Outer
+        ensures place { (result.names ≡ length (outer self.old.names))
+            × (result.types ≡ length (outer self.old.types)) }
+        ensures here { (here self.new.names ≡ []) × (here self.new.types ≡ []) }
+        ensures outer { (outer self.new.names ≡ outer self.old.names ++ here self.old.names)
+            × (outer self.new.types ≡ outer self.old.types ++ here self.old.types) }
+    {
+        Outer {
+            names: self.names.begin(),
+            types: self.types.begin(),
+        }
+    }
+
+    /// Ends a template: what it memorized is forgotten, and what is around it has its tables again.
+    pub fn close_template(&mut self, around: Outer)
+        requires { (around.names ≤ length (outer self.old.names)) × (around.types ≤ length (outer self.old.types)) }
+        ensures here { (here self.new.names ≡ drop around.names (outer self.old.names))
+            × (here self.new.types ≡ drop around.types (outer self.old.types)) }
+        ensures outer { (outer self.new.names ≡ take around.names (outer self.old.names))
+            × (outer self.new.types ≡ take around.types (outer self.old.types)) }
+    {
+        self.names.end(around.names);
+        self.types.end(around.types);
+    }
+
+    /// Memorizes a name, if there is room and no equal one.
+    #[inline(always)]
+    fn memorize_name(&mut self, name: &'b Name<'a, 'b>) -> Result<(), AllocError>
+        ensures names { IfOk result (λ _. map name_at (here self.new.names)
+            ≡ with_name (name_of name.now) (map name_at (here self.old.names))) }
+        ensures outer { IfOk result (λ _. outer self.new.names ≡ outer self.old.names) }
+        ensures types { self.new.types ≡ self.old.types }
+    {
+        if self.names.len() < MOST_MEMORIZED && !is_known_name(self.names.items(), name) {
+            self.names.push(name)?;
+        }
+        Ok(())
+    }
+
+    /// Memorizes a type, if there is room and no equal one.
+    #[inline(always)]
+    fn memorize_type(&mut self, new: MemorizedType<'a, 'b>) -> Result<(), AllocError>
+        ensures types { IfOk result (λ _. map memorized_of (here self.new.types)
+            ≡ with_type (memorized_of new.entry) (map memorized_of (here self.old.types))) }
+        ensures outer { IfOk result (λ _. outer self.new.types ≡ outer self.old.types) }
+        ensures names { self.new.names ≡ self.old.names }
+    {
+        if self.types.len() < MOST_MEMORIZED && !is_known_type(self.types.items(), new.memorized) {
+            self.types.push(new)?;
+        }
+        Ok(())
+    }
+}
+
+impl<'a, 'b> Parser<'a, 'b> {
+    /// Puts a name into the arena and memorizes it.
+    #[inline(always)]
+    pub fn memorized_name(&mut self, name: Name<'a, 'b>) -> Result<&'b Name<'a, 'b>, Refused>
+        ensures value { ReadsAs name_at self.old self.new result
+            (λ left s. with_value (Some (name_of name.entry)) left (remember_name (name_of name.entry) s)) }
+        ensures stays { Stays self.old self.new result }
+    {
+        let name = self.put_name(name)?;
+        self.memorize_name(name)
+    }
+
+    /// Memorizes a name, and gives it back.
+    #[inline(always)]
+    pub fn memorize_name(&mut self, name: &'b Name<'a, 'b>) -> Result<&'b Name<'a, 'b>, Refused>
+        ensures value { ReadsAs name_at self.old self.new result
+            (λ left s. with_value (Some (name_of name.now)) left (remember_name (name_of name.now) s)) }
+        ensures stays { Stays self.old self.new result }
+    {
+        if self.memorized.memorize_name(name).is_err() {
+            return Err(self.no_memory());
+        }
+        Ok(name)
+    }
+
+    /// The name that a digit stands for.
+    #[inline(always)]
+    pub fn name_of_digit(&mut self, digit: u8) -> Result<&'b Name<'a, 'b>, Refused>
+        ensures value { ReadsAs name_at self.old self.new result
+            (λ left s. with_value (slice_get s.names digit) left s) }
+        ensures stays { Stays self.old self.new result }
+    {
+        match self.memorized.names.get(usize::from(digit)) {
+            Some(name) => Ok(name),
+            None => Err(self.refuse(Message::NameReferenceTooLarge)),
+        }
+    }
+
+    /// The type that a digit stands for inside another type.
+    #[inline(always)]
+    pub fn type_of_digit(&mut self, digit: u8) -> Result<&'b Type<'a, 'b>, Refused>
+        ensures value { ReadsAs type_at self.old self.new result
+            (λ left s. type_known (slice_get s.types digit) left s) }
+        ensures stays { Stays self.old self.new result }
+    {
+        match self.memorized.types.get(usize::from(digit)) {
+            Some(entry) => Ok(entry.memorized),
+            None => Err(self.refuse(Message::InvalidBackReference(digit))),
+        }
+    }
+
+    /// The type that a digit stands for as a whole parameter. The digit, with which `begun` begins, is noted.
+    #[tactic(auto, using(crate::proofs::Nodes::entry_split))]
+    #[inline(always)]
+    pub fn parameter_of_digit(
+        &mut self,
+        digit: u8,
+        begun: &[u8],
+    ) -> Result<&'b Type<'a, 'b>, Refused>
+        ensures value { ReadsAs type_at self.old self.new result
+            (λ left s. type_noted (slice_get s.types digit) begun.now left s) }
+        ensures stays { Stays self.old self.new result }
+    {
+        let Some(entry) = self.memorized.types.get(usize::from(digit)) else {
+            return Err(self.refuse(Message::InvalidBackReference(digit)));
+        };
+        let note = BackReference {
+            at: self.place_of(begun),
+            start: entry.start,
+            end: entry.end,
+        };
+        if self.notes.push(note).is_err() {
+            return Err(self.no_memory());
+        }
+        Ok(entry.memorized)
+    }
+
+    /// Memorizes the type of the bytes from `begun` up to those left, and gives it back.
+    #[inline(always)]
+    pub fn memorize_type(
+        &mut self,
+        memorized: &'b Type<'a, 'b>,
+        begun: &[u8],
+    ) -> Result<&'b Type<'a, 'b>, Refused>
+        ensures value { ReadsAs type_at self.old self.new result
+            (λ left s. with_value (Some (type_of memorized.now)) left
+            (remember_type (span_of (type_of memorized.now) begun.now left s) s)) }
+        ensures stays { Stays self.old self.new result }
+    {
+        let entry = MemorizedType {
+            memorized,
+            start: self.place_of(begun),
+            end: self.place_of(self.rest),
+        };
+        if self.memorized.memorize_type(entry).is_err() {
+            return Err(self.no_memory());
+        }
+        Ok(memorized)
+    }
+}
+
+/// Whether an equal name stands among these.
+fn is_known_name<'a, 'b>(names: &[&'b Name<'a, 'b>], name: &'b Name<'a, 'b>) -> bool
+    ensures { result ≡ list_any (same_name (name_of name.now)) (map name_at names.now) }
+{
+    for known in names {
+        if is_same_name(name, *known) {
+            return true;
+        }
+    }
+    false
+}
+
+/// Whether an equal type stands among these.
+fn is_known_type<'a, 'b>(types: &[MemorizedType<'a, 'b>], memorized: &'b Type<'a, 'b>) -> bool
+    ensures { result ≡ list_any (λ known. same_type (type_of memorized.now) known.entered)
+        (map memorized_of types.now) }
+{
+    for known in types {
+        if is_same_type(memorized, known.memorized) {
+            return true;
+        }
+    }
+    false
+}
