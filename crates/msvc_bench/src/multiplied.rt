@@ -18,7 +18,7 @@ mod tests {
     use super::multiplied;
     use crate::references::written_out;
     use msvc_demangler::{DemangleFlags, Error, back_references, demangle};
-    use std::alloc::Global;
+    use std::alloc::{AllocError, Global};
     use std::test::Fail;
 
     #[test]
@@ -28,6 +28,32 @@ mod tests {
         let ten = multiplied(rt.alloc(), 10)?;
         assert_eq!(rt; ten.len(), 92);
         assert_eq!(rt; back_references(rt.alloc(), ten.as_str())?.len(), 20);
+        Ok(())
+    }
+
+    /// A variable of a template with functions as above for its arguments, whose first is such a template again, and so
+    /// on to a depth: each level has a thousand times the nodes of the one in it, and 79 bytes more.
+    fn nested(alloc: Global, depth: u32) -> Result<String, AllocError> {
+        let mut text = String::from_str(alloc, "?x@@3")?;
+        for _ in 0..=depth {
+            text.push_str("V?$A@")?;
+        }
+        text.push_str("PAH")?;
+        for _ in 0..=depth {
+            text.push_str("P6AX00@ZP6AX11@ZP6AX22@ZP6AX33@ZP6AX44@Z")?;
+            text.push_str("P6AX55@ZP6AX66@ZP6AX77@ZP6AX88@Z@@")?;
+        }
+        text.push('A')?;
+        Ok(text)
+    }
+
+    #[test]
+    fn digits_of_nested_templates(rt: HostRuntime) -> Result<(), Fail> {
+        for (depth, length, digits) in [(0, 88, 18), (1, 167, 36), (20, 1668, 378)] {
+            let text = nested(rt.alloc(), depth)?;
+            assert_eq!(rt; text.len(), length);
+            assert_eq!(rt; back_references(rt.alloc(), text.as_str())?.len(), digits);
+        }
         Ok(())
     }
 
