@@ -5,6 +5,7 @@
 pub mod error;
 pub mod flags;
 pub mod kinds;
+pub mod lent;
 pub mod list;
 mod made;
 pub mod node;
