@@ -49,7 +49,37 @@ abbrev pub texts_behind : {A : Type 0} → List ℕ → List (ℕ × A) → List
 texts_behind text [] others = others
 texts_behind text (row ∷ table) others = (text ++ row.0 ∷ [], row.1) ∷ texts_behind text table others
 
+-- Letters that stand by themselves
+
+-- the @ that ends a name, a list or a number
+abbrev pub at_sign : ℕ
+at_sign = 64
+
+-- the $ that begins the texts of many types
+abbrev pub dollar_sign : ℕ
+dollar_sign = 36
+
+-- the _ that stands before the last letters of special names
+abbrev pub underscore : ℕ
+underscore = 95
+
+-- the R that stands, behind a _, before those of type information
+abbrev pub type_information_letter : ℕ
+type_information_letter = 82
+
+-- the Z that ends parameters with an ellipsis
+abbrev pub ellipsis_letter : ℕ
+ellipsis_letter = 90
+
 -- Digits
+
+-- what decimal digits count to
+abbrev pub decimal_base : ℕ
+decimal_base = 10
+
+-- what hexadecimal digits count to
+abbrev pub hexadecimal_base : ℕ
+hexadecimal_base = 16
 
 -- the digits, which stand for entries of tables
 abbrev pub digits : List (ℕ × ℕ)

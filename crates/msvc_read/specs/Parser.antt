@@ -12,6 +12,7 @@ use Rattle.msvc_tree.specs.declared.nodes.Name.{Name}
 use Rattle.msvc_tree.specs.declared.nodes.Type.{«Type»}
 use Rattle.msvc_read.specs.Stack.{here, outer}
 use Rattle.msvc_read.specs.Grammar.{is_guard, is_hash, with_index}
+use Rattle.msvc_read.specs.Letters.{at_sign, dollar_sign, ellipsis_letter, type_information_letter, underscore}
 use Rattle.msvc_read.specs.Letters.{qualifiers, reference_qualifiers, second_special_letters, special_letters}
 use Rattle.msvc_read.specs.Letters.{storage_classes, third_special_letters, type_information_letters, type_texts}
 use Rattle.msvc_read.specs.declared.special_names.SpecialForm.{SpecialForm}
@@ -161,14 +162,14 @@ one_less b [] = []
 one_less b (row ∷ others) = begun_by b row.0 row.1 (one_less b others)
 
 abbrev pub dollar_texts : List (List ℕ × TypeForm)
-dollar_texts = one_less 36 type_texts
+dollar_texts = one_less dollar_sign type_texts
 
 abbrev pub double_dollar_texts : List (List ℕ × TypeForm)
-double_dollar_texts = one_less 36 dollar_texts
+double_dollar_texts = one_less dollar_sign dollar_texts
 
 -- how many bytes stand before the first @
 unfoldable pub name_length : List ℕ → Option ℕ
-name_length left = position (λ b. b == 64) left
+name_length left = position (λ b. b == at_sign) left
 
 -- the bytes before a place and those behind the byte there, if there is one
 abbrev pub cut_at : Option ℕ → List ℕ → state.State → Found (List ℕ)
@@ -179,7 +180,8 @@ cut_at (Some i) left s = Some (take i left, drop (i + 1) left, s)
 unfoldable pub parameters_stop : List ℕ → Option (Ellipsis × List ℕ)
 parameters_stop [] = Some (ellipsis.Absent, [])
 parameters_stop (b ∷ bs) =
-    if b == 64 then Some (ellipsis.Absent, bs) else (if b == 90 then Some (ellipsis.Present, bs) else None)
+    if b == at_sign then Some (ellipsis.Absent, bs)
+    else (if b == ellipsis_letter then Some (ellipsis.Present, bs) else None)
 
 -- what a list of parameters has after its last one
 abbrev pub ellipsis_types : Ellipsis → List TypeTree
@@ -219,12 +221,13 @@ letter_at table (b ∷ bs) = at_rest (lookup b table) bs
 unfoldable pub marked_at : List ℕ → Option (SpecialForm × List ℕ)
 marked_at [] = None
 marked_at (b ∷ bs) =
-    if b == 95 then letter_at third_special_letters bs
-    else (if b == 82 then letter_at type_information_letters bs else at_rest (lookup b second_special_letters) bs)
+    if b == underscore then letter_at third_special_letters bs
+    else (if b == type_information_letter then letter_at type_information_letters bs
+    else at_rest (lookup b second_special_letters) bs)
 
 unfoldable pub special_at : List ℕ → Option (SpecialForm × List ℕ)
 special_at [] = None
-special_at (b ∷ bs) = if b == 95 then marked_at bs else at_rest (lookup b special_letters) bs
+special_at (b ∷ bs) = if b == underscore then marked_at bs else at_rest (lookup b special_letters) bs
 
 -- the guard that a name is
 abbrev pub guard_of : NameTree → Option Guard
