@@ -20,4 +20,4 @@ mod type_forms;
 mod types;
 
 pub use memorized::BackReference;
-pub use read::{back_references, parse, parse_prefix};
+pub use read::{back_references, parse, parse_prefix, read_symbol, room_for};

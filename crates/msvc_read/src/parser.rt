@@ -19,13 +19,11 @@ use bitflags::Flags;
 use bumpalo::Bump;
 use msvc_tree::flags::StorageClass;
 use msvc_tree::nodes::{Name, Type};
-use std::alloc::Global;
 
 /// A text that is being read.
 #[derive(Drop)]
 pub struct Parser<'a, 'b> {
-    pub alloc: Global,
-    /// Where nodes are put.
+    /// Where nodes are put, and all that grows while they are read.
     pub arena: &'b Bump,
     /// How many bytes the whole text has.
     pub whole: usize,
@@ -38,26 +36,25 @@ pub struct Parser<'a, 'b> {
     /// The parameters that are being read.
     pub listed_types: Stack<'b, &'b Type<'a, 'b>>,
     /// The digits that were read as whole parameters.
-    pub notes: Vec<BackReference>,
+    pub notes: Vec<BackReference, &'b Bump>,
     /// Why nothing was read, where a reader says so.
     pub why: Refusal,
 }
 
 impl<'a, 'b> Parser<'a, 'b> {
     /// A parser at the beginning of a text.
-    pub fn new(alloc: Global, arena: &'b Bump, text: &'a [u8]) -> Parser<'a, 'b>
+    pub fn new(arena: &'b Bump, text: &'a [u8]) -> Parser<'a, 'b>
         ensures rest { result.rest.now ≡ text.now }
         ensures state { state_of result ≡ beginning text.now }
     {
         Parser {
-            alloc,
             arena,
             whole: text.len(),
             rest: text,
             memorized: Memorized::new(arena),
             listed_names: Stack::new(arena),
             listed_types: Stack::new(arena),
-            notes: Vec::new(alloc),
+            notes: Vec::new(arena),
             why: Refusal::Memory,
         }
     }

@@ -17,6 +17,7 @@ ghost use Rattle.msvc_read.specs.Stack.{here, outer};
 use crate::letters;
 use crate::parser::Parser;
 use crate::refusal::{Message, Refusal, Refused};
+use bumpalo::Bump;
 use msvc_tree::list::List;
 use msvc_tree::nodes::{Name, Symbol, Template, Type, Whole};
 use msvc_tree::same::is_same_name;
@@ -281,12 +282,12 @@ impl<'a, 'b> Parser<'a, 'b> {
 
     /// `HEXADECIMAL_DIGITS = {hexadecimal digit} "@"`: the digits, after `0x`.
     #[tactic(auto, using(crate::proofs::RowSteps::hexadecimal_digits_go_on))]
-    fn gathered_digits(&mut self) -> Result<String, Refused>
+    fn gathered_digits(&mut self) -> Result<String<&'b Bump>, Refused>
         ensures value { ReadsAs string_bytes self.old self.new result
             (λ left s. and_then (read_name hexadecimal_digits left s) (λ ds left s. Some (codes "0x" ++ ds, left, s))) }
         ensures eats { Eats self.old self.new result }
     {
-        let Ok(mut digits) = String::from_str(self.alloc, "0x") else {
+        let Ok(mut digits) = String::from_str(self.arena, "0x") else {
             return Err(self.no_memory());
         };
         'digits: loop {

@@ -1,7 +1,7 @@
 //! The reading of a whole text.
 
 ghost use Rattle.std.specs.Option.{option_map};
-ghost use Rattle.std.specs.Prelude.{◌≡◌, codes, ℕ, List, length, map, IfOk, IfErr, None, Err};
+ghost use Rattle.std.specs.Prelude.{◌≡◌, ◌≤◌, ◌^◌, codes, ℕ, List, length, map, IfOk, IfErr, None, Err};
 ghost use Rattle.std.specs.Str.{IsCharBoundary, IsUtf8};
 ghost use Rattle.msvc_tree.specs.EachName.{EachName};
 ghost use Rattle.msvc_tree.specs.NodeView.{whole_of};
@@ -27,12 +27,13 @@ use msvc_tree::owned::owned_whole;
 use msvc_tree::tree::ParseResult;
 use std::alloc::Global;
 
-/// How many bytes of the arena a byte of a symbol takes at most: for a node, and its places in a list and in a table
-/// that have grown by doubling.
-const ROOM_OF_A_BYTE: usize = 96;
+/// How many bytes of an arena a byte of a symbol takes at most. 96 are for a node, and its places in a list and in a
+/// table that have grown by doubling. 64 are for the stack of the printer, which has grown by doubling too, and has one
+/// item for two bytes of text at most.
+const ROOM_OF_A_BYTE: usize = 160;
 
-/// How many bytes the lists and tables of a parser take at first.
-const ROOM_AT_FIRST: usize = 1024;
+/// How many bytes the lists and tables of a parser take at first, and the stack of the printer.
+const ROOM_AT_FIRST: usize = 2048;
 
 /// How many bytes an arena begins with at most.
 const MOST_ROOM: usize = 1 << 20;
@@ -86,6 +87,33 @@ pub fn parse_prefix<'a>(alloc: Global, input: &'a str) -> Result<(ParseResult<'a
     }
 }
 
+/// The symbol that `input` begins with, as nodes in the arena: what [`parse`] makes its tree of. Its names are parts of
+/// `input`; all else is in the arena, where nothing is copied that stands twice.
+///
+/// It refuses where [`parse`] does, with the same refusal.
+pub fn read_symbol<'a, 'b>(
+    alloc: Global,
+    arena: &'b Bump,
+    input: &'a str,
+) -> Result<Whole<'a, 'b>, Error>
+    ensures derived { IfOk result (λ r. (rest : List ℕ) × (notes : List Note)
+        × Derives input.now (whole_of r) rest notes
+        × ((tree : SymbolTree) (behind : List ℕ) (others : List Note) → Derives input.now tree behind others
+        → (tree ≡ whole_of r) × (behind ≡ rest) × (others ≡ notes))) }
+    ensures written_out { DigitsCanBeWrittenOut input.now }
+    ensures parts { IfOk result (λ r. NamesAreParts input.now (whole_of r)) }
+    ensures texts { IfOk result (λ r. EachName IsUtf8 (whole_of r)) }
+    ensures hashes { IfOk result (λ r. HashesStand input.now (whole_of r)) }
+    ensures refused { IfErr result (λ e. IsRefusedRightly input.now e) }
+    ensures begins { (begins_with (codes "?") input.now → ⊥) → IfErr result (λ e. IsRefusalAt input.now 0 e) }
+    ensures begins_ok { IfOk result (λ r. begins_with (codes "?") input.now) }
+{
+    match read_nodes(arena, input) {
+        Ok((whole, _)) => Ok(whole),
+        Err(refusal) => Err(refusal.error(alloc, input.as_bytes())),
+    }
+}
+
 /// The digits of the symbol that `input` begins with which were read as whole parameters, rising by place. With the
 /// bytes of one in place of its digit, the text has the same tree and leaves the same bytes unread.
 ///
@@ -108,6 +136,19 @@ pub fn back_references(alloc: Global, input: &str) -> Result<Vec<BackReference>,
     }
 }
 
+/// How many bytes an arena needs for the nodes of this text's symbol, for the lists of those who read it and for the
+/// printing of it: so that it makes one request for memory and not several. At most a megabyte: of a longer text the
+/// rest is asked for as it is read.
+pub fn room_for(input: &str) -> usize
+    ensures most { result ≤ 2 ^ 20 }
+{
+    input
+        .len()
+        .saturating_mul(ROOM_OF_A_BYTE)
+        .saturating_add(ROOM_AT_FIRST)
+        .min(MOST_ROOM)
+}
+
 /// An arena for the nodes of a text's symbol, where the text begins as one. Its first chunk has room for all of them,
 /// so one request for memory is made and not several; of a long text, the rest is asked for as it is read.
 #[tactic(auto, using(crate::proofs::SymbolSteps::symbol_step))]
@@ -119,12 +160,7 @@ fn arena_for(alloc: Global, input: &str) -> Result<Bump, Refusal>
     let [b'?', ..] = input.as_bytes() else {
         return Err(Refusal::Unread(Message::NoQuestionMark, input.len()));
     };
-    let room = input
-        .len()
-        .saturating_mul(ROOM_OF_A_BYTE)
-        .saturating_add(ROOM_AT_FIRST)
-        .min(MOST_ROOM);
-    match Bump::try_with_capacity(alloc, room) {
+    match Bump::try_with_capacity(alloc, room_for(input)) {
         Ok(arena) => Ok(arena),
         Err(_) => Err(Refusal::Memory),
     }
@@ -138,7 +174,7 @@ fn read<'a>(alloc: Global, input: &'a str) -> Result<(ParseResult<'a>, usize), R
         → result ≡ Err (Refusal.Unread Message.NoQuestionMark (length input.now)) }
 {
     let arena = arena_for(alloc, input)?;
-    let (symbol, bytes) = read_nodes(alloc, &arena, input)?;
+    let (symbol, bytes) = read_nodes(&arena, input)?;
     match owned_whole(alloc, &symbol) {
         Ok(tree) => Ok((tree, bytes)),
         Err(_) => Err(Refusal::Memory),
@@ -147,17 +183,13 @@ fn read<'a>(alloc: Global, input: &'a str) -> Result<(ParseResult<'a>, usize), R
 
 /// The symbol at the beginning of a text as nodes of the arena, and how many bytes of the text were read.
 #[inline(always)]
-fn read_nodes<'a, 'b>(
-    alloc: Global,
-    arena: &'b Bump,
-    input: &'a str,
-) -> Result<(Whole<'a, 'b>, usize), Refusal>
+fn read_nodes<'a, 'b>(arena: &'b Bump, input: &'a str) -> Result<(Whole<'a, 'b>, usize), Refusal>
     ensures value { IsRead (λ r. (whole_of r.0, r.1)) result
         (with_length input.now (read_name symbol input.now (beginning input.now))) }
     ensures start { after (codes "?") input.now ≡ None
         → result ≡ Err (Refusal.Unread Message.NoQuestionMark (length input.now)) }
 {
-    let mut parser = Parser::new(alloc, arena, input.as_bytes());
+    let mut parser = Parser::new(arena, input.as_bytes());
     match parser.symbol() {
         Ok(symbol) => Ok((symbol, input.len().saturating_sub(parser.rest.len()))),
         Err(_) => Err(parser.why),
@@ -172,9 +204,12 @@ fn notes(alloc: Global, input: &str) -> Result<Vec<BackReference>, Refusal>
         → result ≡ Err (Refusal.Unread Message.NoQuestionMark (length input.now)) }
 {
     let arena = arena_for(alloc, input)?;
-    let mut parser = Parser::new(alloc, &arena, input.as_bytes());
-    match parser.symbol() {
-        Ok(_) => Ok(parser.notes),
-        Err(_) => Err(parser.why),
+    let mut parser = Parser::new(&arena, input.as_bytes());
+    if parser.symbol().is_err() {
+        return Err(parser.why);
+    }
+    match Vec::from_slice(alloc, &parser.notes) {
+        Ok(noted) => Ok(noted),
+        Err(_) => Err(Refusal::Memory),
     }
 }
