@@ -1,14 +1,11 @@
 -- Names of operators, by their kinds, and types, by what a name of an operator asks of them.
-use Rattle.std.proofs.Common.{◌≡◌, ℕ, ℤ, ◌≤◌, List, [], ◌∷◌, Bool, false, refl, ap, ◌∙◌, arith}
+use Rattle.std.proofs.Common.{◌≡◌, ℕ, ℤ, ◌≤◌, List, [], ◌∷◌, refl, ap, ◌∙◌, arith}
 use Rattle.std.proofs.Common.{codes}
 use Rattle.std.specs.Fmt.{signed_decimal}
-use Rattle.msvc_tree.specs.Nodes.{without_class}
-use Rattle.msvc_tree.specs.Trees.{TypeTree, operator, member_function, member_pointer}
-use Rattle.msvc_tree.specs.View.{operator_of}
+use Rattle.msvc_tree.specs.Trees.{TypeTree, operator, member_function}
 use Rattle.msvc_tree.specs.declared.kinds.PlainOperator.{PlainOperator}
 use Rattle.msvc_tree.specs.declared.kinds.PlainOperator.TheVariants as plain_operator
-use Rattle.msvc_tree.specs.declared.tree.Operator as code_operator
-use Rattle.msvc_write.specs.Declaration.{conversion, name_pieces}
+use Rattle.msvc_write.specs.Declaration.{conversion}
 use Rattle.msvc_write.specs.Operators.{base_class_pieces, listed, own_kind, spaced}
 use Rattle.msvc_write.specs.Pieces.{Piece, settle_all, text}
 use Rattle.msvc_write.proofs.Settling.{settled_two}
@@ -26,18 +23,6 @@ own_kind-other plain_operator.Conversion a b c d e = absurd (c refl)
 own_kind-other plain_operator.VBTable a b c d e = absurd (d refl)
 own_kind-other plain_operator.LiteralOperatorName a b c d e = absurd (e refl)
 own_kind-other _ a b c d e = refl
-
--- an operator prints the same in any place but behind its own scope
-pub name_pieces-operator : (o : code_operator.Operator) (own : Bool) (flags : ℕ) →
-    name_pieces (operator_of o) own flags ≡ name_pieces (operator_of o) false flags
-unfolding name_pieces operator_of
-name_pieces-operator (code_operator.LocalStaticGuard n) own flags = refl
-name_pieces-operator _ own flags = refl
-
-pub member_return-without : (t : TypeTree) → member_return (without_class t) ≡ member_return t
-unfolding member_return
-member_return-without (member_pointer n ns f c ts q t) = refl
-member_return-without _ = refl
 
 pub conversion-return : (t : TypeTree) (name : List Piece) (flags : ℕ) →
     conversion t name flags ≡ conversion_to (member_return t) name flags

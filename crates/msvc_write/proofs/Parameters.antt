@@ -1,126 +1,132 @@
 -- What lists of parameters print, by their parts.
-use Rattle.std.proofs.Common.{◌≡◌, ℕ, zero, suc, ◌+◌, ◌<◌, ◌≤◌, List, [], ◌∷◌, ◌++◌, Bool, true, false, cond, length}
-use Rattle.std.proofs.Common.{get_or, drop, refl, ap, sym, ◌∙◌, arith, codes}
-use Rattle.std.proofs.lemmas.List.{append_assoc}
-use Rattle.msvc_tree.specs.View.{params_of, type_of, types_in}
-use Rattle.msvc_tree.specs.declared.tree.Type.{«Type»}
-use Rattle.msvc_tree.specs.declared.tree.Params.{Params}
+use Rattle.std.proofs.Common.{◌≡◌, ℕ, ℤ, suc, ◌+◌, ◌-◌, ◌<◌, ◌≤◌, List, [], ◌∷◌, ◌++◌, Bool, true, false, cond, length}
+use Rattle.std.proofs.Common.{get_or, drop, take, refl, ap, sym, ◌∙◌, arith, codes}
+use Rattle.std.proofs.lemmas.List.{append_assoc, take_all}
+use Rattle.std.specs.Fmt.{signed_decimal}
+use Rattle.msvc_tree.specs.Trees.{TypeTree, TypeTrees, array, no_types, types}
+use Rattle.std.specs.Borrow.{Bor}
+use Rattle.msvc_tree.specs.NodeView.{type_of, types_in}
+use Rattle.msvc_tree.specs.declared.flags.StorageClass.{StorageClass}
+use Rattle.msvc_tree.specs.declared.nodes.Type.{«Type»}
 use Rattle.msvc_write.proofs.Settling.{settle_all-append, settle_all-first, settled_three}
 use Rattle.msvc_write.specs.Declaration.{after, before, is_empty_pack, member_pointer_end, parameters}
 use Rattle.msvc_write.specs.Functions.{function_end, own_qualifier, own_qualifiers, separator}
 use Rattle.msvc_write.specs.Pieces.{Piece, settle_all, text}
 use Rattle.msvc_write.specs.Weights.{type_weight, types_weight}
 use Rattle.msvc_write.specs.Words.{closing}
-use Rattle.msvc_write.specs.Work.{end_pieces, rest_of_parameters}
+use Rattle.msvc_write.specs.Work.{Lightens, end_pieces, rest_of_parameters, work}
+use Rattle.msvc_write.specs.declared.item.Item.{Item}
 use Rattle.msvc_write.specs.declared.item.ListEnd.{ListEnd}
 use Rattle.msvc_write.specs.declared.item.ListEnd.TheVariants.{Round, Bare}
-use Rattle.msvc_tree.specs.declared.flags.StorageClass.{StorageClass}
 
-if_true : (b : Bool) (xs ys : List Piece) → b ≡ true → cond b xs ys ≡ xs
-if_true b xs ys e = ap (λ b. cond b xs ys) e
+-- a list is empty, or it is its first type and the rest
+types_in-none : (ts : List (Bor «Type»)) → length ts < 1 → types_in ts ≡ no_types
+types_in-none [] none = refl
+types_in-none (x ∷ xs) none = absurd (omega arith)
 
-if_false : (b : Bool) (xs ys : List Piece) → b ≡ false → cond b xs ys ≡ ys
-if_false b xs ys e = ap (λ b. cond b xs ys) e
+types_in-first : (ts : List (Bor «Type»)) (d : Bor «Type») → 1 ≤ length ts →
+    types_in ts ≡ types (type_of (get_or ts 0 d).now) (types_in (take (length ts - 1) (drop 1 ts)))
+types_in-first [] d some = absurd (omega arith)
+types_in-first (x ∷ xs) d some =
+    let one : suc (length xs) - 1 ≡ length xs = omega arith in
+    ap (λ ys. types (type_of x.now) (types_in ys))
+    (sym (ap (λ k. take k xs) one ∙ take_all (length xs) xs (omega arith)))
 
-next : (k : ℕ) → suc k ≡ k + 1
-next k = omega arith
-
-pub parameters-empty : (ts : List «Type») (k : ℕ) (first : Bool) (flags : ℕ) → length ts ≤ k →
-    parameters (types_in (drop k ts)) first flags ≡ []
-unfolding parameters
-parameters-empty [] zero first flags h = refl
-parameters-empty [] (suc k) first flags h = refl
-parameters-empty (x ∷ xs) zero first flags h = absurd (omega arith)
-parameters-empty (x ∷ xs) (suc k) first flags h = parameters-empty xs k first flags (omega arith)
-
--- an empty pack is passed over
-pub parameters-dropped : (ts : List «Type») (t : «Type») (k : ℕ) (first : Bool) (flags : ℕ) → k < length ts →
-    t ≡ get_or ts k t →
-    is_empty_pack (type_of t) ≡ true →
-    parameters (types_in (drop k ts)) first flags ≡ parameters (types_in (drop (suc k) ts)) first flags
-unfolding parameters
-parameters-dropped [] t k first flags some is pack = absurd (omega arith)
-parameters-dropped (x ∷ xs) t zero first flags some is pack =
-    if_true _ _ _ (ap (λ y. is_empty_pack (type_of y)) (sym is) ∙ pack)
-parameters-dropped (x ∷ xs) t (suc k) first flags some is pack =
-    parameters-dropped xs t k first flags (omega arith) is pack
-
--- any other type is printed on both sides of nothing, and then the rest
-pub parameters-kept : (ts : List «Type») (t : «Type») (k : ℕ) (first : Bool) (flags : ℕ) → k < length ts →
-    t ≡ get_or ts k t →
-    is_empty_pack (type_of t) ≡ false →
-    parameters (types_in (drop k ts)) first flags
-    ≡ separator first flags ++ (before (type_of t) false flags
-    ++ (after (type_of t) false flags ++ parameters (types_in (drop (suc k) ts)) false flags))
-unfolding parameters
-parameters-kept [] t k first flags some is kept = absurd (omega arith)
-parameters-kept (x ∷ xs) t zero first flags some is kept =
-    if_false _ _ _ (ap (λ y. is_empty_pack (type_of y)) (sym is) ∙ kept)
-    ∙ ap (λ y. separator first flags ++ (before (type_of y) false flags
-    ++ (after (type_of y) false flags ++ parameters (types_in xs) false flags))) (sym is)
-parameters-kept (x ∷ xs) t (suc k) first flags some is kept = parameters-kept xs t k first flags (omega arith) is kept
-
-pub types_weight-first : (ts : List «Type») (t : «Type») (k : ℕ) → k < length ts → t ≡ get_or ts k t →
-    types_weight (types_in (drop k ts)) ≡ 3 + type_weight (type_of t) + type_weight (type_of t) + types_weight
-    (types_in (drop (suc k) ts))
+types_weight-first : (ts : List (Bor «Type»)) (d : Bor «Type») → 1 ≤ length ts →
+    types_weight (types_in ts) ≡ 3 + type_weight (type_of (get_or ts 0 d).now)
+    + type_weight (type_of (get_or ts 0 d).now) + types_weight (types_in (take (length ts - 1) (drop 1 ts)))
 unfolding types_weight
-types_weight-first [] t k some is = absurd (omega arith)
-types_weight-first (x ∷ xs) t zero some is =
-    ap (λ y. 3 + type_weight (type_of y) + type_weight (type_of y) + types_weight (types_in xs)) (sym is)
-types_weight-first (x ∷ xs) t (suc k) some is = types_weight-first xs t k (omega arith) is
+types_weight-first ts d some = ap types_weight (types_in-first ts d some)
 
-pub types_weight-next : (ts : List «Type») (t : «Type») (k : ℕ) → k < length ts → t ≡ get_or ts k t →
-    types_weight (types_in (drop k ts))
-    ≡ 3 + type_weight (type_of t) + type_weight (type_of t) + types_weight (types_in (drop (k + 1) ts))
-types_weight-next ts t k some is = types_weight-first ts t k some is
-    ∙ ap (λ j. 3 + type_weight (type_of t) + type_weight (type_of t) + types_weight (types_in (drop j ts))) (next k)
+-- the rest of a list weighs less
+pub types_weight-rest : (ts : List (Bor «Type»)) → 1 ≤ length ts →
+    types_weight (types_in (take (length ts - 1) (drop 1 ts))) < types_weight (types_in ts)
+types_weight-rest [] some = absurd (omega arith)
+types_weight-rest (x ∷ xs) some = omega (arith, types_weight-first (x ∷ xs) x some)
 
-pub types_weight-positive : (ts : List «Type») → 0 < types_weight (types_in ts)
+-- the first type is printed on both sides of nothing
+pub lightened-first : (ts : List (Bor «Type»)) (d : Bor «Type») (s s' s'' : List Item) → 1 ≤ length ts →
+    Lightens (type_weight (type_of (get_or ts 0 d).now)) s' s'' →
+    work s' ≤ type_weight (type_of (get_or ts 0 d).now) + work s →
+    work s'' + types_weight (types_in (take (length ts - 1) (drop 1 ts))) < types_weight (types_in ts) + work s
+lightened-first ts d s s' s'' some h h' = omega (arith, types_weight-first ts d some)
+
+pub types_weight-positive : (ts : List (Bor «Type»)) → 0 < types_weight (types_in ts)
 unfolding types_weight
 types_weight-positive [] = omega arith
 types_weight-positive (x ∷ xs) = omega arith
 
 -- what stands behind the last type of a list
-pub rest-end : (p : Params) (k : ℕ) (first : Bool) (end : ListEnd) (flags : ℕ) → length p.types.items ≤ k →
-    rest_of_parameters p k first end flags ≡ end_pieces end flags
-unfolding rest_of_parameters
-rest-end p k first end flags h =
-    ap (λ ps. ps ++ end_pieces end flags) (parameters-empty p.types.items k first flags h)
+pub rest-end : (ts : List (Bor «Type»)) (first : Bool) (end : ListEnd) (flags : ℕ) → length ts < 1 →
+    rest_of_parameters ts first end flags ≡ end_pieces end flags
+unfolding parameters
+rest-end ts first end flags none =
+    ap (λ us. parameters us first flags ++ end_pieces end flags) (types_in-none ts none)
 
-pub rest-dropped : (p : Params) (t : «Type») (k : ℕ) (first : Bool) (end : ListEnd) (flags : ℕ) →
-    k < length p.types.items → t ≡ get_or p.types.items k t → is_empty_pack (type_of t) ≡ true →
-    rest_of_parameters p k first end flags ≡ rest_of_parameters p (k + 1) first end flags
-unfolding rest_of_parameters
-rest-dropped p t k first end flags some is pack =
-    ap (λ ps. ps ++ end_pieces end flags) (parameters-dropped p.types.items t k first flags some is pack)
-    ∙ ap (λ j. parameters (types_in (drop j p.types.items)) first flags ++ end_pieces end flags) (next k)
+-- an empty pack is passed over
+pub rest-dropped : (ts : List (Bor «Type»)) (d : Bor «Type») (first : Bool) (end : ListEnd) (flags : ℕ) →
+    1 ≤ length ts → is_empty_pack (type_of (get_or ts 0 d).now) ≡ true →
+    rest_of_parameters ts first end flags
+    ≡ rest_of_parameters (take (length ts - 1) (drop 1 ts)) first end flags
+unfolding parameters
+rest-dropped ts d first end flags some pack =
+    let t : TypeTree = type_of (get_or ts 0 d).now in
+    let us : TypeTrees = types_in (take (length ts - 1) (drop 1 ts)) in
+    ap (λ us. parameters us first flags ++ end_pieces end flags) (types_in-first ts d some)
+    ∙ ap (λ b. cond b (parameters us first flags) (separator first flags ++ (before t false flags
+    ++ (after t false flags ++ parameters us false flags))) ++ end_pieces end flags) pack
 
-pub rest-kept : (p : Params) (t : «Type») (k : ℕ) (first : Bool) (end : ListEnd) (flags : ℕ) →
-    k < length p.types.items → t ≡ get_or p.types.items k t → is_empty_pack (type_of t) ≡ false →
-    rest_of_parameters p k first end flags
-    ≡ separator first flags ++ (before (type_of t) false flags
-    ++ (after (type_of t) false flags ++ rest_of_parameters p (k + 1) false end flags))
-unfolding rest_of_parameters
-rest-kept p t k first end flags some is kept =
+-- any other type is printed on both sides of nothing, and then the rest
+pub rest-kept : (ts : List (Bor «Type»)) (d : Bor «Type») (first : Bool) (end : ListEnd) (flags : ℕ) →
+    1 ≤ length ts → is_empty_pack (type_of (get_or ts 0 d).now) ≡ false →
+    rest_of_parameters ts first end flags
+    ≡ separator first flags ++ (before (type_of (get_or ts 0 d).now) false flags
+    ++ (after (type_of (get_or ts 0 d).now) false flags
+    ++ rest_of_parameters (take (length ts - 1) (drop 1 ts)) false end flags))
+unfolding parameters
+rest-kept ts d first end flags some kept =
+    let t : TypeTree = type_of (get_or ts 0 d).now in
+    let us : TypeTrees = types_in (take (length ts - 1) (drop 1 ts)) in
     let last : List Piece = end_pieces end flags in
     let s : List Piece = separator first flags in
-    let b : List Piece = before (type_of t) false flags in
-    let a : List Piece = after (type_of t) false flags in
-    let later : List Piece = parameters (types_in (drop (suc k) p.types.items)) false flags in
-    ap (λ ps. ps ++ last) (parameters-kept p.types.items t k first flags some is kept)
+    let b : List Piece = before t false flags in
+    let a : List Piece = after t false flags in
+    let later : List Piece = parameters us false flags in
+    ap (λ us. parameters us first flags ++ last) (types_in-first ts d some)
+    ∙ ap (λ c. cond c (parameters us first flags) (s ++ (b ++ (a ++ later))) ++ last) kept
     ∙ append_assoc s (b ++ (a ++ later)) last
     ∙ ap (λ ps. s ++ ps) (append_assoc b (a ++ later) last ∙ ap (λ ps. b ++ ps) (append_assoc a later last))
-    ∙ ap (λ j. s ++ (b ++ (a ++ (parameters (types_in (drop j p.types.items)) false flags ++ last)))) (next k)
+
+pub settled_four : (out out1 : List ℕ) (a b c d : List Piece) → out1 ≡ settle_all out a →
+    settle_all (settle_all (settle_all out1 b) c) d ≡ settle_all out (a ++ (b ++ (c ++ d)))
+settled_four out out1 a b c d e =
+    sym (settle_all-append (settle_all out1 b) c d) ∙ sym (settle_all-append out1 b (c ++ d))
+    ∙ ap (λ x. settle_all x (b ++ (c ++ d))) e ∙ sym (settle_all-append out a (b ++ (c ++ d)))
+
+-- behind the length of a level of an array stands what is after its elements
+pub settled-array : (out out1 : List ℕ) (pointed : Bool) (m n : ℤ) (t : TypeTree) (q flags : ℕ) →
+    out1 ≡ settle_all out (closing pointed ++ (text (codes "[") ∷ text (signed_decimal m) ∷ text (codes "]") ∷ [])) →
+    m ≡ n → settle_all out1 (after t false flags) ≡ settle_all out (after (array n t q) pointed flags)
+unfolding after
+settled-array out out1 pointed m n t q flags e same =
+    ap (λ x. settle_all x (after t false flags)) e
+    ∙ sym (settle_all-append out
+    (closing pointed ++ (text (codes "[") ∷ text (signed_decimal m) ∷ text (codes "]") ∷ []))
+    (after t false flags))
+    ∙ ap (settle_all out) (append_assoc (closing pointed)
+    (text (codes "[") ∷ text (signed_decimal m) ∷ text (codes "]") ∷ [])
+    (after t false flags))
+    ∙ ap (λ k. settle_all out (closing pointed
+    ++ (text (codes "[") ∷ text (signed_decimal k) ∷ text (codes "]") ∷ after t false flags))) same
 
 -- what a function has after its name, from its parts
-pub settled-function_end : (out out1 out2 : List ℕ) (p : Params) (pointed : Bool) (set : StorageClass) (flags : ℕ)
-    (returned : List Piece) →
+pub settled-function_end : (out out1 out2 : List ℕ) (ts : List (Bor «Type»)) (pointed : Bool) (set : StorageClass)
+    (flags : ℕ) (returned : List Piece) →
     out1 ≡ settle_all out (closing pointed) → out2 ≡ settle_all out1 (text (codes "(") ∷ []) →
-    settle_all (settle_all out2 (rest_of_parameters p 0 true (Round set) flags)) returned
-    ≡ settle_all out (function_end pointed (parameters (params_of p) true flags) set.0 flags returned)
-unfolding rest_of_parameters
-settled-function_end out out1 out2 p pointed set flags returned e e' =
-    let ps : List Piece = parameters (params_of p) true flags in
+    settle_all (settle_all out2 (rest_of_parameters ts true (Round set) flags)) returned
+    ≡ settle_all out (function_end pointed (parameters (types_in ts) true flags) set.0 flags returned)
+settled-function_end out out1 out2 ts pointed set flags returned e e' =
+    let ps : List Piece = parameters (types_in ts) true flags in
     let end : List Piece = text (codes ")") ∷ own_qualifiers set.0 flags in
     let later : List Piece = ps ++ (text (codes ")") ∷ (own_qualifiers set.0 flags ++ returned)) in
     sym (settle_all-append out2 (ps ++ end) returned)
@@ -130,23 +136,17 @@ settled-function_end out out1 out2 p pointed set flags returned e e' =
     ∙ sym (settle_all-append out (closing pointed) (text (codes "(") ∷ later))
 
 -- what a pointer to a member function has after its name, from its parts
-pub settled-member_pointer_end : (out out1 : List ℕ) (p : Params) (set flags : ℕ) (returned : List Piece) →
+pub settled-member_pointer_end : (out out1 : List ℕ) (ts : List (Bor «Type»)) (set flags : ℕ) (returned : List Piece) →
     out1 ≡ settle_all out (text (codes ")(") ∷ []) →
-    settle_all (settle_all (settle_all out1 (rest_of_parameters p 0 true Bare flags)) returned)
+    settle_all (settle_all (settle_all out1 (rest_of_parameters ts true Bare flags)) returned)
     (own_qualifier 1 (codes "const") set)
-    ≡ settle_all out (member_pointer_end (parameters (params_of p) true flags) set returned)
-unfolding rest_of_parameters member_pointer_end
-settled-member_pointer_end out out1 p set flags returned e =
-    let ps : List Piece = parameters (params_of p) true flags in
+    ≡ settle_all out (member_pointer_end (parameters (types_in ts) true flags) set returned)
+unfolding member_pointer_end
+settled-member_pointer_end out out1 ts set flags returned e =
+    let ps : List Piece = parameters (types_in ts) true flags in
     let const : List Piece = own_qualifier 1 (codes "const") set in
     let end : List Piece = text (codes ")") ∷ [] in
     let later : List Piece = ps ++ (end ++ (returned ++ const)) in
     settled_three out1 (ps ++ end) returned const
     ∙ ap (settle_all out1) (append_assoc (ps ++ end) returned const ∙ append_assoc ps end (returned ++ const))
     ∙ ap (λ x. settle_all x later) e ∙ sym (settle_all-first out (text (codes ")(")) later)
-
-pub settled_four : (out out1 : List ℕ) (a b c d : List Piece) → out1 ≡ settle_all out a →
-    settle_all (settle_all (settle_all out1 b) c) d ≡ settle_all out (a ++ (b ++ (c ++ d)))
-settled_four out out1 a b c d e =
-    sym (settle_all-append (settle_all out1 b) c d) ∙ sym (settle_all-append out1 b (c ++ d))
-    ∙ ap (λ x. settle_all x (b ++ (c ++ d))) e ∙ sym (settle_all-append out a (b ++ (c ++ d)))

@@ -1,12 +1,11 @@
 -- What the printer's stack of work means, and how much it is. The printer's own: no public contract speaks of it.
-use Rattle.std.specs.Prelude.{ℕ, ◌+◌, ◌<◌, ◌≡◌, List, [], ◌∷◌, ◌++◌, Bool, true, false, Option, Some, None}
-use Rattle.std.specs.Prelude.{codes, drop}
+use Rattle.std.specs.Prelude.{ℕ, ◌+◌, ◌<◌, ◌≡◌, List, [], ◌∷◌, ◌++◌, Bool, false, Option, Some, None}
+use Rattle.std.specs.Prelude.{codes}
 use Rattle.std.specs.Borrow.{Bor}
-use Rattle.msvc_tree.specs.View.{name_of, names_in, scope_of, type_of, types_in}
-use Rattle.msvc_tree.specs.Trees.{NameTree, NameTrees, TypeTree, plain, member_function, member_pointer}
+use Rattle.msvc_tree.specs.NodeView.{name_of, names_in, type_of, types_in}
+use Rattle.msvc_tree.specs.Trees.{NameTree, NameTrees, TypeTree, plain, member_function}
 use Rattle.msvc_tree.specs.declared.kinds.PlainType.TheVariants as plain_kind
-use Rattle.msvc_tree.specs.declared.tree.Params.{Params}
-use Rattle.msvc_tree.specs.declared.tree.Type.{«Type»}
+use Rattle.msvc_tree.specs.declared.nodes.Type.{«Type»}
 use Rattle.msvc_write.specs.Declaration.{after, before, name_pieces, parameters, scope_prefix, symbol_name}
 use Rattle.msvc_write.specs.Functions.{calling, own_qualifiers}
 use Rattle.msvc_write.specs.Operators.{spaced}
@@ -31,24 +30,6 @@ abbrev pub pointed_name : NameTree → NameTrees → ℕ → List Piece
 pointed_name n scope flags =
     space AfterPointer ∷ (symbol_name n scope (plain plain_kind.None) flags ++ text (codes "::*") ∷ [])
 
-unfoldable pub class_pieces : Option (NameTree × NameTrees) → ℕ → List Piece
-class_pieces None flags = []
-class_pieces (Some named) flags = pointed_name named.0 named.1 flags
-
-unfoldable pub class_weight : Option (NameTree × NameTrees) → ℕ
-class_weight None = 0
-class_weight (Some named) = 3 + symbol_weight named.0 named.1 (plain plain_kind.None)
-
--- what stands before a type but for that class, which its node does not tell
-unfoldable pub node_before : TypeTree → Bool → ℕ → List Piece
-node_before (member_pointer n scope class convention ts set t) pointed flags =
-    before t false flags ++ calling true convention flags
-node_before t pointed flags = before t pointed flags
-
-unfoldable pub node_weight : TypeTree → ℕ
-node_weight (member_pointer n scope class convention ts set t) = 3 + types_weight ts + type_weight t
-node_weight t = type_weight t
-
 -- what a member function returns
 unfoldable pub member_return : TypeTree → Option TypeTree
 member_return (member_function class convention ts set t) = Some t
@@ -69,39 +50,39 @@ end_pieces (Round set) flags = text (codes ")") ∷ own_qualifiers set.0 flags
 end_pieces Bare flags = text (codes ")") ∷ []
 end_pieces Angle flags = space AfterAngle ∷ text (codes ">") ∷ []
 
--- the types of a list from a place on, and what stands after them
-unfoldable pub rest_of_parameters : Params → ℕ → Bool → ListEnd → ℕ → List Piece
-rest_of_parameters p place first end flags =
-    parameters (types_in (drop place p.types.items)) first flags ++ end_pieces end flags
+-- the types that are left of a list, and what stands after them
+abbrev pub rest_of_parameters : List (Bor «Type») → Bool → ListEnd → ℕ → List Piece
+rest_of_parameters ts first end flags = parameters (types_in ts) first flags ++ end_pieces end flags
 
 -- the pieces that an item stands for
 abbrev pub item_pieces : Item → ℕ → List Piece
 item_pieces (Text bytes) flags = text bytes.now ∷ []
 item_pieces (Name n own) flags = name_pieces (name_of n.now) own flags
-item_pieces (Scope ns) flags = scope_prefix (names_in ns.now) flags
-item_pieces (Symbol s own) flags = symbol_name (name_of s.now.name) (scope_of s.now.scope) (own_type own) flags
-item_pieces (Class s) flags = pointed_name (name_of s.now.name) (scope_of s.now.scope) flags
+item_pieces (Scope s) flags = scope_prefix (names_in s.names.now) flags
+item_pieces (Symbol s own) flags = symbol_name (name_of s.now.name.now) (names_in s.now.scope.now) (own_type own) flags
+item_pieces (Class s) flags = pointed_name (name_of s.now.name.now) (names_in s.now.scope.now) flags
 item_pieces (Spaced word) flags = spaced word.now
 item_pieces (Qualifiers set) flags = qualifiers set.0 flags
 item_pieces (Mark word set) flags = marked word.now set.0 flags
 item_pieces (ArrayLevel set pointed) flags = qualifiers set.0 flags ++ opening pointed
 item_pieces (Calling pointed convention) flags = calling pointed convention flags
-item_pieces (Parameters p place first end) flags = rest_of_parameters p.now place first end flags
+item_pieces (Parameters left first end) flags = rest_of_parameters left.types.now first end flags
 item_pieces (Before t pointed) flags = before (type_of t.now) pointed flags
 item_pieces (After t pointed) flags = after (type_of t.now) pointed flags
 
 abbrev pub item_weight : Item → ℕ
 item_weight (Text bytes) = 1
 item_weight (Name n own) = name_weight (name_of n.now)
-item_weight (Scope ns) = scope_weight (names_in ns.now)
-item_weight (Symbol s own) = symbol_weight (name_of s.now.name) (scope_of s.now.scope) (own_type own)
-item_weight (Class s) = 3 + symbol_weight (name_of s.now.name) (scope_of s.now.scope) (plain plain_kind.None)
+item_weight (Scope s) = scope_weight (names_in s.names.now)
+item_weight (Symbol s own) = symbol_weight (name_of s.now.name.now) (names_in s.now.scope.now) (own_type own)
+item_weight (Class s) =
+    3 + symbol_weight (name_of s.now.name.now) (names_in s.now.scope.now) (plain plain_kind.None)
 item_weight (Spaced word) = 1
 item_weight (Qualifiers set) = 1
 item_weight (Mark word set) = 1
 item_weight (ArrayLevel set pointed) = 1
 item_weight (Calling pointed convention) = 1
-item_weight (Parameters p place first end) = types_weight (types_in (drop place p.now.types.items))
+item_weight (Parameters left first end) = types_weight (types_in left.types.now)
 item_weight (Before t pointed) = type_weight (type_of t.now)
 item_weight (After t pointed) = type_weight (type_of t.now)
 

@@ -2,8 +2,10 @@
 
 ghost use Rattle.std.specs.Prelude.{◌≡◌, ◌++◌, ◌∷◌, [], OnOk};
 
+use bumpalo::Bump;
 use msvc_tree::flags::StorageClass;
-use msvc_tree::tree::{CallingConv, Name, Params, Symbol, Type};
+use msvc_tree::nodes::{Name, Scope, Symbol, Type};
+use msvc_tree::tree::CallingConv;
 use std::alloc::AllocError;
 
 /// What stands behind the last type of a list.
@@ -17,39 +19,47 @@ pub enum ListEnd {
     Angle,
 }
 
-/// One part of a declaration that has still to be printed. It borrows what it names.
+/// Types of a list.
 #[derive(Clone, Copy)]
-pub enum Item<'t, 'a> {
+pub struct Types<'a, 'b> {
+    pub types: &'b [&'b Type<'a, 'b>],
+}
+
+/// One part of a declaration that has still to be printed. It borrows what it names, so it is copied.
+#[derive(Clone, Copy)]
+pub enum Item<'a, 'b> {
     /// Fixed words.
-    Text(&'t [u8]),
+    Text(&'b [u8]),
     /// Fixed words behind the space that operators begin with.
-    Spaced(&'t [u8]),
+    Spaced(&'b [u8]),
     /// A name. The flag says whether it is the name of a symbol itself.
-    Name(&'t Name<'a>, bool),
+    Name(&'b Name<'a, 'b>, bool),
     /// The names of a scope, the innermost first, each with `::` behind it.
-    Scope(&'t [Name<'a>]),
+    Scope(Scope<'a, 'b>),
     /// A name in its scope, and the type of the symbol that it is the name of.
-    Symbol(&'t Symbol<'a>, Option<&'t Type<'a>>),
+    Symbol(&'b Symbol<'a, 'b>, Option<&'b Type<'a, 'b>>),
     /// The class whose member function is pointed to.
-    Class(&'t Symbol<'a>),
+    Class(&'b Symbol<'a, 'b>),
     /// `const` and `volatile`.
     Qualifiers(StorageClass),
     /// The mark of a pointer or a reference, with its qualifiers.
-    Mark(&'t [u8], StorageClass),
+    Mark(&'b [u8], StorageClass),
     /// The qualifiers of a level of an array, and the parenthesis before the mark of a pointer to it.
     ArrayLevel(StorageClass, bool),
     /// How a function is called, and the parenthesis before the mark of a pointer to it.
     Calling(bool, CallingConv),
-    /// The types of a list from a place on, and what stands behind the last. The flag says whether none was printed
-    /// yet.
-    Parameters(&'t Params<'a>, usize, bool, ListEnd),
+    /// The types that are left of a list, and what stands behind the last. The flag says whether none was printed yet.
+    Parameters(Types<'a, 'b>, bool, ListEnd),
     /// What a type has before that which it is grown around. The flag says whether that is the mark of a pointer.
-    Before(&'t Type<'a>, bool),
+    Before(&'b Type<'a, 'b>, bool),
     /// What a type has after it.
-    After(&'t Type<'a>, bool),
+    After(&'b Type<'a, 'b>, bool),
 }
 
-pub fn push<'t, 'a>(stack: &mut Vec<Item<'t, 'a>>, item: Item<'t, 'a>) -> Result<(), AllocError>
+pub fn push<'a, 'b>(
+    stack: &mut Vec<Item<'a, 'b>, &'b Bump>,
+    item: Item<'a, 'b>,
+) -> Result<(), AllocError>
     ensures { OnOk result (stack.new.items ≡ stack.old.items ++ item.entry ∷ []) }
 {
     stack.push(item)?;

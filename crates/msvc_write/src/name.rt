@@ -4,41 +4,30 @@
 ghost use Rattle.std.specs.Prelude.{ℕ, List, ◌≡◌, ◌≤◌, ◌+◌, ◌++◌, ◌∷◌, [], Bool, true, false, OnOk, IfOk};
 ghost use Rattle.std.specs.Prelude.{codes, take, length, option_map};
 ghost use Rattle.std.specs.Fmt.{signed_decimal};
-ghost use Rattle.msvc_tree.specs.Nodes.{name_in, operator_in, type_in};
 ghost use Rattle.msvc_tree.specs.Trees.{plain};
-ghost use Rattle.msvc_tree.specs.View.{name_of, names_in, scope_of, type_of};
+ghost use Rattle.msvc_tree.specs.NodeView.{name_of, names_in, type_of, types_in};
 ghost use Rattle.msvc_write.specs.Declaration.{name_pieces, quoted, quoted_unless, scope_prefix, spelled_name};
 ghost use Rattle.msvc_write.specs.Declaration.{class_name, conversion, scope_path, symbol_as, symbol_name};
-ghost use Rattle.msvc_write.specs.Declaration.{after, before, symbol_pieces};
+ghost use Rattle.msvc_write.specs.Declaration.{after, angled, before, parameters, symbol_pieces};
 ghost use Rattle.msvc_tree.specs.declared.kinds.PlainType.TheVariants as plain_kind;
+ghost use Rattle.msvc_tree.specs.declared.kinds.Spelling.TheVariants as spelling_kind;
+ghost use Rattle.msvc_write.specs.declared.text.Space.TheVariants.{AfterPointer};
 ghost use Rattle.msvc_write.specs.Operators.{spaced};
-ghost use Rattle.msvc_write.specs.Pieces.{settle_all, text};
-ghost use Rattle.msvc_write.specs.Weights.{name_weight, scope_weight, symbol_weight, type_weight, whole_weight};
+ghost use Rattle.msvc_write.specs.Pieces.{settle_all, space, text};
+ghost use Rattle.msvc_write.specs.Weights.{name_weight, scope_weight, symbol_weight, type_weight, types_weight};
+ghost use Rattle.msvc_write.specs.Weights.{whole_weight};
 ghost use Rattle.msvc_write.specs.Words.{first_half, last_half};
 ghost use Rattle.msvc_write.specs.Work.{member_return, own_type, pointed_name, work, Lightens, Prints, Pushes};
 
-use crate::item::{Item, ListEnd, push};
+use crate::item::{Item, ListEnd, Types, push};
 use crate::operator::{
     OwnName, operator_word, own_name, write_base_class, write_guard, write_spaced,
 };
 use crate::text::{Space, has, name_space, write_number, write_space, write_text};
+use bumpalo::Bump;
 use msvc_tree::flags::DemangleFlags;
-use msvc_tree::kinds::Spelling;
-use msvc_tree::node::{NameNode, OperatorNode, TypeNode, name_node, operator_node, type_node};
-use msvc_tree::tree::{Name, ParseResult, Symbol, Type};
+use msvc_tree::nodes::{Name, Scope, Symbol, Type, Whole};
 use std::alloc::AllocError;
-
-/// Writes a name as it is spelled.
-#[tactic(auto, using(crate::proofs::Settling::settling))]
-fn write_spelled(out: &mut Vec<u8>, how: Spelling, bytes: &[u8]) -> Result<(), AllocError>
-    ensures { OnOk result (out.new.items ≡ settle_all out.old.items (spelled_name how bytes.now)) }
-{
-    match how {
-        Spelling::Source => write_text(out, bytes),
-        Spelling::Interface => write_between(out, b"[", bytes, b"]"),
-        Spelling::Md5 => write_between(out, b"??@", bytes, b"@"),
-    }
-}
 
 /// Writes bytes between two words.
 #[tactic(auto, using(crate::proofs::Settling::settling))]
@@ -56,29 +45,52 @@ fn write_between(
     write_text(out, closing)
 }
 
+/// Writes the name of an interface, in its brackets.
+#[tactic(auto, using(crate::proofs::Settling::settling))]
+fn write_interface(out: &mut Vec<u8>, bytes: &[u8]) -> Result<(), AllocError>
+    ensures { OnOk result (out.new.items ≡ settle_all out.old.items (spelled_name spelling_kind.Interface bytes.now)) }
+{
+    write_between(out, b"[", bytes, b"]")
+}
+
+/// Writes the digits that stand for a name, between their marks.
+#[tactic(auto, using(crate::proofs::Settling::settling))]
+fn write_md5(out: &mut Vec<u8>, bytes: &[u8]) -> Result<(), AllocError>
+    ensures { OnOk result (out.new.items ≡ settle_all out.old.items (spelled_name spelling_kind.Md5 bytes.now)) }
+{
+    write_between(out, b"??@", bytes, b"@")
+}
+
 /// Writes a name if it is one that is spelled, and says whether it is.
-#[tactic(auto, unfolding(crate::specs::Declaration::name_pieces))]
-fn write_if_spelled(out: &mut Vec<u8>, name: &Name<'_>) -> Result<bool, AllocError>
+#[tactic(auto, unfolding(crate::specs::Declaration::name_pieces, msvc_tree::specs::NodeView::name_of))]
+fn write_if_spelled<'a, 'b>(out: &mut Vec<u8>, name: &'b Name<'a, 'b>) -> Result<bool, AllocError>
     ensures spelled { IfOk result (λ is. is ≡ true → (own : Bool) (flags : ℕ) →
         out.new.items ≡ settle_all out.old.items (name_pieces (name_of name.now) own flags)) }
     ensures other { IfOk result (λ is. is ≡ false → out.new.items ≡ out.old.items) }
 {
-    match name_node(name) {
-        NameNode::Spelled(how, bytes) => {
-            write_spelled(out, how, bytes)?;
+    match name {
+        Name::Source(bytes) => {
+            write_text(out, *bytes)?;
             Ok(true)
         }
-        NameNode::Operator(_) => Ok(false),
-        NameNode::Template(_, _) => Ok(false),
-        NameNode::Discriminator(_) => Ok(false),
-        NameNode::Nested(_) => Ok(false),
-        NameNode::Anonymous(_) => Ok(false),
+        Name::Interface(bytes) => {
+            write_interface(out, *bytes)?;
+            Ok(true)
+        }
+        Name::Md5(bytes) => {
+            write_md5(out, *bytes)?;
+            Ok(true)
+        }
+        _ => Ok(false),
     }
 }
 
 /// Writes the outermost names of a scope, as long as they are spelled, each with `::` behind it, and says how many are
 /// left.
-fn write_spelled_names(out: &mut Vec<u8>, names: &[Name<'_>]) -> Result<usize, AllocError>
+fn write_spelled_names<'a, 'b>(
+    out: &mut Vec<u8>,
+    names: &'b [&'b Name<'a, 'b>],
+) -> Result<usize, AllocError>
     ensures fits { IfOk result (λ left. left ≤ length names.now) }
     ensures text { IfOk result (λ left. (flags : ℕ) →
         settle_all out.new.items (scope_prefix (names_in (take left names.now)) flags)
@@ -86,7 +98,7 @@ fn write_spelled_names(out: &mut Vec<u8>, names: &[Name<'_>]) -> Result<usize, A
 {
     let mut left = names.len();
     while left > 0 {
-        if !write_if_spelled(out, &names[left - 1])? {
+        if !write_if_spelled(out, names[left - 1])? {
             return Ok(left);
         }
         write_text(out, b"::")?;
@@ -111,9 +123,9 @@ fn write_anonymous(out: &mut Vec<u8>) -> Result<(), AllocError>
 }
 
 /// Pushes what a symbol has after its name, unless a flag drops it.
-fn push_last<'t, 'a>(
-    stack: &mut Vec<Item<'t, 'a>>,
-    t: &'t Type<'a>,
+fn push_last<'a, 'b>(
+    stack: &mut Vec<Item<'a, 'b>, &'b Bump>,
+    t: &'b Type<'a, 'b>,
     flags: DemangleFlags,
 ) -> Result<(), AllocError>
     ensures text { OnOk result (Pushes (last_half (after (type_of t.now) false flags.0) flags.0) flags.0
@@ -127,9 +139,9 @@ fn push_last<'t, 'a>(
 }
 
 /// Pushes what a symbol has before its name, unless a flag drops it.
-fn push_first<'t, 'a>(
-    stack: &mut Vec<Item<'t, 'a>>,
-    t: &'t Type<'a>,
+fn push_first<'a, 'b>(
+    stack: &mut Vec<Item<'a, 'b>, &'b Bump>,
+    t: &'b Type<'a, 'b>,
     flags: DemangleFlags,
 ) -> Result<(), AllocError>
     ensures text { OnOk result (Pushes (first_half (before (type_of t.now) false flags.0) flags.0) flags.0
@@ -147,38 +159,39 @@ fn push_first<'t, 'a>(
 
 /// Pushes a whole symbol: its name, between the two halves of its type.
 #[tactic(auto, using(crate::proofs::Stack::pushes))]
-pub fn push_whole<'t, 'a>(
-    stack: &mut Vec<Item<'t, 'a>>,
-    tree: &'t ParseResult<'a>,
+pub fn push_whole<'a, 'b>(
+    stack: &mut Vec<Item<'a, 'b>, &'b Bump>,
+    tree: &'b Whole<'a, 'b>,
     flags: DemangleFlags,
 ) -> Result<(), AllocError>
-    ensures text { OnOk result (Pushes (symbol_pieces (name_of tree.now.symbol.name) (scope_of tree.now.symbol.scope)
-        (type_of tree.now.symbol_type) flags.0) flags.0 stack.old.items stack.new.items) }
-    ensures lighter { OnOk result (Lightens (whole_weight (symbol_weight (name_of tree.now.symbol.name)
-        (scope_of tree.now.symbol.scope) (type_of tree.now.symbol_type))
-        (type_weight (type_of tree.now.symbol_type))) stack.old.items stack.new.items) }
+    ensures text { OnOk result (Pushes (symbol_pieces (name_of tree.now.symbol.name.now)
+        (names_in tree.now.symbol.scope.now) (type_of tree.now.symbol_type.now) flags.0) flags.0
+        stack.old.items stack.new.items) }
+    ensures lighter { OnOk result (Lightens (whole_weight (symbol_weight (name_of tree.now.symbol.name.now)
+        (names_in tree.now.symbol.scope.now) (type_of tree.now.symbol_type.now))
+        (type_weight (type_of tree.now.symbol_type.now))) stack.old.items stack.new.items) }
 {
-    push_last(stack, &tree.symbol_type, flags)?;
-    push(stack, Item::Symbol(&tree.symbol, Some(&tree.symbol_type)))?;
-    push_first(stack, &tree.symbol_type, flags)?;
+    push_last(stack, tree.symbol_type, flags)?;
+    push(stack, Item::Symbol(&tree.symbol, Some(tree.symbol_type)))?;
+    push_first(stack, tree.symbol_type, flags)?;
     Ok(())
 }
 
 /// Prints a nested symbol, in quotes unless it is the name of a symbol itself.
 #[tactic(auto, using(crate::proofs::Stack::pushes), unfolding(crate::specs::Declaration::quoted_unless))]
-fn print_nested<'t, 'a>(
-    stack: &mut Vec<Item<'t, 'a>>,
+fn print_nested<'a, 'b>(
+    stack: &mut Vec<Item<'a, 'b>, &'b Bump>,
     out: &mut Vec<u8>,
-    tree: &'t ParseResult<'a>,
+    tree: &'b Whole<'a, 'b>,
     own: bool,
     flags: DemangleFlags,
 ) -> Result<(), AllocError>
-    ensures text { OnOk result (Prints (quoted_unless own (symbol_pieces (name_of tree.now.symbol.name)
-        (scope_of tree.now.symbol.scope) (type_of tree.now.symbol_type) flags.0)) flags.0
+    ensures text { OnOk result (Prints (quoted_unless own (symbol_pieces (name_of tree.now.symbol.name.now)
+        (names_in tree.now.symbol.scope.now) (type_of tree.now.symbol_type.now) flags.0)) flags.0
         stack.old.items out.old.items stack.new.items out.new.items) }
-    ensures lighter { OnOk result (Lightens (3 + whole_weight (symbol_weight (name_of tree.now.symbol.name)
-        (scope_of tree.now.symbol.scope) (type_of tree.now.symbol_type))
-        (type_weight (type_of tree.now.symbol_type))) stack.old.items stack.new.items) }
+    ensures lighter { OnOk result (Lightens (3 + whole_weight (symbol_weight (name_of tree.now.symbol.name.now)
+        (names_in tree.now.symbol.scope.now) (type_of tree.now.symbol_type.now))
+        (type_weight (type_of tree.now.symbol_type.now))) stack.old.items stack.new.items) }
 {
     if own {
         push_whole(stack, tree, flags)?;
@@ -190,64 +203,56 @@ fn print_nested<'t, 'a>(
     Ok(())
 }
 
-/// Prints the name of an operator as in any scope.
-#[tactic(auto, using(crate::proofs::Stack::pushes), unfolding(crate::specs::Declaration::name_pieces, crate::specs::Weights::name_weight))]
-fn print_operator<'t, 'a>(
-    stack: &mut Vec<Item<'t, 'a>>,
+/// Prints the descriptor of a type.
+#[tactic(auto, using(crate::proofs::Stack::pushes))]
+fn print_descriptor<'a, 'b>(
+    stack: &mut Vec<Item<'a, 'b>, &'b Bump>,
     out: &mut Vec<u8>,
-    node: OperatorNode<'t, 'a>,
+    described: &'b Type<'a, 'b>,
     flags: DemangleFlags,
 ) -> Result<(), AllocError>
-    ensures text { OnOk result (Prints (name_pieces (operator_in node.entry) false flags.0) flags.0
+    ensures text { OnOk result (Prints (space AfterPointer ∷ (before (type_of described.now) false flags.0
+        ++ text (codes "::`RTTI Type Descriptor'") ∷ [])) flags.0
         stack.old.items out.old.items stack.new.items out.new.items) }
-    ensures lighter { OnOk result (Lightens (name_weight (operator_in node.entry)) stack.old.items stack.new.items) }
+    ensures lighter { OnOk result (Lightens (3 + type_weight (type_of described.now))
+        stack.old.items stack.new.items) }
 {
-    match node {
-        OperatorNode::Plain(plain) => write_spaced(out, operator_word(plain)),
-        OperatorNode::Guard(guard, number) => write_guard(out, guard, number),
-        OperatorNode::TypeDescriptor(_, described) => {
-            write_space(out, Space::AfterPointer)?;
-            push(stack, Item::Text(b"::`RTTI Type Descriptor'"))?;
-            push(stack, Item::Before(described, false))
-        }
-        OperatorNode::BaseClassDescriptor(member, table, place, attributes) => {
-            write_base_class(out, member, table, place, attributes, flags)
-        }
-    }
+    write_space(out, Space::AfterPointer)?;
+    push(stack, Item::Text(b"::`RTTI Type Descriptor'"))?;
+    push(stack, Item::Before(described, false))
 }
 
-/// Prints a name by its node.
-#[tactic(auto, using(crate::proofs::Stack::pushes), unfolding(crate::specs::Declaration::name_pieces, crate::specs::Weights::name_weight, crate::specs::Work::rest_of_parameters))]
-fn print_node<'t, 'a>(
-    stack: &mut Vec<Item<'t, 'a>>,
+/// Prints a template with its arguments: its name at once where it is spelled, as most are.
+#[tactic(auto, using(crate::proofs::Stack::pushes))]
+fn print_template<'a, 'b>(
+    stack: &mut Vec<Item<'a, 'b>, &'b Bump>,
     out: &mut Vec<u8>,
-    node: NameNode<'t, 'a>,
-    own: bool,
+    name: &'b Name<'a, 'b>,
+    arguments: &'b [&'b Type<'a, 'b>],
     flags: DemangleFlags,
 ) -> Result<(), AllocError>
-    ensures text { OnOk result (Prints (name_pieces (name_in node.entry) own flags.0) flags.0
+    ensures text { OnOk result (Prints (name_pieces (name_of name.now) false flags.0
+        ++ angled (parameters (types_in arguments.now) true flags.0)) flags.0
         stack.old.items out.old.items stack.new.items out.new.items) }
-    ensures lighter { OnOk result (Lightens (name_weight (name_in node.entry)) stack.old.items stack.new.items) }
+    ensures lighter { OnOk result (Lightens (3 + name_weight (name_of name.now) + types_weight (types_in arguments.now))
+        stack.old.items stack.new.items) }
 {
-    match node {
-        NameNode::Spelled(how, bytes) => write_spelled(out, how, bytes),
-        NameNode::Operator(operator) => print_operator(stack, out, operator_node(operator), flags),
-        NameNode::Template(name, arguments) => {
-            push(stack, Item::Parameters(arguments, 0, true, ListEnd::Angle))?;
-            push(stack, Item::Text(b"<"))?;
-            push(stack, Item::Name(name, false))
-        }
-        NameNode::Discriminator(number) => write_discriminator(out, number),
-        NameNode::Nested(tree) => print_nested(stack, out, tree, own, flags),
-        NameNode::Anonymous(_) => write_anonymous(out),
+    let list = Item::Parameters(Types { types: arguments }, true, ListEnd::Angle);
+    if write_if_spelled(out, name)? {
+        write_text(out, b"<")?;
+        return push(stack, list);
     }
+    push(stack, list)?;
+    push(stack, Item::Text(b"<"))?;
+    push(stack, Item::Name(name, false))
 }
 
 /// Prints a name.
-pub fn print_name<'t, 'a>(
-    stack: &mut Vec<Item<'t, 'a>>,
+#[tactic(auto, using(crate::proofs::Nodes::printed), unfolding(crate::specs::Declaration::name_pieces, crate::specs::Weights::name_weight, msvc_tree::specs::NodeView::name_of))]
+pub fn print_name<'a, 'b>(
+    stack: &mut Vec<Item<'a, 'b>, &'b Bump>,
     out: &mut Vec<u8>,
-    name: &'t Name<'a>,
+    name: &'b Name<'a, 'b>,
     own: bool,
     flags: DemangleFlags,
 ) -> Result<(), AllocError>
@@ -255,14 +260,29 @@ pub fn print_name<'t, 'a>(
         stack.old.items out.old.items stack.new.items out.new.items) }
     ensures lighter { OnOk result (Lightens (name_weight (name_of name.now)) stack.old.items stack.new.items) }
 {
-    print_node(stack, out, name_node(name), own, flags)
+    match name {
+        Name::Source(bytes) => write_text(out, *bytes),
+        Name::Interface(bytes) => write_interface(out, *bytes),
+        Name::Md5(bytes) => write_md5(out, *bytes),
+        Name::Anonymous => write_anonymous(out),
+        Name::AnonymousDigits(_) => write_anonymous(out),
+        Name::Plain(operator) => write_spaced(out, operator_word(*operator)),
+        Name::Guard(guard, number) => write_guard(out, *guard, *number),
+        Name::TypeDescriptor(_, described) => print_descriptor(stack, out, *described, flags),
+        Name::BaseClassDescriptor(place) => write_base_class(out, *place, flags),
+        Name::Template(template) => {
+            print_template(stack, out, template.name, template.arguments, flags)
+        }
+        Name::Discriminator(number) => write_discriminator(out, *number),
+        Name::Nested(tree) => print_nested(stack, out, *tree, own, flags),
+    }
 }
 
 /// Prints the names of a scope, the outermost first, each with `::` behind it.
-pub fn print_scope<'t, 'a>(
-    stack: &mut Vec<Item<'t, 'a>>,
+pub fn print_scope<'a, 'b>(
+    stack: &mut Vec<Item<'a, 'b>, &'b Bump>,
     out: &mut Vec<u8>,
-    names: &'t [Name<'a>],
+    names: &'b [&'b Name<'a, 'b>],
     flags: DemangleFlags,
 ) -> Result<(), AllocError>
     ensures text { OnOk result (Prints (scope_prefix (names_in names.now) flags.0) flags.0
@@ -274,35 +294,72 @@ pub fn print_scope<'t, 'a>(
         return Ok(());
     }
     let last = left - 1;
-    push(stack, Item::Scope(&names[..last]))?;
+    push(
+        stack,
+        Item::Scope(Scope {
+            names: &names[..last],
+        }),
+    )?;
     push(stack, Item::Text(b"::"))?;
-    print_name(stack, out, &names[last], false, flags)?;
+    print_name(stack, out, names[last], false, flags)?;
+    Ok(())
+}
+
+/// Prints the names of a scope and the name of a symbol itself in it. The name is printed at once where all names of
+/// the scope are spelled, as most are.
+fn print_in_scope<'a, 'b>(
+    stack: &mut Vec<Item<'a, 'b>, &'b Bump>,
+    out: &mut Vec<u8>,
+    names: &'b [&'b Name<'a, 'b>],
+    name: &'b Name<'a, 'b>,
+    flags: DemangleFlags,
+) -> Result<(), AllocError>
+    ensures text { OnOk result (Prints
+        (scope_prefix (names_in names.now) flags.0 ++ name_pieces (name_of name.now) true flags.0) flags.0
+        stack.old.items out.old.items stack.new.items out.new.items) }
+    ensures lighter { OnOk result (Lightens (1 + scope_weight (names_in names.now) + name_weight (name_of name.now))
+        stack.old.items stack.new.items) }
+{
+    let left = write_spelled_names(out, names)?;
+    if left == 0 {
+        print_name(stack, out, name, true, flags)?;
+        return Ok(());
+    }
+    push(stack, Item::Name(name, true))?;
+    push(
+        stack,
+        Item::Scope(Scope {
+            names: &names[..left],
+        }),
+    )?;
     Ok(())
 }
 
 /// Prints the names of a scope, the outermost first, with `::` between them.
-pub fn print_path<'t, 'a>(
-    stack: &mut Vec<Item<'t, 'a>>,
+pub fn print_path<'a, 'b>(
+    stack: &mut Vec<Item<'a, 'b>, &'b Bump>,
     out: &mut Vec<u8>,
-    names: &'t [Name<'a>],
+    names: &'b [&'b Name<'a, 'b>],
     flags: DemangleFlags,
 ) -> Result<(), AllocError>
     ensures text { OnOk result (Prints (scope_path (names_in names.now) flags.0) flags.0
         stack.old.items out.old.items stack.new.items out.new.items) }
     ensures lighter { OnOk result (Lightens (scope_weight (names_in names.now)) stack.old.items stack.new.items) }
 {
-    if names.is_empty() {
-        return Ok(());
+    match names {
+        [] => Ok(()),
+        [name, outer @ ..] => {
+            push(stack, Item::Name(*name, false))?;
+            print_scope(stack, out, outer, flags)?;
+            Ok(())
+        }
     }
-    push(stack, Item::Name(&names[0], false))?;
-    print_scope(stack, out, &names[1..], flags)?;
-    Ok(())
 }
 
 /// Pushes what a constructor prints: the innermost name of its scope.
-fn push_constructor<'t, 'a>(
-    stack: &mut Vec<Item<'t, 'a>>,
-    names: &'t [Name<'a>],
+fn push_constructor<'a, 'b>(
+    stack: &mut Vec<Item<'a, 'b>, &'b Bump>,
+    names: &'b [&'b Name<'a, 'b>],
     flags: DemangleFlags,
 ) -> Result<(), AllocError>
     ensures text { OnOk result (Pushes (class_name (names_in names.now) [] flags.0) flags.0
@@ -310,18 +367,22 @@ fn push_constructor<'t, 'a>(
     ensures lighter { OnOk result (work stack.new.items ≤ 1 + scope_weight (names_in names.now)
         + work stack.old.items) }
 {
-    if names.is_empty() {
-        push(stack, Item::Text(b"[invalid]"))?;
-        return Ok(());
+    match names {
+        [] => {
+            push(stack, Item::Text(b"[invalid]"))?;
+            Ok(())
+        }
+        [name, ..] => {
+            push(stack, Item::Name(*name, false))?;
+            Ok(())
+        }
     }
-    push(stack, Item::Name(&names[0], false))?;
-    Ok(())
 }
 
 /// Pushes what a destructor prints: the innermost name of its scope behind `~`.
-fn push_destructor<'t, 'a>(
-    stack: &mut Vec<Item<'t, 'a>>,
-    names: &'t [Name<'a>],
+fn push_destructor<'a, 'b>(
+    stack: &mut Vec<Item<'a, 'b>, &'b Bump>,
+    names: &'b [&'b Name<'a, 'b>],
     flags: DemangleFlags,
 ) -> Result<(), AllocError>
     ensures text { OnOk result (Pushes (class_name (names_in names.now) (text (codes "~") ∷ []) flags.0) flags.0
@@ -329,52 +390,45 @@ fn push_destructor<'t, 'a>(
     ensures lighter { OnOk result (work stack.new.items ≤ 1 + scope_weight (names_in names.now)
         + work stack.old.items) }
 {
-    if names.is_empty() {
-        push(stack, Item::Text(b"[invalid]"))?;
-        return Ok(());
+    match names {
+        [] => {
+            push(stack, Item::Text(b"[invalid]"))?;
+            Ok(())
+        }
+        [name, ..] => {
+            push(stack, Item::Name(*name, false))?;
+            push(stack, Item::Text(b"~"))?;
+            Ok(())
+        }
     }
-    push(stack, Item::Name(&names[0], false))?;
-    push(stack, Item::Text(b"~"))?;
-    Ok(())
 }
 
 /// What a member function returns.
-#[tactic(auto, unfolding(crate::specs::Work::member_return))]
-fn node_return<'t, 'a>(node: TypeNode<'t, 'a>) -> Option<&'t Type<'a>>
-    ensures { option_map (λ t. type_of t.now) result ≡ member_return (type_in node.entry) }
+#[tactic(auto, unfolding(crate::specs::Work::member_return, msvc_tree::specs::NodeView::type_of))]
+fn function_return<'a, 'b>(t: &'b Type<'a, 'b>) -> Option<&'b Type<'a, 'b>>
+    ensures { option_map (λ t. type_of t.now) result ≡ member_return (type_of t.now) }
 {
-    match node {
-        TypeNode::MemberFunction(_, _, _, _, returned) => Some(returned),
-        TypeNode::Plain(_) => None,
-        TypeNode::Base(_, _) => None,
-        TypeNode::Tagged(_, _, _) => None,
-        TypeNode::Numbered(_, _) => None,
-        TypeNode::ConstantString(_) => None,
-        TypeNode::Pointing(_, _, _) => None,
-        TypeNode::Array(_, _, _) => None,
-        TypeNode::Function(_, _, _, _) => None,
-        TypeNode::MemberPointer(_, _, _, _, _) => None,
-        TypeNode::Variable(_, _, _) => None,
-        TypeNode::Table(_, _, _) => None,
-        TypeNode::VcallThunk(_, _) => None,
+    match t {
+        Type::MemberFunction(function) => Some(function.returned),
+        _ => None,
     }
 }
 
 /// What the symbol returns, where its type is a member function.
-fn own_return<'t, 'a>(own: Option<&'t Type<'a>>) -> Option<&'t Type<'a>>
+fn own_return<'a, 'b>(own: Option<&'b Type<'a, 'b>>) -> Option<&'b Type<'a, 'b>>
     ensures { option_map (λ t. type_of t.now) result ≡ member_return (own_type own.entry) }
 {
     match own {
-        Some(t) => node_return(type_node(t)),
+        Some(t) => function_return(t),
         None => None,
     }
 }
 
 /// Pushes what a conversion operator prints.
-fn push_conversion<'t, 'a>(
-    stack: &mut Vec<Item<'t, 'a>>,
-    name: &'t Name<'a>,
-    own: Option<&'t Type<'a>>,
+fn push_conversion<'a, 'b>(
+    stack: &mut Vec<Item<'a, 'b>, &'b Bump>,
+    name: &'b Name<'a, 'b>,
+    own: Option<&'b Type<'a, 'b>>,
     flags: DemangleFlags,
 ) -> Result<(), AllocError>
     ensures text { OnOk result (Pushes
@@ -398,8 +452,8 @@ fn push_conversion<'t, 'a>(
 }
 
 /// Pushes what the name of a table of virtual bases prints.
-fn push_base_table<'t, 'a>(
-    stack: &mut Vec<Item<'t, 'a>>,
+fn push_base_table<'a, 'b>(
+    stack: &mut Vec<Item<'a, 'b>, &'b Bump>,
     flags: DemangleFlags,
 ) -> Result<(), AllocError>
     ensures text { OnOk result (Pushes (text (codes "`vbtable'{for `") ∷ []) flags.0 stack.old.items stack.new.items) }
@@ -417,77 +471,75 @@ fn write_literal(out: &mut Vec<u8>) -> Result<(), AllocError>
 
 /// Prints a name in its scope, which prints in this way as the name of a symbol itself.
 #[tactic(auto, using(crate::proofs::Stack::pushes), unfolding(crate::specs::Operators::scoped))]
-fn print_symbol_as<'t, 'a>(
-    stack: &mut Vec<Item<'t, 'a>>,
+fn print_symbol_as<'a, 'b>(
+    stack: &mut Vec<Item<'a, 'b>, &'b Bump>,
     out: &mut Vec<u8>,
-    symbol: &'t Symbol<'a>,
-    own: Option<&'t Type<'a>>,
+    symbol: &'b Symbol<'a, 'b>,
+    own: Option<&'b Type<'a, 'b>>,
     kind: OwnName,
     flags: DemangleFlags,
 ) -> Result<(), AllocError>
-    ensures text { OnOk result (Prints (symbol_as kind (name_of symbol.now.name) (scope_of symbol.now.scope)
+    ensures text { OnOk result (Prints (symbol_as kind (name_of symbol.now.name.now) (names_in symbol.now.scope.now)
         (own_type own.entry) flags.0) flags.0 stack.old.items out.old.items stack.new.items out.new.items) }
-    ensures lighter { OnOk result (Lightens (symbol_weight (name_of symbol.now.name) (scope_of symbol.now.scope)
+    ensures lighter { OnOk result (Lightens (symbol_weight (name_of symbol.now.name.now) (names_in symbol.now.scope.now)
         (own_type own.entry)) stack.old.items stack.new.items) }
 {
     write_space(out, name_space(flags))?;
     match kind {
-        OwnName::Ordinary => {
-            push(stack, Item::Name(&symbol.name, true))?;
-            print_scope(stack, out, &symbol.scope.names, flags)
-        }
+        OwnName::Ordinary => print_in_scope(stack, out, symbol.scope, symbol.name, flags),
         OwnName::Constructor => {
-            push_constructor(stack, &symbol.scope.names, flags)?;
-            print_scope(stack, out, &symbol.scope.names, flags)
+            push_constructor(stack, symbol.scope, flags)?;
+            print_scope(stack, out, symbol.scope, flags)
         }
         OwnName::Destructor => {
-            push_destructor(stack, &symbol.scope.names, flags)?;
-            print_scope(stack, out, &symbol.scope.names, flags)
+            push_destructor(stack, symbol.scope, flags)?;
+            print_scope(stack, out, symbol.scope, flags)
         }
         OwnName::Conversion => {
-            push_conversion(stack, &symbol.name, own, flags)?;
-            print_scope(stack, out, &symbol.scope.names, flags)
+            push_conversion(stack, symbol.name, own, flags)?;
+            print_scope(stack, out, symbol.scope, flags)
         }
         OwnName::BaseTable => {
             push_base_table(stack, flags)?;
-            print_scope(stack, out, &symbol.scope.names, flags)
+            print_scope(stack, out, symbol.scope, flags)
         }
         OwnName::Literal => {
             write_literal(out)?;
-            print_path(stack, out, &symbol.scope.names, flags)
+            print_path(stack, out, symbol.scope, flags)
         }
     }
 }
 
 /// Prints a name in its scope.
-pub fn print_symbol<'t, 'a>(
-    stack: &mut Vec<Item<'t, 'a>>,
+pub fn print_symbol<'a, 'b>(
+    stack: &mut Vec<Item<'a, 'b>, &'b Bump>,
     out: &mut Vec<u8>,
-    symbol: &'t Symbol<'a>,
-    own: Option<&'t Type<'a>>,
+    symbol: &'b Symbol<'a, 'b>,
+    own: Option<&'b Type<'a, 'b>>,
     flags: DemangleFlags,
 ) -> Result<(), AllocError>
-    ensures text { OnOk result (Prints (symbol_name (name_of symbol.now.name) (scope_of symbol.now.scope)
+    ensures text { OnOk result (Prints (symbol_name (name_of symbol.now.name.now) (names_in symbol.now.scope.now)
         (own_type own.entry) flags.0) flags.0 stack.old.items out.old.items stack.new.items out.new.items) }
-    ensures lighter { OnOk result (Lightens (symbol_weight (name_of symbol.now.name) (scope_of symbol.now.scope)
+    ensures lighter { OnOk result (Lightens (symbol_weight (name_of symbol.now.name.now) (names_in symbol.now.scope.now)
         (own_type own.entry)) stack.old.items stack.new.items) }
 {
-    let kind = own_name(name_node(&symbol.name));
+    let kind = own_name(symbol.name);
     print_symbol_as(stack, out, symbol, own, kind, flags)
 }
 
 /// Prints the class whose member function is pointed to.
 #[tactic(auto, using(crate::proofs::Stack::pushes))]
-pub fn print_class<'t, 'a>(
-    stack: &mut Vec<Item<'t, 'a>>,
+pub fn print_class<'a, 'b>(
+    stack: &mut Vec<Item<'a, 'b>, &'b Bump>,
     out: &mut Vec<u8>,
-    class: &'t Symbol<'a>,
+    class: &'b Symbol<'a, 'b>,
     flags: DemangleFlags,
 ) -> Result<(), AllocError>
-    ensures text { OnOk result (Prints (pointed_name (name_of class.now.name) (scope_of class.now.scope) flags.0)
-        flags.0 stack.old.items out.old.items stack.new.items out.new.items) }
-    ensures lighter { OnOk result (Lightens (3 + symbol_weight (name_of class.now.name) (scope_of class.now.scope)
-        (plain plain_kind.None)) stack.old.items stack.new.items) }
+    ensures text { OnOk result (Prints
+        (pointed_name (name_of class.now.name.now) (names_in class.now.scope.now) flags.0) flags.0
+        stack.old.items out.old.items stack.new.items out.new.items) }
+    ensures lighter { OnOk result (Lightens (3 + symbol_weight (name_of class.now.name.now)
+        (names_in class.now.scope.now) (plain plain_kind.None)) stack.old.items stack.new.items) }
 {
     write_space(out, Space::AfterPointer)?;
     push(stack, Item::Text(b"::*"))?;

@@ -2,8 +2,8 @@
 
 ghost use Rattle.std.specs.Fmt.{decimal};
 ghost use Rattle.std.specs.Prelude.{◌≡◌, ◌∷◌, [], OnOk};
-ghost use Rattle.msvc_tree.specs.Nodes.{name_in, operator_in};
 ghost use Rattle.msvc_tree.specs.Trees.{operator};
+ghost use Rattle.msvc_tree.specs.NodeView.{name_of};
 ghost use Rattle.msvc_write.specs.Operators.{base_class_pieces, guard_number, guard_pieces, guard_word, listed};
 ghost use Rattle.msvc_write.specs.Operators.{operator_word, own_kind, spaced};
 ghost use Rattle.msvc_write.specs.Pieces.{settle_all, text};
@@ -13,7 +13,7 @@ use crate::text::{Space, write_number, write_space, write_text};
 use itoa::Buffer;
 use msvc_tree::flags::DemangleFlags;
 use msvc_tree::kinds::{Guard, PlainOperator};
-use msvc_tree::node::{NameNode, OperatorNode, operator_node};
+use msvc_tree::nodes::{BaseClass, Name};
 use std::alloc::AllocError;
 
 /// How a name prints where it is the name of a symbol itself.
@@ -47,30 +47,14 @@ fn own_plain(plain: PlainOperator) -> OwnName
     }
 }
 
-#[tactic(auto, unfolding(crate::specs::Operators::own_kind))]
-fn own_operator(node: OperatorNode<'_, '_>) -> OwnName
-    ensures { result ≡ own_kind (operator_in node.entry) }
-{
-    match node {
-        OperatorNode::Plain(plain) => own_plain(plain),
-        OperatorNode::Guard(_, _) => OwnName::Ordinary,
-        OperatorNode::TypeDescriptor(_, _) => OwnName::Ordinary,
-        OperatorNode::BaseClassDescriptor(_, _, _, _) => OwnName::Ordinary,
-    }
-}
-
 /// How a name prints where it is the name of a symbol itself.
-#[tactic(auto, unfolding(crate::specs::Operators::own_kind))]
-pub fn own_name(node: NameNode<'_, '_>) -> OwnName
-    ensures { result ≡ own_kind (name_in node.entry) }
+#[tactic(auto, unfolding(crate::specs::Operators::own_kind, msvc_tree::specs::NodeView::name_of))]
+pub fn own_name<'a, 'b>(name: &'b Name<'a, 'b>) -> OwnName
+    ensures { result ≡ own_kind (name_of name.now) }
 {
-    match node {
-        NameNode::Operator(operator) => own_operator(operator_node(operator)),
-        NameNode::Spelled(_, _) => OwnName::Ordinary,
-        NameNode::Template(_, _) => OwnName::Ordinary,
-        NameNode::Discriminator(_) => OwnName::Ordinary,
-        NameNode::Nested(_) => OwnName::Ordinary,
-        NameNode::Anonymous(_) => OwnName::Ordinary,
+    match name {
+        Name::Plain(operator) => own_plain(*operator),
+        _ => OwnName::Ordinary,
     }
 }
 
@@ -139,20 +123,17 @@ fn write_listed(out: &mut Vec<u8>, number: i32, flags: DemangleFlags) -> Result<
 #[tactic(auto, using(crate::proofs::Settling::settling), unfolding(crate::specs::Operators::base_class_pieces))]
 pub fn write_base_class(
     out: &mut Vec<u8>,
-    member: i32,
-    table: i32,
-    place: i32,
-    attributes: i32,
+    class: &BaseClass,
     flags: DemangleFlags,
 ) -> Result<(), AllocError>
     ensures { OnOk result (out.new.items ≡ settle_all out.old.items
-        (base_class_pieces member table place attributes flags.0)) }
+        (base_class_pieces class.now.member class.now.pointer class.now.entry class.now.attributes flags.0)) }
 {
     write_spaced(out, b"`RTTI Base Class Descriptor at (")?;
-    write_number(out, member)?;
-    write_listed(out, table, flags)?;
-    write_listed(out, place, flags)?;
-    write_listed(out, attributes, flags)?;
+    write_number(out, class.member)?;
+    write_listed(out, class.pointer, flags)?;
+    write_listed(out, class.entry, flags)?;
+    write_listed(out, class.attributes, flags)?;
     write_text(out, b")'")?;
     Ok(())
 }

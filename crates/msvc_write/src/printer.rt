@@ -4,6 +4,7 @@ ghost use Rattle.std.specs.Prelude.{◌≡◌, [], OnOk, IfOk, IfErr, string_byt
 ghost use Rattle.std.specs.Str.{IsUtf8};
 ghost use Rattle.std.specs.Str.Lossy.{utf8_lossy};
 ghost use Rattle.msvc_tree.specs.EachName.{EachName};
+ghost use Rattle.msvc_tree.specs.NodeView.{whole_of};
 ghost use Rattle.msvc_tree.specs.View.{tree_of};
 ghost use Rattle.msvc_tree.specs.declared.error.ErrorRepr.TheVariants.{Memory};
 ghost use Rattle.msvc_write.specs.Declaration.{declaration};
@@ -12,8 +13,11 @@ ghost use Rattle.msvc_write.specs.Work.{finished};
 use crate::item::Item;
 use crate::name::push_whole;
 use crate::steps::step;
+use bumpalo::Bump;
 use msvc_tree::error::Error;
 use msvc_tree::flags::DemangleFlags;
+use msvc_tree::lent::lent_whole;
+use msvc_tree::nodes::Whole;
 use msvc_tree::tree::ParseResult;
 use std::alloc::{AllocError, Global};
 
@@ -21,11 +25,15 @@ use std::alloc::{AllocError, Global};
 const FIRST_BYTES: usize = 128;
 
 /// How many items the stack has room for before it grows: more than most symbols need.
-const FIRST_ITEMS: usize = 16;
+const FIRST_ITEMS: usize = 32;
+
+/// How many bytes the nodes of an owned tree, and the stack, have room for at first: more than those of most trees
+/// take. What is not written to costs nothing.
+const FIRST_ROOM: usize = 1 << 15;
 
 /// Prints all items of the stack, the last first.
-fn empty<'t, 'a>(
-    stack: &mut Vec<Item<'t, 'a>>,
+fn empty<'a, 'b>(
+    stack: &mut Vec<Item<'a, 'b>, &'b Bump>,
     out: &mut Vec<u8>,
     flags: DemangleFlags,
 ) -> Result<(), AllocError>
@@ -38,18 +46,46 @@ fn empty<'t, 'a>(
     Ok(())
 }
 
+/// The bytes of the declaration of a symbol whose nodes are given take the place of what `out` held. The arena has the
+/// work that is left to print.
+pub fn print<'a, 'b>(
+    arena: &'b Bump,
+    symbol: &'b Whole<'a, 'b>,
+    flags: DemangleFlags,
+    out: &mut Vec<u8>,
+) -> Result<(), AllocError>
+    ensures { OnOk result (out.new.items ≡ declaration (whole_of symbol.now) flags.0) }
+{
+    out.clear();
+    let mut stack = Vec::with_capacity(arena, FIRST_ITEMS)?;
+    push_whole(&mut stack, symbol, flags)?;
+    empty(&mut stack, out, flags)?;
+    Ok(())
+}
+
+/// The bytes of a declaration as a text. Where names are not UTF-8, what is no character is shown as U+FFFD.
+pub fn text_of(alloc: Global, bytes: Vec<u8>) -> Result<String, AllocError>
+    ensures whole { IfOk result (λ text. IsUtf8 bytes.items → string_bytes text ≡ bytes.items) }
+    ensures lossy { IfOk result (λ text. string_bytes text ≡ utf8_lossy bytes.items) }
+{
+    match String::from_utf8(bytes) {
+        Ok(text) => Ok(text),
+        Err(refused) => String::from_utf8_lossy(alloc, refused.as_bytes()),
+    }
+}
+
 /// The bytes of the declaration of a tree.
-fn print(
+fn declared(
     alloc: Global,
     input: &ParseResult<'_>,
     flags: DemangleFlags,
 ) -> Result<Vec<u8>, AllocError>
     ensures { IfOk result (λ out. out.items ≡ declaration (tree_of input.now) flags.0) }
 {
+    let arena = Bump::try_with_capacity(alloc, FIRST_ROOM)?;
+    let symbol = lent_whole(&arena, input)?;
     let mut out = Vec::with_capacity(alloc, FIRST_BYTES)?;
-    let mut stack = Vec::with_capacity(alloc, FIRST_ITEMS)?;
-    push_whole(&mut stack, input, flags)?;
-    empty(&mut stack, &mut out, flags)?;
+    print(&arena, &symbol, flags, &mut out)?;
     Ok(out)
 }
 
@@ -66,12 +102,7 @@ pub fn serialize(
         string_bytes text ≡ utf8_lossy (declaration (tree_of input.now) flags.0)) }
     ensures memory { IfErr result (λ e. e ≡ Memory) }
 {
-    let bytes = print(alloc, input, flags)?;
-    match String::from_utf8(bytes) {
-        Ok(text) => Ok(text),
-        Err(refused) => {
-            let text = String::from_utf8_lossy(alloc, refused.as_bytes())?;
-            Ok(text)
-        }
-    }
+    let bytes = declared(alloc, input, flags)?;
+    let text = text_of(alloc, bytes)?;
+    Ok(text)
 }

@@ -1,8 +1,7 @@
 use Rattle.std.specs.Prelude.{OnOk}
-use Rattle.std.proofs.Common.{ap, subst, ◌∙◌}
-use Rattle.msvc_tree.specs.View.{name_of, scope_of}
+use Rattle.std.proofs.Common.{subst}
+use Rattle.msvc_tree.specs.NodeView.{name_of, names_in}
 use Rattle.msvc_write.specs.Declaration.{symbol_as}
-use Rattle.msvc_write.specs.Operators.{own_kind}
 use Rattle.msvc_write.specs.Work.{own_type, Prints}
 use Rattle.msvc_write.proofs.name.print_symbol.Goals as goal
 
@@ -10,6 +9,7 @@ pub returns-clause-text : goal.returns-clause-text
 returns-clause-text c =
     let s = c.args.symbol.now in
     subst (λ kind. OnOk c.print_symbol_as.result
-    (Prints (symbol_as kind (name_of s.name) (scope_of s.scope) (own_type c.args.own) c.args.flags.0) c.args.flags.0
-    c.args.stack.now.items c.args.out.now.items c.print_symbol_as.new.stack.items c.print_symbol_as.new.out.items))
-    (c.own_name-kind.ensures ∙ ap own_kind c.name_node.ensures) c.print_symbol_as.ensures.text
+    (Prints (symbol_as kind (name_of s.name.now) (names_in s.scope.now) (own_type c.args.own) c.args.flags.0)
+    c.args.flags.0 c.args.stack.now.items c.args.out.now.items c.print_symbol_as.new.stack.items
+    c.print_symbol_as.new.out.items))
+    c.own_name-kind.ensures c.print_symbol_as.ensures.text

@@ -1,21 +1,25 @@
-use Rattle.std.proofs.Common.{ap, sym, ◌∙◌, arith}
-use Rattle.msvc_write.proofs.Printed.{before-node, weight-node}
-use Rattle.msvc_write.proofs.Settling.{settle_all-append}
-use Rattle.msvc_write.specs.Pieces.{settle_all}
-use Rattle.msvc_write.specs.Work.{finished}
+use Rattle.std.specs.Prelude.{OnOk}
+use Rattle.std.proofs.Common.{ap, sym, subst, ◌∙◌}
+use Rattle.msvc_tree.specs.NodeView.{type_of}
+use Rattle.msvc_tree.proofs.NodeViews.{type_of-Tagged}
+use Rattle.msvc_write.specs.Declaration.{before}
+use Rattle.msvc_write.specs.Weights.{type_weight}
+use Rattle.msvc_write.specs.Work.{Lightens, Prints}
 use Rattle.msvc_write.proofs.steps.print_before.Goals as goal
 
-pub returns-clause-text : goal.returns-clause-text
-returns-clause-text c =
-    c.in_ok-print_node_before.ensures.text ∙ c.in_ok-push_class.ensures.text _
-    ∙ ap (λ x. finished c.args.stack.now.items x c.args.flags.0)
-    (sym (settle_all-append c.args.out.now.items _ _)
-    ∙ ap (settle_all c.args.out.now.items) (before-node _ _ c.args.pointed c.args.flags.0 c.type_node.ensures))
+pub returns-in-Tagged-clause-text : goal.returns-in-Tagged-clause-text
+unfolding before
+returns-in-Tagged-clause-text c =
+    let w = c.in-Tagged in
+    subst (λ t. OnOk c.print_tagged.result (Prints (before t c.args.pointed c.args.flags.0) c.args.flags.0
+    c.args.stack.now.items c.args.out.now.items c.print_tagged.new.stack.items c.print_tagged.new.out.items))
+    (sym (ap type_of w.is ∙ type_of-Tagged w.tag w.set w.symbol))
+    (rw (sym c.tag_word.ensures) c.print_tagged.ensures.text)
 
-pub returns-clause-lighter : goal.returns-clause-lighter
-returns-clause-lighter c = omega (
-  arith,
-  c.in_ok-print_node_before.ensures.lighter,
-  c.in_ok-push_class.ensures.lighter,
-  weight-node _ _ c.type_node.ensures,
-)
+pub returns-in-Tagged-clause-lighter : goal.returns-in-Tagged-clause-lighter
+unfolding type_weight
+returns-in-Tagged-clause-lighter c =
+    let w = c.in-Tagged in
+    subst (λ t. OnOk c.print_tagged.result (Lightens (type_weight t) c.args.stack.now.items
+    c.print_tagged.new.stack.items))
+    (sym (ap type_of w.is ∙ type_of-Tagged w.tag w.set w.symbol)) c.print_tagged.ensures.lighter
