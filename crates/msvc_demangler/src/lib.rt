@@ -14,6 +14,7 @@ ghost use Rattle.msvc_demangler.specs.Hashes.{HashesAreShown};
 
 mod debug;
 mod lines;
+mod room;
 mod watched;
 
 pub use bitflags::Flags;
@@ -21,15 +22,17 @@ pub use lines::{undname_lines, undname_one, undname_run};
 pub use msvc_read::{BackReference, back_references, parse, parse_prefix};
 pub use msvc_tree::error::{Error, ErrorRepr};
 pub use msvc_tree::flags::{DemangleFlags, FuncClass, StorageClass};
-use msvc_tree::tree::discard;
 pub use msvc_tree::tree::{
     CallingConv, Name, NameSequence, Operator, Params, ParseResult, Symbol, Type, VarStorageKind,
 };
 pub use msvc_write::serialize;
+use msvc_write::text_of;
+use room::Room;
 use std::alloc::Global;
 pub use watched::{Fault, Watched};
 
-/// The declaration of the symbol that `input` begins with, under the flags of printing: `parse`, then `serialize`.
+/// The declaration of the symbol that `input` begins with, under the flags of printing: what [`serialize`] prints of
+/// the tree that [`parse`] reads, without that tree.
 ///
 /// A refusal has an offset into `input`, in bytes; one for want of memory has none.
 pub fn demangle(alloc: Global, input: &str, flags: DemangleFlags) -> Result<String, Error>
@@ -44,11 +47,11 @@ pub fn demangle(alloc: Global, input: &str, flags: DemangleFlags) -> Result<Stri
     ensures begins { (begins_with (codes "?") input.now → ⊥) → IfErr result (λ e. IsRefusalAt input.now 0 e) }
     ensures begins_ok { IfOk result (λ text. begins_with (codes "?") input.now) }
 {
-    match parse(alloc, input) {
-        Ok(symbol) => {
-            let text = serialize(alloc, &symbol, flags);
-            discard(symbol);
-            text
+    let mut room = Room::new(alloc);
+    match room.demangle(input, flags) {
+        Ok(()) => {
+            let text = text_of(alloc, room.text)?;
+            Ok(text)
         }
         Err(refusal) => Err(refusal),
     }

@@ -9,7 +9,7 @@ ghost use Rattle.msvc_demangler.specs.Faults.{Marks, mark, no_mark};
 ghost use Rattle.msvc_demangler.specs.Runs.{Writes, WritesLines};
 
 use crate::debug::with_texts;
-use crate::demangle;
+use crate::room::Room;
 use crate::watched::{Fault, Taken, Watched};
 use msvc_read::parse;
 use msvc_tree::error::Error;
@@ -57,8 +57,9 @@ fn undname_all<W: Write, E: Write>(
 ) -> Result<(), Fault>
     ensures marks { Marks result no_mark (mark out.old out.new) (mark err.old err.new) }
 {
+    let mut room = Room::new(alloc);
     for symbol in symbols {
-        undname_one(alloc, symbol.as_str(), out, err, verbose)?;
+        undname_in(&mut room, symbol.as_str(), out, err, verbose)?;
     }
     Ok(())
 }
@@ -76,29 +77,44 @@ pub fn undname_one<W: Write, E: Write>(
         × Writes result (IsLineText symbol.now) text }
     ensures marks { Marks result no_mark (mark out.old out.new) (mark err.old err.new) }
 {
-    match answer(alloc, symbol) {
-        Ok(text) => {
+    undname_in(&mut Room::new(alloc), symbol, out, err, verbose)
+}
+
+/// Answers one symbol, as `undname_one` does, in a room that is kept for the next.
+fn undname_in<W: Write, E: Write>(
+    room: &mut Room,
+    symbol: &str,
+    out: &mut Watched<W>,
+    err: &mut Watched<E>,
+    verbose: bool,
+) -> Result<(), Fault>
+    ensures text { (text : List ℕ) × Appends (W.contents out.old.stream) (W.contents out.new.stream) text
+        × Writes result (IsLineText symbol.now) text }
+    ensures marks { Marks result no_mark (mark out.old out.new) (mark err.old err.new) }
+{
+    match answer(room, symbol) {
+        Ok(()) => {
             if verbose {
-                show_tree(alloc, symbol, err)?;
+                show_tree(room.alloc, symbol, err)?;
             }
-            put_line(out, text.as_str())
+            put_line(out, &room.text)
         }
         Err(refusal) => {
             if refusal.is_out_of_memory() {
                 return Err(Fault::Memory);
             }
-            report(alloc, &refusal, err)?;
-            put_line(out, symbol)
+            report(room.alloc, &refusal, err)?;
+            put_line(out, symbol.as_bytes())
         }
     }
 }
 
-/// The declaration of a symbol, under the flags of lines.
-fn answer(alloc: Global, symbol: &str) -> Result<String, Error>
-    ensures declared { IfOk result (λ text. IsAnswer symbol.now (string_bytes text)) }
+/// The declaration of a symbol, under the flags of lines, as the room's text.
+fn answer(room: &mut Room, symbol: &str) -> Result<(), Error>
+    ensures declared { IfOk result (λ _. IsAnswer symbol.now room.new.text.items) }
     ensures refused { IfErr result (λ e. e ≢ Memory → IsAnswer symbol.now symbol.now) }
 {
-    demangle(alloc, symbol, DemangleFlags::llvm())
+    room.demangle(symbol, DemangleFlags::llvm())
 }
 
 /// Writes why a symbol was refused.
@@ -129,13 +145,13 @@ fn tree_text(alloc: Global, symbol: &str) -> Result<String, Error> {
     Ok(with_texts(alloc, debug?.as_str())?)
 }
 
-/// Writes a text and a line feed.
-fn put_line<W: Write>(out: &mut Watched<W>, text: &str) -> Result<(), Fault>
+/// Writes some bytes and a line feed.
+fn put_line<W: Write>(out: &mut Watched<W>, bytes: &[u8]) -> Result<(), Fault>
     ensures text { (written : List ℕ) × Appends (W.contents out.old.stream) (W.contents out.new.stream) written
-        × Writes result (λ whole. whole ≡ text.now ++ 10 ∷ []) written }
+        × Writes result (λ whole. whole ≡ bytes.now ++ 10 ∷ []) written }
     ensures marks { Marks result no_mark (mark out.old out.new) no_mark }
 {
-    put_all(out, text.as_bytes())?;
+    put_all(out, bytes)?;
     put_all(out, b"\n")
 }
 
@@ -166,19 +182,20 @@ pub fn undname_lines<R: BufRead, W: Write, E: Write>(
     ensures end { OnOk result (OnSome (R.remaining input.old.stream) (IsAtEnd (R.remaining input.new.stream))) }
     ensures marks { Marks result (mark input.old input.new) (mark out.old out.new) (mark err.old err.new) }
 {
+    let mut room = Room::new(alloc);
     let mut piece = Vec::new(alloc);
     'pieces: for asked in 0..u64::MAX {
         match input.take(asked, &mut piece)? {
             Taken::Part => {}
             Taken::Line => {
-                filter_line(alloc, &piece, out, err, verbose)?;
+                filter_line(&mut room, &piece, out, err, verbose)?;
                 piece.clear();
             }
             Taken::End => {
                 if piece.is_empty() {
                     return Ok(());
                 }
-                return filter_line(alloc, &piece, out, err, verbose);
+                return filter_line(&mut room, &piece, out, err, verbose);
             }
         }
     }
@@ -190,7 +207,7 @@ pub fn undname_lines<R: BufRead, W: Write, E: Write>(
 
 /// Answers one line, which is left out where it is not UTF-8.
 fn filter_line<W: Write, E: Write>(
-    alloc: Global,
+    room: &mut Room,
     piece: &[u8],
     out: &mut Watched<W>,
     err: &mut Watched<E>,
@@ -201,7 +218,7 @@ fn filter_line<W: Write, E: Write>(
     ensures marks { Marks result no_mark (mark out.old out.new) (mark err.old err.new) }
 {
     match from_utf8(without_end(piece)) {
-        Ok(line) => undname_one(alloc, line, out, err, verbose),
+        Ok(line) => undname_in(room, line, out, err, verbose),
         Err(_) => Ok(()),
     }
 }

@@ -1,9 +1,11 @@
-use Rattle.std.specs.Prelude.{string_bytes}
-use Rattle.msvc_tree.specs.View.{tree_of}
-use Rattle.msvc_demangler.proofs.Hashes.{hashes-shown}
+use Rattle.msvc_read.proofs.Written.{all_written_out}
 use Rattle.msvc_demangler.proofs.demangle.Goals as goal
 
-pub returns-in-Ok-clause-hashes : goal.returns-in-Ok-clause-hashes
-returns-in-Ok-clause-hashes c =
-    hashes-shown c.serialize-text.result string_bytes c.args.input.now (tree_of c.in-Ok.symbol) c.args.flags.0
-    c.in-Ok.ensures.hashes c.in-Ok.ensures.texts c.serialize-text.ensures.declared
+pub returns-in_err-text-in-Ok-clause-written_out : goal.returns-in_err-text-in-Ok-clause-written_out
+returns-in_err-text-in-Ok-clause-written_out c = all_written_out c.args.input.now
+
+pub returns-in_ok-text-in-Ok-clause-written_out : goal.returns-in_ok-text-in-Ok-clause-written_out
+returns-in_ok-text-in-Ok-clause-written_out c = all_written_out c.args.input.now
+
+pub returns-in-Err-clause-written_out : goal.returns-in-Err-clause-written_out
+returns-in-Err-clause-written_out c = all_written_out c.args.input.now

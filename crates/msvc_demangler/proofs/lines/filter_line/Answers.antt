@@ -8,7 +8,7 @@ use Rattle.msvc_demangler.proofs.lines.filter_line.Goals as goal
 
 pub returns-in-Ok-clause-text : goal.returns-in-Ok-clause-text
 returns-in-Ok-clause-text g c =
-    let e = c.undname_one.ensures.text in
+    let e = c.undname_in.ensures.text in
     let u = c.in-Ok.ensures.cases in
     let utf8 = subst IsUtf8 (sym u.0) u.1 in
     let one = λ (text : List ℕ) (h : IsLineText c.in-Ok.line.now text). IsText-one _ text utf8 h in

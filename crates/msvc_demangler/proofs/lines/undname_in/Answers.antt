@@ -1,8 +1,8 @@
-use Rattle.std.proofs.Common.{rules, ◌++◌, ◌∷◌, [], refl, string_bytes}
+use Rattle.std.proofs.Common.{rules, ◌++◌, ◌∷◌, [], refl}
 use Rattle.std.proofs.lemmas.Result.{err_from_is_err_and}
 use Rattle.std.proofs.KnownBytes.{Appends-nil}
 use Rattle.msvc_demangler.proofs.Written.{WritesPart-nothing}
-use Rattle.msvc_demangler.proofs.lines.undname_one.Goals as goal
+use Rattle.msvc_demangler.proofs.lines.undname_in.Goals as goal
 
 pub returns-in_err-show_tree-in-Ok-clause-text : goal.returns-in_err-show_tree-in-Ok-clause-text
 returns-in_err-show_tree-in-Ok-clause-text g c =
@@ -11,8 +11,8 @@ returns-in_err-show_tree-in-Ok-clause-text g c =
     rw (p.1, p.2) (
       [],
       Appends-nil _,
-      WritesPart-nothing _ _ _ _ (string_bytes c.in-Ok.text ++ 10 ∷ [])
-          (string_bytes c.in-Ok.text, c.in-Ok.ensures.declared, refl) e,
+      WritesPart-nothing _ _ _ _ (c.answer.new.room.text.items ++ 10 ∷ [])
+          (c.answer.new.room.text.items, c.in-Ok.ensures.declared, refl) e,
     )
 
 pub returns-in_err-report-in-Err-clause-text : goal.returns-in_err-report-in-Err-clause-text

@@ -1,0 +1,88 @@
+//! What symbols are demangled in: an arena and the bytes of a declaration, which are kept from one symbol to the next.
+
+ghost use Rattle.std.specs.Prelude.{◌≡◌, codes, ℕ, List, IfOk, IfErr};
+ghost use Rattle.std.specs.Str.{IsUtf8};
+ghost use Rattle.msvc_tree.specs.Trees.{SymbolTree};
+ghost use Rattle.msvc_read.specs.Reads.{Derives};
+ghost use Rattle.msvc_read.specs.Refusals.{IsRefusedRightly, IsRefusalAt, begins_with};
+ghost use Rattle.msvc_read.specs.State.{Note};
+ghost use Rattle.msvc_write.specs.Declaration.{declaration};
+ghost use Rattle.msvc_demangler.specs.Hashes.{HashesAreShown};
+
+use bumpalo::Bump;
+use msvc_read::{read_symbol, room_for};
+use msvc_tree::error::Error;
+use msvc_tree::flags::DemangleFlags;
+use msvc_write::print;
+use std::alloc::{AllocError, Global};
+
+/// How many bytes a declaration has room for before it grows, beside two for each byte of its symbol: of ten names of
+/// libraries nine need no more.
+const TEXT_AT_FIRST: usize = 64;
+
+/// How many bytes a declaration has room for at most before it grows.
+const MOST_TEXT: usize = 1 << 16;
+
+/// An arena and a text. A symbol that needs no more room than those before it makes no request for memory.
+#[derive(Drop)]
+pub(crate) struct Room {
+    pub(crate) alloc: Global,
+    arena: Bump,
+    /// How many bytes the arena began with.
+    began: usize,
+    /// The declaration of the last symbol, where it has one.
+    pub(crate) text: Vec<u8>,
+}
+
+impl Room {
+    /// A room that has asked for no memory yet.
+    pub(crate) fn new(alloc: Global) -> Room {
+        Room {
+            alloc,
+            arena: Bump::new(alloc),
+            began: 0,
+            text: Vec::new(alloc),
+        }
+    }
+
+    /// The declaration of the symbol that `input` begins with, under the flags of printing, takes the place of `text`.
+    pub(crate) fn demangle(&mut self, input: &str, flags: DemangleFlags) -> Result<(), Error>
+        ensures declared { IfOk result (λ _. (tree : SymbolTree) × (rest : List ℕ) × (notes : List Note)
+            × Derives input.now tree rest notes
+            × ((other : SymbolTree) (behind : List ℕ) (others : List Note) → Derives input.now other behind others
+            → (other ≡ tree) × (behind ≡ rest) × (others ≡ notes))
+            × (self.new.text.items ≡ declaration tree flags.0)) }
+        ensures utf8 { IfOk result (λ _. IsUtf8 self.new.text.items) }
+        ensures hashes { IfOk result (λ _. HashesAreShown input.now self.new.text.items) }
+        ensures refused { IfErr result (λ e. IsRefusedRightly input.now e) }
+        ensures begins { (begins_with (codes "?") input.now → ⊥) → IfErr result (λ e. IsRefusalAt input.now 0 e) }
+        ensures begins_ok { IfOk result (λ _. begins_with (codes "?") input.now) }
+    {
+        self.clear_for(input)?;
+        match read_symbol(self.alloc, &self.arena, input) {
+            Ok(symbol) => {
+                print(&self.arena, &symbol, flags, &mut self.text)?;
+                Ok(())
+            }
+            Err(refusal) => Err(refusal),
+        }
+    }
+
+    /// Lets go of what the room holds, and makes it large enough for this symbol. For a text that is none it asks for
+    /// no memory.
+    fn clear_for(&mut self, input: &str) -> Result<(), AllocError> {
+        // An arena that some list was not given back to stays as it is, and can still be used.
+        let _ = self.arena.reset();
+        self.text.clear();
+        if !input.starts_with('?') {
+            return Ok(());
+        }
+        let bytes = room_for(input);
+        if self.began < bytes {
+            self.arena = Bump::try_with_capacity(self.alloc, bytes)?;
+            self.began = bytes;
+        }
+        let text = input.len().saturating_mul(2).saturating_add(TEXT_AT_FIRST);
+        self.text.try_reserve(text.min(MOST_TEXT))
+    }
+}
