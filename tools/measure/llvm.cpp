@@ -1,9 +1,8 @@
 // How long LLVM's library takes for names, within one process: `llvm ROUNDS` with the names as lines of standard input
-// does what `msvc_bench ROUNDS` does with our library.
+// does what `msvc_bench measure ROUNDS` does with our library. With no round it also prints the text of each name.
 
 #include <algorithm>
 #include <chrono>
-#include <cstdio>
 #include <cstdlib>
 #include <cstring>
 #include <iostream>
@@ -19,11 +18,11 @@ static char *demangle(const std::string &name) {
   return llvm::microsoftDemangle(name.c_str(), nullptr, nullptr, nullptr, &status);
 }
 
-// The names that have a text, a line each.
+// The names that have a text, a line each: the name, a tab, and the text.
 static void print_demangled(const Names &names) {
   for (const std::string &name : names) {
     if (char *text = demangle(name)) {
-      std::puts(name.c_str());
+      std::cout << name << '\t' << text << '\n';
       std::free(text);
     }
   }

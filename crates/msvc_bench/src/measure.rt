@@ -1,5 +1,5 @@
-//! How long the demangler takes for names, within one process: `msvc_bench measure ROUNDS` with the names as lines of standard
-//! input. `tools/measure/run` runs it beside LLVM's library.
+//! How long the demangler takes for names, within one process: `msvc_bench measure ROUNDS` with the names as lines of
+//! standard input. `tools/measure/run` runs it beside LLVM's library.
 
 use msvc_demangler::{DemangleFlags, demangle};
 use std::alloc::Global;

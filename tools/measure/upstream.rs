@@ -1,0 +1,45 @@
+//! How long the Rust crate takes for names, within one process: `upstream ROUNDS` with the names as lines of standard
+//! input does what `msvc_bench measure ROUNDS` does with our library. `tools/measure/run` builds it where that crate is
+//! at hand.
+
+use msvc_demangler::{demangle, DemangleFlags};
+use std::io;
+use std::time::{Duration, Instant};
+
+fn main() -> io::Result<()> {
+    let names = io::stdin().lines().collect::<io::Result<Vec<String>>>()?;
+    let rounds = std::env::args().nth(1).and_then(|word| word.parse().ok()).unwrap_or(0);
+    if rounds == 0 {
+        print_demangled(&names);
+    } else {
+        measure(&names, rounds);
+    }
+    Ok(())
+}
+
+/// The names that have a text, a line each.
+fn print_demangled(names: &[String]) {
+    for name in names {
+        if demangle(name, DemangleFlags::llvm()).is_ok() {
+            println!("{name}");
+        }
+    }
+}
+
+/// Demangles all names in each round; prints the nanoseconds of the fastest round and the bytes of its texts.
+fn measure(names: &[String], rounds: u64) {
+    let mut fastest = Duration::MAX;
+    let mut bytes = 0;
+    for _ in 0..rounds {
+        let start = Instant::now();
+        bytes = length_of_texts(names);
+        fastest = fastest.min(start.elapsed());
+    }
+    println!("{} {bytes}", fastest.as_nanos());
+}
+
+/// How many bytes the texts of the names have together: one round.
+fn length_of_texts(names: &[String]) -> usize {
+    let texts = names.iter().filter_map(|name| demangle(name, DemangleFlags::llvm()).ok());
+    texts.map(|text| text.len()).sum()
+}
