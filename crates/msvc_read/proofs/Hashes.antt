@@ -6,14 +6,14 @@ use Rattle.std.proofs.lemmas.Bool.{eqb-true}
 use Rattle.std.specs.Prelude.{is_some, ◌&&◌}
 use Rattle.std.specs.List.{list_all}
 use Rattle.msvc_tree.specs.Trees.{SymbolTree}
-use Rattle.msvc_read.specs.State.{State, Note, beginning}
+use Rattle.msvc_read.specs.State.{State, Note, beginning, counted}
 use Rattle.msvc_read.specs.Sorts.{symbol_tree}
 use Rattle.msvc_read.specs.Rules.{call, every, lookup, required}
 use Rattle.msvc_read.specs.Grammar.{grammar, hashed_symbol, is_hash}
 use Rattle.msvc_read.specs.Letters.{hexadecimal_codes}
 use Rattle.msvc_tree.specs.Trees.{md5_symbol}
 use Rattle.msvc_read.specs.Hashes.{HashesStand, hashed_text}
-use Rattle.msvc_read.specs.Reads.{Derives, Reads, a_literal, a_part, called, given, in_a_row, the_first}
+use Rattle.msvc_read.specs.Reads.{Derives, Reads, a_literal, a_node, a_part, called, given, in_a_row, the_first}
 use Rattle.msvc_read.proofs.Firsts.{both_if, if_both}
 use Rattle.msvc_read.proofs.Laws.{derived-only}
 
@@ -46,13 +46,18 @@ unfolding grammar
 there true left s e = called given
 there false left s e = absurd (cc)
 
+-- the state behind two nodes: that of the name, and that of its type
+abbrev two_counted : State → State
+two_counted s = counted s.count.weight (counted s.count.weight s)
+
 hash_read : (digits rest : List ℕ) (s : State) → is_hash digits ≡ true
-    → Reads symbol_tree hashed_symbol (digits ++ 64 ∷ rest) s (md5_symbol digits) rest s
+    → Reads symbol_tree hashed_symbol (digits ++ 64 ∷ rest) s (md5_symbol digits) rest (two_counted s)
 unfolding grammar
 hash_read digits rest s h =
     let parts : ((length digits == 32) ≡ true) × (every (λ b. is_some (lookup b hexadecimal_codes)) digits ≡ true) =
     if_both _ _ h in
-    in_a_row (called (a_part refl (no_end digits parts.1))) (in_a_row (there (is_hash digits) rest s h) given)
+    let behind = in_a_row (there (is_hash digits) rest (two_counted s) h) given in
+    a_node (a_node (in_a_row (called (a_part refl (no_end digits parts.1))) behind))
 
 pub hash_derived : (digits rest : List ℕ) → is_hash digits ≡ true
     → Derives (hashed_text digits rest) (md5_symbol digits) rest []
@@ -60,7 +65,7 @@ unfolding grammar
 hash_derived digits rest h =
     let s : State = beginning (hashed_text digits rest) in
     let body = in_a_row (a_literal refl) (hash_read digits rest s h) in
-    (s, called (in_a_row (a_literal refl) (called (the_first body))), refl)
+    (two_counted s, called (in_a_row (a_literal refl) (called (the_first body))), refl)
 
 -- whatever is derived of such a text is the name of the hash
 pub hash_only : (digits rest : List ℕ) → is_hash digits ≡ true

@@ -2,6 +2,7 @@ pub mod Characters
 pub mod Checks
 pub mod Choices
 pub mod Completeness
+pub mod Counted
 pub mod Cut
 pub mod Eats
 pub mod Firsts
@@ -16,6 +17,8 @@ pub mod NameSteps
 pub mod Nodes
 pub mod NumberSteps
 pub mod Placed
+pub mod Recounted
+pub mod Rises
 pub mod Rising
 pub mod RowSteps
 pub mod Soundness
@@ -29,4 +32,5 @@ pub mod SymbolSteps
 pub mod Tables
 pub mod TypeSteps
 pub mod Whole
+pub mod Within
 pub mod Written

@@ -21,7 +21,6 @@ use Rattle.std.specs.List.{list_all}
 use Rattle.std.proofs.lemmas.Option.{slice_get-map}
 use Rattle.msvc_read.specs.Rules.{every}
 use Rattle.msvc_read.specs.Parser.{Frame}
-use Rattle.msvc_read.specs.declared.memorized.MemorizedType.{MemorizedType}
 use Rattle.msvc_read.proofs.Choices.{letter_step}
 use Rattle.msvc_read.proofs.FunctionSteps.{class_part_is, returned_member, returned_other}
 use Rattle.msvc_read.proofs.GuardSteps.{indexed_guard, indexed_other}
@@ -120,7 +119,7 @@ all-every test (b ∷ bs) = go (test b) (all-every test bs)
 
 -- an item more behind those of a list that is being gathered
 
-pub frame_names : (a : List (Bor Name)) (b : List MemorizedType) (d e : List (Bor «Type»)) (before after new : Frame)
+pub frame_names : {N E : Type 0} (a : List N) (b : List E) (d e : List (Bor «Type»)) (before after new : Frame N E)
     (x : Bor Name)
     (kept : List (Bor Name))
     → before
@@ -142,10 +141,10 @@ pub frame_names : (a : List (Bor Name)) (b : List MemorizedType) (d e : List (Bo
       listed_types = d;
       types_before = e;
     }
-frame_names a b d e before after new x kept h f g =
+frame_names {N} {E} a b d e before after new x kept h f g =
     g
-    ∙ ap (λ (k : Frame). record k { listed_names = k.listed_names ++ x ∷ [] }) f
-    ∙ ap (λ (k : Frame). record k { listed_names = before.listed_names ++ x ∷ [] }) h
+    ∙ ap (λ (k : Frame N E). record k { listed_names = k.listed_names ++ x ∷ [] }) f
+    ∙ ap (λ (k : Frame N E). record k { listed_names = before.listed_names ++ x ∷ [] }) h
     ∙ ap (λ (xs : List (Bor Name)). record {
       names = a;
       types = b;
@@ -153,9 +152,9 @@ frame_names a b d e before after new x kept h f g =
       names_before = kept;
       listed_types = d;
       types_before = e;
-    }) (sym (ap (λ (k : Frame). k.listed_names) g ∙ ap (λ (k : Frame). k.listed_names ++ x ∷ []) f))
+    }) (sym (ap (λ (k : Frame N E). k.listed_names) g ∙ ap (λ (k : Frame N E). k.listed_names ++ x ∷ []) f))
 
-pub frame_types : (a : List (Bor Name)) (b : List MemorizedType) (d e : List (Bor Name)) (before after new : Frame)
+pub frame_types : {N E : Type 0} (a : List N) (b : List E) (d e : List (Bor Name)) (before after new : Frame N E)
     (x : Bor «Type»)
     (kept : List (Bor «Type»))
     → before
@@ -177,10 +176,10 @@ pub frame_types : (a : List (Bor Name)) (b : List MemorizedType) (d e : List (Bo
       listed_types = new.listed_types;
       types_before = kept;
     }
-frame_types a b d e before after new x kept h f g =
+frame_types {N} {E} a b d e before after new x kept h f g =
     g
-    ∙ ap (λ (k : Frame). record k { listed_types = k.listed_types ++ x ∷ [] }) f
-    ∙ ap (λ (k : Frame). record k { listed_types = before.listed_types ++ x ∷ [] }) h
+    ∙ ap (λ (k : Frame N E). record k { listed_types = k.listed_types ++ x ∷ [] }) f
+    ∙ ap (λ (k : Frame N E). record k { listed_types = before.listed_types ++ x ∷ [] }) h
     ∙ ap (λ (xs : List (Bor «Type»)). record {
       names = a;
       types = b;
@@ -188,6 +187,6 @@ frame_types a b d e before after new x kept h f g =
       names_before = e;
       listed_types = xs;
       types_before = kept;
-    }) (sym (ap (λ (k : Frame). k.listed_types) g ∙ ap (λ (k : Frame). k.listed_types ++ x ∷ []) f))
+    }) (sym (ap (λ (k : Frame N E). k.listed_types) g ∙ ap (λ (k : Frame N E). k.listed_types ++ x ∷ []) f))
 
 pub ruleset base_class_split = (base_class_step)

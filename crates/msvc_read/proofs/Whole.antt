@@ -1,5 +1,8 @@
 -- The reading of a whole text: what it gives is the one tree that is derived, and where it gives none there is none.
-use Rattle.std.proofs.Common.{ℕ, List, [], ◌++◌, length, length-append, take, Option, Some, None, ◌≡◌, ◌≤◌, ◌-◌, refl, sym, ap, ◌∙◌, subst, arith}
+use Rattle.std.proofs.Common.{ℕ, List, [], ◌++◌, length, length-append, take, Option, Some, None, Result, Err, ◌≡◌, ◌≤◌}
+use Rattle.std.proofs.Common.{◌-◌, refl}
+use Rattle.std.proofs.Common.{sym, ap, ◌∙◌, subst, arith}
+use Rattle.std.specs.Prelude.{codes}
 use Rattle.std.specs.Str.{IsCharBoundary, IsUtf8}
 use Rattle.msvc_tree.specs.EachName.{EachName}
 use Rattle.msvc_tree.specs.Errors.{context_of}
@@ -11,15 +14,20 @@ use Rattle.std.proofs.Math.Seq.{take-append_seam}
 use Rattle.msvc_read.proofs.Eats.{IsTail, tail}
 use Rattle.msvc_read.proofs.Hashes.{hashes-stand}
 use Rattle.msvc_read.proofs.Laws.{derived-alone, derived-only, symbol-derived, symbol-refused}
+use Rattle.msvc_read.proofs.Soundness.{after-is}
 use Rattle.msvc_read.proofs.Spellings.{derived-parts, derived-utf8, rest-utf8}
+use Rattle.msvc_read.proofs.Within.{within_derived, within_refused}
+use Rattle.msvc_read.specs.Counts.{node_count}
 use Rattle.msvc_read.specs.Hashes.{HashesStand}
 use Rattle.msvc_read.specs.Parser.{Refuses, with_length}
 use Rattle.msvc_read.specs.Parts.{NamesAreParts}
 use Rattle.msvc_read.specs.Prefix.{IsReadTo}
 use Rattle.msvc_read.specs.Reads.{Derives, Found, read_name}
-use Rattle.msvc_read.specs.Refusals.{IsErrorOf, IsRefusalAt, IsNoSymbol, IsRefusedRightly}
-use Rattle.msvc_read.specs.Rules.{symbol}
-use Rattle.msvc_read.specs.State.{State, Note, beginning}
+use Rattle.msvc_read.specs.Refusals.{IsErrorOf, IsRefusalAt, IsNoSymbol, IsNoSymbolWithin, IsRefusedRightly}
+use Rattle.msvc_read.specs.Refusals.{IsRefusedWithin, begins_with}
+use Rattle.msvc_read.specs.Rules.{after, symbol}
+use Rattle.msvc_read.specs.State.{State, Note, at_most, beginning, beginning_with}
+use Rattle.msvc_read.specs.declared.refusal.Message.TheVariants as message
 use Rattle.msvc_read.specs.declared.refusal.Refusal.{Refusal}
 use Rattle.msvc_read.specs.declared.refusal.Refusal.TheVariants as refusal
 
@@ -52,12 +60,12 @@ read-derived text tree n e =
       λ other behind others d. derived-only text other tree behind found.0 others found.1.notes d derived,
     )
 
+none : (text : List ℕ) (r : Found SymbolTree) → with_length text r ≡ None → r ≡ None
+none text None k = refl
+none text (Some x) k = absurd (cc)
+
 pub read-none : (text : List ℕ) → symbol_read text ≡ None → IsNoSymbol text
-read-none text e = symbol-refused text (none (read_name symbol text (beginning text)) e)
-  where
-    none : (r : Found SymbolTree) → with_length text r ≡ None → r ≡ None
-    none None k = refl
-    none (Some x) k = absurd (cc)
+read-none text e = symbol-refused text (none text (read_name symbol text (beginning text)) e)
 
 -- bytes before others are as many as the text has more than these
 front : (text eaten rest : List ℕ) (n : ℕ) → text ≡ eaten ++ rest → length text - length rest ≡ n → length eaten ≡ n
@@ -94,20 +102,28 @@ read-boundary text tree n u e =
     subst (IsCharBoundary text) left.2
     (IsCharBoundary-at_seam text left.0 one.0 left.1 (rest-utf8 text tree one.0 one.1 u one.2))
 
+-- what holds of the names of the one tree
+
+pub one-parts : (text : List ℕ) (tree : SymbolTree) → OneDerived text tree → NamesAreParts text tree
+one-parts text tree one = derived-parts text tree one.0 one.1 one.2
+
+pub one-texts : (text : List ℕ) (tree : SymbolTree) → IsUtf8 text → OneDerived text tree → EachName IsUtf8 tree
+one-texts text tree u one = derived-utf8 text tree one.0 one.1 u one.2
+
+pub one-hashes : (text : List ℕ) (tree : SymbolTree) → OneDerived text tree → HashesStand text tree
+one-hashes text tree one = hashes-stand text tree one.0 one.1 one.2
+
 pub read-parts : (text : List ℕ) (tree : SymbolTree) (n : ℕ) → symbol_read text ≡ Some (tree, n)
     → NamesAreParts text tree
-read-parts text tree n e =
-    let one = read-derived text tree n e in derived-parts text tree one.0 one.1 one.2
+read-parts text tree n e = one-parts text tree (read-derived text tree n e)
 
 pub read-texts : (text : List ℕ) (tree : SymbolTree) (n : ℕ) → IsUtf8 text → symbol_read text ≡ Some (tree, n)
     → EachName IsUtf8 tree
-read-texts text tree n u e =
-    let one = read-derived text tree n e in derived-utf8 text tree one.0 one.1 u one.2
+read-texts text tree n u e = one-texts text tree u (read-derived text tree n e)
 
 pub read-hashes : (text : List ℕ) (tree : SymbolTree) (n : ℕ) → symbol_read text ≡ Some (tree, n)
     → HashesStand text tree
-read-hashes text tree n e =
-    let one = read-derived text tree n e in hashes-stand text tree one.0 one.1 one.2
+read-hashes text tree n e = one-hashes text tree (read-derived text tree n e)
 
 at_refused : (text : List ℕ) (left : ℕ) (e : ErrorRepr) → IsNoSymbol text → IsRefusalAt text (length text - left) e
     → IsRefusedRightly text e
@@ -124,3 +140,60 @@ pub error-refused : (text : List ℕ) (r : Refusal) (e : ErrorRepr) → Refuses 
     → IsRefusedRightly text e
 error-refused text refusal.Memory e h is = subst (λ (x : ErrorRepr). IsRefusedRightly text x) (sym is) tt
 error-refused text (refusal.Unread message left) e h is = at_refused text left e (read-none text h) is
+
+-- a text that doesn't begin with a question mark is refused at its beginning
+pub refused-at-once : {A : Type 0} (text : List ℕ) (r : Refusal) (e : ErrorRepr)
+    → (after (codes "?") text ≡ None
+    → ◌≡◌ {A = Result A Refusal} (Err r) (Err (refusal.Unread message.NoQuestionMark (length text))))
+    → IsErrorOf r text e → (begins_with (codes "?") text → ⊥) → IsRefusalAt text 0 e
+refused-at-once text r e start is never = go (after (codes "?") text) refl
+  where
+    go : (o : Option (List ℕ)) → after (codes "?") text ≡ o → IsRefusalAt text 0 e
+    go None k =
+        let same : r ≡ refusal.Unread message.NoQuestionMark (length text) = let whole = start k in cc in
+        let here : length text - length text ≡ 0 = omega arith in
+        subst (λ n. IsRefusalAt text n e) here (subst (λ x. IsErrorOf x text e) same is)
+    go (Some rest) k = absurd (never (rest, after-is (codes "?") text rest k))
+
+-- With a limit
+
+-- the symbol of at most so many nodes that is read of a text, and how many bytes of it were read
+abbrev pub symbol_within : ℕ → List ℕ → Option (SymbolTree × ℕ)
+symbol_within most text = with_length text (read_name symbol text (beginning_with (at_most most) text))
+
+-- what is read is the one tree that is derived, and has no more nodes
+pub within-one : (most : ℕ) (text : List ℕ) (tree : SymbolTree) (n : ℕ) → symbol_within most text ≡ Some (tree, n)
+    → OneDerived text tree × (node_count tree ≤ most)
+within-one most text tree n e =
+    let found = whole text (read_name symbol text (beginning_with (at_most most) text)) tree n e in
+    let derived = within_derived text most tree found.0 found.1 found.2 in (
+      (
+        found.0,
+        found.1.notes,
+        derived.0,
+        λ other behind others d. derived-only text other tree behind found.0 others found.1.notes d derived.0,
+      ),
+      derived.1,
+    )
+
+pub within-none : (most : ℕ) (text : List ℕ) → symbol_within most text ≡ None → IsNoSymbolWithin most text
+within-none most text e =
+    within_refused text most (none text (read_name symbol text (beginning_with (at_most most) text)) e)
+
+at_refused_within : (most : ℕ) (text : List ℕ) (left : ℕ) (e : ErrorRepr) → IsNoSymbolWithin most text
+    → IsRefusalAt text (length text - left) e → IsRefusedWithin most text e
+at_refused_within most text left (error.ParseError m c at) none h =
+    let inside : at ≤ length text = omega (arith, h.0) in
+    (inside, none, λ ascii. h.1 ascii ∙ ap (context_of text) (sym h.0))
+at_refused_within most text left error.Memory none h = tt
+at_refused_within most text left (error.Other m) none h = absurd h
+at_refused_within most text left (error.Utf8 m) none h = absurd h
+at_refused_within most text left (error.FromUtf8 m) none h = absurd h
+
+-- the error that a caller sees says what the refusal inside the reader says
+pub error-refused-within : (most : ℕ) (text : List ℕ) (r : Refusal) (e : ErrorRepr)
+    → Refuses r (symbol_within most text) → IsErrorOf r text e → IsRefusedWithin most text e
+error-refused-within most text refusal.Memory e h is =
+    subst (λ (x : ErrorRepr). IsRefusedWithin most text x) (sym is) tt
+error-refused-within most text (refusal.Unread message left) e h is =
+    at_refused_within most text left e (within-none most text h) is

@@ -16,14 +16,15 @@ use Rattle.msvc_read.specs.Letters.{at_sign, dollar_sign, ellipsis_letter, type_
 use Rattle.msvc_read.specs.Letters.{qualifiers, reference_qualifiers, second_special_letters, special_letters}
 use Rattle.msvc_read.specs.Letters.{storage_classes, third_special_letters, type_information_letters, type_texts}
 use Rattle.msvc_read.specs.declared.special_names.SpecialForm.{SpecialForm}
-use Rattle.msvc_read.specs.Reads.{Found, and_then, read_name}
+use Rattle.msvc_read.specs.Reads.{Found, and_then, counting, read_name}
 use Rattle.msvc_read.specs.declared.type_forms.TypeForm.{TypeForm}
 use Rattle.msvc_read.specs.declared.letters.OptionalLetters.{OptionalLetters}
 use Rattle.msvc_read.specs.declared.letters.OptionalLetters.TheVariants as letters
 use Rattle.msvc_read.specs.Rules.{after, guard_index, lookup}
 use Rattle.msvc_read.specs.State as state
 use Rattle.msvc_read.specs.declared.memorized.BackReference.{BackReference}
-use Rattle.msvc_read.specs.declared.memorized.MemorizedType.{MemorizedType}
+use Rattle.msvc_read.specs.declared.entries.MemorizedName.{MemorizedName}
+use Rattle.msvc_read.specs.declared.entries.MemorizedType.{MemorizedType}
 use Rattle.msvc_read.specs.declared.function_types.FunctionKind.{FunctionKind}
 use Rattle.msvc_read.specs.declared.function_types.FunctionKind.TheVariants as function_kind
 use Rattle.msvc_read.specs.declared.function_types.MemberPointerForm.{MemberPointerForm}
@@ -39,31 +40,40 @@ use Rattle.msvc_read.specs.declared.refusal.Refusal.{Refusal}
 use Rattle.msvc_read.specs.declared.refusal.Refused.{Refused}
 use Rattle.msvc_read.specs.declared.refusal.Refusal.TheVariants as refusal
 
-abbrev pub memorized_of : MemorizedType → state.Entry
+abbrev pub known_name_of : {L : Type 0} {g : _} → MemorizedName L g → NameTree
+known_name_of e = name_at e.memorized
+
+abbrev pub memorized_of : {L : Type 0} {g : _} → MemorizedType L g → state.Entry
 memorized_of e = record { entered = type_at e.memorized; start = e.start; end = e.end }
 
 abbrev pub note_of : BackReference → state.Note
 note_of n = record { at = n.at; start = n.start; end = n.end }
 
-abbrev pub state_of : Parser → state.State
+-- what was counted
+abbrev pub count_of : {L : Type 0} {g : _} → Parser L g → state.Count
+count_of {g = g} p =
+    record { weight = g.weight; made = g.made p.limit; most = g.most p.limit }
+
+abbrev pub state_of : {L : Type 0} {g : _} → Parser L g → state.State
 state_of p =
     record {
       whole = p.whole;
-      names = map name_at (here p.memorized.names);
+      count = count_of p;
+      names = map known_name_of (here p.memorized.names);
       types = map memorized_of (here p.memorized.types);
       notes = map note_of p.notes.items;
     }
 
 -- what a reader leaves as it was: the entries that stand before the tables in use, and the lists that others gather
-pub record Frame : Type 0 where
-  pub names : List (Bor Name)
-  pub types : List MemorizedType
+pub record Frame (N E : Type 0) : Type 0 where
+  pub names : List N
+  pub types : List E
   pub listed_names : List (Bor Name)
   pub names_before : List (Bor Name)
   pub listed_types : List (Bor «Type»)
   pub types_before : List (Bor «Type»)
 
-abbrev pub frame_of : Parser → Frame
+abbrev pub frame_of : {L : Type 0} {g : _} → Parser L g → Frame (MemorizedName L g) (MemorizedType L g)
 frame_of p =
     record {
       names = outer p.memorized.names;
@@ -91,23 +101,23 @@ IsRead view (Err e) read = Refuses e read
 
 -- What a reader of the program returned, seen by view, is what a rule reads of the bytes that were left: its value, the
 -- bytes left and the state after it.
-abbrev pub ReadsAs : {X Y : Type 0} → (X → Y) → Parser → Parser → Result X Refused
+abbrev pub ReadsAs : {L : Type 0} {g : _} {X Y : Type 0} → (X → Y) → Parser L g → Parser L g → Result X Refused
     → (List ℕ → state.State → Found Y) → Type 0
 ReadsAs view before after result reading =
     Gives (λ x. (view x, after.rest.now, state_of after)) after.why result (reading before.rest.now (state_of before))
 
 -- a reader that reads has eaten bytes, and leaves alone what is not its own
-abbrev pub Eats : {X : Type 0} → Parser → Parser → Result X Refused → Type 0
+abbrev pub Eats : {L : Type 0} {g : _} {X : Type 0} → Parser L g → Parser L g → Result X Refused → Type 0
 Eats before after result =
     IfOk result (λ _. (length after.rest.now < length before.rest.now) × (frame_of after ≡ frame_of before))
 
 -- or may have eaten none
-abbrev pub MayEat : {X : Type 0} → Parser → Parser → Result X Refused → Type 0
+abbrev pub MayEat : {L : Type 0} {g : _} {X : Type 0} → Parser L g → Parser L g → Result X Refused → Type 0
 MayEat before after result =
     IfOk result (λ _. (length after.rest.now ≤ length before.rest.now) × (frame_of after ≡ frame_of before))
 
 -- what is made of what was read leaves the bytes alone too
-abbrev pub Stays : {X : Type 0} → Parser → Parser → Result X Refused → Type 0
+abbrev pub Stays : {L : Type 0} {g : _} {X : Type 0} → Parser L g → Parser L g → Result X Refused → Type 0
 Stays before after result =
     IfOk result (λ _. (after.rest.now ≡ before.rest.now) × (frame_of after ≡ frame_of before))
 
@@ -187,6 +197,11 @@ parameters_stop (b ∷ bs) =
 abbrev pub ellipsis_types : Ellipsis → List TypeTree
 ellipsis_types ellipsis.Absent = []
 ellipsis_types ellipsis.Present = plain plain_kind.Variadic ∷ []
+
+-- the ellipsis of a list of parameters is a node
+abbrev pub counting_ellipsis : Ellipsis → List ℕ → state.State → Found (Unit {0})
+counting_ellipsis ellipsis.Absent left s = Some (tt, left, s)
+counting_ellipsis ellipsis.Present left s = counting s.count.weight left s
 
 -- what the grammar tells apart by a test
 

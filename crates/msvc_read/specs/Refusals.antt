@@ -1,10 +1,11 @@
 -- What a refusal is to those who call.
-use Rattle.std.specs.Prelude.{ℕ, List, ◌++◌, ◌-◌, ◌≤◌, ◌≡◌, length, string_bytes}
+use Rattle.std.specs.Prelude.{ℕ, List, ◌++◌, ◌-◌, ◌<◌, ◌≤◌, ◌≡◌, length, string_bytes}
 use Rattle.std.specs.Str.{IsAscii}
 use Rattle.msvc_tree.specs.Errors.{context_of}
 use Rattle.msvc_tree.specs.Trees.{SymbolTree}
 use Rattle.msvc_tree.specs.declared.error.ErrorRepr.{ErrorRepr}
 use Rattle.msvc_tree.specs.declared.error.ErrorRepr.TheVariants as error
+use Rattle.msvc_read.specs.Counts.{node_count}
 use Rattle.msvc_read.specs.Reads.{Derives}
 use Rattle.msvc_read.specs.State.{Note}
 use Rattle.msvc_read.specs.declared.refusal.Refusal.{Refusal}
@@ -36,3 +37,15 @@ IsRefusedRightly text (error.ParseError message context at) =
     (at ≤ length text) × IsNoSymbol text × (IsAscii text → string_bytes context ≡ context_of text at)
 IsRefusedRightly text error.Memory = Unit {0}
 IsRefusedRightly text _ = ⊥
+
+-- no beginning of the text is a symbol of at most so many nodes
+abbrev pub IsNoSymbolWithin : ℕ → List ℕ → Type 0
+IsNoSymbolWithin most text =
+    (tree : SymbolTree) (rest : List ℕ) (notes : List Note) → Derives text tree rest notes → most < node_count tree
+
+-- likewise where there is a limit: because no beginning of the text is a symbol of at most so many nodes
+abbrev pub IsRefusedWithin : ℕ → List ℕ → ErrorRepr → Type 0
+IsRefusedWithin most text (error.ParseError message context at) =
+    (at ≤ length text) × IsNoSymbolWithin most text × (IsAscii text → string_bytes context ≡ context_of text at)
+IsRefusedWithin most text error.Memory = Unit {0}
+IsRefusedWithin most text _ = ⊥

@@ -14,6 +14,7 @@ ghost use Rattle.msvc_read.specs.Sorts.{member_of, plain_function};
 ghost use Rattle.msvc_tree.specs.Trees as tree;
 
 use crate::letters::{self, OptionalLetters};
+use crate::limit::Limit;
 use crate::parser::Parser;
 use crate::qualified_names::TemplateNames;
 use crate::refusal::{Message, Refusal, Refused};
@@ -55,7 +56,7 @@ struct Signature<'a, 'b> {
     parameters: List<'b, &'b Type<'a, 'b>>,
 }
 
-impl<'a, 'b> Parser<'a, 'b> {
+impl<'a, 'b, L: Limit> Parser<'a, 'b, L> {
     /// `FUNCTION = SIGNATURE`: a function outside of any class.
     #[cycle(readers)]
     #[tactic(auto, using(crate::proofs::SymbolSteps::function_step))]
@@ -63,6 +64,7 @@ impl<'a, 'b> Parser<'a, 'b> {
         ensures value { ReadsAs type_at self.old self.new result (read_name (encoding_behind plain_function)) }
         ensures eats { MayEat self.old self.new result }
     {
+        self.count_node()?;
         let f = self.signature(FunctionKind::Free)?;
         self.put_function(f, StorageClass::empty())
     }
@@ -74,6 +76,7 @@ impl<'a, 'b> Parser<'a, 'b> {
         ensures value { ReadsAs type_at self.old self.new result (read_name (encoding_behind (member_of class.0))) }
         ensures eats { MayEat self.old self.new result }
     {
+        self.count_node()?;
         self.thunk_number(class)?;
         let own = self.own_qualifiers(object_qualifiers(class));
         let f = self.signature(FunctionKind::Member)?;
@@ -90,6 +93,7 @@ impl<'a, 'b> Parser<'a, 'b> {
         ensures value { ReadsAs type_at self.old self.new result (read_name (function_type (is_bare qualifiers))) }
         ensures eats { Eats self.old self.new result }
     {
+        self.count_node()?;
         let own = self.own_qualifiers(qualifiers);
         let convention = self.convention()?;
         let q = self.class_of_returned();
@@ -110,6 +114,7 @@ impl<'a, 'b> Parser<'a, 'b> {
         ensures value { ReadsAs type_at self.old self.new result (read_name (member_pointer (is_qualified form))) }
         ensures eats { Eats self.old self.new result }
     {
+        self.count_node()?;
         let symbol = self.qualified_name(TemplateNames::NotMemorized)?;
         let size = self.optional_mark(b'E', StorageClass::PTR64);
         let (class, own) = self.class_part(form)?;
@@ -346,7 +351,7 @@ impl<'a, 'b> Parser<'a, 'b> {
         ensures eats { Eats self.old self.new result }
     {
         if self.eat(b"@") {
-            return self.put_type(Type::Plain(PlainType::None));
+            return self.new_type(Type::Plain(PlainType::None));
         }
         self.any_type(q)
     }

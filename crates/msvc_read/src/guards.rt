@@ -7,10 +7,11 @@ ghost use Rattle.msvc_tree.specs.Trees.{name_trees, numbered};
 ghost use Rattle.msvc_read.specs.Grammar.{guard_marker, is_in_range, numbered_guard};
 ghost use Rattle.msvc_read.specs.Letters.{digits};
 ghost use Rattle.msvc_read.specs.Parser.{Eats, MayEat, ReadsAs, guard_of, indexed};
-ghost use Rattle.msvc_read.specs.Reads.{and_then, letter_here, read, read_name};
+ghost use Rattle.msvc_read.specs.Reads.{and_then, in_node, letter_here, read, read_name};
 ghost use Rattle.msvc_read.specs.Rules.{decimal, guard_index, literal};
 ghost use Rattle.msvc_tree.specs.declared.kinds.NumberedType.TheVariants as number_kind;
 
+use crate::limit::Limit;
 use crate::parser::Parser;
 use crate::refusal::{Message, Refused};
 use msvc_tree::kinds::{Guard, NumberedType};
@@ -22,7 +23,7 @@ const BASE: u64 = 10;
 /// The greatest number of a guard.
 const GREATEST_NUMBER: u64 = 2147483647;
 
-impl<'a, 'b> Parser<'a, 'b> {
+impl<'a, 'b, L: Limit> Parser<'a, 'b, L> {
     /// A symbol's name, with the index that follows it if it is that of a guard.
     #[tactic(auto, using(crate::proofs::Nodes::indexed_split), unfolding(msvc_tree::specs::NodeView::name_of))]
     pub fn indexed_symbol(&mut self, symbol: Symbol<'a, 'b>) -> Result<Symbol<'a, 'b>, Refused>
@@ -92,7 +93,7 @@ impl<'a, 'b> Parser<'a, 'b> {
     ) -> Result<Whole<'a, 'b>, Refused>
         ensures value { ReadsAs whole_of self.old self.new result
             (λ left s. and_then (read (literal (codes "4HA")) left s)
-            (λ _ left s. Some (
+            (λ _ left s. in_node left s (λ left s. Some (
               record {
                 name = name_of symbol.entry.name.now;
                 scope = name_trees (map name_at symbol.entry.scope.now);
@@ -100,10 +101,11 @@ impl<'a, 'b> Parser<'a, 'b> {
               },
               left,
               s,
-            ))) }
+            )))) }
         ensures eats { MayEat self.old self.new result }
     {
         self.expected(b"4HA", Message::GuardTypeExpected)?;
+        self.count_node()?;
         let symbol_type = self.put_type(Type::Numbered(NumberedType::ThreadSafeGuard, number))?;
         Ok(Whole {
             symbol,

@@ -9,17 +9,20 @@ ghost use Rattle.msvc_read.specs.Reads.{read};
 ghost use Rattle.msvc_read.specs.Rules.{every, lookup};
 
 use crate::letters;
+use crate::limit::Limit;
 use crate::parser::Parser;
 use crate::refusal::{Message, Refused};
 use msvc_tree::nodes::{Name, Whole};
 
-impl<'a, 'b> Parser<'a, 'b> {
+impl<'a, 'b, L: Limit> Parser<'a, 'b, L> {
     /// `HASHED_SYMBOL = 32 * hexadecimal digit "@"`, after its `??@`.
     #[tactic(auto, using(crate::proofs::SymbolSteps::hashed_symbol_step), unfolding(msvc_tree::specs::NodeView::name_of))]
     pub fn hashed_symbol(&mut self) -> Result<Whole<'a, 'b>, Refused>
         ensures value { ReadsAs whole_of self.old self.new result (read hashed_symbol) }
         ensures eats { Eats self.old self.new result }
     {
+        self.count_node()?;
+        self.count_node()?;
         let digits = self.hash()?;
         let name = self.put_name(Name::Md5(digits))?;
         self.alone(name)

@@ -1,10 +1,12 @@
 //! Reads a symbol as Microsoft's C++ compiler mangles it into a tree. Nothing here knows how a tree is printed.
 #![tactic(auto)]
 
+mod entries;
 mod function_types;
 mod guards;
 mod hashed_symbols;
 mod letters;
+mod limit;
 mod memorized;
 mod numbers;
 mod parameters;
@@ -20,4 +22,7 @@ mod type_forms;
 mod types;
 
 pub use memorized::BackReference;
-pub use read::{back_references, parse, parse_prefix, read_symbol, room_for};
+pub use read::{
+    back_references, parse, parse_prefix, parse_within, read_symbol, read_symbol_within, room_for,
+    room_within,
+};

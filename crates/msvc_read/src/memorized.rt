@@ -1,14 +1,17 @@
 //! Back references: the names and types that were memorized, and the digits that stand for them.
 
 ghost use Rattle.std.specs.List.{list_any};
-ghost use Rattle.std.specs.Prelude.{◌≡◌, ◌≤◌, ◌++◌, [], drop, length, map, slice_get, take, IfOk, Some};
+ghost use Rattle.std.specs.Prelude.{◌≡◌, ◌≤◌, ◌+◌, ◌++◌, [], drop, length, map, slice_get, take, IfOk, Some};
 ghost use Rattle.msvc_tree.specs.Equality.{same_name, same_type};
 ghost use Rattle.msvc_tree.specs.NodeView.{name_at, name_of, type_at, type_of};
-ghost use Rattle.msvc_read.specs.Parser.{ReadsAs, Stays, memorized_of};
-ghost use Rattle.msvc_read.specs.Reads.{type_known, type_noted, with_value};
+ghost use Rattle.msvc_read.specs.Counts.{name_count, type_count};
+ghost use Rattle.msvc_read.specs.Parser.{ReadsAs, Stays, known_name_of, memorized_of};
+ghost use Rattle.msvc_read.specs.Reads.{name_known, type_known, type_noted, with_value};
 ghost use Rattle.msvc_read.specs.Stack.{here, outer};
 ghost use Rattle.msvc_read.specs.State.{remember_name, remember_type, span_of, with_name, with_type};
 
+use crate::entries::{MemorizedName, MemorizedType};
+use crate::limit::Limit;
 use crate::parser::Parser;
 use crate::refusal::{Message, Refused};
 use crate::stack::Stack;
@@ -31,20 +34,12 @@ pub struct BackReference {
     pub end: usize,
 }
 
-/// A type that was memorized, with the places where its bytes start and end.
-#[derive(Clone, Copy)]
-pub struct MemorizedType<'a, 'b> {
-    pub memorized: &'b Type<'a, 'b>,
-    pub start: usize,
-    pub end: usize,
-}
-
 /// What a digit can stand for: the names and the types that were memorized. A template has its own, and while it is
 /// read those of what is around it are kept before them.
 #[derive(Drop)]
-pub struct Memorized<'a, 'b> {
-    pub names: Stack<'b, &'b Name<'a, 'b>>,
-    pub types: Stack<'b, MemorizedType<'a, 'b>>,
+pub struct Memorized<'a, 'b, L: Limit> {
+    pub names: Stack<'b, MemorizedName<'a, 'b, L>>,
+    pub types: Stack<'b, MemorizedType<'a, 'b, L>>,
 }
 
 /// Where the tables begin of what is around a template.
@@ -54,9 +49,9 @@ pub struct Outer {
     types: usize,
 }
 
-impl<'a, 'b> Memorized<'a, 'b> {
+impl<'a, 'b, L: Limit> Memorized<'a, 'b, L> {
     /// Tables in which nothing is memorized.
-    pub fn new(arena: &'b Bump) -> Memorized<'a, 'b>
+    pub fn new(arena: &'b Bump) -> Memorized<'a, 'b, L>
         ensures names { (here result.names ≡ []) × (outer result.names ≡ []) }
         ensures types { (here result.types ≡ []) × (outer result.types ≡ []) }
     {
@@ -94,21 +89,21 @@ impl<'a, 'b> Memorized<'a, 'b> {
 
     /// Memorizes a name, if there is room and no equal one.
     #[inline(always)]
-    fn memorize_name(&mut self, name: &'b Name<'a, 'b>) -> Result<(), AllocError>
-        ensures names { IfOk result (λ _. map name_at (here self.new.names)
-            ≡ with_name (name_of name.now) (map name_at (here self.old.names))) }
+    fn memorize_name(&mut self, new: MemorizedName<'a, 'b, L>) -> Result<(), AllocError>
+        ensures names { IfOk result (λ _. map known_name_of (here self.new.names)
+            ≡ with_name (known_name_of new.entry) (map known_name_of (here self.old.names))) }
         ensures outer { IfOk result (λ _. outer self.new.names ≡ outer self.old.names) }
         ensures types { self.new.types ≡ self.old.types }
     {
-        if self.names.len() < MOST_MEMORIZED && !is_known_name(self.names.items(), name) {
-            self.names.push(name)?;
+        if self.names.len() < MOST_MEMORIZED && !is_known_name(self.names.items(), new.memorized) {
+            self.names.push(new)?;
         }
         Ok(())
     }
 
     /// Memorizes a type, if there is room and no equal one.
     #[inline(always)]
-    fn memorize_type(&mut self, new: MemorizedType<'a, 'b>) -> Result<(), AllocError>
+    fn memorize_type(&mut self, new: MemorizedType<'a, 'b, L>) -> Result<(), AllocError>
         ensures types { IfOk result (λ _. map memorized_of (here self.new.types)
             ≡ with_type (memorized_of new.entry) (map memorized_of (here self.old.types))) }
         ensures outer { IfOk result (λ _. outer self.new.types ≡ outer self.old.types) }
@@ -121,26 +116,36 @@ impl<'a, 'b> Memorized<'a, 'b> {
     }
 }
 
-impl<'a, 'b> Parser<'a, 'b> {
-    /// Puts a name into the arena and memorizes it.
+impl<'a, 'b, L: Limit> Parser<'a, 'b, L> {
+    /// Puts a name without parts into the arena and memorizes it.
     #[inline(always)]
     pub fn memorized_name(&mut self, name: Name<'a, 'b>) -> Result<&'b Name<'a, 'b>, Refused>
+        requires { name_count L.weight (name_of name) ≡ L.weight }
         ensures value { ReadsAs name_at self.old self.new result
             (λ left s. with_value (Some (name_of name.entry)) left (remember_name (name_of name.entry) s)) }
         ensures stays { Stays self.old self.new result }
     {
         let name = self.put_name(name)?;
-        self.memorize_name(name)
+        self.memorize_name(name, L::one())
     }
 
-    /// Memorizes a name, and gives it back.
+    /// Memorizes a name of as many nodes, and gives it back.
     #[inline(always)]
-    pub fn memorize_name(&mut self, name: &'b Name<'a, 'b>) -> Result<&'b Name<'a, 'b>, Refused>
+    pub fn memorize_name(
+        &mut self,
+        name: &'b Name<'a, 'b>,
+        nodes: L,
+    ) -> Result<&'b Name<'a, 'b>, Refused>
+        requires { L.made nodes ≡ name_count L.weight (name_of name.now) }
         ensures value { ReadsAs name_at self.old self.new result
             (λ left s. with_value (Some (name_of name.now)) left (remember_name (name_of name.now) s)) }
         ensures stays { Stays self.old self.new result }
     {
-        if self.memorized.memorize_name(name).is_err() {
+        let new = MemorizedName {
+            memorized: name,
+            nodes,
+        };
+        if self.memorized.memorize_name(new).is_err() {
             return Err(self.no_memory());
         }
         Ok(name)
@@ -150,13 +155,14 @@ impl<'a, 'b> Parser<'a, 'b> {
     #[inline(always)]
     pub fn name_of_digit(&mut self, digit: u8) -> Result<&'b Name<'a, 'b>, Refused>
         ensures value { ReadsAs name_at self.old self.new result
-            (λ left s. with_value (slice_get s.names digit) left s) }
+            (λ left s. name_known (slice_get s.names digit) left s) }
         ensures stays { Stays self.old self.new result }
     {
-        match self.memorized.names.get(usize::from(digit)) {
-            Some(name) => Ok(name),
-            None => Err(self.refuse(Message::NameReferenceTooLarge)),
-        }
+        let Some(known) = self.memorized.names.get(usize::from(digit)) else {
+            return Err(self.refuse(Message::NameReferenceTooLarge));
+        };
+        self.count_nodes(known.nodes)?;
+        Ok(known.memorized)
     }
 
     /// The type that a digit stands for inside another type.
@@ -166,10 +172,11 @@ impl<'a, 'b> Parser<'a, 'b> {
             (λ left s. type_known (slice_get s.types digit) left s) }
         ensures stays { Stays self.old self.new result }
     {
-        match self.memorized.types.get(usize::from(digit)) {
-            Some(entry) => Ok(entry.memorized),
-            None => Err(self.refuse(Message::InvalidBackReference(digit))),
-        }
+        let Some(known) = self.memorized.types.get(usize::from(digit)) else {
+            return Err(self.refuse(Message::InvalidBackReference(digit)));
+        };
+        self.count_nodes(known.nodes)?;
+        Ok(known.memorized)
     }
 
     /// The type that a digit stands for as a whole parameter. The digit, with which `begun` begins, is noted.
@@ -195,16 +202,19 @@ impl<'a, 'b> Parser<'a, 'b> {
         if self.notes.push(note).is_err() {
             return Err(self.no_memory());
         }
+        self.count_nodes(entry.nodes)?;
         Ok(entry.memorized)
     }
 
-    /// Memorizes the type of the bytes from `begun` up to those left, and gives it back.
+    /// Memorizes the type of the bytes from `begun` up to those left, which has as many nodes, and gives it back.
     #[inline(always)]
     pub fn memorize_type(
         &mut self,
         memorized: &'b Type<'a, 'b>,
         begun: &[u8],
+        nodes: L,
     ) -> Result<&'b Type<'a, 'b>, Refused>
+        requires { L.made nodes ≡ type_count L.weight (type_of memorized.now) }
         ensures value { ReadsAs type_at self.old self.new result
             (λ left s. with_value (Some (type_of memorized.now)) left
             (remember_type (span_of (type_of memorized.now) begun.now left s) s)) }
@@ -214,6 +224,7 @@ impl<'a, 'b> Parser<'a, 'b> {
             memorized,
             start: self.place_of(begun),
             end: self.place_of(self.rest),
+            nodes,
         };
         if self.memorized.memorize_type(entry).is_err() {
             return Err(self.no_memory());
@@ -223,11 +234,14 @@ impl<'a, 'b> Parser<'a, 'b> {
 }
 
 /// Whether an equal name stands among these.
-fn is_known_name<'a, 'b>(names: &[&'b Name<'a, 'b>], name: &'b Name<'a, 'b>) -> bool
-    ensures { result ≡ list_any (same_name (name_of name.now)) (map name_at names.now) }
+fn is_known_name<'a, 'b, L: Limit>(
+    names: &[MemorizedName<'a, 'b, L>],
+    name: &'b Name<'a, 'b>,
+) -> bool
+    ensures { result ≡ list_any (same_name (name_of name.now)) (map known_name_of names.now) }
 {
     for known in names {
-        if is_same_name(name, *known) {
+        if is_same_name(name, known.memorized) {
             return true;
         }
     }
@@ -235,7 +249,10 @@ fn is_known_name<'a, 'b>(names: &[&'b Name<'a, 'b>], name: &'b Name<'a, 'b>) -> 
 }
 
 /// Whether an equal type stands among these.
-fn is_known_type<'a, 'b>(types: &[MemorizedType<'a, 'b>], memorized: &'b Type<'a, 'b>) -> bool
+fn is_known_type<'a, 'b, L: Limit>(
+    types: &[MemorizedType<'a, 'b, L>],
+    memorized: &'b Type<'a, 'b>,
+) -> bool
     ensures { result ≡ list_any (λ known. same_type (type_of memorized.now) known.entered)
         (map memorized_of types.now) }
 {

@@ -6,13 +6,14 @@ ghost use Rattle.msvc_read.specs.Reads.{read, read_name};
 ghost use Rattle.msvc_read.specs.Rules.{number, magnitude};
 
 use crate::letters;
+use crate::limit::Limit;
 use crate::parser::Parser;
 use crate::refusal::{Message, Refused};
 
 /// What the letters of a number count to.
 const BASE: u32 = 16;
 
-impl<'a, 'b> Parser<'a, 'b> {
+impl<'a, 'b, L: Limit> Parser<'a, 'b, L> {
     /// `NUMBER = ["?"] MAGNITUDE`: a `?` negates.
     #[tactic(auto, using(crate::proofs::NumberSteps::number_is))]
     pub fn number(&mut self) -> Result<i32, Refused>

@@ -6,12 +6,13 @@ ghost use Rattle.std.specs.Prelude.{IfSome};
 ghost use Rattle.msvc_tree.specs.NodeView.{type_at};
 ghost use Rattle.msvc_tree.specs.Trees.{base};
 ghost use Rattle.msvc_read.specs.Parser.{ellipsis_types, Eats, MayEat, ReadsAs, Stays, frame_of, parameters_stop};
-ghost use Rattle.msvc_read.specs.Parser.{state_of, types_at};
-ghost use Rattle.msvc_read.specs.Reads.{read_name, with_value};
+ghost use Rattle.msvc_read.specs.Parser.{counting_ellipsis, state_of, types_at};
+ghost use Rattle.msvc_read.specs.Reads.{and_then, read_name, with_value};
 ghost use Rattle.msvc_read.specs.Rules.{function_parameters, parameter, parameters};
 ghost use Rattle.msvc_read.specs.Stack.{here, outer};
 ghost use Rattle.msvc_tree.specs.declared.kinds.BaseType.TheVariants as base_kind;
 
+use crate::limit::Limit;
 use crate::parser::Parser;
 use crate::refusal::{Message, Refusal, Refused};
 use bitflags::Flags;
@@ -28,7 +29,7 @@ pub enum Ellipsis {
     Present,
 }
 
-impl<'a, 'b> Parser<'a, 'b> {
+impl<'a, 'b, L: Limit> Parser<'a, 'b, L> {
     /// `FUNCTION_PARAMETERS = ("X" | PARAMETERS) "Z"`: an `X` is one void.
     #[cycle(readers)]
     #[tactic(auto, using(crate::proofs::FunctionSteps::function_parameters_step))]
@@ -38,6 +39,7 @@ impl<'a, 'b> Parser<'a, 'b> {
     {
         if self.eat(b"X") {
             self.expected(b"Z", Message::ZExpected)?;
+            self.count_node()?;
             return self.no_parameters();
         }
         let parameters = self.parameters()?;
@@ -45,7 +47,7 @@ impl<'a, 'b> Parser<'a, 'b> {
         Ok(parameters)
     }
 
-    /// One void.
+    /// One void, which is counted.
     #[tactic(auto, unfolding(msvc_tree::specs::NodeView::type_of))]
     fn no_parameters(&mut self) -> Result<List<'b, &'b Type<'a, 'b>>, Refused>
         ensures value { ReadsAs types_at self.old self.new result (with_value (Some (base base_kind.Void 0 ∷ []))) }
@@ -88,9 +90,11 @@ impl<'a, 'b> Parser<'a, 'b> {
         if let Some(digit) = self.digit() {
             return self.parameter_of_digit(digit, begun);
         }
+        let before = self.limit;
         let parameter = self.any_type(StorageClass::empty())?;
         if is_long(begun, self.rest) {
-            return self.memorize_type(parameter, begun);
+            let nodes = self.limit.since(before);
+            return self.memorize_type(parameter, begun, nodes);
         }
         Ok(parameter)
     }
@@ -117,7 +121,8 @@ impl<'a, 'b> Parser<'a, 'b> {
     ) -> Result<List<'b, &'b Type<'a, 'b>>, Refused>
         requires { mark ≤ length (outer self.old.listed_types) }
         ensures value { ReadsAs types_at self.old self.new result
-            (λ left s. with_value (Some (map type_at (here self.old.listed_types) ++ ellipsis_types ellipsis)) left s) }
+            (λ left s. and_then (counting_ellipsis ellipsis left s)
+            (λ _. with_value (Some (map type_at (here self.old.listed_types) ++ ellipsis_types ellipsis)))) }
         ensures rest { IfOk result (λ _. self.new.rest.now ≡ self.old.rest.now) }
         ensures kept { IfOk result (λ _. frame_of self.new ≡ record (frame_of self.old) {
           listed_types = drop mark (outer self.old.listed_types);
@@ -131,21 +136,20 @@ impl<'a, 'b> Parser<'a, 'b> {
         }
     }
 
-    /// Puts an ellipsis after the types that are being read, if there is one.
+    /// Puts an ellipsis after the types that are being read, if there is one. It counts as a node.
     #[tactic(auto, using(crate::proofs::Nodes::map_last), unfolding(msvc_tree::specs::NodeView::type_of))]
     fn list_ellipsis(&mut self, ellipsis: Ellipsis) -> Result<(), Refused>
+        ensures value { ReadsAs (λ _. tt) self.old self.new result (counting_ellipsis ellipsis) }
         ensures rest { IfOk result (λ _. self.new.rest.now ≡ self.old.rest.now) }
-        ensures state { IfOk result (λ _. state_of self.new ≡ state_of self.old) }
         ensures seen { IfOk result (λ _. map type_at (here self.new.listed_types)
             ≡ map type_at (here self.old.listed_types) ++ ellipsis_types ellipsis) }
         ensures kept { IfOk result (λ _. frame_of self.new
             ≡ record (frame_of self.old) { listed_types = here self.new.listed_types }) }
-        ensures why { IfErr result (λ _. self.new.why ≡ Refusal.Memory) }
     {
         match ellipsis {
             Ellipsis::Absent => Ok(()),
             Ellipsis::Present => {
-                let dots = self.put_type(Type::Plain(PlainType::Variadic))?;
+                let dots = self.new_type(Type::Plain(PlainType::Variadic))?;
                 self.list_type(dots)
             }
         }

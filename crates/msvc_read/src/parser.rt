@@ -6,12 +6,13 @@ ghost use Rattle.std.specs.Prelude.{IsTrue};
 ghost use Rattle.msvc_tree.specs.NodeView.{name_of, type_of, name_at, type_at};
 ghost use Rattle.msvc_read.specs.Letters.{digits};
 ghost use Rattle.msvc_read.specs.Parser.{Eats, ReadsAs, Stays, byte_here, eaten, frame_of, optional_letters};
-ghost use Rattle.msvc_read.specs.Parser.{state_of};
-ghost use Rattle.msvc_read.specs.Reads.{read, letter_here, with_value};
+ghost use Rattle.msvc_read.specs.Parser.{count_of, state_of};
+ghost use Rattle.msvc_read.specs.Reads.{read, counting, in_node, letter_here, with_value};
 ghost use Rattle.msvc_read.specs.Rules.{after, literal, optional};
-ghost use Rattle.msvc_read.specs.State.{place, beginning};
+ghost use Rattle.msvc_read.specs.State.{place, beginning_with};
 
 use crate::letters::{self, OptionalLetters};
+use crate::limit::Limit;
 use crate::memorized::{BackReference, Memorized};
 use crate::refusal::{Message, Refusal, Refused};
 use crate::stack::Stack;
@@ -22,7 +23,7 @@ use msvc_tree::nodes::{Name, Type};
 
 /// A text that is being read.
 #[derive(Drop)]
-pub struct Parser<'a, 'b> {
+pub struct Parser<'a, 'b, L: Limit> {
     /// Where nodes are put, and all that grows while they are read.
     pub arena: &'b Bump,
     /// How many bytes the whole text has.
@@ -30,22 +31,28 @@ pub struct Parser<'a, 'b> {
     /// The bytes left.
     pub rest: &'a [u8],
     /// What a digit can stand for.
-    pub memorized: Memorized<'a, 'b>,
+    pub memorized: Memorized<'a, 'b, L>,
     /// The names of a scope that is being read.
     pub listed_names: Stack<'b, &'b Name<'a, 'b>>,
     /// The parameters that are being read.
     pub listed_types: Stack<'b, &'b Type<'a, 'b>>,
     /// The digits that were read as whole parameters.
     pub notes: Vec<BackReference, &'b Bump>,
+    /// How many nodes were made, where there is a limit.
+    pub limit: L,
     /// Why nothing was read, where a reader says so.
     pub why: Refusal,
 }
 
-impl<'a, 'b> Parser<'a, 'b> {
+impl<'a, 'b, L: Limit> Parser<'a, 'b, L> {
     /// A parser at the beginning of a text.
-    pub fn new(arena: &'b Bump, text: &'a [u8]) -> Parser<'a, 'b>
+    pub fn new(arena: &'b Bump, text: &'a [u8], limit: L) -> Parser<'a, 'b, L>
         ensures rest { result.rest.now ≡ text.now }
-        ensures state { state_of result ≡ beginning text.now }
+        ensures state { state_of result ≡ beginning_with (record {
+          weight = L.weight;
+          made = L.made limit;
+          most = L.most limit;
+        }) text.now }
     {
         Parser {
             arena,
@@ -55,6 +62,7 @@ impl<'a, 'b> Parser<'a, 'b> {
             listed_names: Stack::new(arena),
             listed_types: Stack::new(arena),
             notes: Vec::new(arena),
+            limit,
             why: Refusal::Memory,
         }
     }
@@ -105,6 +113,54 @@ impl<'a, 'b> Parser<'a, 'b> {
         ensures stays { Stays self.old self.new result }
     {
         self.put(node)
+    }
+
+    /// Counts a node whose reading begins.
+    #[tactic(auto, unfolding(crate::specs::Reads::counting))]
+    #[inline(always)]
+    pub fn count_node(&mut self) -> Result<(), Refused>
+        ensures value { ReadsAs (λ _. tt) self.old self.new result (λ left s. counting s.count.weight left s) }
+        ensures stays { Stays self.old self.new result }
+    {
+        if !self.limit.count_node() {
+            return Err(self.refuse(Message::TooManyNodes));
+        }
+        Ok(())
+    }
+
+    /// Counts the nodes of an entry of a table.
+    #[tactic(auto, unfolding(crate::specs::Reads::counting))]
+    #[inline(always)]
+    pub fn count_nodes(&mut self, nodes: L) -> Result<(), Refused>
+        ensures value { ReadsAs (λ _. tt) self.old self.new result (counting (L.made nodes)) }
+        ensures stays { Stays self.old self.new result }
+    {
+        if !self.limit.count_nodes(nodes) {
+            return Err(self.refuse(Message::TooManyNodes));
+        }
+        Ok(())
+    }
+
+    /// A name without parts, in the arena. It counts as a node.
+    #[inline(always)]
+    pub fn new_name(&mut self, name: Name<'a, 'b>) -> Result<&'b Name<'a, 'b>, Refused>
+        ensures value { ReadsAs name_at self.old self.new result
+            (λ left s. in_node left s (with_value (Some (name_of name.entry)))) }
+        ensures stays { Stays self.old self.new result }
+    {
+        self.count_node()?;
+        self.put_name(name)
+    }
+
+    /// A type without parts, in the arena. It counts as a node.
+    #[inline(always)]
+    pub fn new_type(&mut self, node: Type<'a, 'b>) -> Result<&'b Type<'a, 'b>, Refused>
+        ensures value { ReadsAs type_at self.old self.new result
+            (λ left s. in_node left s (with_value (Some (type_of node.entry)))) }
+        ensures stays { Stays self.old self.new result }
+    {
+        self.count_node()?;
+        self.put_type(node)
     }
 
     /// That no rule reads on from here.

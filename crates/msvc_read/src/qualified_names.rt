@@ -5,16 +5,18 @@ ghost use Rattle.std.specs.Prelude.{◌≡◌, ◌≤◌, ◌<◌, ◌++◌, ◌
 ghost use Rattle.std.specs.Prelude.{IfOk, IfErr, IfSome};
 ghost use Rattle.msvc_tree.specs.NodeView.{name_at, name_of, type_at, whole_of};
 ghost use Rattle.msvc_tree.specs.Trees.{discriminator, nested, template, type_trees};
+ghost use Rattle.msvc_read.specs.Counts.{name_count};
 ghost use Rattle.msvc_read.specs.Grammar.{new_interface, new_source_name, template_inside, template_kept};
 ghost use Rattle.msvc_read.specs.Letters.{hexadecimal_codes};
 ghost use Rattle.msvc_read.specs.Parser.{is_own, Eats, ReadsAs, Stays, cut_at, frame_of, kept_name, name_length};
 ghost use Rattle.msvc_read.specs.Parser.{names_at, state_of};
-ghost use Rattle.msvc_read.specs.Reads.{and_then, letter_here, read, read_name, with_value};
+ghost use Rattle.msvc_read.specs.Reads.{and_then, in_node, letter_here, read, read_name, with_value};
 ghost use Rattle.msvc_read.specs.Rules.{anonymous_namespace, hexadecimal_digits, marked_name, nested_name, number};
 ghost use Rattle.msvc_read.specs.Rules.{qualified_name, scope, unqualified_name};
 ghost use Rattle.msvc_read.specs.Stack.{here, outer};
 
 use crate::letters;
+use crate::limit::Limit;
 use crate::parser::Parser;
 use crate::refusal::{Message, Refusal, Refused};
 use bumpalo::Bump;
@@ -29,7 +31,7 @@ pub enum TemplateNames {
     NotMemorized,
 }
 
-impl<'a, 'b> Parser<'a, 'b> {
+impl<'a, 'b, L: Limit> Parser<'a, 'b, L> {
     /// `SOURCE_NAME = {byte} "@"`: the bytes up to the next `@`, possibly none.
     #[inline(always)]
     fn source_name(&mut self) -> Result<&'a [u8], Refused>
@@ -62,23 +64,26 @@ impl<'a, 'b> Parser<'a, 'b> {
         ensures value { ReadsAs name_at self.old self.new result (read new_source_name) }
         ensures eats { Eats self.old self.new result }
     {
+        self.count_node()?;
         let text = self.source_name()?;
         self.memorized_name(Name::Source(text))
     }
 
-    /// A template's name, memorized if it is to be.
+    /// A template's name of as many nodes, memorized if it is to be.
     #[inline(always)]
     fn kept_name(
         &mut self,
         name: &'b Name<'a, 'b>,
+        nodes: L,
         templates: TemplateNames,
     ) -> Result<&'b Name<'a, 'b>, Refused>
+        requires { L.made nodes ≡ name_count L.weight (name_of name.now) }
         ensures value { ReadsAs name_at self.old self.new result
             (λ left s. with_value (Some (name_of name.now)) left (kept_name (is_own templates) (name_of name.now) s)) }
         ensures stays { Stays self.old self.new result }
     {
         match templates {
-            TemplateNames::Memorized => self.memorize_name(name),
+            TemplateNames::Memorized => self.memorize_name(name, nodes),
             TemplateNames::NotMemorized => Ok(name),
         }
     }
@@ -144,10 +149,12 @@ impl<'a, 'b> Parser<'a, 'b> {
         ensures value { ReadsAs name_at self.old self.new result (read (template_kept (is_own templates))) }
         ensures eats { Eats self.old self.new result }
     {
+        let before = self.limit;
         let around = self.memorized.open_template();
         let template = self.template()?;
         self.memorized.close_template(around);
-        self.kept_name(template, templates)
+        let nodes = self.limit.since(before);
+        self.kept_name(template, nodes, templates)
     }
 
     /// A name and arguments.
@@ -158,6 +165,7 @@ impl<'a, 'b> Parser<'a, 'b> {
         ensures value { ReadsAs name_at self.old self.new result (read template_inside) }
         ensures eats { Eats self.old self.new result }
     {
+        self.count_node()?;
         let name = self.unqualified_name(TemplateNames::Memorized)?;
         let arguments = self.parameters()?;
         self.put_template(name, arguments)
@@ -204,6 +212,7 @@ impl<'a, 'b> Parser<'a, 'b> {
         ensures eats { Eats self.old self.new result }
     {
         if self.eat(b"?") {
+            self.count_node()?;
             let symbol = self.symbol_body()?;
             return self.put_nested(symbol);
         }
@@ -223,9 +232,11 @@ impl<'a, 'b> Parser<'a, 'b> {
     #[tactic(auto, unfolding(msvc_tree::specs::NodeView::name_of))]
     fn discriminator(&mut self) -> Result<&'b Name<'a, 'b>, Refused>
         ensures value { ReadsAs name_at self.old self.new result
-            (λ left s. and_then (read_name number left s) (λ z left s. Some (discriminator z, left, s))) }
+            (λ left s. in_node left s (λ left s. and_then (read_name number left s)
+            (λ z left s. Some (discriminator z, left, s)))) }
         ensures eats { Eats self.old self.new result }
     {
+        self.count_node()?;
         let number = self.number()?;
         self.put_name(Name::Discriminator(number))
     }
@@ -248,6 +259,7 @@ impl<'a, 'b> Parser<'a, 'b> {
         ensures value { ReadsAs name_at self.old self.new result (read new_interface) }
         ensures eats { Eats self.old self.new result }
     {
+        self.count_node()?;
         let text = self.source_name()?;
         self.expected(b"@", Message::AtExpected)?;
         self.memorized_name(Name::Interface(text))
@@ -260,9 +272,11 @@ impl<'a, 'b> Parser<'a, 'b> {
         ensures eats { Eats self.old self.new result }
     {
         if !self.eat(b"0x") {
+            self.count_node()?;
             self.expected(b"@", Message::AtExpected)?;
             return self.put_name(Name::Anonymous);
         }
+        self.count_node()?;
         let digits = self.hexadecimal_digits()?;
         self.memorized_name(Name::AnonymousDigits(digits))
     }

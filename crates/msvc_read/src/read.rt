@@ -7,16 +7,18 @@ ghost use Rattle.msvc_tree.specs.EachName.{EachName};
 ghost use Rattle.msvc_tree.specs.NodeView.{whole_of};
 ghost use Rattle.msvc_tree.specs.Trees.{SymbolTree};
 ghost use Rattle.msvc_tree.specs.View.{tree_of};
+ghost use Rattle.msvc_read.specs.Counts.{node_count};
 ghost use Rattle.msvc_read.specs.Hashes.{HashesStand};
 ghost use Rattle.msvc_read.specs.Parser.{IsRead, note_of, with_length, Refuses};
 ghost use Rattle.msvc_read.specs.Parts.{NamesAreParts};
 ghost use Rattle.msvc_read.specs.Prefix.{IsReadTo};
 ghost use Rattle.msvc_read.specs.Reads.{Derives, read_name};
-ghost use Rattle.msvc_read.specs.Refusals.{IsRefusedRightly, IsRefusalAt, begins_with};
+ghost use Rattle.msvc_read.specs.Refusals.{IsRefusedRightly, IsRefusedWithin, IsRefusalAt, begins_with};
 ghost use Rattle.msvc_read.specs.Rules.{after, symbol};
-ghost use Rattle.msvc_read.specs.State.{Note, beginning};
+ghost use Rattle.msvc_read.specs.State.{Count, Note, beginning, beginning_with};
 ghost use Rattle.msvc_read.specs.Written.{AreRising, CanBeWrittenOut, DigitsCanBeWrittenOut};
 
+use crate::limit::{Limit, Limited, Unlimited};
 use crate::memorized::BackReference;
 use crate::parser::Parser;
 use crate::refusal::{Message, Refusal};
@@ -31,6 +33,10 @@ use std::alloc::Global;
 /// table that have grown by doubling. 64 are for the stack of the printer, which has grown by doubling too, and has one
 /// item for two bytes of text at most.
 const ROOM_OF_A_BYTE: usize = 160;
+
+/// How many bytes of an arena a node takes at most, where nodes are counted: itself and its parts, its places in lists
+/// and tables that have grown by doubling, and the stack of the printer.
+const ROOM_OF_A_NODE: usize = 512;
 
 /// How many bytes the lists and tables of a parser take at first, and the stack of the printer.
 const ROOM_AT_FIRST: usize = 2048;
@@ -81,8 +87,41 @@ pub fn parse_prefix<'a>(alloc: Global, input: &'a str) -> Result<(ParseResult<'a
     ensures begins { (begins_with (codes "?") input.now → ⊥) → IfErr result (λ e. IsRefusalAt input.now 0 e) }
     ensures begins_ok { IfOk result (λ r. begins_with (codes "?") input.now) }
 {
-    match read(alloc, input) {
+    match read(alloc, input, Unlimited, room_for(input)) {
         Ok(symbol) => Ok(symbol),
+        Err(refusal) => Err(refusal.error(alloc, input.as_bytes())),
+    }
+}
+
+/// The tree of the symbol that `input` begins with, as [`parse`] gives it, if it has at most so many nodes: each name
+/// and each type in it is one, at every depth.
+///
+/// Nothing is made of a larger tree than these nodes: where one more is met, the text is refused as "more nodes than
+/// allowed", at an offset that is at most its length. What [`parse`] refuses is refused, with the same refusal or this
+/// one.
+pub fn parse_within<'a>(
+    alloc: Global,
+    input: &'a str,
+    nodes: usize,
+) -> Result<ParseResult<'a>, Error>
+    ensures derived { IfOk result (λ r. (rest : List ℕ) × (notes : List Note)
+        × Derives input.now (tree_of r) rest notes
+        × ((tree : SymbolTree) (behind : List ℕ) (others : List Note) → Derives input.now tree behind others
+        → (tree ≡ tree_of r) × (behind ≡ rest) × (others ≡ notes))) }
+    ensures within { IfOk result (λ r. node_count (tree_of r) ≤ nodes) }
+    ensures parts { IfOk result (λ r. NamesAreParts input.now (tree_of r)) }
+    ensures texts { IfOk result (λ r. EachName IsUtf8 (tree_of r)) }
+    ensures hashes { IfOk result (λ r. HashesStand input.now (tree_of r)) }
+    ensures refused { IfErr result (λ e. IsRefusedWithin nodes input.now e) }
+    ensures begins { (begins_with (codes "?") input.now → ⊥) → IfErr result (λ e. IsRefusalAt input.now 0 e) }
+    ensures begins_ok { IfOk result (λ r. begins_with (codes "?") input.now) }
+{
+    let limit = Limited {
+        made: 0,
+        most: nodes,
+    };
+    match read(alloc, input, limit, room_within(input, nodes)) {
+        Ok((tree, _)) => Ok(tree),
         Err(refusal) => Err(refusal.error(alloc, input.as_bytes())),
     }
 }
@@ -108,8 +147,40 @@ pub fn read_symbol<'a, 'b>(
     ensures begins { (begins_with (codes "?") input.now → ⊥) → IfErr result (λ e. IsRefusalAt input.now 0 e) }
     ensures begins_ok { IfOk result (λ r. begins_with (codes "?") input.now) }
 {
-    match read_nodes(arena, input) {
+    match read_nodes(arena, input, Unlimited) {
         Ok((whole, _)) => Ok(whole),
+        Err(refusal) => Err(refusal.error(alloc, input.as_bytes())),
+    }
+}
+
+/// The symbol that `input` begins with, as nodes in the arena, if it has at most so many: what [`parse_within`] makes
+/// its tree of.
+///
+/// It refuses where [`parse_within`] does, with the same refusal.
+pub fn read_symbol_within<'a, 'b>(
+    alloc: Global,
+    arena: &'b Bump,
+    input: &'a str,
+    nodes: usize,
+) -> Result<Whole<'a, 'b>, Error>
+    ensures derived { IfOk result (λ r. (rest : List ℕ) × (notes : List Note)
+        × Derives input.now (whole_of r) rest notes
+        × ((tree : SymbolTree) (behind : List ℕ) (others : List Note) → Derives input.now tree behind others
+        → (tree ≡ whole_of r) × (behind ≡ rest) × (others ≡ notes))) }
+    ensures within { IfOk result (λ r. node_count (whole_of r) ≤ nodes) }
+    ensures parts { IfOk result (λ r. NamesAreParts input.now (whole_of r)) }
+    ensures texts { IfOk result (λ r. EachName IsUtf8 (whole_of r)) }
+    ensures hashes { IfOk result (λ r. HashesStand input.now (whole_of r)) }
+    ensures refused { IfErr result (λ e. IsRefusedWithin nodes input.now e) }
+    ensures begins { (begins_with (codes "?") input.now → ⊥) → IfErr result (λ e. IsRefusalAt input.now 0 e) }
+    ensures begins_ok { IfOk result (λ r. begins_with (codes "?") input.now) }
+{
+    let limit = Limited {
+        made: 0,
+        most: nodes,
+    };
+    match read_nodes(arena, input, limit) {
+        Ok((found, _)) => Ok(found),
         Err(refusal) => Err(refusal.error(alloc, input.as_bytes())),
     }
 }
@@ -149,32 +220,52 @@ pub fn room_for(input: &str) -> usize
         .min(MOST_ROOM)
 }
 
-/// An arena for the nodes of a text's symbol, where the text begins as one. Its first chunk has room for all of them,
-/// so one request for memory is made and not several; of a long text, the rest is asked for as it is read.
+/// How many bytes an arena needs of [`room_for`] where the symbol has at most so many nodes.
+pub fn room_within(input: &str, nodes: usize) -> usize
+    ensures most { result ≤ 2 ^ 20 }
+{
+    nodes
+        .saturating_mul(ROOM_OF_A_NODE)
+        .saturating_add(ROOM_AT_FIRST)
+        .min(room_for(input))
+}
+
+/// An arena for the nodes of a text's symbol, where the text begins as one. Its first chunk has this much room, so that
+/// one request for memory is made and not several; of a long text, the rest is asked for as it is read.
 #[tactic(auto, using(crate::proofs::SymbolSteps::symbol_step))]
-fn arena_for(alloc: Global, input: &str) -> Result<Bump, Refusal>
-    ensures value { IfErr result (λ e. Refuses e (read_name symbol input.now (beginning input.now))) }
+fn arena_for(alloc: Global, input: &str, room: usize) -> Result<Bump, Refusal>
+    ensures value { IfErr result (λ e. (count : Count)
+        → Refuses e (read_name symbol input.now (beginning_with count input.now))) }
     ensures start { after (codes "?") input.now ≡ None
         → result ≡ Err (Refusal.Unread Message.NoQuestionMark (length input.now)) }
 {
     let [b'?', ..] = input.as_bytes() else {
         return Err(Refusal::Unread(Message::NoQuestionMark, input.len()));
     };
-    match Bump::try_with_capacity(alloc, room_for(input)) {
+    match Bump::try_with_capacity(alloc, room) {
         Ok(arena) => Ok(arena),
         Err(_) => Err(Refusal::Memory),
     }
 }
 
 /// The tree of the symbol at the beginning of a text, and how many bytes of the text were read.
-fn read<'a>(alloc: Global, input: &'a str) -> Result<(ParseResult<'a>, usize), Refusal>
+fn read<'a, L: Limit>(
+    alloc: Global,
+    input: &'a str,
+    limit: L,
+    room: usize,
+) -> Result<(ParseResult<'a>, usize), Refusal>
     ensures value { IsRead (λ r. (tree_of r.0, r.1)) result
-        (with_length input.now (read_name symbol input.now (beginning input.now))) }
+        (with_length input.now (read_name symbol input.now (beginning_with (record {
+          weight = L.weight;
+          made = L.made limit;
+          most = L.most limit;
+        }) input.now))) }
     ensures start { after (codes "?") input.now ≡ None
         → result ≡ Err (Refusal.Unread Message.NoQuestionMark (length input.now)) }
 {
-    let arena = arena_for(alloc, input)?;
-    let (symbol, bytes) = read_nodes(&arena, input)?;
+    let arena = arena_for(alloc, input, room)?;
+    let (symbol, bytes) = read_nodes(&arena, input, limit)?;
     match owned_whole(alloc, &symbol) {
         Ok(tree) => Ok((tree, bytes)),
         Err(_) => Err(Refusal::Memory),
@@ -183,13 +274,21 @@ fn read<'a>(alloc: Global, input: &'a str) -> Result<(ParseResult<'a>, usize), R
 
 /// The symbol at the beginning of a text as nodes of the arena, and how many bytes of the text were read.
 #[inline(always)]
-fn read_nodes<'a, 'b>(arena: &'b Bump, input: &'a str) -> Result<(Whole<'a, 'b>, usize), Refusal>
+fn read_nodes<'a, 'b, L: Limit>(
+    arena: &'b Bump,
+    input: &'a str,
+    limit: L,
+) -> Result<(Whole<'a, 'b>, usize), Refusal>
     ensures value { IsRead (λ r. (whole_of r.0, r.1)) result
-        (with_length input.now (read_name symbol input.now (beginning input.now))) }
+        (with_length input.now (read_name symbol input.now (beginning_with (record {
+          weight = L.weight;
+          made = L.made limit;
+          most = L.most limit;
+        }) input.now))) }
     ensures start { after (codes "?") input.now ≡ None
         → result ≡ Err (Refusal.Unread Message.NoQuestionMark (length input.now)) }
 {
-    let mut parser = Parser::new(arena, input.as_bytes());
+    let mut parser = Parser::new(arena, input.as_bytes(), limit);
     match parser.symbol() {
         Ok(symbol) => Ok((symbol, input.len().saturating_sub(parser.rest.len()))),
         Err(_) => Err(parser.why),
@@ -203,8 +302,8 @@ fn notes(alloc: Global, input: &str) -> Result<Vec<BackReference>, Refusal>
     ensures start { after (codes "?") input.now ≡ None
         → result ≡ Err (Refusal.Unread Message.NoQuestionMark (length input.now)) }
 {
-    let arena = arena_for(alloc, input)?;
-    let mut parser = Parser::new(&arena, input.as_bytes());
+    let arena = arena_for(alloc, input, room_for(input))?;
+    let mut parser = Parser::new(&arena, input.as_bytes(), Unlimited);
     if parser.symbol().is_err() {
         return Err(parser.why);
     }

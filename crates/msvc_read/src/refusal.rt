@@ -37,6 +37,8 @@ pub enum Message {
     HashLength,
     UnknownOperatorName,
     UnknownRttiOperatorName,
+    /// Only where there is a limit.
+    TooManyNodes,
 }
 
 impl Message {
@@ -66,6 +68,7 @@ impl Message {
             Message::HashLength => "expected MD5 mangled name of length 32",
             Message::UnknownOperatorName => "unknown operator name",
             Message::UnknownRttiOperatorName => "unknown RTTI Operator name",
+            Message::TooManyNodes => "more nodes than allowed",
             Message::InvalidBackReference(index) => {
                 return Ok(CowStr::Owned(format!(in alloc; "invalid backreference: {index}")?));
             }

@@ -13,6 +13,7 @@ ghost use Rattle.msvc_read.specs.State.{place};
 ghost use Rattle.msvc_read.specs.declared.special_names.SpecialForm.TheVariants as special;
 
 use crate::letters::OptionalLetters;
+use crate::limit::Limit;
 use crate::parser::Parser;
 use crate::refusal::{Message, Refused};
 use msvc_tree::kinds::{Guard, PlainOperator};
@@ -197,7 +198,7 @@ fn unknown_code(left: &[u8]) -> (Message, usize) {
     }
 }
 
-impl<'a, 'b> Parser<'a, 'b> {
+impl<'a, 'b, L: Limit> Parser<'a, 'b, L> {
     /// `SPECIAL_NAME = code of special names, and what its row asks for`.
     #[cycle(readers)]
     #[tactic(auto, using(crate::proofs::Nodes::special_split), unfolding(msvc_tree::specs::NodeView::name_of))]
@@ -211,9 +212,10 @@ impl<'a, 'b> Parser<'a, 'b> {
         };
         self.rest = rest;
         match form {
-            SpecialForm::Plain(operator) => self.put_name(Name::Plain(operator)),
-            SpecialForm::Guard(guard) => self.put_name(Name::Guard(guard, None)),
+            SpecialForm::Plain(operator) => self.new_name(Name::Plain(operator)),
+            SpecialForm::Guard(guard) => self.new_name(Name::Guard(guard, None)),
             SpecialForm::TypeDescriptor => {
+                self.count_node()?;
                 self.expected(b"?", Message::QuestionMarkExpected)?;
                 let class = self.optional(OptionalLetters::StorageClasses);
                 let described = self.any_type(class)?;
@@ -229,6 +231,7 @@ impl<'a, 'b> Parser<'a, 'b> {
         ensures value { ReadsAs name_at self.old self.new result (read_name (special_behind special.BaseClass)) }
         ensures eats { Eats self.old self.new result }
     {
+        self.count_node()?;
         let member = self.number()?;
         let pointer = self.number()?;
         let entry = self.number()?;

@@ -10,6 +10,7 @@ ghost use Rattle.msvc_read.specs.Rules.{character, characters, encoding_behind};
 ghost use Rattle.msvc_read.specs.Sorts.{encoded_string};
 
 use crate::letters;
+use crate::limit::Limit;
 use crate::parser::Parser;
 use crate::refusal::{Message, Refused};
 use bumpalo::Bump;
@@ -22,13 +23,14 @@ const BASE: u8 = 16;
 /// How many characters of one byte a symbol has of a string at most.
 const MOST_CHARACTERS: u32 = 32;
 
-impl<'a, 'b> Parser<'a, 'b> {
+impl<'a, 'b, L: Limit> Parser<'a, 'b, L> {
     /// `ENCODED_STRING = character size NUMBER NUMBER CHARACTERS`: the second number is dropped.
     #[tactic(auto, using(crate::proofs::StringSteps::encoded_string_step), unfolding(msvc_tree::specs::NodeView::type_of))]
     pub fn encoded_string(&mut self) -> Result<&'b Type<'a, 'b>, Refused>
         ensures value { ReadsAs type_at self.old self.new result (read_name (encoding_behind encoded_string)) }
         ensures eats { MayEat self.old self.new result }
     {
+        self.count_node()?;
         let size = self.character_size()?;
         let length = self.number()?;
         self.number()?;

@@ -11,6 +11,7 @@ ghost use Rattle.msvc_read.specs.Sorts.{table_of, variable_of, virtual_call};
 ghost use Rattle.msvc_tree.specs.declared.kinds.PlainType.TheVariants as plain_kind;
 
 use crate::letters::{self, OptionalLetters};
+use crate::limit::Limit;
 use crate::parser::Parser;
 use crate::qualified_names::TemplateNames;
 use crate::refusal::{Message, Refusal, Refused};
@@ -21,7 +22,7 @@ use msvc_tree::list::List;
 use msvc_tree::nodes::{Name, Scope, Symbol, Type, Whole};
 use msvc_tree::tree::VarStorageKind;
 
-impl<'a, 'b> Parser<'a, 'b> {
+impl<'a, 'b, L: Limit> Parser<'a, 'b, L> {
     /// `SYMBOL = "?" SYMBOL_BODY`.
     #[tactic(auto, using(crate::proofs::SymbolSteps::symbol_step))]
     pub fn symbol(&mut self) -> Result<Whole<'a, 'b>, Refused>
@@ -51,12 +52,13 @@ impl<'a, 'b> Parser<'a, 'b> {
         }
         if self.eat(b"$") {
             let name = self.template_name(TemplateNames::NotMemorized)?;
+            self.count_node()?;
             return self.alone(name);
         }
         self.named_symbol()
     }
 
-    /// A symbol that is a name and nothing else.
+    /// A symbol that is a name and nothing else, whose nodes are counted.
     #[tactic(auto, unfolding(msvc_tree::specs::NodeView::type_of))]
     pub fn alone(&mut self, name: &'b Name<'a, 'b>) -> Result<Whole<'a, 'b>, Refused>
         ensures value { ReadsAs whole_of self.old self.new result
@@ -100,7 +102,7 @@ impl<'a, 'b> Parser<'a, 'b> {
         ensures eats { MayEat self.old self.new result }
     {
         let Some(letter) = self.next_byte() else {
-            return self.put_type(Type::Plain(PlainType::None));
+            return self.new_type(Type::Plain(PlainType::None));
         };
         match letter {
             b'0' => self.variable(VarStorageKind::PrivateStatic),
@@ -110,8 +112,8 @@ impl<'a, 'b> Parser<'a, 'b> {
             b'4' => self.variable(VarStorageKind::FunctionLocalStatic),
             b'6' => self.table(Table::Functions),
             b'7' => self.table(Table::Bases),
-            b'8' => self.put_type(Type::Plain(PlainType::Rtti)),
-            b'9' => self.put_type(Type::Plain(PlainType::None)),
+            b'8' => self.new_type(Type::Plain(PlainType::Rtti)),
+            b'9' => self.new_type(Type::Plain(PlainType::None)),
             b'_' => self.encoded_string(),
             b'$' => self.virtual_call(),
             b'Y' => self.function(),
@@ -129,6 +131,7 @@ impl<'a, 'b> Parser<'a, 'b> {
         ensures value { ReadsAs type_at self.old self.new result (read_name (encoding_behind (variable_of kind))) }
         ensures eats { MayEat self.old self.new result }
     {
+        self.count_node()?;
         let variable = self.any_type(StorageClass::empty())?;
         let class = self.optional(OptionalLetters::StorageClasses);
         self.put_type(Type::Variable(kind, class, variable))
@@ -141,6 +144,7 @@ impl<'a, 'b> Parser<'a, 'b> {
         ensures value { ReadsAs type_at self.old self.new result (read_name (encoding_behind (table_of table))) }
         ensures eats { MayEat self.old self.new result }
     {
+        self.count_node()?;
         let class = self.optional(OptionalLetters::Qualifiers);
         let scope = self.scope()?;
         self.put_table(table, class, scope)
@@ -169,6 +173,7 @@ impl<'a, 'b> Parser<'a, 'b> {
         ensures value { ReadsAs type_at self.old self.new result (read_name (encoding_behind virtual_call)) }
         ensures eats { MayEat self.old self.new result }
     {
+        self.count_node()?;
         self.expected(b"B", Message::BExpected)?;
         let offset = self.number()?;
         self.expected(b"A", Message::AExpected)?;

@@ -7,7 +7,7 @@ ghost use Rattle.msvc_tree.specs.Trees.{name_trees, numbered, pointing, tagged};
 ghost use Rattle.msvc_read.specs.Grammar.{array_class, arrays};
 ghost use Rattle.msvc_read.specs.Letters.{digits};
 ghost use Rattle.msvc_read.specs.Parser.{is_own, Eats, MayEat, ReadsAs, Stays};
-ghost use Rattle.msvc_read.specs.Reads.{read, read_name, and_then, with_value, type_known};
+ghost use Rattle.msvc_read.specs.Reads.{read, read_name, and_then, in_node, with_value, type_known};
 ghost use Rattle.msvc_read.specs.Rules.{lookup, any_type, array, dimension, lengths, number, plain_type, pointee};
 ghost use Rattle.msvc_read.specs.Rules.{function_type, qualified_name, type_behind, type_form};
 ghost use Rattle.msvc_read.specs.Sorts.{extended};
@@ -15,17 +15,19 @@ ghost use Rattle.msvc_tree.specs.declared.kinds.NumberedType.TheVariants as numb
 
 use crate::function_types::{MemberPointerForm, ObjectQualifiers};
 use crate::letters::{self, OptionalLetters};
+use crate::limit::Limit;
 use crate::parser::Parser;
 use crate::qualified_names::TemplateNames;
 use crate::refusal::{Message, Refused};
 use crate::type_forms::{TypeForm, type_form};
 use bitflags::Flags;
 use bumpalo::Bump;
+use bumpalo::collections::into_bump_slice;
 use msvc_tree::flags::StorageClass;
 use msvc_tree::kinds::{BaseType, Mark, NumberedType, PlainType, Tag};
 use msvc_tree::nodes::{Symbol, Type};
 
-impl<'a, 'b> Parser<'a, 'b> {
+impl<'a, 'b, L: Limit> Parser<'a, 'b, L> {
     /// `TYPE = text of a form, and what the form asks for | ["$"] PLAIN_TYPE`.
     #[cycle(readers)]
     #[tactic(auto, using(crate::proofs::TypeSteps::any_type_is))]
@@ -60,8 +62,8 @@ impl<'a, 'b> Parser<'a, 'b> {
             TypeForm::RValueReference => self.pointing_type(Mark::RValueReference, q),
             TypeForm::Constant => self.numbered_type(NumberedType::Constant),
             TypeForm::TemplateParameter => self.numbered_type(NumberedType::TemplateParameter),
-            TypeForm::EmptyPack => self.put_type(Type::Plain(PlainType::EmptyPack)),
-            TypeForm::Nullptr => self.put_type(Type::Plain(PlainType::Nullptr)),
+            TypeForm::EmptyPack => self.new_type(Type::Plain(PlainType::EmptyPack)),
+            TypeForm::Nullptr => self.new_type(Type::Plain(PlainType::Nullptr)),
             TypeForm::Array => self.array(),
             TypeForm::Function => self.function_type(ObjectQualifiers::Absent),
             TypeForm::QualifiedFunction => self.function_type(ObjectQualifiers::Present),
@@ -86,10 +88,11 @@ impl<'a, 'b> Parser<'a, 'b> {
         q: StorageClass,
     ) -> Result<&'b Type<'a, 'b>, Refused>
         ensures value { ReadsAs type_at self.old self.new result
-            (λ left s. and_then (read_name (qualified_name (is_own templates)) left s)
-            (λ n left s. Some (tagged tag n.0 (name_trees n.1) q.0, left, s))) }
+            (λ left s. in_node left s (λ left s. and_then (read_name (qualified_name (is_own templates)) left s)
+            (λ n left s. Some (tagged tag n.0 (name_trees n.1) q.0, left, s)))) }
         ensures eats { Eats self.old self.new result }
     {
+        self.count_node()?;
         let symbol = self.qualified_name(templates)?;
         self.put_tagged(tag, symbol, q)
     }
@@ -117,9 +120,11 @@ impl<'a, 'b> Parser<'a, 'b> {
     #[tactic(auto, unfolding(msvc_tree::specs::NodeView::type_of))]
     fn pointing_type(&mut self, mark: Mark, q: StorageClass) -> Result<&'b Type<'a, 'b>, Refused>
         ensures value { ReadsAs type_at self.old self.new result
-            (λ left s. and_then (read_name pointee left s) (λ t left s. Some (pointing mark t q.0, left, s))) }
+            (λ left s. in_node left s (λ left s. and_then (read_name pointee left s)
+            (λ t left s. Some (pointing mark t q.0, left, s)))) }
         ensures eats { Eats self.old self.new result }
     {
+        self.count_node()?;
         let inner = self.pointee()?;
         self.put_type(Type::Pointing(mark, q, inner))
     }
@@ -129,10 +134,11 @@ impl<'a, 'b> Parser<'a, 'b> {
     #[tactic(auto, unfolding(msvc_tree::specs::NodeView::type_of))]
     fn pointed_function(&mut self, mark: Mark, q: StorageClass) -> Result<&'b Type<'a, 'b>, Refused>
         ensures value { ReadsAs type_at self.old self.new result
-            (λ left s. and_then (read_name (function_type true) left s)
-            (λ t left s. Some (pointing mark t q.0, left, s))) }
+            (λ left s. in_node left s (λ left s. and_then (read_name (function_type true) left s)
+            (λ t left s. Some (pointing mark t q.0, left, s)))) }
         ensures eats { Eats self.old self.new result }
     {
+        self.count_node()?;
         let inner = self.function_type(ObjectQualifiers::Absent)?;
         self.put_type(Type::Pointing(mark, q, inner))
     }
@@ -141,9 +147,11 @@ impl<'a, 'b> Parser<'a, 'b> {
     #[tactic(auto, unfolding(msvc_tree::specs::NodeView::type_of))]
     fn numbered_type(&mut self, kind: NumberedType) -> Result<&'b Type<'a, 'b>, Refused>
         ensures value { ReadsAs type_at self.old self.new result
-            (λ left s. and_then (read_name number left s) (λ z left s. Some (numbered kind z, left, s))) }
+            (λ left s. in_node left s (λ left s. and_then (read_name number left s)
+            (λ z left s. Some (numbered kind z, left, s)))) }
         ensures eats { Eats self.old self.new result }
     {
+        self.count_node()?;
         let number = self.number()?;
         self.put_type(Type::Numbered(kind, number))
     }
@@ -158,7 +166,7 @@ impl<'a, 'b> Parser<'a, 'b> {
     {
         let letter = self.byte()?;
         if let Some(base) = letters::base_type(letter) {
-            return self.put_type(Type::Base(base, q));
+            return self.new_type(Type::Base(base, q));
         }
         let both = StorageClass::CONST.union(StorageClass::VOLATILE);
         match letter {
@@ -190,7 +198,8 @@ impl<'a, 'b> Parser<'a, 'b> {
         self.any_type(size.union(class))
     }
 
-    /// `ARRAY = NUMBER {NUMBER} ["$$C" array qualifier] TYPE`: the first number says how many lengths follow.
+    /// `ARRAY = NUMBER {NUMBER} ["$$C" array qualifier] TYPE`: the first number says how many lengths follow. What reads
+    /// the parts before the elements has a frame of its own, so that arrays of arrays take little stack.
     #[cycle(readers)]
     #[tactic(auto, using(crate::proofs::TypeSteps::array_is))]
     #[inline(never)]
@@ -202,11 +211,12 @@ impl<'a, 'b> Parser<'a, 'b> {
         let lengths = self.lengths(dimension)?;
         let class = self.array_class()?;
         let element = self.any_type(StorageClass::empty())?;
-        self.nested_arrays(&lengths, element, class)
+        self.nested_arrays(lengths, element, class)
     }
 
     /// A number above 0.
     #[tactic(auto, using(crate::proofs::TypeSteps::dimension_is))]
+    #[inline(never)]
     fn dimension(&mut self) -> Result<u32, Refused>
         ensures value { ReadsAs (λ n. n) self.old self.new result (read_name dimension) }
         ensures eats { Eats self.old self.new result }
@@ -220,6 +230,7 @@ impl<'a, 'b> Parser<'a, 'b> {
 
     /// The qualifiers of each level of an array.
     #[tactic(auto, using(crate::proofs::TypeSteps::array_class_is))]
+    #[inline(never)]
     fn array_class(&mut self) -> Result<StorageClass, Refused>
         ensures value { ReadsAs (λ q. q.0) self.old self.new result (read array_class) }
         ensures eats { MayEat self.old self.new result }
@@ -237,20 +248,22 @@ impl<'a, 'b> Parser<'a, 'b> {
         }
     }
 
-    /// As many numbers.
+    /// As many numbers, each the length of an array, which is a node.
     #[tactic(auto, using(crate::proofs::RowSteps::lengths_go_on))]
-    fn lengths(&mut self, count: u32) -> Result<Vec<i32, &'b Bump>, Refused>
-        ensures value { ReadsAs (λ v. v.items) self.old self.new result (read_name (lengths count)) }
+    #[inline(never)]
+    fn lengths(&mut self, count: u32) -> Result<&'b [i32], Refused>
+        ensures value { ReadsAs (λ zs. zs.now) self.old self.new result (read_name (lengths count)) }
         ensures eats { MayEat self.old self.new result }
     {
         let mut lengths = Vec::new(self.arena);
         for _ in 0..count {
+            self.count_node()?;
             let length = self.number()?;
             if lengths.push(length).is_err() {
                 return Err(self.no_memory());
             }
         }
-        Ok(lengths)
+        Ok(into_bump_slice(lengths))
     }
 
     /// An array of these lengths, the outermost first, with qualifiers at each level. It calls itself for each length:
@@ -280,6 +293,7 @@ impl<'a, 'b> Parser<'a, 'b> {
         ensures value { ReadsAs type_at self.old self.new result (read_name (type_behind q.0 extended)) }
         ensures eats { Eats self.old self.new result }
     {
+        self.count_node()?;
         let letter = self.byte()?;
         match letters::extended_type(letter) {
             Some(base) => self.put_type(Type::Base(base, q)),
@@ -292,10 +306,11 @@ impl<'a, 'b> Parser<'a, 'b> {
     #[inline(never)]
     fn template_parameter(&mut self) -> Result<&'b Type<'a, 'b>, Refused>
         ensures value { ReadsAs type_at self.old self.new result
-            (λ left s. and_then (read_name number left s)
-            (λ z left s. Some (numbered number_kind.TemplateParameter (int_wrapping_neg w32 z), left, s))) }
+            (λ left s. in_node left s (λ left s. and_then (read_name number left s)
+            (λ z left s. Some (numbered number_kind.TemplateParameter (int_wrapping_neg w32 z), left, s)))) }
         ensures eats { Eats self.old self.new result }
     {
+        self.count_node()?;
         let number = self.number()?;
         self.put_type(Type::Numbered(NumberedType::TemplateParameter, number.wrapping_neg()))
     }

@@ -3,23 +3,28 @@ use Rattle.std.specs.Prelude.{map}
 use Rattle.std.specs.List.{list_any}
 use Rattle.msvc_tree.specs.Equality.{same_name}
 use Rattle.msvc_tree.specs.Trees.{NameTree}
-use Rattle.msvc_tree.specs.NodeView.{name_at, name_of}
+use Rattle.msvc_tree.specs.NodeView.{name_of}
+use Rattle.msvc_read.specs.Parser.{known_name_of}
 use Rattle.msvc_read.proofs.Nodes.{found_here, found_later}
 use Rattle.msvc_read.proofs.memorized.is_known_name.Goals as goal
 
 -- an equal entry is found where it stands
 pub returns-then-is_same_name : goal.returns-then-is_same_name
-returns-then-is_same_name c =
+returns-then-is_same_name g c =
     let n : NameTree = name_of c.args.name.now in
-    let same = sym (c.if-is_same_name.ensures) in
-    sym (found_here (same_name n) name_at c.args.names.now c.loop-known.known-index _ c.loop-known-test.true same)
+    let same = ap (λ e. same_name n (name_of e.memorized.now)) (sym c.known-item.is)
+    ∙ sym (c.if-is_same_name.ensures) in
+    sym (found_here (same_name n) known_name_of c.args.names.now c.loop-known.known-index _ c.loop-known-test.true same)
     ∙ c.loop-known.invariant
 
 -- an entry that is another name is passed over
 pub loop-known-preserved : goal.loop-known-preserved
-loop-known-preserved c =
+loop-known-preserved g c =
     let n : NameTree = name_of c.args.name.now in
-    let other = sym (c.if-is_same_name.ensures) in
-    ap (λ (i : ℕ). list_any (same_name n) (map name_at (drop i c.args.names.now))) (add-one c.loop-known.known-index)
-    ∙ sym (found_later (same_name n) name_at c.args.names.now c.loop-known.known-index _ c.loop-known-test.true other)
+    let other = ap (λ e. same_name n (name_of e.memorized.now)) (sym c.known-item.is)
+    ∙ sym (c.if-is_same_name.ensures) in
+    ap (λ (i : ℕ). list_any (same_name n) (map known_name_of (drop i c.args.names.now)))
+    (add-one c.loop-known.known-index)
+    ∙ sym (found_later (same_name n) known_name_of c.args.names.now c.loop-known.known-index _
+    c.loop-known-test.true other)
     ∙ c.loop-known.invariant

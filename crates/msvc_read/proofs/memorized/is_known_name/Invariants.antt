@@ -2,11 +2,12 @@ use Rattle.std.proofs.Common.{◌≡◌, drop}
 use Rattle.std.specs.Prelude.{map}
 use Rattle.std.specs.List.{list_any}
 use Rattle.msvc_tree.specs.Equality.{same_name}
-use Rattle.msvc_tree.specs.NodeView.{name_at, name_of}
+use Rattle.msvc_tree.specs.NodeView.{name_of}
+use Rattle.msvc_read.specs.Parser.{known_name_of}
 use Rattle.msvc_read.proofs.memorized.is_known_name.Given as goal
 
 -- no entry before the index is an equal name
 abbrev pub invariant-loop-known : goal.invariant-loop-known
-invariant-loop-known l =
-    list_any (same_name (name_of l.name)) (map name_at (drop l.known-index l.names))
-    ≡ list_any (same_name (name_of l.name)) (map name_at l.names)
+invariant-loop-known g l =
+    list_any (same_name (name_of l.name)) (map known_name_of (drop l.known-index l.names))
+    ≡ list_any (same_name (name_of l.name)) (map known_name_of l.names)

@@ -8,6 +8,6 @@ use Rattle.msvc_read.proofs.memorized.is_known_type.Given as goal
 
 -- no entry before the index is an equal type
 abbrev pub invariant-loop-known : goal.invariant-loop-known
-invariant-loop-known l =
+invariant-loop-known g l =
     list_any (λ known. same_type (type_of l.memorized) known.entered) (map memorized_of (drop l.known-index l.types))
     ≡ list_any (λ known. same_type (type_of l.memorized) known.entered) (map memorized_of l.types)

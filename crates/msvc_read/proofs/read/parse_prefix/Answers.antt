@@ -1,6 +1,6 @@
 use Rattle.msvc_tree.specs.View.{tree_of}
 use Rattle.msvc_read.proofs.Whole.{read-boundary, read-derived, read-hashes, read-parts, read-prefix, read-texts}
-use Rattle.msvc_read.proofs.Whole.{error-refused}
+use Rattle.msvc_read.proofs.Whole.{error-refused, refused-at-once}
 use Rattle.msvc_read.proofs.Written.{all_written_out}
 use Rattle.msvc_read.proofs.read.parse_prefix.Goals as goal
 
@@ -34,3 +34,8 @@ returns-in-Ok-clause-written_out c = all_written_out c.args.input.now
 
 pub returns-in-Err-clause-written_out : goal.returns-in-Err-clause-written_out
 returns-in-Err-clause-written_out c = all_written_out c.args.input.now
+
+pub returns-in-Err-clause-begins : goal.returns-in-Err-clause-begins
+returns-in-Err-clause-begins c never =
+    refused-at-once c.args.input.now c.in-Err.refusal c.error.result c.in-Err.ensures.start
+    (rw c.as_bytes.ensures.value at c.error.ensures) never

@@ -1,21 +1,22 @@
-use Rattle.std.proofs.Common.{rules, ◌≡◌, ◌∷◌, [], ◌++◌, ◌<◌, Some, None, List, true, sym, ap, ◌∙◌, arith}
+use Rattle.std.proofs.Common.{rules, ◌≡◌, ◌∷◌, [], ◌++◌, ◌+◌, ◌<◌, Some, None, List, true, sym, ap, ◌∙◌, arith}
 use Rattle.std.proofs.Common.{length, drop}
 use Rattle.std.proofs.lemmas.List.{drop_at}
-use Rattle.std.specs.Borrow.{Bor}
 use Rattle.std.specs.Prelude.{map, slice_get}
 use Rattle.msvc_tree.specs.Trees.{NameTree, TypeTree, base}
 use Rattle.std.specs.Option.{option_map}
 use Rattle.msvc_tree.specs.NodeView.{name_at, type_at}
-use Rattle.msvc_tree.specs.declared.nodes.Name.{Name}
+use Rattle.msvc_read.proofs.Counted.{template_made, type_made}
 use Rattle.msvc_read.proofs.NameSteps.{template_kept_step}
 use Rattle.msvc_read.proofs.Nodes.{frame_names, frame_types, map_last, names_in-is}
-use Rattle.msvc_read.proofs.RowSteps.{parameters_more, scope_more, with_front}
+use Rattle.msvc_read.proofs.RowSteps.{parameters_ends, parameters_more, scope_more, with_front}
 use Rattle.msvc_read.proofs.SymbolSteps.{encoding_first, member_letter, named_symbol_is, no_member_letter}
 use Rattle.msvc_read.proofs.SymbolSteps.{encoding_by}
 use Rattle.msvc_read.proofs.TypeSteps.{plain_other, referred_step, type_by}
+use Rattle.msvc_read.specs.Counts.{name_count, type_count}
 use Rattle.msvc_read.specs.Grammar.{template_inside, template_kept}
 use Rattle.msvc_read.specs.Letters.{compound_letters, digits, encoding_letters, function_classes, rows_of}
-use Rattle.msvc_read.specs.Parser.{Frame, byte_here, frame_of, indexed, is_own, kept_name, memorized_of}
+use Rattle.msvc_read.specs.Parser.{Frame, byte_here, counting_ellipsis, ellipsis_types, frame_of, indexed, is_own}
+use Rattle.msvc_read.specs.Parser.{kept_name, known_name_of, memorized_of}
 use Rattle.msvc_read.specs.Parser.{parameters_stop, state_of}
 use Rattle.msvc_read.specs.Reads.{and_then, emptied, put_apart, put_back, read, read_name, type_known, with_value}
 use Rattle.msvc_read.specs.Rules.{after, encoding, encoding_behind, lookup, nested_name, parameter, parameters}
@@ -23,12 +24,13 @@ use Rattle.msvc_read.specs.Rules.{plain_type, qualified_name, scope}
 use Rattle.msvc_read.specs.Sorts.{member_of}
 use Rattle.msvc_read.specs.Stack.{here, outer}
 use Rattle.msvc_read.specs.State.{State}
-use Rattle.msvc_read.specs.declared.memorized.MemorizedType.{MemorizedType}
+use Rattle.msvc_read.specs.declared.entries.MemorizedName.{MemorizedName}
+use Rattle.msvc_read.specs.declared.entries.MemorizedType.{MemorizedType}
 use Rattle.msvc_read.proofs.parser.Parser.+readers.Goals as goal
 
 -- a letter that is none of the others is a digit or none
 pub plain_type-returns-in_default-letter-clause-value : goal.plain_type-returns-in_default-letter-clause-value
-plain_type-returns-in_default-letter-clause-value t c =
+plain_type-returns-in_default-letter-clause-value g t c =
     let first : byte_here c.args.self.now.rest.now (state_of c.args.self.now)
     ≡ Some (c.in_ok-letter.letter, c.byte.new.self.rest.now, state_of c.byte.new.self) = c.in_ok-letter.ensures.value in
     let same : type_by c.args.q.0 (lookup c.in_ok-letter.letter compound_letters) c.byte.new.self.rest.now
@@ -46,7 +48,7 @@ plain_type-returns-in_default-letter-clause-value t c =
 -- a letter that is none of the others is that of a member function or none
 
 pub encoding-returns-in-Some-function_class-clause-value : goal.encoding-returns-in-Some-function_class-clause-value
-encoding-returns-in-Some-function_class-clause-value t c =
+encoding-returns-in-Some-function_class-clause-value g t c =
     let first : byte_here c.args.self.now.rest.now (state_of c.args.self.now)
     ≡ Some (c.in-Some.letter, c.next_byte.new.self.rest.now, state_of c.next_byte.new.self) =
     sym c.in-Some.ensures.value in
@@ -67,7 +69,7 @@ encoding-returns-in-Some-function_class-clause-value t c =
     rw read c.member.ensures.value
 
 pub encoding-returns-in-None-clause-value : goal.encoding-returns-in-None-clause-value
-encoding-returns-in-None-clause-value t c =
+encoding-returns-in-None-clause-value g t c =
     let first : byte_here c.args.self.now.rest.now (state_of c.args.self.now)
     ≡ Some (c.in-Some.letter, c.next_byte.new.self.rest.now, state_of c.next_byte.new.self) =
     sym c.in-Some.ensures.value in
@@ -85,13 +87,13 @@ encoding-returns-in-None-clause-value t c =
 
 -- the new one goes after those so far
 pub scope-names-preserved : goal.scope-names-preserved
-scope-names-preserved t c =
+scope-names-preserved g t c =
     let kept : frame_of c.nested_name.new.self ≡ frame_of c.names.self =
     c.in_ok-name.ensures.eats.1 ∙ c.eat.ensures.kept in
     let shorter : length c.nested_name.new.self.rest.now < length c.names.self.rest.now = search rules in
     let items : here c.list_name.new.self.listed_names ≡ here c.names.self.listed_names ++ c.in_ok-name.name ∷ [] =
-    ap (λ (f : Frame). f.listed_names) c.in_ok-list_name.ensures.kept
-    ∙ ap (λ (f : Frame). f.listed_names ++ c.in_ok-name.name ∷ []) kept in
+    ap (λ (f : Frame _ _). f.listed_names) c.in_ok-list_name.ensures.kept
+    ∙ ap (λ (f : Frame _ _). f.listed_names ++ c.in_ok-name.name ∷ []) kept in
     let seen : map name_at (here c.list_name.new.self.listed_names)
     ≡ map name_at (here c.names.self.listed_names) ++ name_at c.in_ok-name.name ∷ [] =
     ap (map name_at) items ∙ map_last name_at (here c.names.self.listed_names) c.in_ok-name.name in
@@ -122,11 +124,11 @@ scope-names-preserved t c =
 
 -- the new one goes after those so far
 pub parameters-parameters-preserved : goal.parameters-parameters-preserved
-parameters-parameters-preserved t c =
+parameters-parameters-preserved g t c =
     let items : here c.list_type.new.self.listed_types ≡ here c.parameters.self.listed_types
     ++ c.in_ok-parameter.parameter ∷ [] =
-    ap (λ (f : Frame). f.listed_types) c.in_ok-list_type.ensures.kept
-    ∙ ap (λ (f : Frame). f.listed_types ++ c.in_ok-parameter.parameter ∷ []) c.in_ok-parameter.ensures.eats.1 in
+    ap (λ (f : Frame _ _). f.listed_types) c.in_ok-list_type.ensures.kept
+    ∙ ap (λ (f : Frame _ _). f.listed_types ++ c.in_ok-parameter.parameter ∷ []) c.in_ok-parameter.ensures.eats.1 in
     let seen : map type_at (here c.list_type.new.self.listed_types)
     ≡ map type_at (here c.parameters.self.listed_types) ++ type_at c.in_ok-parameter.parameter ∷ [] =
     ap (map type_at) items ∙ map_last type_at (here c.parameters.self.listed_types) c.in_ok-parameter.parameter in
@@ -156,9 +158,22 @@ parameters-parameters-preserved t c =
           c.parameters.invariant.3 c.in_ok-parameter.ensures.eats.1 c.in_ok-list_type.ensures.kept,
     )
 
+-- where parameters stop, all of them are those so far, and an ellipsis after them if there is one
+pub parameters-returns-in-Some-clause-value : goal.parameters-returns-in-Some-clause-value
+parameters-returns-in-Some-clause-value g t c =
+    let stop : parameters_stop c.parameters.self.rest.now ≡ Some (c.in-Some.ellipsis, c.in-Some.rest.now) =
+    sym c.in-Some.ensures.value in
+    let read : read_name parameters c.args.self.now.rest.now (state_of c.args.self.now)
+    ≡ and_then (counting_ellipsis c.in-Some.ellipsis c.in-Some.rest.now (state_of c.parameters.self))
+    (λ _ l u. Some (map type_at (here c.parameters.self.listed_types) ++ ellipsis_types c.in-Some.ellipsis, l, u)) =
+    sym c.parameters.invariant.0
+    ∙ parameters_ends (map type_at (here c.parameters.self.listed_types)) c.parameters.self.rest.now
+    c.in-Some.rest.now c.in-Some.ellipsis (state_of c.parameters.self) stop in
+    rw read c.listed_types.ensures.value
+
 -- a symbol of its name, its scope and its type
 pub named_symbol-returns-clause-value : goal.named_symbol-returns-clause-value
-named_symbol-returns-clause-value t c =
+named_symbol-returns-clause-value g t c =
     let before : NameTree = name_at c.in_ok-named.named.name in
     let outer : List NameTree = map name_at c.in_ok-named.named.scope.now in
     let name : NameTree = name_at c.in_ok-symbol.symbol.name in
@@ -184,22 +199,22 @@ named_symbol-returns-clause-value t c =
 
 -- the tables in use before are in use again after a template
 pub template_name-returns-clause-value : goal.template_name-returns-clause-value
-template_name-returns-clause-value t c =
+template_name-returns-clause-value g t c =
     let s : State = state_of c.args.self.now in
     let n : NameTree = name_at c.in_ok-template.template in
     let inner : State = state_of c.template.new.self in
     let around = c.open_template-around.ensures.outer in
     let entered : record s {
-      names = map name_at (here c.open_template-around.new.self.names);
+      names = map known_name_of (here c.open_template-around.new.self.names);
       types = map memorized_of (here c.open_template-around.new.self.types);
     } ≡ emptied s =
-    ap (λ (ns : List (Bor Name)). record s {
-      names = map name_at ns;
+    ap (λ (ns : List (MemorizedName _ _)). record s {
+      names = map known_name_of ns;
       types = map memorized_of (here
           c.open_template-around.new.self.types);
     })
     c.open_template-around.ensures.here.0
-    ∙ ap (λ (es : List MemorizedType). record s { names = []; types = map memorized_of es })
+    ∙ ap (λ (es : List (MemorizedType _ _)). record s { names = []; types = map memorized_of es })
     c.open_template-around.ensures.here.1 in
     let inside : read template_inside c.args.self.now.rest.now (emptied s)
     ≡ Some (n, c.template.new.self.rest.now, inner) =
@@ -207,34 +222,34 @@ template_name-returns-clause-value t c =
     let names : here c.close_template.new.self.names ≡ here c.args.self.now.memorized.names =
     c.close_template.ensures.here.0
     ∙ ap (drop c.open_template-around.result.names)
-    (ap (λ (f : Frame). f.names) c.in_ok-template.ensures.eats.1 ∙ around.0)
+    (ap (λ (f : Frame _ _). f.names) c.in_ok-template.ensures.eats.1 ∙ around.0)
     ∙ drop_at (outer c.args.self.now.memorized.names) (here c.args.self.now.memorized.names)
     c.open_template-around.result.names
     (sym c.open_template-around.ensures.place.0) in
     let types : here c.close_template.new.self.types ≡ here c.args.self.now.memorized.types =
     c.close_template.ensures.here.1
     ∙ ap (drop c.open_template-around.result.types)
-    (ap (λ (f : Frame). f.types) c.in_ok-template.ensures.eats.1 ∙ around.1)
+    (ap (λ (f : Frame _ _). f.types) c.in_ok-template.ensures.eats.1 ∙ around.1)
     ∙ drop_at (outer c.args.self.now.memorized.types) (here c.args.self.now.memorized.types)
     c.open_template-around.result.types
     (sym c.open_template-around.ensures.place.1) in
     let left : record inner {
-      names = map name_at (here c.close_template.new.self.names);
+      names = map known_name_of (here c.close_template.new.self.names);
       types = map memorized_of (here c.close_template.new.self.types);
     } ≡ put_back s inner =
-    ap (λ (ns : List (Bor Name)). record inner {
-      names = map name_at ns;
+    ap (λ (ns : List (MemorizedName _ _)). record inner {
+      names = map known_name_of ns;
       types = map memorized_of (here
           c.close_template.new.self.types);
     })
     names
-    ∙ ap (λ (es : List MemorizedType). record inner { names = s.names; types = map memorized_of es }) types in
+    ∙ ap (λ (es : List (MemorizedType _ _)). record inner { names = s.names; types = map memorized_of es }) types in
     let read_all : read (template_kept (is_own c.args.templates)) c.args.self.now.rest.now s
     ≡ Some (
       n,
       c.template.new.self.rest.now,
       kept_name (is_own c.args.templates) n (record inner {
-        names = map name_at (here c.close_template.new.self.names);
+        names = map known_name_of (here c.close_template.new.self.names);
         types = map memorized_of (here c.close_template.new.self.types);
       }),
     ) =
@@ -242,3 +257,35 @@ template_name-returns-clause-value t c =
     ∙ ap (λ o. and_then (put_apart s o) (λ m l u. Some (m, l, kept_name (is_own c.args.templates) m u))) inside
     ∙ ap (λ (u : State). Some (n, c.template.new.self.rest.now, kept_name (is_own c.args.templates) n u)) (sym left) in
     rw read_all c.kept_name.ensures.value
+
+-- what was counted for a parameter is the number of its nodes
+
+pub parameter-since-nodes-requires : goal.parameter-since-nodes-requires
+parameter-since-nodes-requires g t c =
+    let made : g.L.Limit.made c.any_type.new.self.limit ≡ g.L.Limit.made c.digit.new.self.limit
+    + type_count g.L.Limit.weight (type_at c.in_ok-parameter.parameter) =
+    type_made _ _ (state_of c.digit.new.self) _ _ (state_of c.any_type.new.self) c.in_ok-parameter.ensures.value in
+    omega (arith, made)
+
+pub parameter-memorize_type-requires : goal.parameter-memorize_type-requires
+parameter-memorize_type-requires g t c =
+    let made : g.L.Limit.made c.any_type.new.self.limit ≡ g.L.Limit.made c.digit.new.self.limit
+    + type_count g.L.Limit.weight (type_at c.in_ok-parameter.parameter) =
+    type_made _ _ (state_of c.digit.new.self) _ _ (state_of c.any_type.new.self) c.in_ok-parameter.ensures.value in
+    omega (arith, made, c.since-nodes.ensures)
+
+-- and for a template
+
+pub template_name-since-nodes-requires : goal.template_name-since-nodes-requires
+template_name-since-nodes-requires g t c =
+    let made : g.L.Limit.made c.template.new.self.limit ≡ g.L.Limit.made c.args.self.now.limit
+    + name_count g.L.Limit.weight (name_at c.in_ok-template.template) =
+    template_made _ _ _ _ (state_of c.template.new.self) c.in_ok-template.ensures.value in
+    omega (arith, made)
+
+pub template_name-kept_name-requires : goal.template_name-kept_name-requires
+template_name-kept_name-requires g t c =
+    let made : g.L.Limit.made c.template.new.self.limit ≡ g.L.Limit.made c.args.self.now.limit
+    + name_count g.L.Limit.weight (name_at c.in_ok-template.template) =
+    template_made _ _ _ _ (state_of c.template.new.self) c.in_ok-template.ensures.value in
+    omega (arith, made, c.since-nodes.ensures)

@@ -9,7 +9,7 @@ use Rattle.msvc_read.proofs.parser.Parser.characters.Goals as goal
 
 -- the new character goes behind those so far
 pub loop-preserved : goal.loop-preserved
-loop-preserved c =
+loop-preserved g c =
     let items : c.push.new.self.items ≡ c.loop.text.items ++ c.in_ok-character.character ∷ [] =
     grind (arith, common_steps) in
     let read : read_name character c.loop.self.rest.now (state_of c.loop.self)

@@ -9,7 +9,7 @@ use Rattle.msvc_read.proofs.parser.Parser.gathered_digits.Goals as goal
 
 -- the new digit goes after those so far
 pub digits-preserved : goal.digits-preserved
-digits-preserved c =
+digits-preserved g c =
     let none : after (64 ∷ []) c.digits.self.rest.now ≡ None = search rules in
     let read : letter_here hexadecimal_codes c.digits.self.rest.now (state_of c.digits.self)
     ≡ Some (c.in_ok-digit.digit, c.hexadecimal_digit.new.self.rest.now, state_of c.hexadecimal_digit.new.self) =

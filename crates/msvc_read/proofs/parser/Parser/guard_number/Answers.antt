@@ -8,7 +8,7 @@ use Rattle.msvc_read.proofs.parser.Parser.guard_number.Goals as goal
 
 -- the value with one more digit, before the rest
 pub digits-preserved : goal.digits-preserved
-digits-preserved c =
+digits-preserved g c =
     let same : c.digits.value * 10 + c.in_ok-digit.digit ≡ c.in-Some.longer =
     kept (c.digits.value * 10 + c.in_ok-digit.digit) c.in-Some.longer (sym c.in-Some.ensures.value) in
     let letter : letter_here digits c.digits.self.rest.now (state_of c.digits.self)

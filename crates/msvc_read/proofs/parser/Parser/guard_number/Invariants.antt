@@ -7,7 +7,7 @@ use Rattle.msvc_read.proofs.parser.Parser.guard_number.Given as goal
 
 -- what is read of the rest, behind the value so far, is what is read of all
 abbrev pub invariant-digits : goal.invariant-digits
-invariant-digits l =
+invariant-digits g l =
     (read_name (decimal l.value) l.self.rest.now (state_of l.self)
     ≡ and_then (letter_here digits l.fn.self.rest.now (state_of l.fn.self)) (λ d. read_name (decimal d)))
     × (length l.self.rest.now ≤ length l.fn.self.rest.now)
@@ -15,4 +15,4 @@ invariant-digits l =
     × (frame_of l.self ≡ frame_of l.fn.self)
 
 abbrev pub decreases-digits : goal.decreases-digits
-decreases-digits l = length l.self.rest.now
+decreases-digits g l = length l.self.rest.now
