@@ -3,10 +3,11 @@
 //! [`parse`] reads a symbol into a tree, [`serialize`] prints a tree, and [`demangle`] does both.
 #![tactic(auto)]
 
-ghost use Rattle.std.specs.Prelude.{◌≡◌, codes, ℕ, List, IfOk, IfErr, string_bytes};
+ghost use Rattle.std.specs.Prelude.{◌≡◌, ◌≤◌, codes, ℕ, List, IfOk, IfErr, string_bytes};
 ghost use Rattle.msvc_tree.specs.Trees.{SymbolTree};
+ghost use Rattle.msvc_read.specs.Counts.{node_count};
 ghost use Rattle.msvc_read.specs.Reads.{Derives};
-ghost use Rattle.msvc_read.specs.Refusals.{IsRefusedRightly, IsRefusalAt, begins_with};
+ghost use Rattle.msvc_read.specs.Refusals.{IsRefusedRightly, IsRefusedWithin, IsRefusalAt, begins_with};
 ghost use Rattle.msvc_read.specs.State.{Note};
 ghost use Rattle.msvc_read.specs.Written.{DigitsCanBeWrittenOut};
 ghost use Rattle.msvc_write.specs.Declaration.{declaration};
@@ -19,7 +20,7 @@ mod watched;
 
 pub use bitflags::Flags;
 pub use lines::{undname_lines, undname_one, undname_run};
-pub use msvc_read::{BackReference, back_references, parse, parse_prefix};
+pub use msvc_read::{BackReference, back_references, parse, parse_prefix, parse_within};
 pub use msvc_tree::error::{Error, ErrorRepr};
 pub use msvc_tree::flags::{DemangleFlags, FuncClass, StorageClass};
 pub use msvc_tree::tree::{
@@ -52,6 +53,40 @@ pub fn demangle(alloc: Global, input: &str, flags: DemangleFlags) -> Result<Stri
         Ok(()) => {
             let text = text_of(alloc, room.text)?;
             Ok(text)
+        }
+        Err(refusal) => Err(refusal),
+    }
+}
+
+/// The declaration that [`demangle`] gives, where the tree of the symbol has at most so many nodes: each name and each
+/// type in it is one, at every depth.
+///
+/// Any other text is refused as [`parse_within`] refuses it. Nothing is read of a node that is not allowed, so whatever
+/// the length of `input`, the depth of the calls and the memory for nodes are bounded. The declaration is not: a
+/// constructor or destructor prints the name of its class once more, and a conversion its type, so where these stand in
+/// one another, each level of some ten nodes can double it.
+pub fn demangle_within(
+    alloc: Global,
+    input: &str,
+    flags: DemangleFlags,
+    nodes: usize,
+) -> Result<String, Error>
+    ensures declared { IfOk result (λ text. (tree : SymbolTree) × (rest : List ℕ) × (notes : List Note)
+        × Derives input.now tree rest notes
+        × ((other : SymbolTree) (behind : List ℕ) (others : List Note) → Derives input.now other behind others
+        → (other ≡ tree) × (behind ≡ rest) × (others ≡ notes))
+        × (node_count tree ≤ nodes)
+        × (string_bytes text ≡ declaration tree flags.0)) }
+    ensures hashes { IfOk result (λ text. HashesAreShown input.now (string_bytes text)) }
+    ensures refused { IfErr result (λ e. IsRefusedWithin nodes input.now e) }
+    ensures begins { (begins_with (codes "?") input.now → ⊥) → IfErr result (λ e. IsRefusalAt input.now 0 e) }
+    ensures begins_ok { IfOk result (λ text. begins_with (codes "?") input.now) }
+{
+    let mut room = Room::new(alloc);
+    match room.demangle_within(input, flags, nodes) {
+        Ok(()) => {
+            let shown = text_of(alloc, room.text)?;
+            Ok(shown)
         }
         Err(refusal) => Err(refusal),
     }

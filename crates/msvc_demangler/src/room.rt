@@ -1,16 +1,17 @@
 //! What symbols are demangled in: an arena and the bytes of a declaration, which are kept from one symbol to the next.
 
-ghost use Rattle.std.specs.Prelude.{◌≡◌, codes, ℕ, List, IfOk, IfErr};
+ghost use Rattle.std.specs.Prelude.{◌≡◌, ◌≤◌, codes, ℕ, List, IfOk, IfErr};
 ghost use Rattle.std.specs.Str.{IsUtf8};
 ghost use Rattle.msvc_tree.specs.Trees.{SymbolTree};
+ghost use Rattle.msvc_read.specs.Counts.{node_count};
 ghost use Rattle.msvc_read.specs.Reads.{Derives};
-ghost use Rattle.msvc_read.specs.Refusals.{IsRefusedRightly, IsRefusalAt, begins_with};
+ghost use Rattle.msvc_read.specs.Refusals.{IsRefusedRightly, IsRefusedWithin, IsRefusalAt, begins_with};
 ghost use Rattle.msvc_read.specs.State.{Note};
 ghost use Rattle.msvc_write.specs.Declaration.{declaration};
 ghost use Rattle.msvc_demangler.specs.Hashes.{HashesAreShown};
 
 use bumpalo::Bump;
-use msvc_read::{read_symbol, room_for};
+use msvc_read::{read_symbol, read_symbol_within, room_for, room_within};
 use msvc_tree::error::Error;
 use msvc_tree::flags::DemangleFlags;
 use msvc_write::print;
@@ -58,7 +59,7 @@ impl Room {
         ensures begins { (begins_with (codes "?") input.now → ⊥) → IfErr result (λ e. IsRefusalAt input.now 0 e) }
         ensures begins_ok { IfOk result (λ _. begins_with (codes "?") input.now) }
     {
-        self.clear_for(input)?;
+        self.clear_for(input, room_for(input))?;
         match read_symbol(self.alloc, &self.arena, input) {
             Ok(symbol) => {
                 print(&self.arena, &symbol, flags, &mut self.text)?;
@@ -68,16 +69,44 @@ impl Room {
         }
     }
 
-    /// Lets go of what the room holds, and makes it large enough for this symbol. For a text that is none it asks for
-    /// no memory.
-    fn clear_for(&mut self, input: &str) -> Result<(), AllocError> {
+    /// The same of a symbol whose tree has at most so many nodes.
+    pub(crate) fn demangle_within(
+        &mut self,
+        input: &str,
+        flags: DemangleFlags,
+        nodes: usize,
+    ) -> Result<(), Error>
+        ensures declared { IfOk result (λ _. (tree : SymbolTree) × (rest : List ℕ) × (notes : List Note)
+            × Derives input.now tree rest notes
+            × ((other : SymbolTree) (behind : List ℕ) (others : List Note) → Derives input.now other behind others
+            → (other ≡ tree) × (behind ≡ rest) × (others ≡ notes))
+            × (node_count tree ≤ nodes)
+            × (self.new.text.items ≡ declaration tree flags.0)) }
+        ensures utf8 { IfOk result (λ _. IsUtf8 self.new.text.items) }
+        ensures hashes { IfOk result (λ _. HashesAreShown input.now self.new.text.items) }
+        ensures refused { IfErr result (λ e. IsRefusedWithin nodes input.now e) }
+        ensures begins { (begins_with (codes "?") input.now → ⊥) → IfErr result (λ e. IsRefusalAt input.now 0 e) }
+        ensures begins_ok { IfOk result (λ _. begins_with (codes "?") input.now) }
+    {
+        self.clear_for(input, room_within(input, nodes))?;
+        match read_symbol_within(self.alloc, &self.arena, input, nodes) {
+            Ok(symbol) => {
+                print(&self.arena, &symbol, flags, &mut self.text)?;
+                Ok(())
+            }
+            Err(refusal) => Err(refusal),
+        }
+    }
+
+    /// Lets go of what the room holds, and makes it large enough for this symbol, whose nodes take so many bytes of an
+    /// arena. For a text that is none it asks for no memory.
+    fn clear_for(&mut self, input: &str, bytes: usize) -> Result<(), AllocError> {
         // An arena that some list was not given back to stays as it is, and can still be used.
         let _ = self.arena.reset();
         self.text.clear();
         if !input.starts_with('?') {
             return Ok(());
         }
-        let bytes = room_for(input);
         if self.began < bytes {
             self.arena = Bump::try_with_capacity(self.alloc, bytes)?;
             self.began = bytes;
