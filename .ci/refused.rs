@@ -2,8 +2,8 @@
 //! compares what they print. A run ends at the call that answers want of memory, and names it.
 
 use msvc_demangler::{
-    BackReference, DemangleFlags, Error, Fault, ParseResult, Watched, back_references, demangle, parse, parse_prefix,
-    serialize, undname_lines,
+    BackReference, DemangleFlags, Error, Fault, ParseResult, Watched, back_references, demangle, demangle_within, parse,
+    parse_prefix, parse_within, serialize, undname_lines,
 };
 use std::alloc::{AllocError, Global};
 use std::fmt;
@@ -11,6 +11,9 @@ use std::fmt::{Display, Write};
 
 /// More bytes than a run over lines writes.
 const ROOM: usize = 256;
+
+/// More nodes than the tree of a symbol has that all calls are tried on.
+const NODES: usize = 1000;
 
 /// A line that is demangled, one that is refused, one that is not UTF-8, and one that no line feed ends.
 const LINES: &[u8] = b"?x@@3HA\r\nnope\n\xFF\n?f@@";
@@ -86,7 +89,8 @@ fn every(rt: &HostRuntime, row: &Row<'_>) -> Result<(), AllocError> {
     declaration(rt, row)?;
     digits(rt, row)?;
     tree(rt, row)?;
-    prefix(rt, row)
+    prefix(rt, row)?;
+    within(rt, row)
 }
 
 fn message(rt: &HostRuntime, row: &Row<'_>) -> Result<(), AllocError> {
@@ -127,6 +131,40 @@ fn prefix(rt: &HostRuntime, row: &Row<'_>) -> Result<(), AllocError> {
     }
 }
 
+/// Both calls with a limit, that allows all nodes.
+fn within(rt: &HostRuntime, row: &Row<'_>) -> Result<(), AllocError> {
+    let text = demangle_within(rt.alloc(), row.symbol, DemangleFlags::COMPLETE, NODES);
+    answered(rt, "demangle_within", row, text, |text| text.as_str() == row.text)?;
+    let tree = parse_within(rt.alloc(), row.symbol, NODES);
+    answered(rt, "parse_within", row, tree, |_| true)?;
+    Ok(())
+}
+
+/// Both calls with a limit, that does not allow all nodes.
+fn limited(rt: &HostRuntime, symbol: &str, nodes: usize) -> Result<(), AllocError> {
+    let text = demangle_within(rt.alloc(), symbol, DemangleFlags::COMPLETE, nodes);
+    wants_nodes(rt, "demangle_within", text.err())?;
+    let tree = parse_within(rt.alloc(), symbol, nodes);
+    wants_nodes(rt, "parse_within", tree.err())
+}
+
+/// Names a call that answers want of memory. Else it has to answer want of nodes.
+fn wants_nodes(rt: &HostRuntime, name: &str, refusal: Option<Error>) -> Result<(), AllocError> {
+    if let Some(refusal) = &refusal {
+        granted(rt, name, refusal)?;
+    }
+    check(rt, name, refusal.is_some_and(|refusal| begins(&refusal, "more nodes than allowed")));
+    Ok(())
+}
+
+/// `parse` on a symbol whose tree is too large to refuse each of its requests.
+fn large_tree(rt: &HostRuntime, symbol: &str) -> Result<(), AllocError> {
+    match parse(rt.alloc(), symbol) {
+        Ok(_) => Ok(()),
+        Err(refusal) => granted(rt, "parse", &refusal),
+    }
+}
+
 fn printed(rt: &HostRuntime, row: &Row<'_>, tree: &ParseResult<'_>) -> Result<(), AllocError> {
     let text = serialize(rt.alloc(), tree, DemangleFlags::COMPLETE);
     answered(rt, "serialize", row, text, |text| text.as_str() == row.text)?;
@@ -154,6 +192,13 @@ impl Write for Awaited<'_> {
 fn prints<T: Display>(value: &T, text: &str) -> bool {
     let mut awaited = Awaited { rest: text };
     write!(awaited, "{value}").is_ok() && awaited.rest.is_empty()
+}
+
+/// Whether what a value prints has this text for its first part.
+fn begins<T: Display>(value: &T, text: &str) -> bool {
+    let mut awaited = Awaited { rest: text };
+    let _ = write!(awaited, "{value}");
+    awaited.rest.is_empty()
 }
 
 /// Whether these are the digits: of each its place, and where the bytes that it stands for start and end.

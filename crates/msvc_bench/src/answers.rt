@@ -1,6 +1,6 @@
 //! What all calls answer for one text, with ample memory: the answers are compared with one another.
 
-use crate::references;
+use crate::{references, within};
 use bitflags::Flags;
 use msvc_demangler::{
     BackReference, DemangleFlags, Error, ParseResult, back_references, demangle, parse,
@@ -21,6 +21,8 @@ pub enum Answer {
     Accepted {
         /// How many of its bytes are read.
         bytes: usize,
+        /// How many nodes its tree has.
+        nodes: usize,
         /// How many digits of it were written out.
         digits: usize,
     },
@@ -28,7 +30,8 @@ pub enum Answer {
     Contradicted,
 }
 
-/// What `parse_prefix`, `parse`, `demangle`, `back_references` and `serialize` answer for a text.
+/// What `parse_prefix`, `parse`, `demangle`, `back_references`, `serialize`, `parse_within` and `demangle_within`
+/// answer for a text.
 pub fn all_answers(alloc: Global, text: &str) -> Answer {
     match parse_prefix(alloc, text) {
         Ok((tree, bytes)) => {
@@ -52,13 +55,16 @@ fn accepted<'a>(
         return Ok(Answer::Contradicted);
     };
     let found = back_references(alloc, text)?;
+    let nodes = within::fewest_nodes(alloc, text);
     if is_tree_of(alloc, tree, text)?
         && is_whole_tree_of(alloc, tree, cut)?
         && back_references(alloc, cut)? == found
         && is_printed(alloc, tree, text, &found)?
+        && within::is_bounded(alloc, tree, text, nodes)?
     {
         return Ok(Answer::Accepted {
             bytes,
+            nodes,
             digits: found.len(),
         });
     }
@@ -111,6 +117,7 @@ fn refused(alloc: Global, text: &str, refusal: &Error) -> Result<Answer, AllocEr
         && is_shown(alloc, refusal_of_parse(alloc, text), shown.as_str())?
         && is_shown(alloc, back_references(alloc, text).err(), shown.as_str())?
         && is_refused(alloc, text, shown.as_str())?
+        && within::is_refused(alloc, text, shown.as_str())?
     {
         return Ok(Answer::Refused);
     }

@@ -2,6 +2,7 @@
 //!
 //!     msvc_bench < stdin
 //!     msvc_bench prefix < prefix.tsv
+//!     msvc_bench within NODES < symbols
 //!     msvc_bench hostile SEED COUNT < stdin
 //!     msvc_bench measure ROUNDS < names
 #![tactic(auto)]
@@ -17,6 +18,7 @@ mod prefix;
 mod references;
 mod rows;
 mod streams;
+mod within;
 mod written;
 
 use std::{env, io};
@@ -30,6 +32,7 @@ fn main(rt: HostRuntime) -> io::Result<()> {
     let second = number(words.next());
     match command.as_str() {
         "prefix" => prefix::compare(&rt),
+        "within" => within::refuse(&rt, first),
         "hostile" => hostile::run(&rt, first, second),
         _ => measure::measure(&rt, first),
     }

@@ -1,5 +1,6 @@
-//! Compares with rows how much of a text is read. Each line of standard input is a text, and how many of its bytes are
-//! read or the word `refused`, parted by a tab. A row that differs is printed; the last line counts.
+//! Compares with rows how much of a text is read. Each line of standard input is a text, how many of its bytes are
+//! read, and how many nodes its tree has, or a text and the word `refused`, parted by tabs. A row that differs is
+//! printed; the last line counts.
 
 use crate::answers::{Answer, all_answers};
 use std::alloc::Global;
@@ -20,12 +21,17 @@ pub fn compare(rt: &HostRuntime) -> io::Result<()> {
     println!(rt; "{agree} texts are read so far, {differ} otherwise")
 }
 
-/// Whether so much of the text is read as the row says.
+/// Whether so much of the text is read, and so many nodes, as the row says.
 fn agrees(alloc: Global, row: &str) -> bool {
-    let (text, wanted) = row.split_once('\t').unwrap_or((row, ""));
+    let mut fields = row.splitn(3, '\t');
+    let text = fields.next().unwrap_or("");
+    let wanted = fields.next().unwrap_or("");
+    let count = fields.next().unwrap_or("");
     match all_answers(alloc, text) {
         Answer::Refused => wanted == "refused",
-        Answer::Accepted { bytes, .. } => wanted.parse() == Ok(bytes),
+        Answer::Accepted { bytes, nodes, .. } => {
+            wanted.parse() == Ok(bytes) && count.parse() == Ok(nodes)
+        }
         Answer::Contradicted => false,
     }
 }
