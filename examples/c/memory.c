@@ -1,0 +1,90 @@
+/* Refuses each request for memory of a call in its turn: the call has to say so, and to keep none. Link this with
+   -Wl,--wrap=malloc,--wrap=realloc,--wrap=free, which hands the library's requests to the functions here. */
+
+#include <msvc_demangler.h>
+#include <stdbool.h>
+#include <stdio.h>
+
+void *__real_malloc(size_t size);
+void *__real_realloc(void *block, size_t size);
+void __real_free(void *block);
+void *__wrap_malloc(size_t size);
+void *__wrap_realloc(void *block, size_t size);
+void __wrap_free(void *block);
+
+static long requests; /* so far */
+static long refused;  /* the request that is refused, from 1 on; 0 for none */
+static long blocks;   /* that are not freed */
+
+void *__wrap_malloc(size_t size)
+{
+    void *block = ++requests == refused ? NULL : __real_malloc(size);
+    blocks += block != NULL;
+    return block;
+}
+
+void *__wrap_realloc(void *old, size_t size)
+{
+    void *block = ++requests == refused ? NULL : __real_realloc(old, size);
+    blocks += old == NULL && block != NULL;
+    return block;
+}
+
+void __wrap_free(void *block)
+{
+    blocks -= block != NULL;
+    __real_free(block);
+}
+
+static const char *const symbols[] = {
+    "?f@@YAXV?$A@PAH0@@PAD0@Z",
+    "?f@@YAXPAHP6AX00@ZP6AX11@ZP6AX22@ZP6AX33@ZP6AX44@Z@Z",
+    "?x@@3PAYA@HA",
+    "x",
+};
+
+enum kind { into_a_buffer, allocated, prefix };
+
+/* A call of this kind, and whether it says that it wants memory. */
+static bool wants_memory(enum kind kind, const char *symbol)
+{
+    struct msvc_demangler_answer answer;
+    char text[2048] = "";
+    char *copy;
+    requests = 0;
+    switch (kind) {
+    case into_a_buffer:
+        answer = msvc_demangler_demangle_string(symbol, MSVC_DEMANGLER_LLVM, 100000, text, sizeof text);
+        return answer.status == MSVC_DEMANGLER_OUT_OF_MEMORY && answer.offset == 0 && answer.length == 13 &&
+               strcmp(text, "out of memory") == 0;
+    case allocated:
+        copy = msvc_demangler_demangle_allocated(symbol, strlen(symbol), MSVC_DEMANGLER_LLVM, 100000, &answer);
+        free(copy);
+        return copy == NULL && answer.status == MSVC_DEMANGLER_OUT_OF_MEMORY;
+    default:
+        answer = msvc_demangler_prefix(symbol, strlen(symbol), 100000);
+        return answer.status == MSVC_DEMANGLER_OUT_OF_MEMORY && answer.offset == 0 && answer.length == 0;
+    }
+}
+
+int main(void)
+{
+    long tried = 0;
+    long wrong = 0;
+    for (size_t n = 0; n < 3 * (sizeof symbols / sizeof symbols[0]); n++) {
+        const char *symbol = symbols[n / 3];
+        enum kind kind = (enum kind)(n % 3);
+        refused = 0;
+        wrong += wants_memory(kind, symbol);
+        long count = requests;
+        for (refused = 1; refused <= count; refused++) {
+            tried++;
+            if (!wants_memory(kind, symbol) || blocks != 0) {
+                printf("%s: request %ld of %ld: %ld blocks are kept\n", symbol, refused, count, blocks);
+                wrong++;
+            }
+        }
+    }
+    printf("%ld refused requests, %ld wrong answers\n", tried, wrong);
+    return wrong != 0;
+}

@@ -1,0 +1,42 @@
+/* Compares with rows how much of a text is read. Each line of standard input is a text, how many of its bytes a symbol
+   takes, and how many nodes that has, or a text and the word `refused`, parted by tabs. With as many nodes allowed the
+   symbol is read, and with one less it is not. A row that differs is printed; the last line counts. */
+
+#define _POSIX_C_SOURCE 200809L
+#include <msvc_demangler.h>
+#include <stdbool.h>
+#include <stdio.h>
+
+static bool agrees(const char *text, size_t length, const char *wanted)
+{
+    size_t bytes;
+    size_t nodes;
+    if (sscanf(wanted, "%zu\t%zu", &bytes, &nodes) != 2) {
+        struct msvc_demangler_answer answer = msvc_demangler_prefix(text, length, MSVC_DEMANGLER_NO_BOUND);
+        return answer.status == MSVC_DEMANGLER_REFUSED && answer.offset <= length && answer.length == 0;
+    }
+    struct msvc_demangler_answer enough = msvc_demangler_prefix(text, length, nodes);
+    struct msvc_demangler_answer few = msvc_demangler_prefix(text, length, nodes - 1);
+    return enough.status == MSVC_DEMANGLER_OK && enough.offset == 0 && enough.length == bytes &&
+           few.status == MSVC_DEMANGLER_TOO_MANY_NODES && few.offset <= length && few.length == 0;
+}
+
+int main(void)
+{
+    char *line = NULL;
+    size_t room = 0;
+    long agree = 0;
+    long differ = 0;
+    for (ssize_t length; (length = getline(&line, &room, stdin)) > 0;) {
+        size_t symbol = strcspn(line, "\t");
+        if (agrees(line, symbol, line + symbol + 1)) {
+            agree++;
+        } else {
+            differ++;
+            fputs(line, stdout);
+        }
+    }
+    free(line);
+    printf("%ld texts are read so far, %ld otherwise\n", agree, differ);
+    return differ != 0;
+}

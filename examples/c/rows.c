@@ -1,0 +1,126 @@
+/* Compares the library with rows. Each line of standard input is one: flags in hexadecimal, a symbol, and `ok` with the
+   text or `err` with the offset and the message, parted by tabs. A line that begins with `#` and a space is a heading.
+   Each symbol is demangled into buffers of each size, from none to two bytes more than its text has. A row that differs
+   is printed; the last line counts. */
+
+#define _POSIX_C_SOURCE 200809L
+#include <msvc_demangler.h>
+#include <stdbool.h>
+#include <stdio.h>
+
+struct row {
+    uint32_t flags;
+    const char *symbol;
+    bool is_ok;
+    size_t offset;
+    const char *text; /* or the message of a refusal */
+};
+
+/* What stands in a buffer before a call. */
+static const char untouched = '#';
+
+/* The field that *rest begins with; *rest is what stands behind it. */
+static char *next_field(char **rest)
+{
+    char *field = *rest;
+    size_t length = strcspn(field, "\t");
+    *rest = field + length + (field[length] == '\t');
+    field[length] = '\0';
+    return field;
+}
+
+static struct row parsed(char *line)
+{
+    struct row row = {0};
+    row.flags = (uint32_t)strtoul(next_field(&line), NULL, 16);
+    row.symbol = next_field(&line);
+    row.is_ok = strcmp(next_field(&line), "ok") == 0;
+    row.offset = row.is_ok ? 0 : strtoul(next_field(&line), NULL, 10);
+    row.text = line;
+    return row;
+}
+
+/* Whether the whole text and its answer are those of the row. */
+static bool is_wanted(const struct row *row, const char *text, struct msvc_demangler_answer answer)
+{
+    if (answer.offset != row->offset || answer.length != strlen(text)) {
+        return false;
+    }
+    switch (answer.status) {
+    case MSVC_DEMANGLER_OK:
+        return row->is_ok && strcmp(text, row->text) == 0;
+    case MSVC_DEMANGLER_REFUSED:
+        return !row->is_ok && strncmp(text, row->text, strlen(row->text)) == 0 &&
+               strncmp(text + strlen(row->text), " (offset: ", 10) == 0;
+    case MSVC_DEMANGLER_NOT_UTF8:
+        return !row->is_ok && strcmp(text, "not UTF-8") == 0 && strcmp(row->text, text) == 0;
+    default:
+        return false;
+    }
+}
+
+/* The most bytes of a text that leave room for a NUL in a buffer of this size, and end before a character of UTF-8. */
+static size_t cut(const char *text, size_t size)
+{
+    size_t length = strlen(text) < size ? strlen(text) : size - 1;
+    while (((unsigned char)text[length] & 0xC0) == 0x80) {
+        length--;
+    }
+    return length;
+}
+
+/* Whether a buffer of this size gets what it holds of the text, and a NUL, and no byte behind that changes. */
+static bool is_written(const struct row *row, const char *text, size_t size)
+{
+    size_t room = strlen(text) + 16;
+    char *out = malloc(2 * room);
+    char *wanted = out + room;
+    memset(out, untouched, 2 * room);
+    if (size > 0) {
+        size_t length = cut(text, size);
+        memcpy(wanted, text, length);
+        wanted[length] = '\0';
+    }
+    struct msvc_demangler_answer answer =
+        msvc_demangler_demangle_string(row->symbol, row->flags, MSVC_DEMANGLER_NO_BOUND, out, size);
+    bool good = answer.length == strlen(text) && memcmp(out, wanted, room) == 0;
+    free(out);
+    return good;
+}
+
+static bool agrees(const struct row *row)
+{
+    struct msvc_demangler_answer answer;
+    char *text = msvc_demangler_demangle_allocated(row->symbol, strlen(row->symbol), row->flags,
+                                                   MSVC_DEMANGLER_NO_BOUND, &answer);
+    bool good = text != NULL && is_wanted(row, text, answer);
+    for (size_t size = 0; good && size <= answer.length + 2; size++) {
+        good = is_written(row, text, size);
+    }
+    free(text);
+    return good;
+}
+
+int main(void)
+{
+    char *line = NULL;
+    size_t room = 0;
+    long agree = 0;
+    long differ = 0;
+    for (ssize_t length; (length = getline(&line, &room, stdin)) > 0;) {
+        if (strncmp(line, "# ", 2) == 0) {
+            continue;
+        }
+        line[length - 1] = '\0'; /* the line feed */
+        struct row row = parsed(line);
+        if (agrees(&row)) {
+            agree++;
+        } else {
+            differ++;
+            printf("%x\t%s\n", row.flags, row.symbol);
+        }
+    }
+    free(line);
+    printf("%ld rows agree, %ld differ\n", agree, differ);
+    return differ != 0;
+}

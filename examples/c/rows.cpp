@@ -1,0 +1,49 @@
+// Compares the C++ calls with rows, as rows.c does with those of C.
+
+#include <algorithm>
+#include <iostream>
+#include <msvc_demangler.h>
+
+// The field that rest begins with; rest is what stands behind it.
+static std::string_view next_field(std::string_view &rest)
+{
+    std::string_view field = rest.substr(0, rest.find('\t'));
+    rest.remove_prefix(std::min(field.size() + 1, rest.size()));
+    return field;
+}
+
+static bool agrees(std::string_view row)
+{
+    auto flags = static_cast<std::uint32_t>(std::stoul(std::string(next_field(row)), nullptr, 16));
+    std::string_view symbol = next_field(row);
+    bool is_ok = next_field(row) == "ok";
+    std::size_t offset = is_ok ? 0 : std::stoul(std::string(next_field(row)));
+
+    std::optional<std::string> declaration = msvc_demangler::demangle(symbol, flags);
+    msvc_demangler_answer answer;
+    std::string text = msvc_demangler::demangle(symbol, answer, flags);
+    if (is_ok) {
+        return declaration == row && text == row && answer.status == MSVC_DEMANGLER_OK;
+    }
+    return !declaration && answer.offset == offset && text.substr(0, row.size()) == row &&
+           answer.status == (row == "not UTF-8" ? MSVC_DEMANGLER_NOT_UTF8 : MSVC_DEMANGLER_REFUSED);
+}
+
+int main()
+{
+    long agree = 0;
+    long differ = 0;
+    for (std::string line; std::getline(std::cin, line);) {
+        if (line.substr(0, 2) == "# ") {
+            continue;
+        }
+        if (agrees(line)) {
+            agree++;
+        } else {
+            differ++;
+            std::cout << line << '\n';
+        }
+    }
+    std::cout << agree << " rows agree, " << differ << " differ\n";
+    return differ != 0;
+}
