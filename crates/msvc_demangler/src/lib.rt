@@ -20,7 +20,10 @@ mod watched;
 
 pub use bitflags::Flags;
 pub use lines::{undname_lines, undname_one, undname_run};
-pub use msvc_read::{BackReference, back_references, parse, parse_prefix, parse_within};
+pub use msvc_read::{
+    BackReference, back_references, parse, parse_prefix, parse_within, symbol_length,
+    symbol_length_within,
+};
 pub use msvc_tree::error::{Error, ErrorRepr};
 pub use msvc_tree::flags::{DemangleFlags, FuncClass, StorageClass};
 pub use msvc_tree::tree::{
@@ -84,7 +87,7 @@ pub fn demangle_within(
 {
     let mut room = Room::new(alloc);
     match room.demangle_within(input, flags, nodes) {
-        Ok(()) => {
+        Ok(_) => {
             let shown = text_of(alloc, room.text)?;
             Ok(shown)
         }

@@ -4,6 +4,7 @@ ghost use Rattle.std.specs.Prelude.{◌≡◌, ◌≤◌, codes, ℕ, List, IfOk
 ghost use Rattle.std.specs.Str.{IsUtf8};
 ghost use Rattle.msvc_tree.specs.Trees.{SymbolTree};
 ghost use Rattle.msvc_read.specs.Counts.{node_count};
+ghost use Rattle.msvc_read.specs.Prefix.{IsReadTo};
 ghost use Rattle.msvc_read.specs.Reads.{Derives};
 ghost use Rattle.msvc_read.specs.Refusals.{IsRefusedRightly, IsRefusedWithin, IsRefusalAt, begins_with};
 ghost use Rattle.msvc_read.specs.State.{Note};
@@ -69,19 +70,21 @@ impl Room {
         }
     }
 
-    /// The same of a symbol whose tree has at most so many nodes.
+    /// The same of a symbol whose tree has at most so many nodes, and how many bytes of `input` were read.
     pub(crate) fn demangle_within(
         &mut self,
         input: &str,
         flags: DemangleFlags,
         nodes: usize,
-    ) -> Result<(), Error>
+    ) -> Result<usize, Error>
         ensures declared { IfOk result (λ _. (tree : SymbolTree) × (rest : List ℕ) × (notes : List Note)
             × Derives input.now tree rest notes
             × ((other : SymbolTree) (behind : List ℕ) (others : List Note) → Derives input.now other behind others
             → (other ≡ tree) × (behind ≡ rest) × (others ≡ notes))
             × (node_count tree ≤ nodes)
             × (self.new.text.items ≡ declaration tree flags.0)) }
+        ensures prefix { IfOk result (λ bytes. (tree : SymbolTree) (rest : List ℕ) (notes : List Note)
+            → Derives input.now tree rest notes → IsReadTo bytes input.now tree rest notes) }
         ensures utf8 { IfOk result (λ _. IsUtf8 self.new.text.items) }
         ensures hashes { IfOk result (λ _. HashesAreShown input.now self.new.text.items) }
         ensures refused { IfErr result (λ e. IsRefusedWithin nodes input.now e) }
@@ -90,9 +93,9 @@ impl Room {
     {
         self.clear_for(input, room_within(input, nodes))?;
         match read_symbol_within(self.alloc, &self.arena, input, nodes) {
-            Ok(symbol) => {
+            Ok((symbol, bytes)) => {
                 print(&self.arena, &symbol, flags, &mut self.text)?;
-                Ok(())
+                Ok(bytes)
             }
             Err(refusal) => Err(refusal),
         }

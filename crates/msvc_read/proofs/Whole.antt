@@ -2,6 +2,7 @@
 use Rattle.std.proofs.Common.{ℕ, List, [], ◌++◌, length, length-append, take, Option, Some, None, Result, Err, ◌≡◌, ◌≤◌}
 use Rattle.std.proofs.Common.{◌-◌, refl}
 use Rattle.std.proofs.Common.{sym, ap, ◌∙◌, subst, arith}
+use Rattle.std.specs.Option.{option_map}
 use Rattle.std.specs.Prelude.{codes}
 use Rattle.std.specs.Str.{IsCharBoundary, IsUtf8}
 use Rattle.msvc_tree.specs.EachName.{EachName}
@@ -49,16 +50,26 @@ OneDerived text tree = (rest : List ℕ) × (notes : List Note) × Derives text 
     × ((other : SymbolTree) (behind : List ℕ) (others : List Note) → Derives text other behind others
     → (other ≡ tree) × (behind ≡ rest) × (others ≡ notes))
 
-pub read-derived : (text : List ℕ) (tree : SymbolTree) (n : ℕ) → symbol_read text ≡ Some (tree, n)
-    → OneDerived text tree
-read-derived text tree n e =
+-- and so many bytes of the text were read for it
+abbrev pub OneRead : List ℕ → SymbolTree → ℕ → Type 0
+OneRead text tree n = (one : OneDerived text tree) × (length text - length one.0 ≡ n)
+
+pub read-one : (text : List ℕ) (tree : SymbolTree) (n : ℕ) → symbol_read text ≡ Some (tree, n) → OneRead text tree n
+read-one text tree n e =
     let found = whole text (read_name symbol text (beginning text)) tree n e in
     let derived : Derives text tree found.0 found.1.notes = symbol-derived text tree found.0 found.1 found.2 in (
-      found.0,
-      found.1.notes,
-      derived,
-      λ other behind others d. derived-only text other tree behind found.0 others found.1.notes d derived,
+      (
+        found.0,
+        found.1.notes,
+        derived,
+        λ other behind others d. derived-only text other tree behind found.0 others found.1.notes d derived,
+      ),
+      found.3,
     )
+
+pub read-derived : (text : List ℕ) (tree : SymbolTree) (n : ℕ) → symbol_read text ≡ Some (tree, n)
+    → OneDerived text tree
+read-derived text tree n e = (read-one text tree n e).0
 
 none : (text : List ℕ) (r : Found SymbolTree) → with_length text r ≡ None → r ≡ None
 none text None k = refl
@@ -72,21 +83,19 @@ front : (text eaten rest : List ℕ) (n : ℕ) → text ≡ eaten ++ rest → le
 front text eaten rest n e h = omega (arith, ap length e, length-append eaten rest, h)
 
 -- what a symbol leaves stands after the bytes that were read
-pub read-left : (text : List ℕ) (tree : SymbolTree) (n : ℕ) → symbol_read text ≡ Some (tree, n)
+one-left : (text : List ℕ) (tree : SymbolTree) (n : ℕ) → OneRead text tree n
     → (other : SymbolTree) (rest : List ℕ) (notes : List Note) → Derives text other rest notes
     → (eaten : List ℕ) × (text ≡ eaten ++ rest) × (length eaten ≡ n)
-read-left text tree n e other rest notes d =
-    let found = whole text (read_name symbol text (beginning text)) tree n e in
-    let derived : Derives text tree found.0 found.1.notes = symbol-derived text tree found.0 found.1 found.2 in
-    let same : rest ≡ found.0 = (derived-only text other tree rest found.0 notes found.1.notes d derived).1 in
+one-left text tree n one other rest notes d =
+    let same : rest ≡ one.0.0 = (one.0.3 other rest notes d).1 in
     let eaten : IsTail text rest = tail d.1 in
-    (eaten.0, eaten.1, front text eaten.0 rest n eaten.1 (ap (λ z. length text - length z) same ∙ found.3))
+    (eaten.0, eaten.1, front text eaten.0 rest n eaten.1 (ap (λ z. length text - length z) same ∙ one.1))
 
-pub read-prefix : (text : List ℕ) (tree : SymbolTree) (n : ℕ) → symbol_read text ≡ Some (tree, n)
+pub one-prefix : (text : List ℕ) (tree : SymbolTree) (n : ℕ) → OneRead text tree n
     → (other : SymbolTree) (rest : List ℕ) (notes : List Note) → Derives text other rest notes
     → IsReadTo n text other rest notes
-read-prefix text tree n e other rest notes d =
-    let left = read-left text tree n e other rest notes d in
+one-prefix text tree n one other rest notes d =
+    let left = one-left text tree n one other rest notes d in
     let cut : take n text ≡ left.0 =
     ap (λ m. take m text) (sym left.2) ∙ ap (take (length left.0)) left.1 ∙ take-append_seam left.0 rest in (
       omega (arith, left.2, ap length left.1, length-append left.0 rest),
@@ -94,13 +103,21 @@ read-prefix text tree n e other rest notes d =
       subst (λ z. Derives z other [] notes) (sym cut) (derived-alone text left.0 other rest notes left.1 d),
     )
 
+pub one-boundary : (text : List ℕ) (tree : SymbolTree) (n : ℕ) → IsUtf8 text → OneRead text tree n
+    → IsCharBoundary text n
+one-boundary text tree n u one =
+    let left = one-left text tree n one tree one.0.0 one.0.1 one.0.2 in
+    subst (IsCharBoundary text) left.2
+    (IsCharBoundary-at_seam text left.0 one.0.0 left.1 (rest-utf8 text tree one.0.0 one.0.1 u one.0.2))
+
+pub read-prefix : (text : List ℕ) (tree : SymbolTree) (n : ℕ) → symbol_read text ≡ Some (tree, n)
+    → (other : SymbolTree) (rest : List ℕ) (notes : List Note) → Derives text other rest notes
+    → IsReadTo n text other rest notes
+read-prefix text tree n e = one-prefix text tree n (read-one text tree n e)
+
 pub read-boundary : (text : List ℕ) (tree : SymbolTree) (n : ℕ) → IsUtf8 text → symbol_read text ≡ Some (tree, n)
     → IsCharBoundary text n
-read-boundary text tree n u e =
-    let one = read-derived text tree n e in
-    let left = read-left text tree n e tree one.0 one.1 one.2 in
-    subst (IsCharBoundary text) left.2
-    (IsCharBoundary-at_seam text left.0 one.0 left.1 (rest-utf8 text tree one.0 one.1 u one.2))
+read-boundary text tree n u e = one-boundary text tree n u (read-one text tree n e)
 
 -- what holds of the names of the one tree
 
@@ -163,15 +180,18 @@ symbol_within most text = with_length text (read_name symbol text (beginning_wit
 
 -- what is read is the one tree that is derived, and has no more nodes
 pub within-one : (most : ℕ) (text : List ℕ) (tree : SymbolTree) (n : ℕ) → symbol_within most text ≡ Some (tree, n)
-    → OneDerived text tree × (node_count tree ≤ most)
+    → OneRead text tree n × (node_count tree ≤ most)
 within-one most text tree n e =
     let found = whole text (read_name symbol text (beginning_with (at_most most) text)) tree n e in
     let derived = within_derived text most tree found.0 found.1 found.2 in (
       (
-        found.0,
-        found.1.notes,
-        derived.0,
-        λ other behind others d. derived-only text other tree behind found.0 others found.1.notes d derived.0,
+        (
+          found.0,
+          found.1.notes,
+          derived.0,
+          λ other behind others d. derived-only text other tree behind found.0 others found.1.notes d derived.0,
+        ),
+        found.3,
       ),
       derived.1,
     )
@@ -197,3 +217,18 @@ error-refused-within most text refusal.Memory e h is =
     subst (λ (x : ErrorRepr). IsRefusedWithin most text x) (sym is) tt
 error-refused-within most text (refusal.Unread message left) e h is =
     at_refused_within most text left e (within-none most text h) is
+
+-- The number alone
+
+-- the symbol for which so many bytes were read
+pub length-of : (read : Option (SymbolTree × ℕ)) (n : ℕ) → option_map (λ r. r.1) read ≡ Some n
+    → (tree : SymbolTree) × (read ≡ Some (tree, n))
+length-of None n e = absurd (cc)
+length-of (Some x) n e = let same : x.1 ≡ n = cc in (x.0, ap (λ m. Some (x.0, m)) same)
+
+-- where a refusal says that no number is read, it says that no symbol is
+pub length-refused : (r : Refusal) (read : Option (SymbolTree × ℕ)) → Refuses r (option_map (λ x. x.1) read)
+    → Refuses r read
+length-refused refusal.Memory read h = tt
+length-refused (refusal.Unread message left) None h = refl
+length-refused (refusal.Unread message left) (Some x) h = absurd (cc)

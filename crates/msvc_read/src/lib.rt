@@ -24,5 +24,5 @@ mod types;
 pub use memorized::BackReference;
 pub use read::{
     back_references, parse, parse_prefix, parse_within, read_symbol, read_symbol_within, room_for,
-    room_within,
+    room_within, symbol_length, symbol_length_within,
 };

@@ -154,7 +154,7 @@ pub fn read_symbol<'a, 'b>(
 }
 
 /// The symbol that `input` begins with, as nodes in the arena, if it has at most so many: what [`parse_within`] makes
-/// its tree of.
+/// its tree of. Beside it, how many bytes of `input` were read, as [`parse_prefix`] says it.
 ///
 /// It refuses where [`parse_within`] does, with the same refusal.
 pub fn read_symbol_within<'a, 'b>(
@@ -162,15 +162,17 @@ pub fn read_symbol_within<'a, 'b>(
     arena: &'b Bump,
     input: &'a str,
     nodes: usize,
-) -> Result<Whole<'a, 'b>, Error>
+) -> Result<(Whole<'a, 'b>, usize), Error>
     ensures derived { IfOk result (λ r. (rest : List ℕ) × (notes : List Note)
-        × Derives input.now (whole_of r) rest notes
+        × Derives input.now (whole_of r.0) rest notes
         × ((tree : SymbolTree) (behind : List ℕ) (others : List Note) → Derives input.now tree behind others
-        → (tree ≡ whole_of r) × (behind ≡ rest) × (others ≡ notes))) }
-    ensures within { IfOk result (λ r. node_count (whole_of r) ≤ nodes) }
-    ensures parts { IfOk result (λ r. NamesAreParts input.now (whole_of r)) }
-    ensures texts { IfOk result (λ r. EachName IsUtf8 (whole_of r)) }
-    ensures hashes { IfOk result (λ r. HashesStand input.now (whole_of r)) }
+        → (tree ≡ whole_of r.0) × (behind ≡ rest) × (others ≡ notes))) }
+    ensures within { IfOk result (λ r. node_count (whole_of r.0) ≤ nodes) }
+    ensures prefix { IfOk result (λ r. (tree : SymbolTree) (rest : List ℕ) (notes : List Note)
+        → Derives input.now tree rest notes → IsReadTo r.1 input.now tree rest notes) }
+    ensures parts { IfOk result (λ r. NamesAreParts input.now (whole_of r.0)) }
+    ensures texts { IfOk result (λ r. EachName IsUtf8 (whole_of r.0)) }
+    ensures hashes { IfOk result (λ r. HashesStand input.now (whole_of r.0)) }
     ensures refused { IfErr result (λ e. IsRefusedWithin nodes input.now e) }
     ensures begins { (begins_with (codes "?") input.now → ⊥) → IfErr result (λ e. IsRefusalAt input.now 0 e) }
     ensures begins_ok { IfOk result (λ r. begins_with (codes "?") input.now) }
@@ -180,7 +182,56 @@ pub fn read_symbol_within<'a, 'b>(
         most: nodes,
     };
     match read_nodes(arena, input, limit) {
-        Ok((found, _)) => Ok(found),
+        Ok(found) => Ok(found),
+        Err(refusal) => Err(refusal.error(alloc, input.as_bytes())),
+    }
+}
+
+/// How many bytes of `input` the symbol takes that it begins with: the number that [`parse_prefix`] gives, without the
+/// tree.
+///
+/// It refuses where [`parse`] does, with the same refusal.
+pub fn symbol_length(alloc: Global, input: &str) -> Result<usize, Error>
+    ensures derived { IfOk result (λ _. (tree : SymbolTree) × (rest : List ℕ) × (notes : List Note)
+        × Derives input.now tree rest notes
+        × ((other : SymbolTree) (behind : List ℕ) (others : List Note) → Derives input.now other behind others
+        → (other ≡ tree) × (behind ≡ rest) × (others ≡ notes))) }
+    ensures prefix { IfOk result (λ bytes. (tree : SymbolTree) (rest : List ℕ) (notes : List Note)
+        → Derives input.now tree rest notes → IsReadTo bytes input.now tree rest notes) }
+    ensures boundary { IfOk result (λ bytes. IsCharBoundary input.now bytes) }
+    ensures refused { IfErr result (λ e. IsRefusedRightly input.now e) }
+    ensures begins { (begins_with (codes "?") input.now → ⊥) → IfErr result (λ e. IsRefusalAt input.now 0 e) }
+    ensures begins_ok { IfOk result (λ _. begins_with (codes "?") input.now) }
+{
+    match bytes_read(alloc, input, Unlimited, room_for(input)) {
+        Ok(bytes) => Ok(bytes),
+        Err(refusal) => Err(refusal.error(alloc, input.as_bytes())),
+    }
+}
+
+/// How many bytes of `input` the symbol takes that it begins with, as [`symbol_length`] says it, if its tree has at most
+/// so many nodes.
+///
+/// It refuses where [`parse_within`] does, with the same refusal.
+pub fn symbol_length_within(alloc: Global, input: &str, nodes: usize) -> Result<usize, Error>
+    ensures derived { IfOk result (λ _. (tree : SymbolTree) × (rest : List ℕ) × (notes : List Note)
+        × Derives input.now tree rest notes
+        × ((other : SymbolTree) (behind : List ℕ) (others : List Note) → Derives input.now other behind others
+        → (other ≡ tree) × (behind ≡ rest) × (others ≡ notes))
+        × (node_count tree ≤ nodes)) }
+    ensures prefix { IfOk result (λ bytes. (tree : SymbolTree) (rest : List ℕ) (notes : List Note)
+        → Derives input.now tree rest notes → IsReadTo bytes input.now tree rest notes) }
+    ensures boundary { IfOk result (λ bytes. IsCharBoundary input.now bytes) }
+    ensures refused { IfErr result (λ e. IsRefusedWithin nodes input.now e) }
+    ensures begins { (begins_with (codes "?") input.now → ⊥) → IfErr result (λ e. IsRefusalAt input.now 0 e) }
+    ensures begins_ok { IfOk result (λ _. begins_with (codes "?") input.now) }
+{
+    let limit = Limited {
+        made: 0,
+        most: nodes,
+    };
+    match bytes_read(alloc, input, limit, room_within(input, nodes)) {
+        Ok(taken) => Ok(taken),
         Err(refusal) => Err(refusal.error(alloc, input.as_bytes())),
     }
 }
@@ -269,6 +320,29 @@ fn read<'a, L: Limit>(
     match owned_whole(alloc, &symbol) {
         Ok(tree) => Ok((tree, bytes)),
         Err(_) => Err(Refusal::Memory),
+    }
+}
+
+/// How many bytes of a text were read for the symbol at its beginning.
+fn bytes_read<L: Limit>(
+    alloc: Global,
+    input: &str,
+    limit: L,
+    room: usize,
+) -> Result<usize, Refusal>
+    ensures value { IsRead (λ bytes. bytes) result
+        (option_map (λ r. r.1) (with_length input.now (read_name symbol input.now (beginning_with (record {
+          weight = L.weight;
+          made = L.made limit;
+          most = L.most limit;
+        }) input.now)))) }
+    ensures start { after (codes "?") input.now ≡ None
+        → result ≡ Err (Refusal.Unread Message.NoQuestionMark (length input.now)) }
+{
+    let arena = arena_for(alloc, input, room)?;
+    match read_nodes(&arena, input, limit) {
+        Ok((_, bytes)) => Ok(bytes),
+        Err(refusal) => Err(refusal),
     }
 }
 
