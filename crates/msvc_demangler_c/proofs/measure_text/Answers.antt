@@ -1,0 +1,9 @@
+use Rattle.msvc_demangler_c.proofs.Refusals.{refused-of}
+use Rattle.msvc_demangler_c.proofs.measure_text.Goals as goal
+
+pub returns-in-Ok : goal.returns-in-Ok
+returns-in-Ok c = c.in-Ok.ensures.length
+
+pub returns-in-Err : goal.returns-in-Err
+returns-in-Err c =
+    refused-of c.args.bound c.args.symbol.now c.in-Err.refusal c.refused.result c.in-Err.ensures.refused c.refused.ensures

@@ -1,0 +1,15 @@
+-- How a text is written into a buffer, by the rules of `snprintf`.
+use Rattle.std.specs.Prelude.{ℕ, List, [], ◌∷◌, ◌++◌, ◌≡◌, ◌≤◌, ◌<◌, length, take, drop}
+use Rattle.std.specs.Str.{IsUtf8}
+
+-- so many bytes are the longest beginning of the text that is UTF-8 and has room
+abbrev pub IsLongest : List ℕ → ℕ → ℕ → Type 0
+IsLongest text room cut = (cut ≤ length text) × (cut ≤ room) × IsUtf8 (take cut text)
+    × ((more : ℕ) → cut < more → more ≤ length text → more ≤ room → ¬ (IsUtf8 (take more text)))
+
+-- Nothing is written into a buffer of no bytes. Into any other goes as much of the text as leaves room for a NUL, then
+-- the NUL; the bytes after that are as they were.
+abbrev pub IsWritten : List ℕ → List ℕ → List ℕ → Type 0
+IsWritten text [] new = new ≡ []
+IsWritten text (first ∷ old) new =
+    (cut : ℕ) × IsLongest text (length old) cut × (new ≡ take cut text ++ 0 ∷ drop cut old)
