@@ -62,7 +62,7 @@ struct msvc_demangler_answer {
    REFUSED           as: unknown primitive type (offset: 6, remaining: "")          of the refusal
    NOT_UTF8          not UTF-8                                                      up to where the symbol is UTF-8
    OUT_OF_MEMORY     out of memory                                                  0
-   TOO_MANY_NODES    as: more nodes than allowed (offset: 6, remaining: "PEAHEA")   of the refusal
+   TOO_MANY_NODES    as: more nodes than allowed (offset: 9, remaining: "EA")       of the refusal
 
    It writes as snprintf does: the text and a NUL, and where these don't fit, a beginning of the text that ends before a
    character and leaves room for the NUL. So the text was cut where the answer's length is not less than size. Bytes
@@ -72,7 +72,7 @@ struct msvc_demangler_answer {
 
    nodes bounds the tree of the symbol: each name and each type in it is a node, at every depth. Reading a symbol of
    strangers without a bound can run out of any stack, which ends the process. With 1000 nodes a call takes at most
-   @STACK@ KB of stack. No bound of nodes bounds the length of the declaration, which some symbols double with 10 nodes
+   220 KB of stack. No bound of nodes bounds the length of the declaration, which some symbols double with 10 nodes
    more; where that is too long for memory the status is OUT_OF_MEMORY. */
 struct msvc_demangler_answer msvc_demangler_demangle(const char *symbol, size_t length, uint32_t flags, size_t nodes,
                                                      char *out, size_t size);

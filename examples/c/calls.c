@@ -28,9 +28,9 @@ static const struct row {
     {NULL, 0, LLVM, ANY, MSVC_DEMANGLER_REFUSED, 0, "does not start with b'?' (offset: 0, remaining: \"\")", 0},
     {"?x@@3HA\xff", 8, LLVM, ANY, MSVC_DEMANGLER_NOT_UTF8, 7, "not UTF-8", 0},
     {"?x@@3HA\xff", 7, LLVM, ANY, MSVC_DEMANGLER_OK, 0, "int x", 7},
-    {"?x@@3PEAHEA", 11, LLVM, 4, MSVC_DEMANGLER_OK, 0, "int *x", 11},
-    {"?x@@3PEAHEA", 11, LLVM, 3, MSVC_DEMANGLER_TOO_MANY_NODES, 8,
-     "more nodes than allowed (offset: 8, remaining: \"HEA\")", 0},
+    {"?x@@3PEAHEA", 11, LLVM, 4, MSVC_DEMANGLER_OK, 0, "int *x", 10},
+    {"?x@@3PEAHEA", 11, LLVM, 3, MSVC_DEMANGLER_TOO_MANY_NODES, 9,
+     "more nodes than allowed (offset: 9, remaining: \"EA\")", 0},
     {"?x@@3PEAHEA", 11, LLVM, 0, MSVC_DEMANGLER_TOO_MANY_NODES, 1,
      "more nodes than allowed (offset: 1, remaining: \"x@@3PEAHEA\")", 0},
 };
