@@ -59,6 +59,7 @@ pub fn type_form<'a>(left: &'a [u8]) -> Option<(TypeForm, &'a [u8])>
 
 /// Likewise after a `$`.
 #[tactic(auto, unfolding(crate::specs::Parser::text_at))]
+#[inline(always)]
 fn dollar_form<'a>(left: &'a [u8]) -> Option<(TypeForm, &'a [u8])>
     ensures value { option_map (λ x. (x.0, x.1.now)) result ≡ text_at dollar_texts left.now }
     ensures shorter { IfSome result (λ x. length x.1.now ≤ length left.now) }
@@ -75,6 +76,7 @@ fn dollar_form<'a>(left: &'a [u8]) -> Option<(TypeForm, &'a [u8])>
 
 /// Likewise after two of them.
 #[tactic(auto, unfolding(crate::specs::Parser::text_at))]
+#[inline(always)]
 fn double_dollar_form<'a>(left: &'a [u8]) -> Option<(TypeForm, &'a [u8])>
     ensures value { option_map (λ x. (x.0, x.1.now)) result ≡ text_at double_dollar_texts left.now }
     ensures shorter { IfSome result (λ x. length x.1.now ≤ length left.now) }
