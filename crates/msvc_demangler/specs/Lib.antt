@@ -1,7 +1,9 @@
 pub mod Answers
 pub mod Faults
+pub mod Filtered
 pub mod Hashes
 pub mod Lines
 pub mod Runs
 pub mod Streams
 pub mod Taking
+pub mod Words

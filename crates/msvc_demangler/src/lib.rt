@@ -14,11 +14,14 @@ ghost use Rattle.msvc_write.specs.Declaration.{declaration};
 ghost use Rattle.msvc_demangler.specs.Hashes.{HashesAreShown};
 
 mod debug;
+mod filter;
 mod lines;
 mod room;
 mod watched;
+mod words;
 
 pub use bitflags::Flags;
+pub use filter::filter_text;
 pub use lines::{undname_lines, undname_one, undname_run};
 pub use msvc_read::{
     BackReference, back_references, parse, parse_prefix, parse_within, symbol_length,

@@ -156,7 +156,7 @@ fn put_line<W: Write>(out: &mut Watched<W>, bytes: &[u8]) -> Result<(), Fault>
 }
 
 /// Writes all of some bytes.
-fn put_all<W: Write>(out: &mut Watched<W>, bytes: &[u8]) -> Result<(), Fault>
+pub(crate) fn put_all<W: Write>(out: &mut Watched<W>, bytes: &[u8]) -> Result<(), Fault>
     ensures text { (written : List ℕ) × Appends (W.contents out.old.stream) (W.contents out.new.stream) written
         × Writes result (λ whole. whole ≡ bytes.now) written }
     ensures fault { IfErr result (λ fault. fault ≡ Fault.Write) }
