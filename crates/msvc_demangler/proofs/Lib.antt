@@ -1,3 +1,4 @@
+pub mod Fronts
 pub mod Going
 pub mod Hashes
 pub mod Pieces
