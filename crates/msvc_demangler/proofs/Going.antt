@@ -5,41 +5,39 @@ use Rattle.std.specs.declared.option.Option.{Option}
 use Rattle.std.specs.Io.KnownBytes.{Appends, Consumes}
 use Rattle.std.proofs.KnownBytes.{Appends-nil, Appends-trans, Consumes-nil, Consumes-trans}
 use Rattle.std.proofs.lemmas.List.Elements.{All-nil, All-append}
-use Rattle.msvc_demangler.specs.Answers.{IsFilterText, IsText, nothing}
 use Rattle.msvc_demangler.specs.Faults.{IsSet, Mark, MarksAt, Stays, no_mark}
-use Rattle.msvc_demangler.specs.Lines.{line_of, lines_of}
-use Rattle.msvc_demangler.specs.Runs.{IsLines, IsOfOneLine, LeavesOff, Writes, WritesLines, WritesPart}
+use Rattle.msvc_demangler.specs.Runs.{IsLines, IsOfOneLine, LeavesOff, Writes, WritesPart, WritesText}
 use Rattle.msvc_demangler.specs.Taking.{IsWithoutEnd}
 use Rattle.msvc_demangler.specs.declared.watched.Fault.{Fault}
 use Rattle.msvc_demangler.specs.declared.watched.Fault.TheVariants.{Read, Write, Memory}
-use Rattle.msvc_demangler.proofs.Pieces.{IsLines-append, lines_of-append, lines_of-nil}
-use Rattle.msvc_demangler.proofs.Texts.{IsFilterText-of, IsText-append}
+use Rattle.msvc_demangler.proofs.Joined.{AreJoined, IsTheText, the_text}
+use Rattle.msvc_demangler.proofs.Pieces.{IsLines-append}
 
 -- Some lines are finished and their text is written, and a part of the next was taken.
-pub record Going (reader reads writer writes : Option (List ℕ)) (part : List ℕ) : Type 0 where
+pub record Going (T : List ℕ → List ℕ → Type 0) (reader reads writer writes : Option (List ℕ)) (part : List ℕ) : Type 0 where
   pub finished : List ℕ
   pub text : List ℕ
   pub taken : Consumes reader reads (finished ++ part)
   pub written : Appends writer writes text
   pub lines : IsLines finished
   pub unended : IsWithoutEnd part
-  pub is : IsText (lines_of finished) text
+  pub is : T finished text
 
-pub Going-start : (reader writer : Option (List ℕ)) → Going reader reader writer writer []
-Going-start reader writer = record {
+pub Going-start : {T P : List ℕ → List ℕ → Type 0} (laws : AreJoined T P) (reader writer : Option (List ℕ)) → Going T reader reader writer writer []
+Going-start laws reader writer = record {
   finished = [];
   text = [];
   taken = Consumes-nil reader;
   written = Appends-nil writer;
   lines = inl refl;
   unended = All-nil (λ b. b ≢ 10);
-  is = rw lines_of-nil nothing;
+  is = laws.none;
 }
 
 -- more of the line was taken
-pub Going-part : (reader reads later writer writes : Option (List ℕ)) (part more : List ℕ)
-    → Going reader reads writer writes part → Consumes reads later more → IsWithoutEnd more
-    → Going reader later writer writes (part ++ more)
+pub Going-part : {T : List ℕ → List ℕ → Type 0} (reader reads later writer writes : Option (List ℕ)) (part more : List ℕ)
+    → Going T reader reads writer writes part → Consumes reads later more → IsWithoutEnd more
+    → Going T reader later writer writes (part ++ more)
 Going-part reader reads later writer writes part more so taken unended = record {
   finished = so.finished;
   text = so.text;
@@ -49,13 +47,6 @@ Going-part reader reads later writer writes part more so taken unended = record 
   unended = All-append (λ b. b ≢ 10) part more so.unended unended;
   is = so.is;
 }
-
--- the text with that of one line more
-pub IsText-line : (finished part text more : List ℕ) → IsLines finished → part ≢ [] → IsOfOneLine part
-    → IsText (lines_of finished) text → IsText (line_of part ∷ []) more
-    → IsText (lines_of (finished ++ part)) (text ++ more)
-IsText-line finished part text more lines some one is h =
-    rw (lines_of-append finished part lines some one) (IsText-append is h)
 
 -- a line with its line feed
 IsOfOneLine-ended : (part front : List ℕ) → IsWithoutEnd part → IsWithoutEnd front
@@ -69,11 +60,11 @@ ended-some [] (x ∷ xs) e = cc
 ended-some (x ∷ xs) front e = cc
 
 -- the line was answered
-pub Going-line : (reader reads later writer writes on : Option (List ℕ)) (part front : List ℕ)
-    → Going reader reads writer writes part → Consumes reads later (front ++ 10 ∷ []) → IsWithoutEnd front
-    → (text : List ℕ) → Appends writes on text → IsText (line_of (part ++ (front ++ 10 ∷ [])) ∷ []) text
-    → Going reader later writer on []
-Going-line reader reads later writer writes on part front so taken unended text written is =
+pub Going-line : {T P : List ℕ → List ℕ → Type 0} (laws : AreJoined T P) (reader reads later writer writes on : Option (List ℕ)) (part front : List ℕ)
+    → Going T reader reads writer writes part → Consumes reads later (front ++ 10 ∷ []) → IsWithoutEnd front
+    → (text : List ℕ) → Appends writes on text → P (part ++ (front ++ 10 ∷ [])) text
+    → Going T reader later writer on []
+Going-line laws reader reads later writer writes on part front so taken unended text written is =
     let line = part ++ (front ++ 10 ∷ []) in
     let joined = append_assoc so.finished part (front ++ 10 ∷ []) in
     let split : so.finished ++ line ≡ so.finished ++ ((part ++ front) ++ 10 ∷ []) =
@@ -87,16 +78,16 @@ Going-line reader reads later writer writes on part front so taken unended text 
       written = Appends-trans _ _ _ _ _ so.written written;
       lines = subst IsLines (sym split) (IsLines-append so.finished (part ++ front));
       unended = All-nil (λ b. b ≢ 10);
-      is = IsText-line so.finished line so.text text so.lines (ended-some part front) one so.is is;
+      is = laws.line so.finished line so.text text so.lines (ended-some part front) one so.is is;
     }
 
 -- a fault while the line was answered
-pub LeavesOff-line : (e : Fault) (finished part text more : List ℕ) → IsLines finished → part ≢ [] → IsOfOneLine part
-    → IsText (lines_of finished) text → WritesPart e (IsText (line_of part ∷ [])) more
-    → LeavesOff e (finished ++ part) (text ++ more)
-LeavesOff-line Read finished part text more lines some one is h = absurd h
-LeavesOff-line Write finished part text more lines some one is h =
-    let whole = IsText-line finished part text (more ++ h.0) lines some one is h.1 in (
+pub LeavesOff-line : {T P : List ℕ → List ℕ → Type 0} (laws : AreJoined T P) (e : Fault) (finished part text more : List ℕ) → IsLines finished → part ≢ [] → IsOfOneLine part
+    → T finished text → WritesPart e (P part) more
+    → LeavesOff e (IsTheText T) (finished ++ part) (text ++ more)
+LeavesOff-line laws Read finished part text more lines some one is h = absurd h
+LeavesOff-line laws Write finished part text more lines some one is h =
+    let whole = laws.line finished part text (more ++ h.0) lines some one is h.1 in (
       finished,
       part,
       text,
@@ -105,12 +96,12 @@ LeavesOff-line Write finished part text more lines some one is h =
       refl,
       lines,
       one,
-      IsFilterText-of _ _ is,
+      the_text laws _ _ is,
       refl,
-      IsFilterText-of _ _ (rw (append_assoc text more h.0) whole),
+      the_text laws _ _ (rw (append_assoc text more h.0) whole),
     )
-LeavesOff-line Memory finished part text more lines some one is h =
-    (finished, part, refl, lines, one, IsFilterText-of _ _ (rw (h, append-nil text) is))
+LeavesOff-line laws Memory finished part text more lines some one is h =
+    (finished, part, refl, lines, one, the_text laws _ _ (rw (h, append-nil text) is))
 
 -- where there is no writer, none has failed
 no_writer : (IsSet no_mark × Stays no_mark) ⊎ (Stays no_mark × IsSet no_mark) → ⊥
@@ -118,32 +109,32 @@ no_writer (inl out) = let no : false ≡ true = out.0 in cc
 no_writer (inr err) = let no : false ≡ true = err.1 in cc
 
 -- a fault of the reader, or no memory for what it shows
-pub LeavesOff-part : (e : Fault) (reader : Mark) (finished part text : List ℕ) → MarksAt e reader no_mark no_mark
-    → IsLines finished → IsWithoutEnd part → IsText (lines_of finished) text → LeavesOff e (finished ++ part) text
-LeavesOff-part Read reader finished part text marks lines unended is =
-    (finished, part, refl, lines, unended, IsFilterText-of _ _ is)
-LeavesOff-part Write reader finished part text marks lines unended is = absurd (no_writer marks.1)
-LeavesOff-part Memory reader finished part text marks lines unended is =
-    (finished, part, refl, lines, inl unended, IsFilterText-of _ _ is)
+pub LeavesOff-part : {T P : List ℕ → List ℕ → Type 0} (laws : AreJoined T P) (e : Fault) (reader : Mark) (finished part text : List ℕ) → MarksAt e reader no_mark no_mark
+    → IsLines finished → IsWithoutEnd part → T finished text → LeavesOff e (IsTheText T) (finished ++ part) text
+LeavesOff-part laws Read reader finished part text marks lines unended is =
+    (finished, part, refl, lines, unended, the_text laws _ _ is)
+LeavesOff-part laws Write reader finished part text marks lines unended is = absurd (no_writer marks.1)
+LeavesOff-part laws Memory reader finished part text marks lines unended is =
+    (finished, part, refl, lines, inl unended, the_text laws _ _ is)
 
 -- the answer to a line, or the fault that came
-pub WritesLines-line : {A : Type 0} (r : Result A Fault) (finished part text more : List ℕ) → IsLines finished
+pub WritesText-line : {A : Type 0} {T P : List ℕ → List ℕ → Type 0} (laws : AreJoined T P) (r : Result A Fault) (finished part text more : List ℕ) → IsLines finished
     → part ≢ []
-    → IsOfOneLine part → IsText (lines_of finished) text → Writes r (IsText (line_of part ∷ [])) more
-    → WritesLines r (finished ++ part) (text ++ more)
-WritesLines-line (Ok done) finished part text more lines some one is h =
-    IsFilterText-of _ _ (IsText-line finished part text more lines some one is h)
-WritesLines-line (Err e) finished part text more lines some one is h =
-    LeavesOff-line e finished part text more lines some one is h
+    → IsOfOneLine part → T finished text → Writes r (P part) more
+    → WritesText r (IsTheText T) (finished ++ part) (text ++ more)
+WritesText-line laws (Ok done) finished part text more lines some one is h =
+    the_text laws _ _ (laws.line finished part text more lines some one is h)
+WritesText-line laws (Err e) finished part text more lines some one is h =
+    LeavesOff-line laws e finished part text more lines some one is h
 
 -- what a run has done, in the words of its contract
-abbrev pub Did : {A : Type 0} → Result A Fault → (reader reads writer writes : Option (List ℕ)) → Type 0
-Did result reader reads writer writes = (taken text : List ℕ) × Consumes reader reads taken
-    × Appends writer writes text × WritesLines result taken text
+abbrev pub Did : {A : Type 0} → (T : List ℕ → List ℕ → Type 0) → Result A Fault → (reader reads writer writes : Option (List ℕ)) → Type 0
+Did T result reader reads writer writes = (taken text : List ℕ) × Consumes reader reads taken
+    × Appends writer writes text × WritesText result (IsTheText T) taken text
 
-abbrev pub DidPart : Fault → (reader reads writer writes : Option (List ℕ)) → Type 0
-DidPart e reader reads writer writes = (taken text : List ℕ) × Consumes reader reads taken
-    × Appends writer writes text × LeavesOff e taken text
+abbrev pub DidPart : (T : List ℕ → List ℕ → Type 0) → Fault → (reader reads writer writes : Option (List ℕ)) → Type 0
+DidPart T e reader reads writer writes = (taken text : List ℕ) × Consumes reader reads taken
+    × Appends writer writes text × LeavesOff e (IsTheText T) taken text
 
 -- nothing more was taken
 Consumes-none : (reader reads later : Option (List ℕ)) (bytes more : List ℕ) → Consumes reader reads bytes
@@ -152,23 +143,23 @@ Consumes-none reader reads later bytes more first second none =
     subst (Consumes reader later) (ap (λ l. bytes ++ l) none ∙ append-nil bytes) (Consumes-trans _ _ _ _ _ first second)
 
 -- it ended where the reader was asked
-pub Going-asked : (e : Fault) (mark : Mark) (reader reads later writer writes : Option (List ℕ)) (part more : List ℕ)
-    → Going reader reads writer writes part → Consumes reads later more → more ≡ [] → MarksAt e mark no_mark no_mark
-    → DidPart e reader later writer writes
-Going-asked e mark reader reads later writer writes part more so taken none marks = (
+pub Going-asked : {T P : List ℕ → List ℕ → Type 0} (laws : AreJoined T P) (e : Fault) (mark : Mark) (reader reads later writer writes : Option (List ℕ)) (part more : List ℕ)
+    → Going T reader reads writer writes part → Consumes reads later more → more ≡ [] → MarksAt e mark no_mark no_mark
+    → DidPart T e reader later writer writes
+Going-asked laws e mark reader reads later writer writes part more so taken none marks = (
   so.finished ++ part,
   so.text,
   Consumes-none _ _ _ _ _ so.taken taken none,
   so.written,
-  LeavesOff-part e mark so.finished part so.text marks so.lines so.unended so.is,
+  LeavesOff-part laws e mark so.finished part so.text marks so.lines so.unended so.is,
 )
 
 -- it ended where a line was answered
-pub Going-fault : (e : Fault) (reader reads later writer writes on : Option (List ℕ)) (part front : List ℕ)
-    → Going reader reads writer writes part → Consumes reads later (front ++ 10 ∷ []) → IsWithoutEnd front
-    → (text : List ℕ) → Appends writes on text → WritesPart e (IsText (line_of (part ++ (front ++ 10 ∷ [])) ∷ [])) text
-    → DidPart e reader later writer on
-Going-fault e reader reads later writer writes on part front so taken unended text written is =
+pub Going-fault : {T P : List ℕ → List ℕ → Type 0} (laws : AreJoined T P) (e : Fault) (reader reads later writer writes on : Option (List ℕ)) (part front : List ℕ)
+    → Going T reader reads writer writes part → Consumes reads later (front ++ 10 ∷ []) → IsWithoutEnd front
+    → (text : List ℕ) → Appends writes on text → WritesPart e (P (part ++ (front ++ 10 ∷ []))) text
+    → DidPart T e reader later writer on
+Going-fault laws e reader reads later writer writes on part front so taken unended text written is =
     let line = part ++ (front ++ 10 ∷ []) in
     let both = Consumes-trans _ _ _ _ _ so.taken taken in
     let one = IsOfOneLine-ended part front so.unended unended in (
@@ -176,33 +167,33 @@ Going-fault e reader reads later writer writes on part front so taken unended te
       so.text ++ text,
       subst (Consumes reader later) (append_assoc so.finished part (front ++ 10 ∷ [])) both,
       Appends-trans _ _ _ _ _ so.written written,
-      LeavesOff-line e so.finished line so.text text so.lines (ended-some part front) one so.is is,
+      LeavesOff-line laws e so.finished line so.text text so.lines (ended-some part front) one so.is is,
     )
 
 -- it ended with the reader, at the end of a line
-pub Going-end : (reader reads later writer writes : Option (List ℕ)) (part more : List ℕ)
-    → Going reader reads writer writes part → Consumes reads later more → more ≡ [] → part ≡ []
-    → (taken text : List ℕ) × Consumes reader later taken × Appends writer writes text × IsFilterText taken text
-Going-end reader reads later writer writes part more so taken none empty = (
+pub Going-end : {T P : List ℕ → List ℕ → Type 0} (laws : AreJoined T P) (reader reads later writer writes : Option (List ℕ)) (part more : List ℕ)
+    → Going T reader reads writer writes part → Consumes reads later more → more ≡ [] → part ≡ []
+    → (taken text : List ℕ) × Consumes reader later taken × Appends writer writes text × IsTheText T taken text
+Going-end laws reader reads later writer writes part more so taken none empty = (
   so.finished,
   so.text,
   subst (Consumes reader later) (ap (λ l. so.finished ++ l) empty ∙ append-nil so.finished)
       (Consumes-none _ _ _ _ _ so.taken taken none),
   so.written,
-  IsFilterText-of _ _ so.is,
+  the_text laws _ _ so.is,
 )
 
 -- and behind a line that no line feed ends
-pub Going-rest : {A : Type 0} (r : Result A Fault) (reader reads later writer writes on : Option (List ℕ))
-    (part more : List ℕ) → Going reader reads writer writes part → Consumes reads later more → more ≡ [] → part ≢ []
-    → (text : List ℕ) → Appends writes on text → Writes r (IsText (line_of part ∷ [])) text
-    → Did r reader later writer on
-Going-rest r reader reads later writer writes on part more so taken none some text written is = (
+pub Going-rest : {A : Type 0} {T P : List ℕ → List ℕ → Type 0} (laws : AreJoined T P) (r : Result A Fault) (reader reads later writer writes on : Option (List ℕ))
+    (part more : List ℕ) → Going T reader reads writer writes part → Consumes reads later more → more ≡ [] → part ≢ []
+    → (text : List ℕ) → Appends writes on text → Writes r (P part) text
+    → Did T r reader later writer on
+Going-rest laws r reader reads later writer writes on part more so taken none some text written is = (
   so.finished ++ part,
   so.text ++ text,
   Consumes-none _ _ _ _ _ so.taken taken none,
   Appends-trans _ _ _ _ _ so.written written,
-  WritesLines-line r so.finished part so.text text so.lines some (inl so.unended) so.is is,
+  WritesText-line laws r so.finished part so.text text so.lines some (inl so.unended) so.is is,
 )
 
 pub empty-of_length : (bytes : List ℕ) → length bytes ≡ 0 → bytes ≡ []

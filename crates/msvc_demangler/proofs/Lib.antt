@@ -1,6 +1,8 @@
 pub mod Fronts
 pub mod Going
 pub mod Hashes
+pub mod Joined
 pub mod Pieces
+pub mod Symbols
 pub mod Texts
 pub mod Written

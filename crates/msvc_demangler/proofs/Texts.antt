@@ -3,9 +3,11 @@ use Rattle.std.proofs.Common.{◌≡◌, ◌++◌, ◌∷◌, [], ℕ, List, ap,
 use Rattle.std.proofs.Common.{inl, inr}
 use Rattle.std.specs.Str.{IsUtf8}
 use Rattle.msvc_write.specs.Declaration.{declaration}
-use Rattle.msvc_demangler.specs.Lines.{lines_of}
-use Rattle.msvc_demangler.specs.Answers.{IsAnswer, IsFilterText, IsLineText, IsText, line_flags, nothing, left_out}
+use Rattle.msvc_demangler.specs.Lines.{line_of, lines_of}
+use Rattle.msvc_demangler.specs.Answers.{IsAnswer, IsLineText, IsText, line_flags, nothing, left_out}
 use Rattle.msvc_demangler.specs.Answers.{answered}
+use Rattle.msvc_demangler.proofs.Joined.{AreJoined}
+use Rattle.msvc_demangler.proofs.Pieces.{lines_of-append, lines_of-nil}
 
 -- the text of one line
 pub IsText-one : (line text : List ℕ) → IsUtf8 line → IsLineText line text → IsText (line ∷ []) text
@@ -42,5 +44,17 @@ IsText-only _ _ _ (answered {line = line} {first = first} {text = text} utf8 a t
     (answered {first = other} {text = more} again b u) =
     ap (λ l. l ++ more) (IsLineText-only line first other a b) ∙ ap (λ l. first ++ l) (IsText-only _ text more t u)
 
-pub IsFilterText-of : (bytes text : List ℕ) → IsText (lines_of bytes) text → IsFilterText bytes text
-IsFilterText-of bytes text is = (is, λ other h. IsText-only (lines_of bytes) text other is h)
+-- as pieces of bytes have them
+abbrev pub AreAnswered : List ℕ → List ℕ → Type 0
+AreAnswered bytes text = IsText (lines_of bytes) text
+
+abbrev pub IsAnswered : List ℕ → List ℕ → Type 0
+IsAnswered piece text = IsText (line_of piece ∷ []) text
+
+pub answers-joined : AreJoined AreAnswered IsAnswered
+answers-joined = record {
+  none = rw lines_of-nil nothing;
+  line = λ finished part text more lines some one is h.
+      rw (lines_of-append finished part lines some one) (IsText-append is h);
+  only = λ bytes first second a b. IsText-only (lines_of bytes) first second a b;
+}

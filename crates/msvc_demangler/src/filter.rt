@@ -1,10 +1,11 @@
 //! The filter over texts: each symbol in them is replaced by its declaration.
 
-ghost use Rattle.std.specs.Prelude.{◌≡◌, ◌≤◌, ◌<◌, ◌×◌, ℕ, List, IfOk, IfSome, MatchOption, OnOk, OnSome, length};
+ghost use Rattle.std.specs.Prelude.{◌≡◌, ◌≤◌, ◌<◌, ℕ, List, IfNone, IfOk, IfSome, OnOk, OnSome, length, slice_index, true};
 ghost use Rattle.std.specs.Io.KnownBytes.{Appends, Consumes, IsAtEnd};
 ghost use Rattle.msvc_demangler.specs.Faults.{Marks, mark, no_mark};
 ghost use Rattle.msvc_demangler.specs.Filtered.{IsFiltered, IsNoSymbol, IsSymbol, IsTextOfLine};
 ghost use Rattle.msvc_demangler.specs.Runs.{Writes, WritesText};
+ghost use Rattle.msvc_demangler.specs.Words.{is_start};
 
 use crate::lines::put_all;
 use crate::room::Room;
@@ -34,7 +35,7 @@ pub fn filter_text<R: BufRead, W: Write>(
 ) -> Result<(), Fault>
     ensures text { (taken text : List ℕ) × Consumes (R.remaining input.old.stream) (R.remaining input.new.stream) taken
         × Appends (W.contents out.old.stream) (W.contents out.new.stream) text
-        × WritesText (IsFiltered flags.0) result taken text }
+        × WritesText result (IsFiltered flags.0) taken text }
     ensures end { OnOk result (OnSome (R.remaining input.old.stream) (IsAtEnd (R.remaining input.new.stream))) }
     ensures marks { Marks result (mark input.old input.new) (mark out.old out.new) no_mark }
 {
@@ -122,8 +123,7 @@ fn symbol_at(
     asked: bool,
     last: u8,
     flags: DemangleFlags,
-) -> Result<Option<usize>, AllocError>
-{
+) -> Result<Option<usize>, AllocError> {
     match left {
         [byte, ..] if is_start(asked, last, *byte) => symbol(room, left, flags),
         _ => Ok(None),
@@ -131,14 +131,10 @@ fn symbol_at(
 }
 
 /// How many bytes the symbol takes that begins at a start, if one does. The room has its declaration then.
-fn symbol(
-    room: &mut Room,
-    left: &[u8],
-    flags: DemangleFlags,
-) -> Result<Option<usize>, AllocError>
-    ensures symbol { IfOk result (λ found. MatchOption found (IsNoSymbol flags.0 left.now)
-        (λ bytes. IsSymbol flags.0 left.now bytes room.new.text.items)) }
-    ensures bytes { IfOk result (λ found. IfSome found (λ bytes. (0 < bytes) × (bytes ≤ length left.now))) }
+fn symbol(room: &mut Room, left: &[u8], flags: DemangleFlags) -> Result<Option<usize>, AllocError>
+    ensures none { IfOk result (λ found. IfNone found (IsNoSymbol flags.0 left.now)) }
+    ensures some { IfOk result (λ found. IfSome found (λ bytes. IsSymbol flags.0 left.now bytes room.new.text.items
+        × (0 < bytes) × (bytes ≤ length left.now))) }
 {
     match room.demangle_within(candidate(left), flags, MOST_NODES) {
         Ok(read) if room.text.len() <= MOST_DECLARED => Ok(Some(taken(left, read))),

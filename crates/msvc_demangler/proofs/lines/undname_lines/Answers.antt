@@ -9,17 +9,18 @@ use Rattle.msvc_demangler.specs.Taking.{IsCut, IsWithEnd}
 use Rattle.msvc_demangler.specs.declared.watched.Taken.TheVariants.{Part}
 use Rattle.msvc_demangler.proofs.Going.{empty-of_length, Going-asked, Going-end, Going-fault, Going-line}
 use Rattle.msvc_demangler.proofs.Going.{Going-part, Going-rest, Going-start}
+use Rattle.msvc_demangler.proofs.Texts.{answers-joined}
 use Rattle.msvc_demangler.proofs.lines.undname_lines.Goals.{in-Part, in-Line+in_ok-filter_line-in-Line}
 use Rattle.msvc_demangler.proofs.lines.undname_lines.Goals as goal
 
 pub pieces-init : goal.pieces-init
-pieces-init g c = rw c.new-piece.ensures.items (Going-start _ _, refl, refl, refl)
+pieces-init g c = rw c.new-piece.ensures.items (Going-start answers-joined _ _, refl, refl, refl)
 
 pub returns-in_err-take-clause-text : goal.returns-in_err-take-clause-text
 returns-in_err-take-clause-text g c =
     let p = err_from_is_err_and c.from_residual.result c.from_residual.ensures.1 in
     let e = c.in_err-take.ensures in
-    rw (p.1, p.2) (Going-asked _ _ _ _ _ _ _ _ e.taken.0 c.pieces.invariant.0 e.taken.2 e.taken.3 e.marks)
+    rw (p.1, p.2) (Going-asked answers-joined _ _ _ _ _ _ _ _ e.taken.0 c.pieces.invariant.0 e.taken.2 e.taken.3 e.marks)
 
 pub returns-in_err-filter_line-in-Line-clause-text : goal.returns-in_err-filter_line-in-Line-clause-text
 returns-in_err-filter_line-in-Line-clause-text g c =
@@ -30,7 +31,7 @@ returns-in_err-filter_line-in-Line-clause-text g c =
     let text = c.in_err-filter_line-in-Line.ensures.text in
     let line = c.deref.ensures.value ∙ e.taken.1 ∙ ap (λ l. c.pieces.piece.items ++ l) cut.2 in
     rw (p.1, p.2)
-    (Going-fault _ _ _ _ _ _ _ _ cut.0 c.pieces.invariant.0 (subst (Consumes _ _) cut.2 e.taken.2) cut.1 text.0 text.1
+    (Going-fault answers-joined _ _ _ _ _ _ _ _ cut.0 c.pieces.invariant.0 (subst (Consumes _ _) cut.2 e.taken.2) cut.1 text.0 text.1
     (subst (λ l. WritesPart c.in_err-filter_line-in-Line.field-0.0 (IsText (line_of l ∷ [])) text.0) line text.2))
 
 pub returns-then-is_empty-clause-text : goal.returns-then-is_empty-clause-text
@@ -41,7 +42,7 @@ returns-then-is_empty-clause-text g c =
     let empty = empty-of_length c.take.new.bytes.items (sym c.take.new.bytes.ok.0 ∙ none) in
     let part : c.pieces.piece.items ≡ c.take.new.bytes.items =
     sym (e.taken.1 ∙ ap (λ l. c.pieces.piece.items ++ l) cut ∙ append-nil _) in
-    Going-end _ _ _ _ _ _ e.taken.0 c.pieces.invariant.0 e.taken.2 cut (part ∙ empty)
+    Going-end answers-joined _ _ _ _ _ _ e.taken.0 c.pieces.invariant.0 e.taken.2 cut (part ∙ empty)
 
 pub returns-in-End-clause-text : goal.returns-in-End-clause-text
 returns-in-End-clause-text g c =
@@ -73,7 +74,7 @@ pieces-preserved g c =
           let text = w.in_ok-filter_line-in-Line.ensures.text in
           let whole = w.deref.ensures.value ∙ e.taken.1 ∙ ap (λ l. c.pieces.piece.items ++ l) cut.2 in
           rw (w.out-is, w.err-is, w.piece-is, w.clear.ensures.items) (
-            Going-line _ _ _ _ _ _ _ cut.0 c.pieces.invariant.0 (subst (Consumes _ _) cut.2 e.taken.2) cut.1 text.0
+            Going-line answers-joined _ _ _ _ _ _ _ cut.0 c.pieces.invariant.0 (subst (Consumes _ _) cut.2 e.taken.2) cut.1 text.0
                 text.1 (subst (λ l. IsText (line_of l ∷ []) text.0) whole text.2),
             e.marks.0 ∙ c.pieces.invariant.1,
             w.in_ok-filter_line-in-Line.ensures.marks.1 ∙ c.pieces.invariant.2,
@@ -84,4 +85,4 @@ pieces-preserved g c =
 pub returns-clause-text : goal.returns-clause-text
 returns-clause-text g c =
     let e = c.in-Err.ensures in
-    Going-asked _ _ _ _ _ _ _ _ e.taken.0 c.pieces.invariant.0 e.taken.2 e.taken.3 e.marks
+    Going-asked answers-joined _ _ _ _ _ _ _ _ e.taken.0 c.pieces.invariant.0 e.taken.2 e.taken.3 e.marks

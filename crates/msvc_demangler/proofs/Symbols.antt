@@ -1,0 +1,93 @@
+-- Symbols at the starts of a text.
+use Rattle.std.proofs.Common.{◌≡◌, ◌≢◌, ◌≤◌, ◌<◌, ◌+◌, ◌-◌, ◌∙◌, ℕ, List, [], length, take, refl, sym, ap, subst}
+use Rattle.std.proofs.Common.{arith, length-take}
+use Rattle.std.specs.List.{prefix_len, take_while}
+use Rattle.std.specs.Str.Lossy.{utf8_valid_len}
+use Rattle.msvc_tree.specs.Trees.{SymbolTree}
+use Rattle.msvc_tree.specs.declared.error.ErrorRepr.{ErrorRepr}
+use Rattle.msvc_tree.specs.declared.error.ErrorRepr.TheVariants.{FromUtf8, Utf8, ParseError, Other, Memory}
+use Rattle.msvc_read.specs.Counts.{node_count}
+use Rattle.msvc_read.specs.Prefix.{IsReadTo}
+use Rattle.msvc_read.specs.Reads.{Derives, ranks}
+use Rattle.msvc_read.specs.Refusals.{IsNoSymbolWithin, IsRefusedWithin}
+use Rattle.msvc_read.specs.Rules.{call, symbol}
+use Rattle.msvc_read.specs.State.{Note}
+use Rattle.msvc_read.proofs.Checks.{Fine, eater, eats, rank}
+use Rattle.msvc_read.proofs.Eats.{Less, shorter}
+use Rattle.msvc_read.proofs.Laws.{derived-only}
+use Rattle.msvc_write.specs.Declaration.{declaration}
+use Rattle.msvc_demangler.specs.Filtered.{IsNoSymbol, IsSymbol, most_declared, most_nodes}
+use Rattle.msvc_demangler.specs.Words.{candidate, is_visible, most_bytes, taken}
+
+-- a candidate is no longer than what it begins
+within : (n : ℕ) (l : List ℕ) → length (take n l) ≤ length l
+within n l = omega (arith, length-take n l)
+
+at_most : (a b c d : ℕ) → a ≤ b → b ≤ c → c ≤ d → a ≤ d
+at_most a b c d first second third = omega arith
+
+pub candidate-within : (left : List ℕ) → length (candidate left) ≤ length left
+candidate-within left =
+    let seen = take_while is_visible left in
+    let first = take most_bytes seen in
+    at_most _ (length first) (length seen) (length left) (within (utf8_valid_len first) first) (within most_bytes seen)
+    (within (prefix_len is_visible left) left)
+
+-- a symbol has bytes
+pub symbol-eats : (text : List ℕ) (tree : SymbolTree) (rest : List ℕ) (notes : List Note) → Derives text tree rest notes
+    → length rest + 1 ≤ length text
+unfolding Fine eats eater rank
+symbol-eats text tree rest notes d =
+    let less : Less text (eats (call symbol)) rest = shorter d.1 ranks refl in omega arith
+
+-- a symbol that was read
+pub symbol-read : (flags read : ℕ) (left input text : List ℕ) → input ≡ candidate left → (tree : SymbolTree)
+    (rest : List ℕ) (notes : List Note) → Derives input tree rest notes → node_count tree ≤ most_nodes
+    → text ≡ declaration tree flags → read + length rest ≡ length input → length text ≤ most_declared
+    → IsSymbol flags left (taken left read) text
+symbol-read flags read left input text same tree rest notes derived nodes declared to short =
+    let so_many : read ≡ length (candidate left) - length rest = omega (arith, ap length same) in
+    record {
+      tree = tree;
+      rest = rest;
+      notes = notes;
+      derived = subst (λ l. Derives l tree rest notes) same derived;
+      nodes = nodes;
+      declared = declared;
+      short = short;
+      takes = ap (taken left) so_many;
+    }
+
+-- no symbol where the declaration is too long
+pub no_symbol-long : (flags : ℕ) (left input text : List ℕ) → input ≡ candidate left → (tree : SymbolTree)
+    (rest : List ℕ) (notes : List Note) → Derives input tree rest notes → text ≡ declaration tree flags
+    → most_declared < length text → IsNoSymbol flags left
+no_symbol-long flags left input text same tree rest notes derived declared long bytes other s =
+    let here = subst (λ l. Derives l tree rest notes) same derived in
+    let one = derived-only (candidate left) s.tree tree s.rest rest s.notes notes s.derived here in
+    let equal : other ≡ text = s.declared ∙ ap (λ t. declaration t flags) one.0 ∙ sym declared in
+    omega (arith, ap length equal, s.short)
+
+-- and none where the candidate was refused
+pub no_symbol-refused : (flags : ℕ) (left input : List ℕ) → input ≡ candidate left → (e : ErrorRepr) → e ≢ Memory
+    → IsRefusedWithin most_nodes input e → IsNoSymbol flags left
+no_symbol-refused flags left input same e other refused bytes text s =
+    let here = subst (λ l. Derives l s.tree s.rest s.notes) (sym same) s.derived in
+    let many : most_nodes < node_count s.tree = within e other refused s.tree s.rest s.notes here in
+    omega (arith, many, s.nodes)
+  where
+    within : (e : ErrorRepr) → e ≢ Memory → IsRefusedWithin most_nodes input e → IsNoSymbolWithin most_nodes input
+    within (ParseError message context at) other h = h.1
+    within Memory other h = absurd (other refl)
+    within (FromUtf8 x) other h = absurd h
+    within (Utf8 x) other h = absurd h
+    within (Other x) other h = absurd h
+
+-- a start begins with one symbol at most
+pub symbol-only : (flags : ℕ) (left : List ℕ) (bytes others : ℕ) (text other : List ℕ) → IsSymbol flags left bytes text
+    → IsSymbol flags left others other → (others ≡ bytes) × (other ≡ text)
+symbol-only flags left bytes others text other s t =
+    let one = derived-only (candidate left) t.tree s.tree t.rest s.rest t.notes s.notes t.derived s.derived in (
+      t.takes ∙ ap (λ l. taken left (length (candidate left) - length l)) one.1 ∙ sym s.takes,
+      t.declared ∙ ap (λ z. declaration z flags) one.0 ∙ sym s.declared,
+    )
