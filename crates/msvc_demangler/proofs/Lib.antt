@@ -5,4 +5,5 @@ pub mod Joined
 pub mod Pieces
 pub mod Symbols
 pub mod Texts
+pub mod Within
 pub mod Written

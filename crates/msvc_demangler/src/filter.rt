@@ -123,7 +123,12 @@ fn symbol_at(
     asked: bool,
     last: u8,
     flags: DemangleFlags,
-) -> Result<Option<usize>, AllocError> {
+) -> Result<Option<usize>, AllocError>
+    ensures none { IfOk result (λ found. IfNone found
+        (is_start asked last (slice_index left.now 0) ≡ true → IsNoSymbol flags.0 left.now)) }
+    ensures some { IfOk result (λ found. IfSome found (λ bytes. (is_start asked last (slice_index left.now 0) ≡ true)
+        × IsSymbol flags.0 left.now bytes room.new.text.items × (0 < bytes) × (bytes ≤ length left.now))) }
+{
     match left {
         [byte, ..] if is_start(asked, last, *byte) => symbol(room, left, flags),
         _ => Ok(None),
