@@ -3,6 +3,7 @@ pub mod Going
 pub mod Hashes
 pub mod Joined
 pub mod Pieces
+pub mod Replaced
 pub mod Symbols
 pub mod Texts
 pub mod Within

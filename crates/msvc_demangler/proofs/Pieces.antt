@@ -66,12 +66,21 @@ pieces-one [] some h = absurd (some refl)
 pieces-one (x ∷ xs) some (inl h) = pieces-without_end x xs h
 pieces-one (x ∷ xs) some (inr h) = rw h.2 (pieces-with_end h.0 h.1)
 
--- so the lines of bytes that were finished and of a line behind them are the lines of before and that line
+-- so the pieces of lines that were finished and of a line behind them are the pieces of before and that line
+pub pieces-line : (finished part : List ℕ) → IsLines finished → part ≢ [] → IsOfOneLine part
+    → pieces (finished ++ part) ≡ pieces finished ++ part ∷ []
+pieces-line finished part lines some one =
+    pieces-append finished part lines ∙ ap (λ ps. pieces finished ++ ps) (pieces-one part some one)
+
+pub pieces-nil : pieces [] ≡ []
+unfolding pieces
+pieces-nil = refl
+
+-- and likewise the lines
 pub lines_of-append : (finished part : List ℕ) → IsLines finished → part ≢ [] → IsOfOneLine part
     → lines_of (finished ++ part) ≡ lines_of finished ++ line_of part ∷ []
 lines_of-append finished part lines some one =
-    ap (map line_of) (pieces-append finished part lines ∙ ap (λ ps. pieces finished ++ ps) (pieces-one part some one))
-    ∙ map-append line_of (pieces finished) (part ∷ [])
+    ap (map line_of) (pieces-line finished part lines some one) ∙ map-append line_of (pieces finished) (part ∷ [])
 
 pub lines_of-nil : lines_of [] ≡ []
 unfolding pieces

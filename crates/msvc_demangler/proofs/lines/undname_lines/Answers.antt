@@ -54,7 +54,7 @@ returns-in-End-clause-text g c =
     let some : c.take.new.bytes.items ≢ [] = search rules in
     let r = c.filter_line-in-End.result in
     let whole = c.deref-in-End.ensures.value ∙ part in
-    Going-rest r _ _ _ _ _ _ _ e.taken.0 c.pieces.invariant.0 e.taken.2 cut (subst (λ l. l ≢ []) part some)
+    Going-rest answers-joined r _ _ _ _ _ _ _ e.taken.0 c.pieces.invariant.0 e.taken.2 cut (subst (λ l. l ≢ []) part some)
     text.0 text.1 (subst (λ l. Writes r (IsText (line_of l ∷ [])) text.0) whole text.2)
 
 pub pieces-preserved : goal.pieces-preserved
