@@ -9,6 +9,7 @@
 
 mod answers;
 mod calls;
+mod filter;
 mod grammar;
 mod hostile;
 mod lines;

@@ -59,14 +59,17 @@ symbol-read flags read left input text same tree rest notes derived nodes declar
     }
 
 -- no symbol where the declaration is too long
-pub no_symbol-long : (flags : ℕ) (left input text : List ℕ) → input ≡ candidate left → (tree : SymbolTree)
-    (rest : List ℕ) (notes : List Note) → Derives input tree rest notes → text ≡ declaration tree flags
-    → most_declared < length text → IsNoSymbol flags left
-no_symbol-long flags left input text same tree rest notes derived declared long bytes other s =
+pub no_symbol-long : (flags : ℕ) (left input : List ℕ) → input ≡ candidate left → (tree : SymbolTree)
+    (rest : List ℕ) (notes : List Note) → Derives input tree rest notes
+    → most_declared < length (declaration tree flags) → IsNoSymbol flags left
+no_symbol-long flags left input same tree rest notes derived long bytes other s =
     let here = subst (λ l. Derives l tree rest notes) same derived in
     let one = derived-only (candidate left) s.tree tree s.rest rest s.notes notes s.derived here in
-    let equal : other ≡ text = s.declared ∙ ap (λ t. declaration t flags) one.0 ∙ sym declared in
-    omega (arith, ap length equal, s.short)
+    let equal : other ≡ declaration tree flags = s.declared ∙ ap (λ t. declaration t flags) one.0 in
+    larger (length other) (length (declaration tree flags)) s.short long (ap length equal)
+  where
+    larger : (a b : ℕ) → a ≤ most_declared → most_declared < b → a ≡ b → ⊥
+    larger a b short long equal = omega arith
 
 -- and none where the candidate was refused
 pub no_symbol-refused : (flags : ℕ) (left input : List ℕ) → input ≡ candidate left → (e : ErrorRepr) → e ≢ Memory

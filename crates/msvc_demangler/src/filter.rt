@@ -141,9 +141,9 @@ fn symbol(room: &mut Room, left: &[u8], flags: DemangleFlags) -> Result<Option<u
     ensures some { IfOk result (λ found. IfSome found (λ bytes. IsSymbol flags.0 left.now bytes room.new.text.items
         × (0 < bytes) × (bytes ≤ length left.now))) }
 {
-    match room.demangle_within(candidate(left), flags, MOST_NODES) {
-        Ok(read) if room.text.len() <= MOST_DECLARED => Ok(Some(taken(left, read))),
-        Ok(_) => Ok(None),
+    match room.demangle_short(candidate(left), flags, MOST_NODES, MOST_DECLARED) {
+        Ok(Some(read)) => Ok(Some(taken(left, read))),
+        Ok(None) => Ok(None),
         Err(refusal) if refusal.is_out_of_memory() => Err(AllocError),
         Err(_) => Ok(None),
     }

@@ -1,6 +1,6 @@
 //! What symbols are demangled in: an arena and the bytes of a declaration, which are kept from one symbol to the next.
 
-ghost use Rattle.std.specs.Prelude.{◌≡◌, ◌≤◌, codes, ℕ, List, IfOk, IfErr};
+ghost use Rattle.std.specs.Prelude.{◌≡◌, ◌+◌, ◌≤◌, ◌<◌, codes, length, ℕ, List, IfNone, IfOk, IfErr, IfSome};
 ghost use Rattle.std.specs.Str.{IsUtf8};
 ghost use Rattle.msvc_tree.specs.Trees.{SymbolTree};
 ghost use Rattle.msvc_read.specs.Counts.{node_count};
@@ -15,7 +15,7 @@ use bumpalo::Bump;
 use msvc_read::{read_symbol, read_symbol_within, room_for, room_within};
 use msvc_tree::error::Error;
 use msvc_tree::flags::DemangleFlags;
-use msvc_write::print;
+use msvc_write::{print, print_within};
 use std::alloc::{AllocError, Global};
 
 /// How many bytes a declaration has room for before it grows, beside two for each byte of its symbol: of ten names of
@@ -96,6 +96,36 @@ impl Room {
             Ok((symbol, bytes)) => {
                 print(&self.arena, &symbol, flags, &mut self.text)?;
                 Ok(bytes)
+            }
+            Err(refusal) => Err(refusal),
+        }
+    }
+
+    /// The same of a symbol whose declaration also has at most so many bytes. Where it has more, `text` is no declaration,
+    /// and no number is told.
+    pub(crate) fn demangle_short(
+        &mut self,
+        input: &str,
+        flags: DemangleFlags,
+        nodes: usize,
+        most: usize,
+    ) -> Result<Option<usize>, Error>
+        ensures declared { IfOk result (λ found. IfSome found (λ bytes. (tree : SymbolTree) × (rest : List ℕ)
+            × (notes : List Note) × Derives input.now tree rest notes × (node_count tree ≤ nodes)
+            × (bytes + length rest ≡ length input.now) × (self.new.text.items ≡ declaration tree flags.0)
+            × (length self.new.text.items ≤ most))) }
+        ensures longer { IfOk result (λ found. IfNone found ((tree : SymbolTree) × (rest : List ℕ)
+            × (notes : List Note) × Derives input.now tree rest notes × (most < length (declaration tree flags.0)))) }
+        ensures refused { IfErr result (λ e. IsRefusedWithin nodes input.now e) }
+    {
+        self.clear_for(input, room_within(input, nodes))?;
+        match read_symbol_within(self.alloc, &self.arena, input, nodes) {
+            Ok((symbol, bytes)) => {
+                if print_within(&self.arena, &symbol, flags, most, &mut self.text)? {
+                    Ok(Some(bytes))
+                } else {
+                    Ok(None)
+                }
             }
             Err(refusal) => Err(refusal),
         }

@@ -1,6 +1,6 @@
 //! The loop over the stack, and its bytes as a text.
 
-ghost use Rattle.std.specs.Prelude.{◌≡◌, [], OnOk, IfOk, IfErr, string_bytes};
+ghost use Rattle.std.specs.Prelude.{◌≡◌, ◌≤◌, ◌<◌, OnOk, IfOk, IfErr, IsFalse, IsTrue, length, string_bytes};
 ghost use Rattle.std.specs.Str.{IsUtf8};
 ghost use Rattle.std.specs.Str.Lossy.{utf8_lossy};
 ghost use Rattle.msvc_tree.specs.EachName.{EachName};
@@ -31,19 +31,26 @@ const FIRST_ITEMS: usize = 32;
 /// take. What is not written to costs nothing.
 const FIRST_ROOM: usize = 1 << 15;
 
-/// Prints all items of the stack, the last first.
+/// Prints the items of the stack, the last first, and says whether it came to the end: it goes on until none is left, or
+/// `out` has more than so many bytes.
 fn empty<'a, 'b>(
     stack: &mut Vec<Item<'a, 'b>, &'b Bump>,
     out: &mut Vec<u8>,
     flags: DemangleFlags,
-) -> Result<(), AllocError>
-    ensures text { OnOk result (out.new.items ≡ finished stack.old.items out.old.items flags.0) }
-    ensures none_left { OnOk result (stack.new.items ≡ []) }
+    most: usize,
+) -> Result<bool, AllocError>
+    ensures whole { IfOk result (λ ended. IsTrue ended
+        → (out.new.items ≡ finished stack.old.items out.old.items flags.0) × (length out.new.items ≤ most)) }
+    ensures longer { IfOk result (λ ended. IsFalse ended → (most < length out.new.items)
+        × (length out.new.items ≤ length (finished stack.old.items out.old.items flags.0))) }
 {
-    while let Some(item) = stack.pop() {
+    'items: while out.len() <= most {
+        let Some(item) = stack.pop() else {
+            return Ok(true);
+        };
         step(stack, out, item, flags)?;
     }
-    Ok(())
+    Ok(false)
 }
 
 /// The bytes of the declaration of a symbol whose nodes are given take the place of what `out` held. The arena has the
@@ -56,11 +63,29 @@ pub fn print<'a, 'b>(
 ) -> Result<(), AllocError>
     ensures { OnOk result (out.new.items ≡ declaration (whole_of symbol.now) flags.0) }
 {
+    // No list of bytes is longer than this.
+    print_within(arena, symbol, flags, usize::MAX, out)?;
+    Ok(())
+}
+
+/// The same, if the declaration has at most so many bytes, and whether it has. Where it is longer, `out` has more bytes
+/// than these, and nothing is printed behind the piece that made it so.
+pub fn print_within<'a, 'b>(
+    arena: &'b Bump,
+    symbol: &'b Whole<'a, 'b>,
+    flags: DemangleFlags,
+    most: usize,
+    out: &mut Vec<u8>,
+) -> Result<bool, AllocError>
+    ensures whole { IfOk result (λ within. IsTrue within
+        → (out.new.items ≡ declaration (whole_of symbol.now) flags.0) × (length out.new.items ≤ most)) }
+    ensures longer { IfOk result (λ within. IsFalse within → (most < length out.new.items)
+        × (length out.new.items ≤ length (declaration (whole_of symbol.now) flags.0))) }
+{
     out.clear();
     let mut stack = Vec::with_capacity(arena, FIRST_ITEMS)?;
     push_whole(&mut stack, symbol, flags)?;
-    empty(&mut stack, out, flags)?;
-    Ok(())
+    empty(&mut stack, out, flags, most)
 }
 
 /// The bytes of a declaration as a text. Where names are not UTF-8, what is no character is shown as U+FFFD.

@@ -1,30 +1,27 @@
-use Rattle.std.proofs.Common.{◌≡◌, ◌≤◌, ◌<◌, ◌+◌, ℕ, List, length, ap, arith, false}
+use Rattle.std.proofs.Common.{◌≡◌, ◌≤◌, ◌<◌, ◌+◌, length, ap, arith, false}
 use Rattle.std.specs.Prelude.{IsTrue}
 use Rattle.msvc_demangler.proofs.Symbols.{candidate-within, no_symbol-long, no_symbol-refused, symbol-eats, symbol-read}
 use Rattle.msvc_demangler.proofs.filter.symbol.Goals as goal
 
 pub taken-requires : goal.taken-requires
 taken-requires c =
-    let d = c.in-Ok.ensures.declared in
-    let to = c.in-Ok.ensures.prefix d.0 d.1 d.2 d.3 in
-    omega (arith, to.0, ap length c.candidate.ensures, candidate-within c.args.left.now)
+    let d = rw c.in-Ok-Some.field-0-is at c.in-Ok-Some.ensures.declared in
+    omega (arith, d.5, ap length c.candidate.ensures, candidate-within c.args.left.now)
 
-pub returns-in-Ok-clause-some : goal.returns-in-Ok-clause-some
-returns-in-Ok-clause-some c =
-    let d = c.in-Ok.ensures.declared in
-    let to = c.in-Ok.ensures.prefix d.0 d.1 d.2 d.3 in
-    let is = symbol-read c.args.flags.0 c.in-Ok.read c.args.left.now c.candidate.result.now _ c.candidate.ensures d.0 d.1 d.2
-    d.3 d.5 d.6 to.0 (omega (arith, c.demangle_within.new.self.text.ok.0, c.len.ensures)) in (
+pub returns-in-Ok-Some-clause-some : goal.returns-in-Ok-Some-clause-some
+returns-in-Ok-Some-clause-some c =
+    let d = rw c.in-Ok-Some.field-0-is at c.in-Ok-Some.ensures.declared in
+    let is = symbol-read c.args.flags.0 c.in-Ok-Some.read c.args.left.now c.candidate.result.now _ c.candidate.ensures d.0 d.1
+    d.2 d.3 d.4 d.6 d.5 d.7 in (
       rw c.taken.ensures.taken is,
-      omega (arith, to.0, symbol-eats _ d.0 d.1 d.2 d.3, c.taken.ensures.least),
+      omega (arith, d.5, symbol-eats _ d.0 d.1 d.2 d.3, c.taken.ensures.least),
       c.taken.ensures.bound,
     )
 
-pub returns-in-Ok-2-clause-none : goal.returns-in-Ok-2-clause-none
-returns-in-Ok-2-clause-none c =
-    let d = c.in-Ok-2.ensures.declared in
-    no_symbol-long c.args.flags.0 c.args.left.now c.candidate.result.now _ c.candidate.ensures d.0 d.1 d.2 d.3 d.6
-    (omega (arith, c.demangle_within.new.self.text.ok.0, c.len.ensures))
+pub returns-in-Ok-None-clause-none : goal.returns-in-Ok-None-clause-none
+returns-in-Ok-None-clause-none c =
+    let d = rw c.in-Ok-None.field-0-is at c.in-Ok-None.ensures.longer in
+    no_symbol-long c.args.flags.0 c.args.left.now c.candidate.result.now c.candidate.ensures d.0 d.1 d.2 d.3 d.4
 
 pub returns-in-Err-2-clause-none : goal.returns-in-Err-2-clause-none
 returns-in-Err-2-clause-none c =

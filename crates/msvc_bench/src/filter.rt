@@ -1,0 +1,213 @@
+//! The filter over texts, on streams of memory: what it writes is compared with what `docs/msvcfilt.md` says, also where
+//! a stream fails.
+
+#[cfg(test)]
+mod tests {
+    use crate::streams::{Failing, Reader, Writer};
+    use msvc_demangler::{DemangleFlags, Fault, Flags, Watched, filter_text};
+    use std::alloc::{AllocError, Global};
+    use std::io::ErrorKind;
+    use std::test::Fail;
+
+    /// What the filter writes for some bytes, and why it ends.
+    fn filtered(alloc: Global, bytes: &[u8], flags: DemangleFlags) -> (Vec<u8>, Result<(), Fault>) {
+        let mut input = Watched::new(bytes);
+        let mut out = Watched::new(Vec::new(alloc));
+        let done = filter_text(alloc, &mut input, &mut out, flags);
+        (out.into_inner(), done)
+    }
+
+    /// Texts, and what they become.
+    const TEXTS: [(&[u8], &[u8]); 16] = [
+        (b"", b""),
+        (b"\n\r\n\0", b"\n\r\n\0"),
+        (b"?x@@3HA", b"int x"),
+        (
+            b"?x@@3HA ?f@@YAXXZ\r\n?x@@3HA",
+            b"int x void __cdecl f(void)\r\nint x",
+        ),
+        (
+            b"foo!?crash@@YAXXZ+0x12 [a.cpp @ 17]",
+            b"foo!void __cdecl crash(void)+0x12 [a.cpp @ 17]",
+        ),
+        (
+            b"\"?x@@3PEBHEB\", <?f@@YAXXZ+0x5>",
+            b"\"int const *x\", <void __cdecl f(void)+0x5>",
+        ),
+        (
+            b"$unwind$?f@@YAXXZ ?f@@YAXXZ$filt$0 ?f@@YAXXZ.cold",
+            b"$unwind$void __cdecl f(void) void __cdecl f(void)$filt$0 void __cdecl f(void).cold",
+        ),
+        (
+            b"??_C@_05CJBACGMB@hello?$AA@ .?AVA@@ _TI1?AVA@@",
+            b"`string' .?AVA@@ _TI1?AVA@@",
+        ),
+        (
+            b"Really?! a?b:c ??= ?q=foo@bar.com WHERE a=? AND b=?@x",
+            b"Really?! a?b:c ??= ?q=foo@bar.com WHERE a=? AND b=?@x",
+        ),
+        (
+            b"__imp_?f@@YAXXZ $pdata$?f@@YAXXZ $LN5@?f@@YAXXZ",
+            b"__imp_void __cdecl f(void) $pdata$void __cdecl f(void) $LN5@void __cdecl f(void)",
+        ),
+        // A second `?` of a word that is no symbol begins none; one behind a symbol may, by the byte before it.
+        (b"?_?x@@3HA -?x@@3HA", b"?_?x@@3HA -int x"),
+        (
+            b"?x@@3HA_?x@@3HA ?x@@3HA?x@@3HA",
+            b"int x_int x int x?x@@3HA",
+        ),
+        // A byte that is left of a symbol goes with it only where it ends its word.
+        (
+            b"?f@@YAXXZ@ ?f@@YAXXZB, ?f@@YAXXZBb ?f@@YAXXZ@@",
+            b"void __cdecl f(void) void __cdecl f(void), void __cdecl f(void)Bb void __cdecl f(void)@@",
+        ),
+        // Names have bytes that words have not; what is no UTF-8 ends a candidate.
+        (b"?<f>@@3HA?x", b"int <f>?x"),
+        (b"?\xC3\xA9@@3HA\xFF?x@@3HA", b"int \xC3\xA9\xFFint x"),
+        (b"?\xFF@@3HA ?f\x7F@@3HA", b"?\xFF@@3HA ?f\x7F@@3HA"),
+    ];
+
+    #[test]
+    fn texts(rt: HostRuntime) {
+        for (bytes, text) in TEXTS {
+            let (out, done) = filtered(rt.alloc(), bytes, DemangleFlags::llvm());
+            assert_eq!(rt; done, Ok(()));
+            assert_eq!(rt; out.as_slice(), text);
+        }
+    }
+
+    #[test]
+    fn names_alone(rt: HostRuntime) {
+        let flags = DemangleFlags::llvm() | DemangleFlags::NAME_ONLY;
+        let (out, done) = filtered(rt.alloc(), b"a!?f@n@@YAXXZ+1", flags);
+        assert_eq!(rt; done, Ok(()));
+        assert_eq!(rt; out.as_slice(), b"a!n::f+1".as_slice());
+    }
+
+    /// So many bytes, and others on both sides.
+    fn around(
+        alloc: Global,
+        before: &[u8],
+        byte: u8,
+        count: usize,
+        after: &[u8],
+    ) -> Result<Vec<u8>, AllocError> {
+        let mut bytes = Vec::from_slice(alloc, before)?;
+        for _ in 0..count {
+            bytes.push(byte)?;
+        }
+        bytes.extend_from_slice(after)?;
+        Ok(bytes)
+    }
+
+    /// A name has as many bytes as a candidate has room for, and not one more.
+    #[test]
+    fn longest_candidates(rt: HostRuntime) -> Result<(), Fail> {
+        for (count, is_symbol) in [(4_090, true), (4_091, false)] {
+            let symbol = around(rt.alloc(), b"?", b'x', count, b"@@3HA")?;
+            let text = around(rt.alloc(), b"int ", b'x', count, b"")?;
+            let (out, done) = filtered(rt.alloc(), &symbol, DemangleFlags::llvm());
+            assert_eq!(rt; done, Ok(()));
+            assert!(rt; out == if is_symbol { text } else { symbol });
+        }
+        Ok(())
+    }
+
+    /// Parameters that are all of one class, whose name is long: of a declaration that is too long, nothing is shown.
+    #[test]
+    fn longest_declarations(rt: HostRuntime) -> Result<(), Fail> {
+        for (more, is_symbol) in [(20, true), (21, false)] {
+            let mut symbol = around(rt.alloc(), b"?f@@YAXV", b'x', 3_000, b"@@")?;
+            for _ in 0..more {
+                symbol.push(b'0')?;
+            }
+            symbol.extend_from_slice(b"@Z")?;
+            let (out, done) = filtered(rt.alloc(), &symbol, DemangleFlags::llvm());
+            assert_eq!(rt; done, Ok(()));
+            assert_eq!(rt; out == symbol, !is_symbol);
+        }
+        Ok(())
+    }
+
+    /// A line with a symbol and one that no line feed ends.
+    const LINES: &[u8] = b"a ?x@@3HA\r\nb\n?f@@YAXXZ";
+
+    const TEXT: &[u8] = b"a int x\r\nb\nvoid __cdecl f(void)";
+
+    /// How many bytes at a time a stream moves at most, and how it fails: a reader by an error, a writer also by
+    /// taking no byte.
+    const FAILURES: [(usize, Option<ErrorKind>); 4] = [
+        (1, Some(ErrorKind::Other)),
+        (usize::MAX, Some(ErrorKind::Interrupted)),
+        (1, None),
+        (usize::MAX, None),
+    ];
+
+    /// Runs over a reader of `LINES` and a writer, of so many bytes at a time at most, which fail as is said. Says why it
+    /// ended, which streams are marked, how many calls came after a failure, what is left and what was written.
+    fn run_over(
+        alloc: Global,
+        most: usize,
+        input: Failing,
+        out: Failing,
+    ) -> (
+        Result<(), Fault>,
+        (bool, bool, usize),
+        &'static [u8],
+        Vec<u8>,
+    ) {
+        let mut input = Watched::new(Reader::new(LINES, most, input));
+        let mut out = Watched::new(Writer::new(alloc, most, out));
+        let done = filter_text(alloc, &mut input, &mut out, DemangleFlags::llvm());
+        let marked = (input.failed(), out.failed());
+        let (input, out) = (input.into_inner(), out.into_inner());
+        let late = input.failing.late().saturating_add(out.failing.late());
+        (done, (marked.0, marked.1, late), input.bytes, out.taken)
+    }
+
+    #[test]
+    fn single_bytes(rt: HostRuntime) {
+        let (done, marks, left, text) = run_over(rt.alloc(), 1, Failing::never(), Failing::never());
+        assert_eq!(rt; done, Ok(()));
+        assert_eq!(rt; marks, (false, false, 0));
+        assert!(rt; left.is_empty());
+        assert_eq!(rt; text.as_slice(), TEXT);
+    }
+
+    #[test]
+    fn failing_readers(rt: HostRuntime) {
+        for place in 0..LINES.len() {
+            let finished = match place {
+                0..11 => 0,
+                11..13 => 9,
+                _ => 11,
+            };
+            for (most, error) in &FAILURES[..2] {
+                let fails = Failing::after(place, *error);
+                let (done, marks, left, text) = run_over(
+                    rt.alloc(),
+                    *most,
+                    fails,
+                    Failing::never(),
+                );
+                assert_eq!(rt; done, Err(Fault::Read));
+                assert_eq!(rt; marks, (true, false, 0));
+                assert_eq!(rt; left, &LINES[place..]);
+                assert_eq!(rt; text.as_slice(), &TEXT[..finished], "at {place}");
+            }
+        }
+    }
+
+    #[test]
+    fn failing_writers(rt: HostRuntime) {
+        for place in 0..TEXT.len() {
+            for (most, error) in &FAILURES {
+                let fails = Failing::after(place, *error);
+                let (done, marks, _, text) = run_over(rt.alloc(), *most, Failing::never(), fails);
+                assert_eq!(rt; done, Err(Fault::Write));
+                assert_eq!(rt; marks, (false, true, 0));
+                assert_eq!(rt; text.as_slice(), &TEXT[..place], "at {place}");
+            }
+        }
+    }
+}
