@@ -90,7 +90,7 @@ pub fn demangle_within(
 {
     let mut room = Room::new(alloc);
     match room.demangle_within(input, flags, nodes) {
-        Ok(_) => {
+        Ok(()) => {
             let shown = text_of(alloc, room.text)?;
             Ok(shown)
         }

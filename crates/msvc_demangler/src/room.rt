@@ -4,7 +4,6 @@ ghost use Rattle.std.specs.Prelude.{◌≡◌, ◌+◌, ◌≤◌, ◌<◌, code
 ghost use Rattle.std.specs.Str.{IsUtf8};
 ghost use Rattle.msvc_tree.specs.Trees.{SymbolTree};
 ghost use Rattle.msvc_read.specs.Counts.{node_count};
-ghost use Rattle.msvc_read.specs.Prefix.{IsReadTo};
 ghost use Rattle.msvc_read.specs.Reads.{Derives};
 ghost use Rattle.msvc_read.specs.Refusals.{IsRefusedRightly, IsRefusedWithin, IsRefusalAt, begins_with};
 ghost use Rattle.msvc_read.specs.State.{Note};
@@ -70,21 +69,19 @@ impl Room {
         }
     }
 
-    /// The same of a symbol whose tree has at most so many nodes, and how many bytes of `input` were read.
+    /// The same of a symbol whose tree has at most so many nodes.
     pub(crate) fn demangle_within(
         &mut self,
         input: &str,
         flags: DemangleFlags,
         nodes: usize,
-    ) -> Result<usize, Error>
+    ) -> Result<(), Error>
         ensures declared { IfOk result (λ _. (tree : SymbolTree) × (rest : List ℕ) × (notes : List Note)
             × Derives input.now tree rest notes
             × ((other : SymbolTree) (behind : List ℕ) (others : List Note) → Derives input.now other behind others
             → (other ≡ tree) × (behind ≡ rest) × (others ≡ notes))
             × (node_count tree ≤ nodes)
             × (self.new.text.items ≡ declaration tree flags.0)) }
-        ensures prefix { IfOk result (λ bytes. (tree : SymbolTree) (rest : List ℕ) (notes : List Note)
-            → Derives input.now tree rest notes → IsReadTo bytes input.now tree rest notes) }
         ensures utf8 { IfOk result (λ _. IsUtf8 self.new.text.items) }
         ensures hashes { IfOk result (λ _. HashesAreShown input.now self.new.text.items) }
         ensures refused { IfErr result (λ e. IsRefusedWithin nodes input.now e) }
@@ -93,9 +90,9 @@ impl Room {
     {
         self.clear_for(input, room_within(input, nodes))?;
         match read_symbol_within(self.alloc, &self.arena, input, nodes) {
-            Ok((symbol, bytes)) => {
+            Ok((symbol, _)) => {
                 print(&self.arena, &symbol, flags, &mut self.text)?;
-                Ok(bytes)
+                Ok(())
             }
             Err(refusal) => Err(refusal),
         }
@@ -107,21 +104,21 @@ impl Room {
         &mut self,
         input: &str,
         flags: DemangleFlags,
-        nodes: usize,
-        most: usize,
+        most_nodes: usize,
+        most_bytes: usize,
     ) -> Result<Option<usize>, Error>
         ensures declared { IfOk result (λ found. IfSome found (λ bytes. (tree : SymbolTree) × (rest : List ℕ)
-            × (notes : List Note) × Derives input.now tree rest notes × (node_count tree ≤ nodes)
+            × (notes : List Note) × Derives input.now tree rest notes × (node_count tree ≤ most_nodes)
             × (bytes + length rest ≡ length input.now) × (self.new.text.items ≡ declaration tree flags.0)
-            × (length self.new.text.items ≤ most))) }
+            × (length self.new.text.items ≤ most_bytes))) }
         ensures longer { IfOk result (λ found. IfNone found ((tree : SymbolTree) × (rest : List ℕ)
-            × (notes : List Note) × Derives input.now tree rest notes × (most < length (declaration tree flags.0)))) }
-        ensures refused { IfErr result (λ e. IsRefusedWithin nodes input.now e) }
+            × (notes : List Note) × Derives input.now tree rest notes × (most_bytes < length (declaration tree flags.0)))) }
+        ensures refused { IfErr result (λ e. IsRefusedWithin most_nodes input.now e) }
     {
-        self.clear_for(input, room_within(input, nodes))?;
-        match read_symbol_within(self.alloc, &self.arena, input, nodes) {
+        self.clear_for(input, room_within(input, most_nodes))?;
+        match read_symbol_within(self.alloc, &self.arena, input, most_nodes) {
             Ok((symbol, bytes)) => {
-                if print_within(&self.arena, &symbol, flags, most, &mut self.text)? {
+                if print_within(&self.arena, &symbol, flags, most_bytes, &mut self.text)? {
                     Ok(Some(bytes))
                 } else {
                     Ok(None)

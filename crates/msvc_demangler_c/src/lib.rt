@@ -95,12 +95,7 @@ fn bound(nodes: usize) -> Option<usize>
 }
 
 /// The declaration of a symbol, or why it has none.
-fn find(
-    alloc: Global,
-    symbol: &[u8],
-    flags: u32,
-    bound: Option<usize>,
-) -> Result<String, Refusal>
+fn find(alloc: Global, symbol: &[u8], flags: u32, bound: Option<usize>) -> Result<String, Refusal>
     ensures { IsFound bound symbol.now flags result }
 {
     match from_utf8(symbol) {

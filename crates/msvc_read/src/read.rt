@@ -324,12 +324,7 @@ fn read<'a, L: Limit>(
 }
 
 /// How many bytes of a text were read for the symbol at its beginning.
-fn bytes_read<L: Limit>(
-    alloc: Global,
-    input: &str,
-    limit: L,
-    room: usize,
-) -> Result<usize, Refusal>
+fn bytes_read<L: Limit>(alloc: Global, input: &str, limit: L, room: usize) -> Result<usize, Refusal>
     ensures value { IsRead (λ bytes. bytes) result
         (option_map (λ r. r.1) (with_length input.now (read_name symbol input.now (beginning_with (record {
           weight = L.weight;
