@@ -104,21 +104,21 @@ impl Room {
         &mut self,
         input: &str,
         flags: DemangleFlags,
-        most_nodes: usize,
-        most_bytes: usize,
+        nodes: usize,
+        most: usize,
     ) -> Result<Option<usize>, Error>
         ensures declared { IfOk result (λ found. IfSome found (λ bytes. (tree : SymbolTree) × (rest : List ℕ)
-            × (notes : List Note) × Derives input.now tree rest notes × (node_count tree ≤ most_nodes)
+            × (notes : List Note) × Derives input.now tree rest notes × (node_count tree ≤ nodes)
             × (bytes + length rest ≡ length input.now) × (self.new.text.items ≡ declaration tree flags.0)
-            × (length self.new.text.items ≤ most_bytes))) }
+            × (length self.new.text.items ≤ most))) }
         ensures longer { IfOk result (λ found. IfNone found ((tree : SymbolTree) × (rest : List ℕ)
-            × (notes : List Note) × Derives input.now tree rest notes × (most_bytes < length (declaration tree flags.0)))) }
-        ensures refused { IfErr result (λ e. IsRefusedWithin most_nodes input.now e) }
+            × (notes : List Note) × Derives input.now tree rest notes × (most < length (declaration tree flags.0)))) }
+        ensures refused { IfErr result (λ e. IsRefusedWithin nodes input.now e) }
     {
-        self.clear_for(input, room_within(input, most_nodes))?;
-        match read_symbol_within(self.alloc, &self.arena, input, most_nodes) {
+        self.clear_for(input, room_within(input, nodes))?;
+        match read_symbol_within(self.alloc, &self.arena, input, nodes) {
             Ok((symbol, bytes)) => {
-                if print_within(&self.arena, &symbol, flags, most_bytes, &mut self.text)? {
+                if print_within(&self.arena, &symbol, flags, most, &mut self.text)? {
                     Ok(Some(bytes))
                 } else {
                     Ok(None)
