@@ -142,8 +142,10 @@ fn symbol(room: &mut Room, left: &[u8], flags: DemangleFlags) -> Result<Option<u
         × (0 < bytes) × (bytes ≤ length left.now))) }
 {
     match room.demangle_short(candidate(left), flags, MOST_NODES, MOST_DECLARED) {
-        Ok(Some(read)) => Ok(Some(taken(left, read))),
-        Ok(None) => Ok(None),
+        Ok(found) => match found {
+            Some(read) => Ok(Some(taken(left, read))),
+            None => Ok(None),
+        },
         Err(refusal) if refusal.is_out_of_memory() => Err(AllocError),
         Err(_) => Ok(None),
     }

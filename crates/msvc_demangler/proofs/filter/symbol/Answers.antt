@@ -5,22 +5,22 @@ use Rattle.msvc_demangler.proofs.filter.symbol.Goals as goal
 
 pub taken-requires : goal.taken-requires
 taken-requires c =
-    let d = rw c.in-Ok-Some.field-0-is at c.in-Ok-Some.ensures.declared in
+    let d = rw c.in-Some.is at c.in-Ok.ensures.declared in
     omega (arith, d.5, ap length c.candidate.ensures, candidate-within c.args.left.now)
 
-pub returns-in-Ok-Some-clause-some : goal.returns-in-Ok-Some-clause-some
-returns-in-Ok-Some-clause-some c =
-    let d = rw c.in-Ok-Some.field-0-is at c.in-Ok-Some.ensures.declared in
-    let is = symbol-read c.args.flags.0 c.in-Ok-Some.read c.args.left.now c.candidate.result.now _ c.candidate.ensures d.0 d.1
+pub returns-in-Some-clause-some : goal.returns-in-Some-clause-some
+returns-in-Some-clause-some c =
+    let d = rw c.in-Some.is at c.in-Ok.ensures.declared in
+    let is = symbol-read c.args.flags.0 c.in-Some.read c.args.left.now c.candidate.result.now _ c.candidate.ensures d.0 d.1
     d.2 d.3 d.4 d.6 d.5 d.7 in (
       rw c.taken.ensures.taken is,
       omega (arith, d.5, symbol-eats _ d.0 d.1 d.2 d.3, c.taken.ensures.least),
       c.taken.ensures.bound,
     )
 
-pub returns-in-Ok-None-clause-none : goal.returns-in-Ok-None-clause-none
-returns-in-Ok-None-clause-none c =
-    let d = rw c.in-Ok-None.field-0-is at c.in-Ok-None.ensures.longer in
+pub returns-in-None-clause-none : goal.returns-in-None-clause-none
+returns-in-None-clause-none c =
+    let d = rw c.in-None.is at c.in-Ok.ensures.longer in
     no_symbol-long c.args.flags.0 c.args.left.now c.candidate.result.now c.candidate.ensures d.0 d.1 d.2 d.3 d.4
 
 pub returns-in-Err-2-clause-none : goal.returns-in-Err-2-clause-none
