@@ -1,5 +1,6 @@
-//! The calls that take memory, for runs in which one request is refused. .ci/refused adds the runs, as tests, and
-//! compares what they print. A run ends at the call that answers want of memory, and names it.
+//! The calls that take memory, for runs in which one request is refused. .ci/refused adds the runs, as tests, and which
+//! request that is, REFUSED, and compares what they print. A run ends at the call that answers want of memory, and names
+//! it.
 
 use msvc_demangler::{
     BackReference, DemangleFlags, Error, Fault, ParseResult, Watched, back_references, demangle, demangle_within, parse,
@@ -38,6 +39,11 @@ fn take_boxes(rt: &HostRuntime, boxes: u32) {
     for _ in 0..boxes {
         let _ = Box::new(rt.alloc(), 0u8);
     }
+}
+
+/// Takes the request that is refused: what a test asks behind it has ample memory.
+pub fn ample(rt: &HostRuntime) {
+    take_boxes(rt, REFUSED);
 }
 
 /// Takes a box after calls that met no refused request, and says where it is refused: a run ends so. Then a run in which

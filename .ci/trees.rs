@@ -2,6 +2,7 @@
 
 #[cfg(test)]
 mod tests {
+    use crate::ample;
     use msvc_demangler::{
         CallingConv, DemangleFlags, Error, Flags, FuncClass, Name, NameSequence, Params, ParseResult, StorageClass,
         Symbol, Type, parse, parse_prefix, serialize,
@@ -42,6 +43,7 @@ mod tests {
 
     #[test]
     fn prefixes(rt: HostRuntime) -> Result<(), Fail> {
+        ample(&rt);
         for (text, other, length) in PREFIXES {
             assert!(rt; reads(rt.alloc(), text, other, length)?, "at {text}");
         }
@@ -83,6 +85,7 @@ mod tests {
 
     #[test]
     fn built_by_hand(rt: HostRuntime) -> Result<(), Fail> {
+        ample(&rt);
         let text = printed(rt.alloc(), b"f", function(rt.alloc())?)?;
         assert_eq!(rt; text.as_str(), "void __regcall f()");
         let text = printed(rt.alloc(), b"x", pointer(rt.alloc())?)?;
@@ -116,6 +119,7 @@ mod tests {
 
     #[test]
     fn trees(rt: HostRuntime) -> Result<(), Fail> {
+        ample(&rt);
         let text = copied(rt.alloc(), "?x@@3PEAY1NKM@5HEA")?;
         assert_eq!(rt; text.as_str(), "int (*x)[3500][6]");
         assert!(rt; same(rt.alloc(), "?x@@3PEAY1NKM@5HEA", "?x@@3PEAY1NKM@5HEA")?);
