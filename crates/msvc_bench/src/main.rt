@@ -7,21 +7,15 @@
 //!     msvc_bench measure ROUNDS < names
 #![tactic(auto)]
 
-mod answers;
 mod calls;
+mod digits;
 mod filter;
-mod grammar;
-mod hostile;
 mod lines;
 mod measure;
-mod multiplied;
-mod prefix;
-mod references;
 mod rows;
 mod streams;
-mod within;
-mod written;
 
+use msvc_hostile::{hostile, prefix, within};
 use std::{env, io};
 
 fn main(rt: HostRuntime) -> io::Result<()> {

@@ -2,9 +2,9 @@
 //! the text or `err` with the offset and the message, parted by tabs. A row that differs is printed; the last line
 //! counts. A line that begins with `#` and a space is a heading, which says what the rows below it show.
 
-use crate::references;
 use bitflags::Flags;
 use msvc_demangler::{DemangleFlags, demangle};
+use msvc_hostile::references;
 use std::alloc::{AllocError, Global};
 use std::io;
 
@@ -38,7 +38,7 @@ fn agrees(alloc: Global, row: &str) -> Result<bool, AllocError> {
         return Ok(false);
     };
     let flags = DemangleFlags::from_bits_retain(bits);
-    if !references::agrees(alloc, symbol, flags).unwrap_or(false) {
+    if !references::agrees(alloc, symbol, flags) {
         return Ok(false);
     }
     match demangle(alloc, symbol, flags) {

@@ -1,28 +1,69 @@
-//! Symbols whose trees are far larger than their texts, since each digit stands for a type with two digits in it.
-
-use std::alloc::{AllocError, Global};
-
-/// A function of a pointer and of so many pointers to functions, each of which has two parameters of the type before.
-pub fn multiplied(alloc: Global, functions: u32) -> Result<String, AllocError> {
-    let mut text = String::from_str(alloc, "?f@@YAXPAH")?;
-    for digit in 0..functions {
-        let function = format!(in alloc; "P6AX{digit}{digit}@Z")?;
-        text.push_str(function.as_str())?;
-    }
-    text.push_str("@Z")?;
-    Ok(text)
-}
+//! The digits of symbols that stand for parameters: which are listed, those of symbols whose digits multiply too, and
+//! that a symbol stays the same when all of them are written out.
 
 #[cfg(test)]
 mod tests {
-    use super::multiplied;
-    use crate::references::written_out;
     use msvc_demangler::{DemangleFlags, Error, back_references, demangle};
+    use msvc_hostile::multiplied::multiplied;
+    use msvc_hostile::references::written_out;
     use std::alloc::{AllocError, Global};
     use std::test::Fail;
 
+    /// The digits of a symbol, each as its place and those of the bytes that it stands for.
+    fn listed(alloc: Global, symbol: &str) -> Result<String, Error> {
+        let mut text = String::new(alloc);
+        for found in &back_references(alloc, symbol)? {
+            let (at, start, end) = (found.at, found.start, found.end);
+            let entry = format!(in alloc; "({at}, {start}, {end})")?;
+            text.push_str(entry.as_str())?;
+        }
+        Ok(text)
+    }
+
+    /// Symbols and their digits. A digit inside a type, or behind a `$`, is not listed.
+    const ROWS: [(&str, &str); 12] = [
+        ("?x@@3P6AHP6AHM@Z0@ZEA", "(16, 9, 16)"),
+        ("?f@@YAX$X0@Z", "(9, 7, 9)"),
+        ("?f@@YAXPAHPB0@Z", ""),
+        ("?$f@PAH0", "(7, 4, 7)"),
+        (
+            "?f@@YAXPAHP6AX00@ZP6AX11@ZP6AX22@Z@Z",
+            "(14, 7, 10)(15, 7, 10)(22, 10, 18)(23, 10, 18)(30, 18, 26)(31, 18, 26)",
+        ),
+        ("??$func@H$$ZH@@YAHAEBU?$Foo@H@@0@Z", "(31, 18, 31)"),
+        ("?f@@YAXV?$A@PAH0@@PAD0@Z", "(15, 12, 15)(21, 7, 18)"),
+        ("?f@@YAXV?$A@PAHPAH@@PAD0@Z", "(23, 7, 20)"),
+        (
+            "?f@@YAXV?$A@PAH0@@PADV?$A@PAH0@@@Z",
+            "(15, 12, 15)(29, 26, 29)",
+        ),
+        ("?f@@YAXVA@@PAV1@1@Z", "(16, 11, 16)"),
+        ("?f@@YAXPAHPADPAF$2@Z", ""),
+        ("?f@@", ""),
+    ];
+
     #[test]
     fn digits(rt: HostRuntime) -> Result<(), Fail> {
+        for (symbol, digits) in ROWS {
+            let listed = listed(rt.alloc(), symbol)?;
+            assert_eq!(rt; listed.as_str(), digits);
+        }
+        Ok(())
+    }
+
+    #[test]
+    fn refused(rt: HostRuntime) -> Result<(), Fail> {
+        let refusal = back_references(rt.alloc(), "?x").err().ok_or("read")?;
+        let shown = format!(in rt.alloc(); "{refusal}")?;
+        assert_eq!(rt;
+            shown.as_str(),
+            "read_string: missing b'@' (offset: 1, remaining: \"x\")"
+        );
+        Ok(())
+    }
+
+    #[test]
+    fn digits_that_multiply(rt: HostRuntime) -> Result<(), Fail> {
         let three = multiplied(rt.alloc(), 3)?;
         assert_eq!(rt; three.as_str(), "?f@@YAXPAHP6AX00@ZP6AX11@ZP6AX22@Z@Z");
         let ten = multiplied(rt.alloc(), 10)?;
