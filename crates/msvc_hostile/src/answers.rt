@@ -5,7 +5,7 @@ use crate::{references, within};
 use bitflags::Flags;
 use msvc_demangler::{
     BackReference, DemangleFlags, Error, ParseResult, back_references, demangle, parse,
-    parse_prefix, serialize,
+    parse_prefix, serialize, symbol_length, symbol_length_within,
 };
 use std::alloc::Global;
 
@@ -30,8 +30,8 @@ pub enum Answer {
     Contradicted,
 }
 
-/// What `parse_prefix`, `parse`, `demangle`, `back_references`, `serialize`, `parse_within` and `demangle_within`
-/// answer for a text.
+/// What `parse_prefix`, `parse`, `demangle`, `back_references`, `serialize`, `symbol_length` and those of them that have
+/// a limit answer for a text.
 pub fn all_answers(alloc: Global, text: &str) -> Answer {
     let read = parse_prefix(alloc, text);
     let answer = match &read {
@@ -68,8 +68,10 @@ fn all_accept<'a>(
     nodes: usize,
 ) -> bool {
     is_made(parse(alloc, text), &read.0)
+        && is_made(symbol_length(alloc, text), &read.1)
         && is_read_alone(alloc, text, read, found)
         && is_printed(alloc, &read.0, text, found)
+        && is_made(symbol_length_within(alloc, text, nodes), &read.1)
         && within::is_bounded(alloc, &read.0, text, nodes)
 }
 
@@ -134,6 +136,7 @@ fn refused(alloc: Global, text: &str, refusal: &Error) -> Answer {
 /// Whether each other call refuses a text for a reason that is shown so.
 fn all_refuse(alloc: Global, text: &str, shown: &str) -> bool {
     is_refused_so(alloc, parse(alloc, text), shown)
+        && is_refused_so(alloc, symbol_length(alloc, text), shown)
         && is_refused_so(alloc, back_references(alloc, text), shown)
         && is_refused(alloc, text, shown)
         && within::is_refused(alloc, text, shown)

@@ -1,9 +1,12 @@
 //! What the calls with a limit on nodes answer, compared with the calls without one.
 //!
-//! `msvc_bench within NODES` prints for each line of standard input how both refuse it where so many nodes are allowed.
+//! `msvc_bench within NODES` prints for each line of standard input how they refuse it where so many nodes are allowed.
 
 use crate::made::{is_made, is_refused_so, is_within, refusal_of, shown_as};
-use msvc_demangler::{DemangleFlags, Error, ParseResult, demangle, demangle_within, parse_within};
+use msvc_demangler::{
+    DemangleFlags, Error, ParseResult, demangle, demangle_within, parse_within,
+    symbol_length_within,
+};
 use std::alloc::Global;
 use std::io;
 
@@ -19,7 +22,7 @@ pub fn refuse(rt: &HostRuntime, nodes: u64) -> io::Result<()> {
         let line = line?;
         match refusal_within(rt.alloc(), line.as_str(), nodes) {
             Some(shown) => println!(rt; "{shown}")?,
-            None => println!(rt; "not refused by both")?,
+            None => println!(rt; "not refused by all")?,
         }
     }
     Ok(())
@@ -75,7 +78,7 @@ fn is_printed_within(alloc: Global, text: &str, nodes: usize) -> bool {
     }
 }
 
-/// Whether both calls refuse a text for want of nodes.
+/// Whether these calls refuse a text for want of nodes.
 fn wants_nodes(alloc: Global, text: &str, nodes: usize) -> bool {
     match refusal_within(alloc, text, nodes) {
         Some(shown) => shown.as_str().starts_with(WANT),
@@ -83,7 +86,7 @@ fn wants_nodes(alloc: Global, text: &str, nodes: usize) -> bool {
     }
 }
 
-/// Whether both calls refuse a text that `parse` refuses so: so too, or for want of nodes, and so where none can lack.
+/// Whether these calls refuse a text that `parse` refuses so: so too, or for want of nodes, and so where none can lack.
 pub fn is_refused(alloc: Global, text: &str, wanted: &str) -> bool {
     for nodes in [0, 1] {
         let Some(shown) = refusal_within(alloc, text, nodes) else {
@@ -99,18 +102,22 @@ pub fn is_refused(alloc: Global, text: &str, wanted: &str) -> bool {
     }
 }
 
-/// How both calls refuse a text where so many nodes are allowed; nothing where one of them accepts it, where they
+/// How these calls refuse a text where so many nodes are allowed; nothing where one of them accepts it, where they
 /// differ, where the place isn't in the text, or where there is no memory to tell.
 fn refusal_within(alloc: Global, text: &str, nodes: usize) -> Option<String> {
     let refusal = refusal_of(parse_within(alloc, text, nodes))?;
-    shown_by_both(alloc, text, nodes, &refusal)
+    shown_by_all(alloc, text, nodes, &refusal)
 }
 
-/// How a refusal of `parse_within` is shown, if `demangle_within` refuses the text so too, at a place in it.
-fn shown_by_both(alloc: Global, text: &str, nodes: usize, refusal: &Error) -> Option<String> {
+/// How a refusal of `parse_within` is shown, if the other calls refuse the text so too, at a place in it.
+fn shown_by_all(alloc: Global, text: &str, nodes: usize, refusal: &Error) -> Option<String> {
     let shown = shown_as(alloc, refusal).ok()?;
-    let other = demangle_within(alloc, text, DemangleFlags::COMPLETE, nodes);
-    if is_refused_so(alloc, other, shown.as_str()) && is_within(refusal, text) {
+    let declared = demangle_within(alloc, text, DemangleFlags::COMPLETE, nodes);
+    let measured = symbol_length_within(alloc, text, nodes);
+    if is_refused_so(alloc, declared, shown.as_str())
+        && is_refused_so(alloc, measured, shown.as_str())
+        && is_within(refusal, text)
+    {
         return Some(shown);
     }
     None
