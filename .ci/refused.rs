@@ -3,8 +3,8 @@
 //! it.
 
 use msvc_demangler::{
-    BackReference, DemangleFlags, Error, Fault, ParseResult, Watched, back_references, demangle, demangle_within, parse,
-    parse_prefix, parse_within, serialize, undname_lines,
+    BackReference, DemangleFlags, Error, Fault, ParseResult, Watched, back_references, demangle, demangle_within,
+    filter_text, parse, parse_prefix, parse_within, serialize, symbol_length, symbol_length_within, undname_lines,
 };
 use std::alloc::{AllocError, Global};
 use std::fmt;
@@ -22,6 +22,11 @@ const LINES: &[u8] = b"?x@@3HA\r\nnope\n\xFF\n?f@@";
 const TEXT: &[u8] = b"int x\nnope\nf\n";
 
 const REFUSAL: &[u8] = b"error: does not start with b'?' (offset: 0, remaining: \"nope\")\n";
+
+/// A line with a symbol, one with what is none and is not UTF-8, and one that no line feed ends; and what becomes of them.
+const UNFILTERED: &[u8] = b"a!?x@@3HA+1\r\n?y \xFF\n(?f@@YAXXZ";
+
+const FILTERED: &[u8] = b"a!int x+1\r\n?y \xFF\n(void __cdecl f(void)";
 
 /// A symbol, and what its calls usually answer.
 struct Row<'a> {
@@ -137,6 +142,15 @@ fn prefix(rt: &HostRuntime, row: &Row<'_>) -> Result<(), AllocError> {
     }
 }
 
+/// Both calls that measure a symbol.
+fn lengths(rt: &HostRuntime, row: &Row<'_>) -> Result<(), AllocError> {
+    let any = symbol_length(rt.alloc(), row.symbol);
+    answered(rt, "symbol_length", row, any, |bytes| prints(bytes, row.length))?;
+    let limited = symbol_length_within(rt.alloc(), row.symbol, NODES);
+    answered(rt, "symbol_length_within", row, limited, |bytes| prints(bytes, row.length))?;
+    Ok(())
+}
+
 /// Both calls with a limit, that allows all nodes.
 fn within(rt: &HostRuntime, row: &Row<'_>) -> Result<(), AllocError> {
     let text = demangle_within(rt.alloc(), row.symbol, DemangleFlags::COMPLETE, NODES);
@@ -233,6 +247,22 @@ fn lines(rt: &HostRuntime) -> Result<(), AllocError> {
         return Err(AllocError);
     }
     check(rt, "undname_lines", done == Ok(()) && *out == *TEXT && *err == *REFUSAL);
+    Ok(())
+}
+
+/// A run over a text, likewise.
+fn filter(rt: &HostRuntime) -> Result<(), AllocError> {
+    let mut input = Watched::new(UNFILTERED);
+    let mut out = Watched::new(room(rt)?);
+    let done = filter_text(rt.alloc(), &mut input, &mut out, DemangleFlags::llvm());
+    check(rt, "failed", !input.failed() && !out.failed());
+    let out = out.into_inner();
+    if done == Err(Fault::Memory) {
+        let _ = println!(rt; "filter_text");
+        check(rt, "filter_text", begins_with_lines(FILTERED, &out));
+        return Err(AllocError);
+    }
+    check(rt, "filter_text", done == Ok(()) && *out == *FILTERED);
     Ok(())
 }
 
