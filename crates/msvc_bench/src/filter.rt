@@ -78,7 +78,7 @@ mod tests {
 
     #[test]
     fn names_alone(rt: HostRuntime) {
-        let flags = DemangleFlags::llvm() | DemangleFlags::NAME_ONLY;
+        let flags = DemangleFlags::llvm().union(DemangleFlags::NAME_ONLY);
         let (out, done) = filtered(rt.alloc(), b"a!?f@n@@YAXXZ+1", flags);
         assert_eq!(rt; done, Ok(()));
         assert_eq!(rt; out.as_slice(), b"a!n::f+1".as_slice());
