@@ -51,7 +51,7 @@ mod tests {
             b"__imp_void __cdecl f(void) $pdata$void __cdecl f(void) $LN5@void __cdecl f(void)",
         ),
         // A second `?` of a word that is no symbol begins none; one behind a symbol may, by the byte before it.
-        (b"?_?x@@3HA -?x@@3HA", b"?_?x@@3HA -int x"),
+        (b"?1_?x@@3HA -?x@@3HA", b"?1_?x@@3HA -int x"),
         (
             b"?x@@3HA_?x@@3HA ?x@@3HA?x@@3HA",
             b"int x_int x int x?x@@3HA",
@@ -100,10 +100,10 @@ mod tests {
         Ok(bytes)
     }
 
-    /// A name has as many bytes as a candidate has room for, and not one more.
+    /// A candidate has room for so many bytes, and a storage class may stand behind it.
     #[test]
     fn longest_candidates(rt: HostRuntime) -> Result<(), Fail> {
-        for (count, is_symbol) in [(4_090, true), (4_091, false)] {
+        for (count, is_symbol) in [(4_091, true), (4_092, false)] {
             let symbol = around(rt.alloc(), b"?", b'x', count, b"@@3HA")?;
             let text = around(rt.alloc(), b"int ", b'x', count, b"")?;
             let (out, done) = filtered(rt.alloc(), &symbol, DemangleFlags::llvm());
