@@ -1,5 +1,5 @@
 -- A text that is printed only grows.
-use Rattle.std.proofs.Common.{◌≡◌, ◌≤◌, ◌∷◌, ◌++◌, [], ℕ, List, Bool, true, false, cond, length, refl, arith, length-append}
+use Rattle.std.proofs.Common.{◌≤◌, ◌∷◌, ◌++◌, [], ℕ, List, Bool, true, false, cond, length, arith, length-append}
 use Rattle.msvc_write.specs.Pieces.{Piece, blank, is_written_after, last_byte, settle, settle_all, space, text}
 use Rattle.msvc_write.specs.Work.{finished, item_pieces}
 use Rattle.msvc_write.specs.declared.item.Item.{Item}

@@ -9,11 +9,10 @@
 use clap::{Arg, ArgAction, Command};
 use msvc_demangler::{DemangleFlags, Fault, Flags, Watched, filter_text};
 use std::alloc::{AllocError, Global};
-use std::env;
 use std::fs::File;
-use std::io;
 use std::io::{BufReader, BufWriter, IsTerminal, Read, Write};
 use std::process::ExitCode;
+use std::{env, io};
 
 /// How many bytes are read, or written, at once.
 const BUFFER_LENGTH: usize = 64 * 1024;
