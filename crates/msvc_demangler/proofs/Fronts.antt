@@ -3,7 +3,7 @@ use Rattle.std.proofs.Common.{ℕ, List, length, take, get_or, ◌≡◌, ◌≤
 use Rattle.std.proofs.Common.{arith, take_all, length-take}
 use Rattle.std.proofs.lemmas.Bool.{ltb-false, ltb-true}
 use Rattle.std.proofs.lemmas.List.{take-take}
-use Rattle.std.proofs.lemmas.List.Sums.{prefix_len-le-length, prefix_len_is, prefix_len_stops}
+use Rattle.std.proofs.lemmas.List.Sums.{prefix_len_is, prefix_len_stops}
 use Rattle.std.specs.List.{prefix_len, take_while}
 use Rattle.msvc_demangler.specs.Words.{is_visible, most_bytes}
 

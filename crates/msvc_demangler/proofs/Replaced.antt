@@ -1,7 +1,7 @@
 -- Lines whose symbols are replaced, and the text of lines that follow one another.
-use Rattle.std.proofs.Common.{◌≡◌, ◌≢◌, ◌++◌, ◌∷◌, ◌-◌, [], ℕ, List, Bool, true, false, ap, sym, subst, refl, ◌∙◌}
+use Rattle.std.proofs.Common.{◌≡◌, ◌++◌, ◌∷◌, ◌-◌, [], ℕ, List, Bool, false, ap, sym, subst, refl, ◌∙◌}
 use Rattle.std.proofs.Common.{append_assoc, append-nil, drop, slice_index}
-use Rattle.msvc_demangler.specs.Filtered.{IsNoSymbol, IsSymbol, IsTextOf, IsTextOfLine, IsTextOfLines, none, nothing}
+use Rattle.msvc_demangler.specs.Filtered.{IsTextOf, IsTextOfLine, IsTextOfLines, none, nothing}
 use Rattle.msvc_demangler.specs.Filtered.{one_more, replaced, stays}
 use Rattle.msvc_demangler.specs.Lines.{pieces}
 use Rattle.msvc_demangler.proofs.Joined.{AreJoined}

@@ -1,5 +1,5 @@
 -- Symbols at the starts of a text.
-use Rattle.std.proofs.Common.{◌≡◌, ◌≢◌, ◌≤◌, ◌<◌, ◌+◌, ◌-◌, ◌∙◌, ℕ, List, [], length, take, refl, sym, ap, subst}
+use Rattle.std.proofs.Common.{◌≡◌, ◌≢◌, ◌≤◌, ◌<◌, ◌+◌, ◌-◌, ◌∙◌, ℕ, List, length, take, refl, sym, ap, subst}
 use Rattle.std.proofs.Common.{arith, length-take}
 use Rattle.std.specs.List.{prefix_len, take_while}
 use Rattle.std.specs.Str.Lossy.{utf8_valid_len}
@@ -7,7 +7,6 @@ use Rattle.msvc_tree.specs.Trees.{SymbolTree}
 use Rattle.msvc_tree.specs.declared.error.ErrorRepr.{ErrorRepr}
 use Rattle.msvc_tree.specs.declared.error.ErrorRepr.TheVariants.{FromUtf8, Utf8, ParseError, Other, Memory}
 use Rattle.msvc_read.specs.Counts.{node_count}
-use Rattle.msvc_read.specs.Prefix.{IsReadTo}
 use Rattle.msvc_read.specs.Reads.{Derives, ranks}
 use Rattle.msvc_read.specs.Refusals.{IsNoSymbolWithin, IsRefusedWithin}
 use Rattle.msvc_read.specs.Rules.{call, symbol}

@@ -1,5 +1,5 @@
 -- The text of a line, on its way.
-use Rattle.std.proofs.Common.{◌≡◌, ◌≢◌, ◌≤◌, ◌<◌, ◌+◌, ◌-◌, ◌++◌, ◌∷◌, [], ◌∙◌, ℕ, List, Bool, true, false, length, take}
+use Rattle.std.proofs.Common.{◌≡◌, ◌≤◌, ◌<◌, ◌+◌, ◌-◌, ◌++◌, ◌∷◌, [], ◌∙◌, ℕ, List, Bool, true, false, length, take}
 use Rattle.std.proofs.Common.{drop, get_or, refl, sym, ap, subst, append_assoc, append-nil, add-one, drop-cons, take_all}
 use Rattle.std.proofs.Common.{arith, length-drop}
 use Rattle.std.proofs.lemmas.List.{drop-drop, get_or-drop, take_more}

@@ -1,11 +1,11 @@
-use Rattle.std.proofs.Common.{rules, ◌≡◌, ◌≤◌, ◌<◌, ◌+◌, ◌-◌, ◌++◌, ◌∙◌, length, take, drop, sym, subst, arith, length-drop}
+use Rattle.std.proofs.Common.{rules, ◌≡◌, ◌≤◌, ◌+◌, ◌-◌, ◌++◌, ◌∙◌, length, take, drop, sym, subst, arith, length-drop}
 use Rattle.std.proofs.Common.{ap, get_or, true, ℕ, List, refl, Result, Ok, Err, OnOk}
 use Rattle.std.specs.Prelude.{if◌then◌else◌, is_ok}
 use Rattle.std.specs.declared.alloc.AllocError.{AllocError}
 use Rattle.std.proofs.lemmas.List.{get_or-drop}
 use Rattle.msvc_demangler.specs.Filtered.{IsTextOfLine}
 use Rattle.msvc_demangler.specs.Words.{is_start}
-use Rattle.msvc_demangler.proofs.Within.{Within, Within-end, Within-replaced, Within-stays}
+use Rattle.msvc_demangler.proofs.Within.{Within-end, Within-replaced, Within-stays}
 use Rattle.msvc_demangler.proofs.Written.{to_end}
 use Rattle.msvc_demangler.proofs.filter.filter_line.Goals as goal
 

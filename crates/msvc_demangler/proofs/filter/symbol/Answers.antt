@@ -1,4 +1,4 @@
-use Rattle.std.proofs.Common.{◌≡◌, ◌≤◌, ◌<◌, ◌+◌, length, ap, arith, false}
+use Rattle.std.proofs.Common.{length, ap, arith, false}
 use Rattle.std.specs.Prelude.{IsTrue}
 use Rattle.msvc_demangler.proofs.Symbols.{candidate-within, no_symbol-long, no_symbol-refused, symbol-eats, symbol-read}
 use Rattle.msvc_demangler.proofs.filter.symbol.Goals as goal

@@ -1,4 +1,4 @@
-use Rattle.std.proofs.Common.{◌≡◌, ◌≤◌, ◌<◌, ◌-◌, ℕ, get_or, min, length, true}
+use Rattle.std.proofs.Common.{◌≡◌, ◌≤◌, ◌<◌, ◌-◌, ℕ, get_or, true}
 use Rattle.msvc_demangler.specs.Words.{is_visible}
 use Rattle.msvc_demangler.proofs.words.visible_len.Given as goal
 
