@@ -1,5 +1,5 @@
 -- What the calls from C answer.
-use Rattle.std.specs.Prelude.{ℕ, List, ◌++◌, ◌-◌, ◌≡◌, ◌≤◌, ◌^◌, ◌==◌, length, string_bytes, codes}
+use Rattle.std.specs.Prelude.{ℕ, List, ◌-◌, ◌≡◌, ◌≤◌, ◌^◌, ◌==◌, length, string_bytes, codes}
 use Rattle.std.specs.Prelude.{Option, Some, None, IfSome, Result, Ok, Err, String, if◌then◌else◌}
 use Rattle.std.specs.Str.{IsCharBoundary, IsUtf8, IsValidUpTo}
 use Rattle.std.specs.declared.alloc.Global.{Global}
