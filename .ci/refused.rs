@@ -1,6 +1,6 @@
-//! The calls that take memory, for runs in which one request is refused. .ci/refused adds the runs, as tests, and which
-//! request that is, REFUSED, and compares what they print. A run ends at the call that answers want of memory, and names
-//! it.
+//! The calls that take memory, for runs in which one request is refused. .ci/refused adds the runs, as tests, and
+//! REFUSED, which request that is, and compares what they print. A run ends at the call that answers want of memory,
+//! and names it.
 
 use msvc_demangler::{
     BackReference, DemangleFlags, Error, Fault, ParseResult, Watched, back_references, demangle, demangle_within,
