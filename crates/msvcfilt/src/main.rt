@@ -58,7 +58,7 @@ fn command<'a>(alloc: Global) -> Result<Command<'a>, AllocError> {
         .action(ArgAction::Append)
         .help("What to filter, in place of standard input");
     Command::new(alloc, "msvcfilt")
-        .version("0.1.0")
+        .version("0.11.0")
         .about("Replaces each symbol of Microsoft's C++ compiler in a text by its declaration")
         .arg(name_only)?
         .arg(file)
