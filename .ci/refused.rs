@@ -1,6 +1,6 @@
-//! The calls that take memory, for runs in which one request is refused. .ci/refused adds the runs, as tests, and
-//! REFUSED, which request that is, and compares what they print. A run ends at the call that answers want of memory,
-//! and names it.
+//! The calls that take memory, for runs in which one request is refused. .ci/refused adds the calls of each case, RUNS,
+//! and REFUSED, which request that is, and compares what the runs print. A run ends at the call that answers want of
+//! memory, and names it.
 
 use msvc_demangler::{
     BackReference, DemangleFlags, Error, Fault, ParseResult, Watched, back_references, demangle, demangle_within,
@@ -37,6 +37,47 @@ struct Row<'a> {
     text: &'a str,
     /// Its digits that were read as whole parameters.
     digits: &'a str,
+}
+
+unsafe extern "C" {
+    /// From here on there are two processes that are alike. The new one is answered 0, the other the number of the new.
+    safe fn fork() -> i32;
+
+    /// Waits for the end of the process with this number, and gives its status.
+    safe fn waitpid(process: i32, status: &mut i32, options: i32) -> i32;
+
+    /// Ends this process.
+    safe fn _exit(status: i32);
+}
+
+/// A run of a case, in a process of its own. This one makes no request, so that each of them counts from the same.
+#[cfg(test)]
+fn run(rt: &HostRuntime, case: u32, boxes: u32) {
+    let _ = println!(rt; "run {case}");
+    let process = fork();
+    if process == 0 {
+        take_boxes(rt, boxes);
+        end(rt, calls(rt, case));
+        _exit(0);
+    }
+    let mut status = 0;
+    if process < 0 || waitpid(process, &mut status, 0) != process || status != 0 {
+        let _ = println!(rt; "was not run to its end, status {status}");
+    }
+}
+
+#[cfg(test)]
+mod tests {
+    use super::{REFUSED, RUNS, run};
+
+    #[test]
+    fn each_request(rt: HostRuntime) {
+        for (case, first, last) in RUNS {
+            for fewer in first..=last {
+                run(&rt, case, REFUSED - fewer);
+            }
+        }
+    }
 }
 
 /// Takes so many boxes, and lets each go at once: a run begins so.
