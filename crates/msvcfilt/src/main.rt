@@ -64,7 +64,7 @@ fn command<'a>(alloc: Global) -> Result<Command<'a>, AllocError> {
         .arg(file)
 }
 
-/// Filters each file in its order. One that can't be opened is told, and makes the status.
+/// Filters each file in its order. One that can't be opened, or read to its end, is told, and makes the status.
 fn filter_files<W: Write>(
     rt: &HostRuntime,
     names: &[&str],
@@ -74,7 +74,14 @@ fn filter_files<W: Write>(
     let mut status = ExitCode::SUCCESS;
     for name in names {
         match File::open(rt, *name) {
-            Ok(file) => filter(rt.alloc(), file, out, flags)?,
+            Ok(file) => match filter(rt.alloc(), file, out, flags) {
+                Ok(()) => {}
+                Err(Fault::Read) => {
+                    let _ = eprintln!(rt; "msvcfilt: {name}: read failed");
+                    status = ExitCode::FAILURE;
+                }
+                Err(fault) => return Err(fault),
+            },
             Err(error) => {
                 let _ = eprintln!(rt; "msvcfilt: {name}: {error}");
                 status = ExitCode::FAILURE;
