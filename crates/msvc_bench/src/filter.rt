@@ -18,7 +18,7 @@ mod tests {
     }
 
     /// Texts, and what they become.
-    const TEXTS: [(&[u8], &[u8]); 16] = [
+    const TEXTS: [(&[u8], &[u8]); 17] = [
         (b"", b""),
         (b"\n\r\n\0", b"\n\r\n\0"),
         (b"?x@@3HA", b"int x"),
@@ -53,14 +53,16 @@ mod tests {
         // A second `?` of a word that is no symbol begins none; one behind a symbol may, by the byte before it.
         (b"?1_?x@@3HA -?x@@3HA", b"?1_?x@@3HA -int x"),
         (
-            b"?x@@3HA_?x@@3HA ?x@@3HA?x@@3HA",
-            b"int x_int x int x?x@@3HA",
+            b"?x@@3HA$?x@@3HA ?x@@3HA?x@@3HA",
+            b"int x$int x int x?x@@3HA",
         ),
-        // A byte that is left of a symbol goes with it only where it ends its word.
+        // A byte that is left of a symbol goes with it only where it ends its word, and what goes on is none.
         (
-            b"?f@@YAXXZ@ ?f@@YAXXZB, ?f@@YAXXZBb ?f@@YAXXZ@@",
-            b"void __cdecl f(void) void __cdecl f(void), void __cdecl f(void)Bb void __cdecl f(void)@@",
+            b"?f@@YAXXZ@ ?f@@YAXXZB, ?f@@YAXXZBb ?f@@YAXXZ@@ ?f@@YAXXZ?",
+            b"void __cdecl f(void) void __cdecl f(void), ?f@@YAXXZBb ?f@@YAXXZ@@ void __cdecl f(void)?",
         ),
+        // A pointer to a member that is no function: no form of the grammar, which reads the beginning of it.
+        (b"?mp@@3PEQD@@HEQ1@", b"?mp@@3PEQD@@HEQ1@"),
         // Names have bytes that words have not; what is no UTF-8 ends a candidate.
         (b"?<f>@@3HA?x", b"int <f>?x"),
         (b"?\xC3\xA9@@3HA\xFF?x@@3HA", b"int \xC3\xA9\xFFint x"),

@@ -1,6 +1,6 @@
 -- Symbols at the starts of a text.
-use Rattle.std.proofs.Common.{◌≡◌, ◌≢◌, ◌≤◌, ◌<◌, ◌+◌, ◌-◌, ◌∙◌, ℕ, List, length, take, refl, sym, ap, subst}
-use Rattle.std.proofs.Common.{arith, length-take}
+use Rattle.std.proofs.Common.{◌≡◌, ◌≢◌, ◌≤◌, ◌<◌, ◌+◌, ◌-◌, ◌∙◌, ℕ, List, drop, length, take, refl, sym, ap, subst}
+use Rattle.std.proofs.Common.{arith, false, length-take, true}
 use Rattle.std.specs.List.{prefix_len, take_while}
 use Rattle.std.specs.Str.Lossy.{utf8_valid_len}
 use Rattle.msvc_tree.specs.Trees.{SymbolTree}
@@ -16,7 +16,7 @@ use Rattle.msvc_read.proofs.Eats.{Less, shorter}
 use Rattle.msvc_read.proofs.Laws.{derived-only}
 use Rattle.msvc_write.specs.Declaration.{declaration}
 use Rattle.msvc_demangler.specs.Filtered.{IsNoSymbol, IsSymbol, most_declared, most_nodes}
-use Rattle.msvc_demangler.specs.Words.{candidate, is_visible, most_bytes, taken}
+use Rattle.msvc_demangler.specs.Words.{candidate, goes_on, is_visible, most_bytes, taken}
 
 -- a candidate is no longer than what it begins
 within : (n : ℕ) (l : List ℕ) → length (take n l) ≤ length l
@@ -43,8 +43,8 @@ symbol-eats text tree rest notes d =
 pub symbol-read : (flags read : ℕ) (left input text : List ℕ) → input ≡ candidate left → (tree : SymbolTree)
     (rest : List ℕ) (notes : List Note) → Derives input tree rest notes → node_count tree ≤ most_nodes
     → text ≡ declaration tree flags → read + length rest ≡ length input → length text ≤ most_declared
-    → IsSymbol flags left (taken left read) text
-symbol-read flags read left input text same tree rest notes derived nodes declared to short =
+    → goes_on (drop (taken left read) left) ≡ false → IsSymbol flags left (taken left read) text
+symbol-read flags read left input text same tree rest notes derived nodes declared to short ends =
     let so_many : read ≡ length (candidate left) - length rest = omega (arith, ap length same) in
     record {
       tree = tree;
@@ -55,7 +55,20 @@ symbol-read flags read left input text same tree rest notes derived nodes declar
       declared = declared;
       short = short;
       takes = ap (taken left) so_many;
+      ends = ends;
     }
+
+-- no symbol where it goes on behind what was read
+pub no_symbol-goes_on : (flags read : ℕ) (left input : List ℕ) → input ≡ candidate left → (tree : SymbolTree)
+    (rest : List ℕ) (notes : List Note) → Derives input tree rest notes → read + length rest ≡ length input
+    → goes_on (drop (taken left read) left) ≡ true → IsNoSymbol flags left
+no_symbol-goes_on flags read left input same tree rest notes derived to on bytes other s =
+    let here = subst (λ l. Derives l tree rest notes) same derived in
+    let one = derived-only (candidate left) s.tree tree s.rest rest s.notes notes s.derived here in
+    let so_many : read ≡ length (candidate left) - length rest = omega (arith, ap length same) in
+    let equal : bytes ≡ taken left read =
+    s.takes ∙ ap (λ l. taken left (length (candidate left) - length l)) one.1 ∙ sym (ap (taken left) so_many) in
+    let no : true ≡ false = sym on ∙ sym (ap (λ n. goes_on (drop n left)) equal) ∙ s.ends in cc
 
 -- no symbol where the declaration is too long
 pub no_symbol-long : (flags : ℕ) (left input : List ℕ) → input ≡ candidate left → (tree : SymbolTree)

@@ -6,7 +6,7 @@ use Rattle.msvc_read.specs.Reads.{Derives}
 use Rattle.msvc_read.specs.State.{Note}
 use Rattle.msvc_write.specs.Declaration.{declaration}
 use Rattle.msvc_demangler.specs.Lines.{pieces}
-use Rattle.msvc_demangler.specs.Words.{candidate, is_asked, is_start, taken}
+use Rattle.msvc_demangler.specs.Words.{candidate, goes_on, is_asked, is_start, taken}
 
 -- a symbol of a text has at most so many nodes, and its declaration so many bytes
 abbrev pub most_nodes : ℕ
@@ -16,7 +16,7 @@ abbrev pub most_declared : ℕ
 most_declared = 65536
 
 -- The bytes at a start begin with a symbol: the grammar derives a tree from the candidate there that is not too large.
--- It takes so many bytes, and this is its declaration.
+-- It takes so many bytes, behind which it doesn't go on, and this is its declaration.
 pub record IsSymbol (flags : ℕ) (left : List ℕ) (bytes : ℕ) (text : List ℕ) : Type 0 where
   pub tree : SymbolTree
   pub rest : List ℕ
@@ -26,6 +26,7 @@ pub record IsSymbol (flags : ℕ) (left : List ℕ) (bytes : ℕ) (text : List �
   pub declared : text ≡ declaration tree flags
   pub short : length text ≤ most_declared
   pub takes : bytes ≡ taken left (length (candidate left) - length rest)
+  pub ends : goes_on (drop bytes left) ≡ false
 
 abbrev pub IsNoSymbol : (flags : ℕ) (left : List ℕ) → Type 0
 IsNoSymbol flags left = (bytes : ℕ) (text : List ℕ) → IsSymbol flags left bytes text → ⊥

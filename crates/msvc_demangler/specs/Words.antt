@@ -48,6 +48,11 @@ abbrev pub is_left_over : List ℕ → Bool
 is_left_over [] = false
 is_left_over (b ∷ bs) = (b == 64 || is_ascii_uppercase b) && ends_word bs
 
+-- A letter, a digit, an `_` or an `@` is next: behind a symbol, that it goes on in a way that the reader doesn't know.
+abbrev pub goes_on : List ℕ → Bool
+goes_on [] = false
+goes_on (b ∷ bs) = is_ascii_alphanumeric b || (b == 95 || b == 64)
+
 -- How many bytes a symbol takes of which so many were read. Of real names the reader leaves at most one unread, which
 -- is then an `@` or a storage class.
 abbrev pub taken : List ℕ → ℕ → ℕ

@@ -2,8 +2,8 @@
 
 ghost use Rattle.std.specs.Prelude.{◌≡◌, ◌≤◌, ◌<◌, length, take};
 ghost use Rattle.std.specs.List.{take_while};
-ghost use Rattle.msvc_demangler.specs.Words.{candidate, ends_word, hides, is_asked, is_left_over, is_of_word};
-ghost use Rattle.msvc_demangler.specs.Words.{is_start, is_visible, most_bytes, taken, utf8_front};
+ghost use Rattle.msvc_demangler.specs.Words.{candidate, ends_word, goes_on, hides, is_asked, is_left_over};
+ghost use Rattle.msvc_demangler.specs.Words.{is_of_word, is_start, is_visible, most_bytes, taken, utf8_front};
 
 use std::str::from_utf8;
 
@@ -97,6 +97,16 @@ fn is_left_over(left: &[u8]) -> bool
     match left {
         [b'@' | b'A'..=b'Z', behind @ ..] => ends_word(behind),
         _ => false,
+    }
+}
+
+/// Whether a symbol goes on behind the bytes that it takes, in a way that the reader doesn't know.
+pub(crate) fn goes_on(left: &[u8]) -> bool
+    ensures { result ≡ goes_on left.now }
+{
+    match left {
+        [next, ..] => next.is_ascii_alphanumeric() || matches!(*next, b'_' | b'@'),
+        [] => false,
     }
 }
 
