@@ -1,11 +1,11 @@
 //! The filter over texts: each symbol in them is replaced by its declaration.
 
-ghost use Rattle.std.specs.Prelude.{◌≡◌, ◌≤◌, ◌<◌, ℕ, List, IfNone, IfOk, IfSome, OnOk, OnSome, drop, false, length, slice_index, true};
+ghost use Rattle.std.specs.Prelude.{◌≡◌, ◌≤◌, ◌<◌, ℕ, List, IfNone, IfOk, IfSome, OnOk, OnSome, length, slice_index, true};
 ghost use Rattle.std.specs.Io.KnownBytes.{Appends, Consumes, IsAtEnd};
 ghost use Rattle.msvc_demangler.specs.Faults.{Marks, mark, no_mark};
 ghost use Rattle.msvc_demangler.specs.Filtered.{IsFiltered, IsNoSymbol, IsSymbol, IsTextOfLine};
 ghost use Rattle.msvc_demangler.specs.Runs.{Writes, WritesText};
-ghost use Rattle.msvc_demangler.specs.Words.{goes_on, is_start};
+ghost use Rattle.msvc_demangler.specs.Words.{is_start};
 
 use crate::lines::put_all;
 use crate::room::Room;
@@ -143,22 +143,16 @@ fn symbol(room: &mut Room, left: &[u8], flags: DemangleFlags) -> Result<Option<u
 {
     match room.demangle_short(candidate(left), flags, MOST_NODES, MOST_DECLARED) {
         Ok(found) => match found {
-            Some(read) => Ok(alone(left, taken(left, read))),
+            Some(read) => {
+                let bytes = taken(left, read);
+                if goes_on(left, bytes) {
+                    return Ok(None);
+                }
+                Ok(Some(bytes))
+            }
             None => Ok(None),
         },
         Err(refusal) if refusal.is_out_of_memory() => Err(AllocError),
         Err(_) => Ok(None),
     }
-}
-
-/// How many bytes a symbol takes, unless it goes on behind them.
-fn alone(left: &[u8], bytes: usize) -> Option<usize>
-    requires { bytes ≤ length left.now }
-    ensures none { IfNone result (goes_on (drop bytes left.now) ≡ true) }
-    ensures some { IfSome result (λ n. (n ≡ bytes) × (goes_on (drop bytes left.now) ≡ false)) }
-{
-    if goes_on(&left[bytes..]) {
-        return None;
-    }
-    Some(bytes)
 }

@@ -1,6 +1,6 @@
 //! Where a symbol may stand in a text: words, their starts, and the candidates that begin there.
 
-ghost use Rattle.std.specs.Prelude.{◌≡◌, ◌≤◌, ◌<◌, length, take};
+ghost use Rattle.std.specs.Prelude.{◌≡◌, ◌≤◌, ◌<◌, drop, length, take};
 ghost use Rattle.std.specs.List.{take_while};
 ghost use Rattle.msvc_demangler.specs.Words.{candidate, ends_word, goes_on, hides, is_asked, is_left_over};
 ghost use Rattle.msvc_demangler.specs.Words.{is_of_word, is_start, is_visible, most_bytes, taken, utf8_front};
@@ -101,10 +101,11 @@ fn is_left_over(left: &[u8]) -> bool
 }
 
 /// Whether a symbol goes on behind the bytes that it takes, in a way that the reader doesn't know.
-pub(crate) fn goes_on(left: &[u8]) -> bool
-    ensures { result ≡ goes_on left.now }
+pub(crate) fn goes_on(left: &[u8], bytes: usize) -> bool
+    requires { bytes ≤ length left.now }
+    ensures { result ≡ goes_on (drop bytes left.now) }
 {
-    match left {
+    match &left[bytes..] {
         [next, ..] => next.is_ascii_alphanumeric() || matches!(*next, b'_' | b'@'),
         [] => false,
     }

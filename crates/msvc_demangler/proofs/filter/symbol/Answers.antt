@@ -1,22 +1,31 @@
-use Rattle.std.proofs.Common.{length, ap, arith, false}
+use Rattle.std.proofs.Common.{length, ap, arith, false, sym, ◌∙◌}
 use Rattle.std.specs.Prelude.{IsTrue}
-use Rattle.msvc_demangler.proofs.Symbols.{candidate-within, no_symbol-long, no_symbol-refused, symbol-eats, symbol-read}
+use Rattle.msvc_demangler.proofs.Symbols.{candidate-within, no_symbol-goes_on, no_symbol-long, no_symbol-refused}
+use Rattle.msvc_demangler.proofs.Symbols.{symbol-eats, symbol-read}
 use Rattle.msvc_demangler.proofs.filter.symbol.Goals as goal
 
-pub taken-requires : goal.taken-requires
-taken-requires c =
+pub taken-bytes-requires : goal.taken-bytes-requires
+taken-bytes-requires c =
     let d = rw c.in-Some.is at c.in-Ok.ensures.declared in
     omega (arith, d.5, ap length c.candidate.ensures, candidate-within c.args.left.now)
 
-pub returns-in-Some-clause-some : goal.returns-in-Some-clause-some
-returns-in-Some-clause-some c =
+pub returns-else-goes_on-clause-some : goal.returns-else-goes_on-clause-some
+returns-else-goes_on-clause-some c =
     let d = rw c.in-Some.is at c.in-Ok.ensures.declared in
+    let ends = sym (rw c.taken-bytes.ensures.taken at c.goes_on.ensures) ∙ c.if-goes_on.false in
     let is = symbol-read c.args.flags.0 c.in-Some.read c.args.left.now c.candidate.result.now _ c.candidate.ensures d.0 d.1
-    d.2 d.3 d.4 d.6 d.5 d.7 in (
-      rw c.taken.ensures.taken is,
-      omega (arith, d.5, symbol-eats _ d.0 d.1 d.2 d.3, c.taken.ensures.least),
-      c.taken.ensures.bound,
+    d.2 d.3 d.4 d.6 d.5 d.7 ends in (
+      rw c.taken-bytes.ensures.taken is,
+      omega (arith, d.5, symbol-eats _ d.0 d.1 d.2 d.3, c.taken-bytes.ensures.least),
+      c.taken-bytes.ensures.bound,
     )
+
+pub returns-then-goes_on-clause-none : goal.returns-then-goes_on-clause-none
+returns-then-goes_on-clause-none c =
+    let d = rw c.in-Some.is at c.in-Ok.ensures.declared in
+    let on = sym (rw c.taken-bytes.ensures.taken at c.goes_on.ensures) ∙ c.if-goes_on.true in
+    no_symbol-goes_on c.args.flags.0 c.in-Some.read c.args.left.now c.candidate.result.now c.candidate.ensures d.0 d.1 d.2
+    d.3 d.5 on
 
 pub returns-in-None-clause-none : goal.returns-in-None-clause-none
 returns-in-None-clause-none c =
