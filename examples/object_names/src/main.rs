@@ -1,0 +1,40 @@
+//! Prints what `llvm-nm` prints, with each symbol as its declaration, in its column. A line whose last column is no
+//! symbol of Microsoft's compiler, as `main` is none, stays as it came.
+//!
+//!     llvm-nm show.obj | object_names
+#![tactic(auto)]
+
+use msvc_demangler::{DemangleFlags, demangle};
+use std::alloc::{AllocError, Global};
+use std::io::{self, BufRead, BufReader, BufWriter, Write};
+
+fn main(rt: HostRuntime) -> io::Result<()> {
+    let input = BufReader::new(rt.alloc(), rt.reader())?;
+    let mut out = BufWriter::new(rt.alloc(), io::writer(&rt))?;
+    print_all(rt.alloc(), input, &mut out)?;
+    out.flush()
+}
+
+/// Prints each line, with its symbol as its declaration.
+fn print_all<R: BufRead + Drop, W: Write>(alloc: Global, input: R, out: &mut W) -> io::Result<()> {
+    for line in input.lines(alloc) {
+        let line = line?;
+        match declared(alloc, line.as_str())? {
+            Some((columns, declaration)) => writeln!(out, "{columns} {declaration}")?,
+            None => writeln!(out, "{line}")?,
+        }
+    }
+    Ok(())
+}
+
+/// The columns before the last one, and the declaration of the symbol that stands there.
+fn declared(alloc: Global, line: &str) -> Result<Option<(&str, String)>, AllocError> {
+    let Some((columns, symbol)) = line.rsplit_once(' ') else {
+        return Ok(None);
+    };
+    match demangle(alloc, symbol, DemangleFlags::llvm()) {
+        Ok(declaration) => Ok(Some((columns, declaration))),
+        Err(refusal) if refusal.is_out_of_memory() => Err(AllocError),
+        Err(_) => Ok(None),
+    }
+}
