@@ -59,7 +59,11 @@ fn named(alloc: Global, line: &str) -> Result<Option<Frame<'_>>, AllocError> {
     };
     let flags = DemangleFlags::llvm().union(DemangleFlags::NAME_ONLY);
     match demangle_within(alloc, symbol, flags, MOST_NODES) {
-        Ok(name) => Ok(Some(Frame { before, name, behind })),
+        Ok(name) => Ok(Some(Frame {
+            before,
+            name,
+            behind,
+        })),
         Err(refusal) if refusal.is_out_of_memory() => Err(AllocError),
         Err(_) => Ok(None),
     }
