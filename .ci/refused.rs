@@ -23,7 +23,7 @@ const TEXT: &[u8] = b"int x\nnope\nf\n";
 
 const REFUSAL: &[u8] = b"error: does not start with b'?' (offset: 0, remaining: \"nope\")\n";
 
-/// A line with a symbol, one with what is none and is not UTF-8, and one that no line feed ends; and what becomes of them.
+/// A line with a symbol, one with what is none and no UTF-8, and one that no line feed ends; and what becomes of them.
 const UNFILTERED: &[u8] = b"a!?x@@3HA+1\r\n?y \xFF\n(?f@@YAXXZ";
 
 const FILTERED: &[u8] = b"a!int x+1\r\n?y \xFF\n(void __cdecl f(void)";
@@ -92,7 +92,7 @@ pub fn ample(rt: &HostRuntime) {
     take_boxes(rt, REFUSED);
 }
 
-/// Takes a box after calls that met no refused request, and says where it is refused: a run ends so. Then a run in which
+/// Takes a box after calls that met no refusal, and says where it is refused: a run ends so. Then a run in which
 /// the last call passes over a refused request is told from one in which none is refused.
 fn end(rt: &HostRuntime, calls: Result<(), AllocError>) {
     if calls.is_ok() && Box::new(rt.alloc(), 0u8).is_err() {
