@@ -1,5 +1,5 @@
 //! The calls that take memory, for runs in which one request is refused. .ci/refused adds the calls of each case, RUNS,
-//! and REFUSED, which request that is, and compares what the runs print. A run ends at the call that answers want of
+//! and REFUSED, which request that is, and compares what the runs print. A run ends at the call that answers out of
 //! memory, and names it.
 
 use msvc_demangler::{
@@ -87,7 +87,7 @@ fn take_boxes(rt: &HostRuntime, boxes: u32) {
     }
 }
 
-/// Takes the request that is refused: what a test asks behind it has ample memory.
+/// Takes the request that is refused: what a test asks after it has ample memory.
 pub fn ample(rt: &HostRuntime) {
     take_boxes(rt, REFUSED);
 }
@@ -107,7 +107,7 @@ fn check(rt: &HostRuntime, name: &str, right: bool) {
     }
 }
 
-/// Names a call that answers want of memory. Else its answer has to be that of the row: the refusal, or what is right.
+/// Names a call that answers out of memory. Else its answer has to be that of the row: the refusal, or what is right.
 fn answered<T: Drop>(
     rt: &HostRuntime,
     name: &str,
@@ -126,7 +126,7 @@ fn answered<T: Drop>(
     Ok(answer.ok())
 }
 
-/// Names a call whose error is want of memory.
+/// Names a call whose error is out of memory.
 fn granted(rt: &HostRuntime, name: &str, error: &Error) -> Result<(), AllocError> {
     if !error.is_out_of_memory() {
         return Ok(());
@@ -209,7 +209,7 @@ fn limited(rt: &HostRuntime, symbol: &str, nodes: usize) -> Result<(), AllocErro
     wants_nodes(rt, "parse_within", tree.err())
 }
 
-/// Names a call that answers want of memory. Else it has to answer want of nodes.
+/// Names a call that answers out of memory. Else it has to answer that there are more nodes than allowed.
 fn wants_nodes(rt: &HostRuntime, name: &str, refusal: Option<Error>) -> Result<(), AllocError> {
     if let Some(refusal) = &refusal {
         granted(rt, name, refusal)?;
@@ -274,7 +274,7 @@ fn lists(found: &[BackReference], digits: &str) -> bool {
     awaited.rest.is_empty()
 }
 
-/// A run over lines, into vectors with room. What it has written is compared at want of memory too.
+/// A run over lines, into vectors with room. What it has written is compared where it is out of memory too.
 fn lines(rt: &HostRuntime) -> Result<(), AllocError> {
     let mut input = Watched::new(LINES);
     let mut out = Watched::new(room(rt)?);

@@ -19,7 +19,7 @@
 /* How a declaration is printed: any of these bits. The README has an example of each. */
 #define MSVC_DEMANGLER_NO_MS_KEYWORDS 0x2u         /* no __cdecl and the like */
 #define MSVC_DEMANGLER_NO_FUNCTION_RETURNS 0x4u    /* of functions the name and the parameters alone */
-#define MSVC_DEMANGLER_NO_MS_THISTYPE 0x20u        /* this one and the next: no const behind a member function */
+#define MSVC_DEMANGLER_NO_MS_THISTYPE 0x20u        /* this one and the next: no const after a member function */
 #define MSVC_DEMANGLER_NO_CV_THISTYPE 0x40u
 #define MSVC_DEMANGLER_NO_THISTYPE 0x60u           /* both of these */
 #define MSVC_DEMANGLER_NO_ACCESS_SPECIFIERS 0x80u  /* no public:, protected: and private: of functions */
@@ -66,8 +66,8 @@ struct msvc_demangler_answer {
 
    It writes as snprintf does: the text and a NUL, and where these don't fit, a beginning of the text that ends before a
    character and leaves room for the NUL. So the text was cut where the answer's length is not less than size. Bytes
-   behind the NUL stay as they were, and with size 0 none is written. A NUL inside the symbol is a byte of a name like
-   others, and then one of the text. The symbol needs no NUL behind it; what follows a finished symbol makes no
+   after the NUL stay as they were, and with size 0 none is written. A NUL inside the symbol is a byte of a name like
+   others, and then one of the text. The symbol needs no NUL after it; what follows a finished symbol makes no
    difference, if it is UTF-8. symbol may be null where length is 0, and out where size is 0. They must not overlap.
 
    nodes bounds the tree of the symbol: each name and each type in it is a node, at every depth. Reading a symbol of
@@ -98,7 +98,7 @@ static inline size_t msvc_demangler_usual_size(size_t length)
     return 4 * length + 128;
 }
 
-/* The whole text of msvc_demangler_demangle, which the caller frees; null for want of memory. The answer goes to
+/* The whole text of msvc_demangler_demangle, which the caller frees; null if out of memory. The answer goes to
    *answer, if that is not null. */
 static inline char *msvc_demangler_demangle_allocated(const char *symbol, size_t length, uint32_t flags, size_t nodes,
                                                       struct msvc_demangler_answer *answer)
@@ -142,7 +142,7 @@ static inline char *msvc_demangler_demangle_allocated(const char *symbol, size_t
 
 namespace msvc_demangler {
 
-/* The whole text of msvc_demangler_demangle, and its answer. Throws std::bad_alloc for want of memory. */
+/* The whole text of msvc_demangler_demangle, and its answer. Throws std::bad_alloc if out of memory. */
 inline std::string demangle(std::string_view symbol, msvc_demangler_answer &answer,
                             std::uint32_t flags = MSVC_DEMANGLER_LLVM, std::size_t nodes = MSVC_DEMANGLER_NO_BOUND)
 {
@@ -159,7 +159,7 @@ inline std::string demangle(std::string_view symbol, msvc_demangler_answer &answ
     return out;
 }
 
-/* The declaration, if there is one. Throws std::bad_alloc for want of memory. */
+/* The declaration, if there is one. Throws std::bad_alloc if out of memory. */
 inline std::optional<std::string> demangle(std::string_view symbol, std::uint32_t flags = MSVC_DEMANGLER_LLVM,
                                            std::size_t nodes = MSVC_DEMANGLER_NO_BOUND)
 {

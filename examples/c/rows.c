@@ -19,7 +19,7 @@ struct row {
 /* What stands in a buffer before a call. */
 static const char untouched = '#';
 
-/* The field that *rest begins with; *rest is what stands behind it. */
+/* The field that *rest begins with; *rest is what follows it. */
 static char *next_field(char **rest)
 {
     char *field = *rest;
@@ -69,7 +69,7 @@ static size_t cut(const char *text, size_t size)
     return length;
 }
 
-/* Whether a buffer of this size gets what it holds of the text, and a NUL, and no byte behind that changes. */
+/* Whether a buffer of this size gets what it holds of the text, and a NUL, and no byte after that changes. */
 static bool is_written(const struct row *row, const char *text, size_t size)
 {
     size_t room = strlen(text) + 16;

@@ -4,7 +4,7 @@
 #include <iostream>
 #include <msvc_demangler.h>
 
-// The field that rest begins with; rest is what stands behind it.
+// The field that rest begins with; rest is what follows it.
 static std::string_view next_field(std::string_view &rest)
 {
     std::string_view field = rest.substr(0, rest.find('\t'));
