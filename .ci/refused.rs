@@ -50,7 +50,7 @@ unsafe extern "C" {
     safe fn _exit(status: i32);
 }
 
-/// A run of a case, in a process of its own. This one makes no request, so that each of them counts from the same.
+/// A run of a case, in a separate process. This one makes no request, so that each of them counts from the same.
 #[cfg(test)]
 fn run(rt: &HostRuntime, case: u32, boxes: u32) {
     let _ = println!(rt; "run {case}");
