@@ -70,10 +70,10 @@ struct msvc_demangler_answer {
    others, and then one of the text. The symbol needs no NUL after it; what follows a finished symbol makes no
    difference, if it is UTF-8. symbol may be null where length is 0, and out where size is 0. They must not overlap.
 
-   nodes bounds the tree of the symbol: each name and each type in it is a node, at every depth. Reading a symbol of
-   strangers without a bound can run out of any stack, which ends the process. With 1000 nodes a call takes at most
-   220 KB of stack. No bound of nodes bounds the length of the declaration, which some symbols double with 10 nodes
-   more; where that is too long for memory the status is OUT_OF_MEMORY. */
+   nodes bounds the tree of the symbol: each name and each type in it is a node, at every depth. Reading an
+   untrusted symbol without a bound can run out of any stack, which ends the process. With 1000 nodes a call takes at
+   most 220 KB of stack. The length of the declaration is not bounded so: some symbols double it with 10 nodes more, and
+   where it is too long for memory the status is OUT_OF_MEMORY. */
 struct msvc_demangler_answer msvc_demangler_demangle(const char *symbol, size_t length, uint32_t flags, size_t nodes,
                                                      char *out, size_t size);
 

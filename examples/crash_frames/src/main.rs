@@ -1,8 +1,8 @@
 //! Prints the frames of a crash report, with each symbol of Microsoft's compiler as its name alone: of
 //! `game!?run@Engine@game@@QEAAXXZ+0x42` it prints `game!game::Engine::run+0x42`. All else stays as it came.
 //!
-//! A report comes from strangers: so a symbol whose tree has more than 1,000 nodes stays as it came too, before more is
-//! read of it.
+//! A report is untrusted: so a symbol whose tree has more than 1,000 nodes stays as it came too, before more is read of
+//! it.
 #![tactic(auto)]
 
 use msvc_demangler::{DemangleFlags, Flags, demangle_within, symbol_length_within};
