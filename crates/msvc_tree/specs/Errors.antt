@@ -34,14 +34,14 @@ abbrev pub offset_of : ErrorRepr → Option ℕ
 offset_of (ParseError message context offset) = Some offset
 offset_of _ = None
 
--- want of memory, or else a refusal with this message, this context and this offset
+-- out of memory, or else a refusal with this message, this context and this offset
 abbrev pub IsRefusalOrMemory : List ℕ → List ℕ → ℕ → ErrorRepr → Type 0
 IsRefusalOrMemory message context offset (ParseError m c o) =
     (cow_str_bytes m ≡ message) × (string_bytes c ≡ context) × (o ≡ offset)
 IsRefusalOrMemory message context offset Memory = Unit {0}
 IsRefusalOrMemory message context offset _ = ⊥
 
--- want of memory, or else an error of this message alone
+-- out of memory, or else an error of this message alone
 abbrev pub IsMessageOrMemory : List ℕ → ErrorRepr → Type 0
 IsMessageOrMemory message (Other m) = string_bytes m ≡ message
 IsMessageOrMemory message Memory = Unit {0}

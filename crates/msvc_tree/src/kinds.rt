@@ -206,7 +206,7 @@ pub enum Guard {
 }
 
 impl Guard {
-    /// The guard, with the number behind it.
+    /// The guard, with the number after it.
     pub fn operator<'a>(self, number: Option<u32>) -> Operator<'a>
         ensures { operator_of result ≡ guard self number }
     {
@@ -224,7 +224,7 @@ pub enum PlainType {
     None,
     /// An empty parameter pack.
     EmptyPack,
-    /// What stands behind the names of run-time type information.
+    /// What stands after the names of run-time type information.
     Rtti,
     /// `...`.
     Variadic,
@@ -367,7 +367,7 @@ pub enum Mark {
 }
 
 impl Mark {
-    /// The pointer or reference to a type, with qualifiers of its own.
+    /// The pointer or reference to a type, with these qualifiers.
     pub fn pointing_type<'a>(self, inner: Box<Type<'a>>, q: StorageClass) -> Type<'a>
         ensures { type_of result ≡ pointing self (type_of inner.entry.value) q.0 }
     {

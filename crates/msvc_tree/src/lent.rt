@@ -323,7 +323,8 @@ fn put_member_function<'a, 'b>(
     returned: &'b nodes::Type<'a, 'b>,
 ) -> Result<&'b nodes::Type<'a, 'b>, AllocError>
     ensures { IfOk result (λ t. node_type t.now
-        ≡ member_function class.0 convention (node_types parameters.entry.items.now) qualifiers.0 (node_type returned.now)) }
+        ≡ member_function class.0 convention (node_types parameters.entry.items.now) qualifiers.0
+        (node_type returned.now)) }
 {
     let function = put(
         arena,

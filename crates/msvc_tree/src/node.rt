@@ -47,7 +47,7 @@ pub enum TypeNode<'t, 'a> {
     Pointing(Mark, &'t Type<'a>, StorageClass),
     /// The length of the outermost level, the elements, the qualifiers of the level.
     Array(i32, &'t Type<'a>, StorageClass),
-    /// Convention, parameters, the function's own qualifiers, what it returns.
+    /// Convention, parameters, the function's qualifiers, what it returns.
     Function(CallingConv, &'t Params<'a>, StorageClass, &'t Type<'a>),
     /// The class of the member function first.
     MemberFunction(FuncClass, CallingConv, &'t Params<'a>, StorageClass, &'t Type<'a>),

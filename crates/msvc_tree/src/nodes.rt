@@ -86,7 +86,7 @@ pub struct Function<'a, 'b> {
     pub convention: CallingConv,
     /// The access, the kind and the thunks of a member function; empty for a plain function.
     pub class: FuncClass,
-    /// The function's own qualifiers; empty for a plain function and for a static member function.
+    /// The function's qualifiers; empty for a plain function and for a static member function.
     pub qualifiers: StorageClass,
     /// The parameters in their order, a list of references in the arena.
     pub parameters: &'b [&'b Type<'a, 'b>],
@@ -102,8 +102,8 @@ pub struct Scope<'a, 'b> {
     pub names: &'b [&'b Name<'a, 'b>],
 }
 
-/// A type, or what stands in the place of one. A `StorageClass` holds the type's own qualifiers: those of a pointer are
-/// the pointer's, not those of what it points to.
+/// A type, or what stands in the place of one. A `StorageClass` holds the qualifiers of the type itself: those of a
+/// pointer are the pointer's, not those of what it points to.
 #[derive(Clone, Copy)]
 #[cycle(nodes)]
 pub enum Type<'a, 'b> {
@@ -117,7 +117,7 @@ pub enum Type<'a, 'b> {
     Numbered(NumberedType, i32),
     /// The bytes of a string literal, decoded, in the arena.
     ConstantString(&'b [u8]),
-    /// A pointer or a reference, its own qualifiers, and what it points to, in the arena.
+    /// A pointer or a reference, its qualifiers, and what it points to, in the arena.
     Pointing(Mark, StorageClass, &'b Type<'a, 'b>),
     /// An array: the length of the outermost level in elements, the qualifiers, and the elements, in the arena.
     Array(i32, StorageClass, &'b Type<'a, 'b>),

@@ -19,7 +19,8 @@ use crate::parts::{
 use crate::tree::{Name, NameSequence, Operator, Params, ParseResult, Symbol, Type};
 use std::alloc::{AllocError, Global};
 
-/// The tree of a whole symbol, which does not borrow from the arena of its nodes. It fails for want of memory alone.
+/// The tree of a whole symbol, which does not borrow from the arena of its nodes. It fails only where it is out of
+/// memory.
 #[cycle(owned)]
 pub fn owned_whole<'a, 'b>(
     alloc: Global,

@@ -11,7 +11,7 @@ use crate::flags::{FuncClass, StorageClass};
 pub enum Name<'a> {
     /// The name of an operator, a constructor or something that the compiler made.
     Operator(Operator<'a>),
-    /// A name as it stands in the source, borrowed from the text, without the `@` behind it; possibly empty.
+    /// A name as it stands in the source, borrowed from the text, without the `@` after it; possibly empty.
     NonTemplate(&'a [u8]),
     /// A template's name, and its arguments in their order.
     Template(Box<Name<'a>>, Params<'a>),
@@ -19,13 +19,13 @@ pub enum Name<'a> {
     Discriminator(i32),
     /// A whole symbol as a scope, as that of the function around a local variable.
     ParsedName(Box<ParseResult<'a>>),
-    /// An anonymous namespace, with `0x` and the hexadecimal digits behind it if they are there; this text is owned.
+    /// An anonymous namespace, with `0x` and the hexadecimal digits after it if they are there; this text is owned.
     AnonymousNamespace(Option<String>),
     /// The name of the interface that a member function comes from, borrowed from the text, without the brackets that
     /// it is printed in.
     AsInterface(&'a [u8]),
     /// The 32 hexadecimal digits that stand for a name that was too long, of either case, borrowed from the text,
-    /// without the `??@` before and the `@` behind them.
+    /// without the `??@` before and the `@` after them.
     Md5(&'a [u8]),
 }
 
@@ -127,7 +127,7 @@ pub enum Operator<'a> {
     VCall,
     /// `` `typeof' ``.
     Typeof,
-    /// The guard of a static variable in a function, with the number that stands behind it, at least 0, if there is
+    /// The guard of a static variable in a function, with the number that stands after it, at least 0, if there is
     /// one.
     LocalStaticGuard(Option<u32>),
     /// `` `string' ``.
@@ -184,7 +184,7 @@ pub enum Operator<'a> {
     DynamicInitializer,
     /// `` `dynamic atexit destructor' ``.
     DynamicAtexitDtor,
-    /// The guard of a thread-safe static variable in a function, with the number that stands behind it, at least 0,
+    /// The guard of a thread-safe static variable in a function, with the number that stands after it, at least 0,
     /// if there is one.
     LocalStaticThreadGuard(Option<u32>),
     /// `operator ""`, whose suffix is the innermost name of the scope.
@@ -262,8 +262,8 @@ pub enum VarStorageKind {
 }
 
 /// A type, or what stands in the place of one. A `StorageClass` is the last field but where a comment says otherwise,
-/// and holds the type's own qualifiers: those of a pointer are the pointer's, not those of what it points to. Trees
-/// inside are owned; of the text only names are borrowed.
+/// and holds the qualifiers of the type itself: those of a pointer are the pointer's, not those of what it points to.
+/// Trees inside are owned; of the text only names are borrowed.
 #[derive(Debug, Drop)]
 #[cycle(ast)]
 pub enum Type<'a> {
@@ -274,7 +274,7 @@ pub enum Type<'a> {
     ConstantString(Vec<u8>),
     /// A parameter pack with nothing in it; lists are printed without it.
     EmptyParameterPack,
-    /// What stands in the place of a type behind the names of run-time type information.
+    /// What stands in the place of a type after the names of run-time type information.
     RTTIType,
     /// The types that are one word of the language, or a few, each with its qualifiers.
     Void(StorageClass),
@@ -312,7 +312,7 @@ pub enum Type<'a> {
     Alias(Symbol<'a>, StorageClass),
     /// A number as a template argument: 32 bits, signed; what passes them was dropped.
     Constant(i32),
-    /// A parameter of a template by its number, which is negated where it was read behind `?`.
+    /// A parameter of a template by its number, which is negated where it was read after `?`.
     TemplateParameterWithIndex(i32),
     /// The guard of a thread-safe static variable by its number, from 0 to 2147483647.
     ThreadSafeStaticGuard(i32),
@@ -320,22 +320,22 @@ pub enum Type<'a> {
     VarArgs,
     /// `std::nullptr_t`.
     Nullptr,
-    /// What is pointed to, and the pointer's own qualifiers.
+    /// What is pointed to, and the pointer's qualifiers.
     Ptr(Box<Type<'a>>, StorageClass),
-    /// What `&` refers to, and the reference's own qualifiers.
+    /// What `&` refers to, and the reference's qualifiers.
     Ref(Box<Type<'a>>, StorageClass),
-    /// What `&&` refers to, and the reference's own qualifiers.
+    /// What `&&` refers to, and the reference's qualifiers.
     RValueRef(Box<Type<'a>>, StorageClass),
     /// The length of the outermost level, in elements, as it was read, so 0 or below too; the elements, which are an
     /// array again where there are more levels; and the qualifiers, which each level has.
     Array(i32, Box<Type<'a>>, StorageClass),
-    /// The convention, the parameters, the function's own qualifiers, which are empty for a plain function, and what
+    /// The convention, the parameters, the function's qualifiers, which are empty for a plain function, and what
     /// it returns.
     NonMemberFunction(CallingConv, Params<'a>, StorageClass, Box<Type<'a>>),
-    /// The class, the convention, the parameters, the function's own qualifiers (empty for a static one), and what it
+    /// The class, the convention, the parameters, the function's qualifiers (empty for a static one), and what it
     /// returns.
     MemberFunction(FuncClass, CallingConv, Params<'a>, StorageClass, Box<Type<'a>>),
-    /// The class whose member is pointed to, its function class, the convention, the parameters, the function's own
+    /// The class whose member is pointed to, its function class, the convention, the parameters, the function's
     /// qualifiers, and what it returns.
     MemberFunctionPointer(
         Symbol<'a>,
@@ -345,7 +345,7 @@ pub enum Type<'a> {
         StorageClass,
         Box<Type<'a>>,
     ),
-    /// The variable's type, who may name it and where it lives, and the storage class behind the type.
+    /// The variable's type, who may name it and where it lives, and the storage class after the type.
     Var(Box<Type<'a>>, VarStorageKind, StorageClass),
     /// The scope of the base that the table of virtual functions is for, the innermost name first, possibly empty,
     /// and the table's qualifiers.

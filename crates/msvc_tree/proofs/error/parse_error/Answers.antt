@@ -4,7 +4,7 @@ use Rattle.std.specs.Cow.{cow_str_bytes}
 use Rattle.msvc_tree.proofs.Contexts.{IsRefusalOrMemory-IsAscii}
 use Rattle.msvc_tree.proofs.error.parse_error.Goals as goal
 
--- an ASCII context is its own text
+-- an ASCII context, as text, has the same bytes
 pub returns-clause-ascii : goal.returns-clause-ascii
 returns-clause-ascii c =
     λ ascii.
