@@ -13,11 +13,11 @@ ghost use Rattle.msvc_tree.specs.View.{name_of, operator_of, type_of, scope_of, 
 use crate::flags::{FuncClass, StorageClass};
 use crate::kinds::{Spelling, Table, Tag};
 use crate::list::List;
-use crate::node::{
-    NameNode, OperatorNode, TypeNode, name_node, operator_node, pointed_class, type_node,
-};
 use crate::nodes::{self, BaseClass, Function, Scope, Template, Whole};
 use crate::tree::{CallingConv, Name, NameSequence, Operator, Params, ParseResult, Symbol, Type};
+use crate::variants::{
+    NameNode, OperatorNode, TypeNode, name_node, operator_node, pointed_class, type_node,
+};
 use bitflags::Flags;
 use bumpalo::Bump;
 use bumpalo::collections::into_bump_slice;

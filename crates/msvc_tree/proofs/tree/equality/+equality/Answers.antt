@@ -1,6 +1,6 @@
 use denote.Enum.Bare.{same_true, true_same}
 use Rattle.std.proofs.Common.{◌≡◌, ◌<◌, get_or, refl, sym, ap, ◌∙◌, subst, arith}
-use Rattle.msvc_tree.specs.Nodes.{operator_in}
+use Rattle.msvc_tree.specs.Variants.{operator_in}
 use Rattle.msvc_tree.specs.Sizes.{name_size, names_size, type_size, types_size}
 use Rattle.msvc_tree.specs.Trees.{operator}
 use Rattle.msvc_tree.specs.View.{name_of, type_of, scope_of, params_of}

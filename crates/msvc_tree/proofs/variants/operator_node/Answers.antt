@@ -3,7 +3,7 @@ use Rattle.std.proofs.Common.{◌≡◌, rules, sym, ap, ◌∙◌}
 use Rattle.std.specs.Int.{w32}
 use Rattle.msvc_tree.specs.View.{operator_of}
 use Rattle.msvc_tree.proofs.Views.{operator_of-RTTIBaseClassDescriptor}
-use Rattle.msvc_tree.proofs.node.operator_node.Goals as goal
+use Rattle.msvc_tree.proofs.variants.operator_node.Goals as goal
 
 pub returns-in-RTTIBaseClassDescriptor : goal.returns-in-RTTIBaseClassDescriptor
 returns-in-RTTIBaseClassDescriptor c =

@@ -1,9 +1,9 @@
 use Rattle.std.proofs.Common.{None, sym, ap, ◌∙◌}
-use Rattle.msvc_tree.specs.Nodes.{without_class}
+use Rattle.msvc_tree.specs.Variants.{without_class}
 use Rattle.msvc_tree.specs.Trees.{function, member_function, member_pointer, anonymous, no_names}
 use Rattle.msvc_tree.specs.View.{type_of, params_of}
 use Rattle.msvc_tree.proofs.Views.{type_of-NonMemberFunction, type_of-MemberFunction, type_of-MemberFunctionPointer}
-use Rattle.msvc_tree.proofs.node.type_node.Goals as goal
+use Rattle.msvc_tree.proofs.variants.type_node.Goals as goal
 
 pub returns-in-NonMemberFunction : goal.returns-in-NonMemberFunction
 returns-in-NonMemberFunction c =

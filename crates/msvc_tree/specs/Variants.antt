@@ -1,16 +1,16 @@
--- Nodes as trees.
+-- Variants of owned names and types, as nodes, seen as trees.
 use Rattle.std.specs.Prelude.{Option, Some, None, option_map, string_bytes}
 use Rattle.msvc_tree.specs.Trees.{NameTree, NameTrees, TypeTree, spelled, operator, guard, type_descriptor}
 use Rattle.msvc_tree.specs.Trees.{base_class_descriptor, template, discriminator, nested, anonymous, no_names, plain}
 use Rattle.msvc_tree.specs.Trees.{base, tagged, numbered, constant_string, pointing, array, function, member_function}
 use Rattle.msvc_tree.specs.Trees.{member_pointer, variable, table, vcall_thunk}
 use Rattle.msvc_tree.specs.View.{name_of, operator_of, type_of, scope_of, params_of}
-use Rattle.msvc_tree.specs.declared.node.NameNode.{NameNode}
-use Rattle.msvc_tree.specs.declared.node.NameNode.TheVariants as name
-use Rattle.msvc_tree.specs.declared.node.OperatorNode.{OperatorNode}
-use Rattle.msvc_tree.specs.declared.node.OperatorNode.TheVariants as operator_node
-use Rattle.msvc_tree.specs.declared.node.TypeNode.{TypeNode}
-use Rattle.msvc_tree.specs.declared.node.TypeNode.TheVariants as node
+use Rattle.msvc_tree.specs.declared.variants.NameNode.{NameNode}
+use Rattle.msvc_tree.specs.declared.variants.NameNode.TheVariants as name
+use Rattle.msvc_tree.specs.declared.variants.OperatorNode.{OperatorNode}
+use Rattle.msvc_tree.specs.declared.variants.OperatorNode.TheVariants as operator_node
+use Rattle.msvc_tree.specs.declared.variants.TypeNode.{TypeNode}
+use Rattle.msvc_tree.specs.declared.variants.TypeNode.TheVariants as node
 
 -- the name that a node is of
 abbrev pub name_in : NameNode → NameTree

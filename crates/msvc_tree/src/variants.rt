@@ -1,10 +1,11 @@
-//! Nodes: what a name or a type is, with the trees in it borrowed. Equality, copies and printing go by it.
+//! Which variant an owned name or type is, as a node with the trees in it borrowed; variants with the same fields are
+//! one. Equality, copies and the nodes in an arena go by it.
 
 #![tactic(auto, using(crate::proofs::Views::rows), unfolding(crate::specs::View::name_of, crate::specs::View::operator_of, crate::specs::View::type_of))]
 
 ghost use Rattle.std.specs.Prelude.{◌≡◌, option_map};
 ghost use Rattle.msvc_tree.specs.View.{name_of, operator_of, scope_of, type_of};
-ghost use Rattle.msvc_tree.specs.Nodes.{name_in, operator_in, pointed_class, type_in, without_class};
+ghost use Rattle.msvc_tree.specs.Variants.{name_in, operator_in, pointed_class, type_in, without_class};
 
 use crate::flags::{FuncClass, StorageClass};
 use crate::kinds::{

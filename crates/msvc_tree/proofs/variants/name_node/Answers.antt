@@ -2,7 +2,7 @@ use Rattle.std.proofs.Common.{sym, ap, ◌∙◌}
 use Rattle.msvc_tree.specs.Trees.{template}
 use Rattle.msvc_tree.specs.View.{name_of, params_of}
 use Rattle.msvc_tree.proofs.Views.{name_of-Template}
-use Rattle.msvc_tree.proofs.node.name_node.Goals as goal
+use Rattle.msvc_tree.proofs.variants.name_node.Goals as goal
 
 pub returns-in-Template : goal.returns-in-Template
 returns-in-Template c =

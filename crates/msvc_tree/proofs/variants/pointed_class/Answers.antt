@@ -1,8 +1,8 @@
 use Rattle.std.proofs.Common.{sym, ap, ◌∙◌}
-use Rattle.msvc_tree.specs.Nodes.{pointed_class}
+use Rattle.msvc_tree.specs.Variants.{pointed_class}
 use Rattle.msvc_tree.specs.View.{type_of}
 use Rattle.msvc_tree.proofs.Views.{type_of-MemberFunctionPointer}
-use Rattle.msvc_tree.proofs.node.pointed_class.Goals as goal
+use Rattle.msvc_tree.proofs.variants.pointed_class.Goals as goal
 
 pub returns-in-MemberFunctionPointer : goal.returns-in-MemberFunctionPointer
 returns-in-MemberFunctionPointer c =
