@@ -175,65 +175,70 @@ pub fn operator_node<'t, 'a>(tree: &'t Operator<'a>) -> OperatorNode<'t, 'a>
 pub fn type_node<'t, 'a>(tree: &'t Type<'a>) -> TypeNode<'t, 'a>
     ensures { type_in result ≡ without_class (type_of tree.now) }
 {
-    match tree {
-        Type::None => TypeNode::Plain(PlainType::None),
-        Type::ConstantString(text) => TypeNode::ConstantString(text),
-        Type::EmptyParameterPack => TypeNode::Plain(PlainType::EmptyPack),
-        Type::RTTIType => TypeNode::Plain(PlainType::Rtti),
-        Type::Void(set) => TypeNode::Base(BaseType::Void, *set),
-        Type::Char(set) => TypeNode::Base(BaseType::Char, *set),
-        Type::Schar(set) => TypeNode::Base(BaseType::Schar, *set),
-        Type::Uchar(set) => TypeNode::Base(BaseType::Uchar, *set),
-        Type::Short(set) => TypeNode::Base(BaseType::Short, *set),
-        Type::Ushort(set) => TypeNode::Base(BaseType::Ushort, *set),
-        Type::Int(set) => TypeNode::Base(BaseType::Int, *set),
-        Type::Uint(set) => TypeNode::Base(BaseType::Uint, *set),
-        Type::Long(set) => TypeNode::Base(BaseType::Long, *set),
-        Type::Ulong(set) => TypeNode::Base(BaseType::Ulong, *set),
-        Type::Float(set) => TypeNode::Base(BaseType::Float, *set),
-        Type::Double(set) => TypeNode::Base(BaseType::Double, *set),
-        Type::Ldouble(set) => TypeNode::Base(BaseType::Ldouble, *set),
-        Type::Bool(set) => TypeNode::Base(BaseType::Bool, *set),
-        Type::Wchar(set) => TypeNode::Base(BaseType::Wchar, *set),
-        Type::Char8(set) => TypeNode::Base(BaseType::Char8, *set),
-        Type::Char16(set) => TypeNode::Base(BaseType::Char16, *set),
-        Type::Char32(set) => TypeNode::Base(BaseType::Char32, *set),
-        Type::Int64(set) => TypeNode::Base(BaseType::Int64, *set),
-        Type::Uint64(set) => TypeNode::Base(BaseType::Uint64, *set),
-        Type::Int128(set) => TypeNode::Base(BaseType::Int128, *set),
-        Type::Uint128(set) => TypeNode::Base(BaseType::Uint128, *set),
-        Type::Class(symbol, set) => TypeNode::Tagged(Tag::Class, symbol, *set),
-        Type::Struct(symbol, set) => TypeNode::Tagged(Tag::Struct, symbol, *set),
-        Type::Union(symbol, set) => TypeNode::Tagged(Tag::Union, symbol, *set),
-        Type::Enum(symbol, set) => TypeNode::Tagged(Tag::Enum, symbol, *set),
-        Type::Alias(symbol, set) => TypeNode::Tagged(Tag::Alias, symbol, *set),
-        Type::Constant(number) => TypeNode::Numbered(NumberedType::Constant, *number),
+    let (base, set) = match tree {
+        Type::None => return TypeNode::Plain(PlainType::None),
+        Type::ConstantString(text) => return TypeNode::ConstantString(text),
+        Type::EmptyParameterPack => return TypeNode::Plain(PlainType::EmptyPack),
+        Type::RTTIType => return TypeNode::Plain(PlainType::Rtti),
+        Type::Class(symbol, set) => return TypeNode::Tagged(Tag::Class, symbol, *set),
+        Type::Struct(symbol, set) => return TypeNode::Tagged(Tag::Struct, symbol, *set),
+        Type::Union(symbol, set) => return TypeNode::Tagged(Tag::Union, symbol, *set),
+        Type::Enum(symbol, set) => return TypeNode::Tagged(Tag::Enum, symbol, *set),
+        Type::Alias(symbol, set) => return TypeNode::Tagged(Tag::Alias, symbol, *set),
+        Type::Constant(number) => return TypeNode::Numbered(NumberedType::Constant, *number),
         Type::TemplateParameterWithIndex(number) => {
-            TypeNode::Numbered(NumberedType::TemplateParameter, *number)
+            return TypeNode::Numbered(NumberedType::TemplateParameter, *number);
         }
         Type::ThreadSafeStaticGuard(number) => {
-            TypeNode::Numbered(NumberedType::ThreadSafeGuard, *number)
+            return TypeNode::Numbered(NumberedType::ThreadSafeGuard, *number);
         }
-        Type::VarArgs => TypeNode::Plain(PlainType::Variadic),
-        Type::Nullptr => TypeNode::Plain(PlainType::Nullptr),
-        Type::Ptr(inner, set) => TypeNode::Pointing(Mark::Pointer, inner, *set),
-        Type::Ref(inner, set) => TypeNode::Pointing(Mark::Reference, inner, *set),
-        Type::RValueRef(inner, set) => TypeNode::Pointing(Mark::RValueReference, inner, *set),
-        Type::Array(length, inner, set) => TypeNode::Array(*length, inner, *set),
+        Type::VarArgs => return TypeNode::Plain(PlainType::Variadic),
+        Type::Nullptr => return TypeNode::Plain(PlainType::Nullptr),
+        Type::Ptr(inner, set) => return TypeNode::Pointing(Mark::Pointer, inner, *set),
+        Type::Ref(inner, set) => return TypeNode::Pointing(Mark::Reference, inner, *set),
+        Type::RValueRef(inner, set) => return TypeNode::Pointing(
+            Mark::RValueReference,
+            inner,
+            *set,
+        ),
+        Type::Array(length, inner, set) => return TypeNode::Array(*length, inner, *set),
         Type::NonMemberFunction(convention, parameters, set, returned) => {
-            TypeNode::Function(*convention, parameters, *set, returned)
+            return TypeNode::Function(*convention, parameters, *set, returned);
         }
         Type::MemberFunction(class, convention, parameters, set, returned) => {
-            TypeNode::MemberFunction(*class, *convention, parameters, *set, returned)
+            return TypeNode::MemberFunction(*class, *convention, parameters, *set, returned);
         }
         Type::MemberFunctionPointer(_, class, convention, parameters, set, returned) => {
-            TypeNode::MemberPointer(*class, *convention, parameters, *set, returned)
+            return TypeNode::MemberPointer(*class, *convention, parameters, *set, returned);
         }
-        Type::Var(inner, kind, set) => TypeNode::Variable(inner, *kind, *set),
-        Type::CXXVFTable(scope, set) => TypeNode::Table(Table::Functions, scope, *set),
-        Type::CXXVBTable(scope, set) => TypeNode::Table(Table::Bases, scope, *set),
-        Type::VCallThunk(number, convention) => TypeNode::VcallThunk(*number, *convention),
-    }
+        Type::Var(inner, kind, set) => return TypeNode::Variable(inner, *kind, *set),
+        Type::CXXVFTable(scope, set) => return TypeNode::Table(Table::Functions, scope, *set),
+        Type::CXXVBTable(scope, set) => return TypeNode::Table(Table::Bases, scope, *set),
+        Type::VCallThunk(number, convention) => return TypeNode::VcallThunk(*number, *convention),
+        Type::Void(set) => (BaseType::Void, *set),
+        Type::Char(set) => (BaseType::Char, *set),
+        Type::Schar(set) => (BaseType::Schar, *set),
+        Type::Uchar(set) => (BaseType::Uchar, *set),
+        Type::Short(set) => (BaseType::Short, *set),
+        Type::Ushort(set) => (BaseType::Ushort, *set),
+        Type::Int(set) => (BaseType::Int, *set),
+        Type::Uint(set) => (BaseType::Uint, *set),
+        Type::Long(set) => (BaseType::Long, *set),
+        Type::Ulong(set) => (BaseType::Ulong, *set),
+        Type::Float(set) => (BaseType::Float, *set),
+        Type::Double(set) => (BaseType::Double, *set),
+        Type::Ldouble(set) => (BaseType::Ldouble, *set),
+        Type::Bool(set) => (BaseType::Bool, *set),
+        Type::Wchar(set) => (BaseType::Wchar, *set),
+        Type::Char8(set) => (BaseType::Char8, *set),
+        Type::Char16(set) => (BaseType::Char16, *set),
+        Type::Char32(set) => (BaseType::Char32, *set),
+        Type::Int64(set) => (BaseType::Int64, *set),
+        Type::Uint64(set) => (BaseType::Uint64, *set),
+        Type::Int128(set) => (BaseType::Int128, *set),
+        Type::Uint128(set) => (BaseType::Uint128, *set),
+    };
+    TypeNode::Base(base, set)
 }
 
 /// The class whose member function is pointed to.
