@@ -35,7 +35,7 @@ impl Spelling {
 }
 
 /// The operators with nothing in them, as `Operator` names them.
-#[derive(Clone, Copy, PartialEq, Eq)]
+#[derive(Clone, Copy, PartialEq, Eq, Debug)]
 pub enum PlainOperator {
     Ctor,
     Dtor,
@@ -248,7 +248,7 @@ impl PlainType {
 }
 
 /// The types that are one word of the language, or a few, as `Type` names them.
-#[derive(Clone, Copy, PartialEq, Eq)]
+#[derive(Clone, Copy, PartialEq, Eq, Debug)]
 pub enum BaseType {
     Void,
     Char,
@@ -307,7 +307,7 @@ impl BaseType {
 }
 
 /// The types that are named.
-#[derive(Clone, Copy, PartialEq, Eq)]
+#[derive(Clone, Copy, PartialEq, Eq, Debug)]
 pub enum Tag {
     Class,
     Struct,
