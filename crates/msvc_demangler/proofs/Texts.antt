@@ -25,7 +25,7 @@ IsText-append {others = others} {more = more}
 -- a symbol has one answer, and a line one text
 IsAnswer-only : (symbol first second : List ℕ) → IsAnswer symbol first → IsAnswer symbol second → second ≡ first
 IsAnswer-only symbol first second (inl a) (inl b) =
-    b.2 ∙ ap (λ t. declaration t line_flags) (a.1.3 b.0 b.1.0 b.1.1 b.1.2) ∙ sym a.2
+    b.2 ∙ ap (λ t. declaration t line_flags) (a.1.3 b.0 b.1.0 b.1.1 b.1.2).0 ∙ sym a.2
 IsAnswer-only symbol first second (inl a) (inr b) = absurd (b.0 a.0 a.1.0 a.1.1 a.1.2)
 IsAnswer-only symbol first second (inr a) (inl b) = absurd (a.0 b.0 b.1.0 b.1.1 b.1.2)
 IsAnswer-only symbol first second (inr a) (inr b) = b.1 ∙ sym a.1

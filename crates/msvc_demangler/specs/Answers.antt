@@ -2,7 +2,7 @@
 use Rattle.std.specs.Prelude.{ℕ, List, [], ◌∷◌, ◌++◌, ◌≡◌, ◌⊎◌}
 use Rattle.std.specs.Str.{IsUtf8}
 use Rattle.msvc_tree.specs.Trees.{SymbolTree}
-use Rattle.msvc_read.specs.Reads.{Derives}
+use Rattle.msvc_read.specs.Reads.{Derives, IsOnly}
 use Rattle.msvc_read.specs.Refusals.{IsNoSymbol}
 use Rattle.msvc_read.specs.State.{Note}
 use Rattle.msvc_write.specs.Declaration.{declaration}
@@ -14,8 +14,8 @@ line_flags = 0xE00400
 
 -- the tree, and the only one, that the grammar derives from a beginning of the symbol
 abbrev pub IsTreeOf : List ℕ → SymbolTree → Type 0
-IsTreeOf symbol tree = (rest : List ℕ) × (notes : List Note) × Derives symbol tree rest notes
-    × ((other : SymbolTree) (behind : List ℕ) (others : List Note) → Derives symbol other behind others → other ≡ tree)
+IsTreeOf symbol tree =
+    (rest : List ℕ) × (notes : List Note) × Derives symbol tree rest notes × IsOnly symbol tree rest notes
 
 -- a symbol's answer: the declaration of its tree, or, where there is none, the symbol itself
 abbrev pub IsAnswer : List ℕ → List ℕ → Type 0

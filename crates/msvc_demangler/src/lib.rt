@@ -6,7 +6,8 @@
 ghost use Rattle.std.specs.Prelude.{◌≡◌, ◌≤◌, codes, ℕ, List, IfOk, IfErr, string_bytes};
 ghost use Rattle.msvc_tree.specs.Trees.{SymbolTree};
 ghost use Rattle.msvc_read.specs.Counts.{node_count};
-ghost use Rattle.msvc_read.specs.Reads.{Derives};
+ghost use Rattle.msvc_read.specs.Hashes.{HashesAreRead};
+ghost use Rattle.msvc_read.specs.Reads.{Derives, IsOnly};
 ghost use Rattle.msvc_read.specs.Refusals.{IsRefusedRightly, IsRefusedWithin, IsRefusalAt, begins_with};
 ghost use Rattle.msvc_read.specs.State.{Note};
 ghost use Rattle.msvc_read.specs.Written.{DigitsCanBeWrittenOut};
@@ -41,15 +42,14 @@ pub use watched::{Fault, Watched};
 /// The declaration of the symbol that `input` begins with, under the flags of printing: what [`serialize`] prints of
 /// the tree that [`parse`] reads, without that tree.
 ///
-/// A refusal has an offset into `input`, in bytes; one for want of memory has none.
+/// A refusal has an offset into `input`, in bytes; out of memory, there is none.
 pub fn demangle(alloc: Global, input: &str, flags: DemangleFlags) -> Result<String, Error>
     ensures declared { IfOk result (λ text. (tree : SymbolTree) × (rest : List ℕ) × (notes : List Note)
-        × Derives input.now tree rest notes
-        × ((other : SymbolTree) (behind : List ℕ) (others : List Note) → Derives input.now other behind others
-        → (other ≡ tree) × (behind ≡ rest) × (others ≡ notes))
+        × Derives input.now tree rest notes × IsOnly input.now tree rest notes
         × (string_bytes text ≡ declaration tree flags.0)) }
     ensures written_out { DigitsCanBeWrittenOut input.now }
     ensures hashes { IfOk result (λ text. HashesAreShown input.now (string_bytes text)) }
+    ensures hashes_read { IfErr result (λ e. HashesAreRead input.now e) }
     ensures refused { IfErr result (λ e. IsRefusedRightly input.now e) }
     ensures begins { (begins_with (codes "?") input.now → ⊥) → IfErr result (λ e. IsRefusalAt input.now 0 e) }
     ensures begins_ok { IfOk result (λ text. begins_with (codes "?") input.now) }
@@ -78,9 +78,7 @@ pub fn demangle_within(
     nodes: usize,
 ) -> Result<String, Error>
     ensures declared { IfOk result (λ text. (tree : SymbolTree) × (rest : List ℕ) × (notes : List Note)
-        × Derives input.now tree rest notes
-        × ((other : SymbolTree) (behind : List ℕ) (others : List Note) → Derives input.now other behind others
-        → (other ≡ tree) × (behind ≡ rest) × (others ≡ notes))
+        × Derives input.now tree rest notes × IsOnly input.now tree rest notes
         × (node_count tree ≤ nodes)
         × (string_bytes text ≡ declaration tree flags.0)) }
     ensures hashes { IfOk result (λ text. HashesAreShown input.now (string_bytes text)) }

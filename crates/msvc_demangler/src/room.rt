@@ -4,7 +4,7 @@ ghost use Rattle.std.specs.Prelude.{◌≡◌, ◌+◌, ◌≤◌, ◌<◌, code
 ghost use Rattle.std.specs.Str.{IsUtf8};
 ghost use Rattle.msvc_tree.specs.Trees.{SymbolTree};
 ghost use Rattle.msvc_read.specs.Counts.{node_count};
-ghost use Rattle.msvc_read.specs.Reads.{Derives};
+ghost use Rattle.msvc_read.specs.Reads.{Derives, IsOnly};
 ghost use Rattle.msvc_read.specs.Refusals.{IsRefusedRightly, IsRefusedWithin, IsRefusalAt, begins_with};
 ghost use Rattle.msvc_read.specs.State.{Note};
 ghost use Rattle.msvc_write.specs.Declaration.{declaration};
@@ -49,9 +49,7 @@ impl Room {
     /// The declaration of the symbol that `input` begins with, under the flags of printing, takes the place of `text`.
     pub(crate) fn demangle(&mut self, input: &str, flags: DemangleFlags) -> Result<(), Error>
         ensures declared { IfOk result (λ _. (tree : SymbolTree) × (rest : List ℕ) × (notes : List Note)
-            × Derives input.now tree rest notes
-            × ((other : SymbolTree) (behind : List ℕ) (others : List Note) → Derives input.now other behind others
-            → (other ≡ tree) × (behind ≡ rest) × (others ≡ notes))
+            × Derives input.now tree rest notes × IsOnly input.now tree rest notes
             × (self.new.text.items ≡ declaration tree flags.0)) }
         ensures utf8 { IfOk result (λ _. IsUtf8 self.new.text.items) }
         ensures hashes { IfOk result (λ _. HashesAreShown input.now self.new.text.items) }
@@ -77,9 +75,7 @@ impl Room {
         nodes: usize,
     ) -> Result<(), Error>
         ensures declared { IfOk result (λ _. (tree : SymbolTree) × (rest : List ℕ) × (notes : List Note)
-            × Derives input.now tree rest notes
-            × ((other : SymbolTree) (behind : List ℕ) (others : List Note) → Derives input.now other behind others
-            → (other ≡ tree) × (behind ≡ rest) × (others ≡ notes))
+            × Derives input.now tree rest notes × IsOnly input.now tree rest notes
             × (node_count tree ≤ nodes)
             × (self.new.text.items ≡ declaration tree flags.0)) }
         ensures utf8 { IfOk result (λ _. IsUtf8 self.new.text.items) }
@@ -98,8 +94,8 @@ impl Room {
         }
     }
 
-    /// The same of a symbol whose declaration also has at most so many bytes. Where it has more, `text` is no declaration,
-    /// and no number is told.
+    /// The same of a symbol whose declaration also has at most so many bytes. Where it has more, `text` is no
+    /// declaration, and no number is told.
     pub(crate) fn demangle_short(
         &mut self,
         input: &str,

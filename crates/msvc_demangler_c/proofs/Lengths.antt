@@ -4,13 +4,9 @@ use Rattle.std.specs.Str.{IsCharBoundary}
 use Rattle.msvc_tree.specs.Trees.{SymbolTree}
 use Rattle.msvc_read.specs.Counts.{node_count}
 use Rattle.msvc_read.specs.Prefix.{IsReadTo}
-use Rattle.msvc_read.specs.Reads.{Derives}
+use Rattle.msvc_read.specs.Reads.{Derives, IsOnly}
 use Rattle.msvc_read.specs.State.{Note}
 use Rattle.msvc_demangler_c.specs.Calls.{IsLength}
-
-abbrev IsOnly : List ℕ → SymbolTree → List ℕ → List Note → Type 0
-IsOnly symbol tree rest notes = (other : SymbolTree) (behind : List ℕ) (others : List Note)
-    → Derives symbol other behind others → (other ≡ tree) × (behind ≡ rest) × (others ≡ notes)
 
 abbrev IsReadOf : List ℕ → ℕ → Type 0
 IsReadOf symbol bytes = (tree : SymbolTree) (rest : List ℕ) (notes : List Note)

@@ -9,7 +9,7 @@ use Rattle.msvc_tree.specs.Trees.{SymbolTree}
 use Rattle.msvc_tree.specs.declared.error.ErrorRepr.{ErrorRepr}
 use Rattle.msvc_read.specs.Counts.{node_count}
 use Rattle.msvc_read.specs.Prefix.{IsReadTo}
-use Rattle.msvc_read.specs.Reads.{Derives}
+use Rattle.msvc_read.specs.Reads.{Derives, IsOnly}
 use Rattle.msvc_read.specs.Refusals.{IsRefusedRightly, IsRefusedWithin, begins_with}
 use Rattle.msvc_read.specs.State.{Note}
 use Rattle.msvc_write.specs.Declaration.{declaration}
@@ -35,8 +35,7 @@ IsAllowed (Some nodes) tree = node_count tree ≤ nodes
 -- the tree that the grammar derives from a beginning of the symbol, the only one, and allowed
 abbrev pub IsTree : Option ℕ → List ℕ → SymbolTree → List ℕ → List Note → Type 0
 IsTree bound symbol tree rest notes = Derives symbol tree rest notes
-    × ((other : SymbolTree) (behind : List ℕ) (others : List Note) → Derives symbol other behind others
-    → (other ≡ tree) × (behind ≡ rest) × (others ≡ notes))
+    × IsOnly symbol tree rest notes
     × IsAllowed bound tree
 
 -- the text is that tree's declaration

@@ -6,13 +6,16 @@ use Rattle.std.proofs.lemmas.Bool.{eqb-true}
 use Rattle.std.specs.Prelude.{is_some, ◌&&◌}
 use Rattle.std.specs.List.{list_all}
 use Rattle.msvc_tree.specs.Trees.{SymbolTree}
+use Rattle.msvc_tree.specs.declared.error.ErrorRepr.{ErrorRepr}
+use Rattle.msvc_tree.specs.declared.error.ErrorRepr.TheVariants as error
 use Rattle.msvc_read.specs.State.{State, Note, beginning, counted}
 use Rattle.msvc_read.specs.Sorts.{symbol_tree}
 use Rattle.msvc_read.specs.Rules.{call, every, lookup, required}
 use Rattle.msvc_read.specs.Grammar.{grammar, hashed_symbol, is_hash}
 use Rattle.msvc_read.specs.Letters.{hexadecimal_codes}
 use Rattle.msvc_tree.specs.Trees.{md5_symbol}
-use Rattle.msvc_read.specs.Hashes.{HashesStand, hashed_text}
+use Rattle.msvc_read.specs.Hashes.{HashesAreRead, HashesStand, hashed_text}
+use Rattle.msvc_read.specs.Refusals.{IsRefusedRightly}
 use Rattle.msvc_read.specs.Reads.{Derives, Reads, a_literal, a_node, a_part, called, given, in_a_row, the_first}
 use Rattle.msvc_read.proofs.Firsts.{both_if, if_both}
 use Rattle.msvc_read.proofs.Laws.{derived-only}
@@ -78,3 +81,17 @@ pub hashes-stand : (text : List ℕ) (tree : SymbolTree) (rest : List ℕ) (note
     → Derives text tree rest notes → HashesStand text tree
 hashes-stand text tree rest notes d digits behind h same =
     (hash_only digits behind h tree rest notes (subst (λ z. Derives z tree rest notes) same d)).0
+
+-- a text that begins with a hash is refused for memory alone, if it is refused rightly
+pub hashes-read : (text : List ℕ) (e : ErrorRepr) → IsRefusedRightly text e → HashesAreRead text e
+hashes-read text e refused digits rest hash begins = go e refused
+  where
+    derived : Derives text (md5_symbol digits) rest []
+    derived = subst (λ z. Derives z (md5_symbol digits) rest []) (sym begins) (hash_derived digits rest hash)
+
+    go : (e : ErrorRepr) → IsRefusedRightly text e → e ≡ error.Memory
+    go (error.ParseError message context at) h = absurd (h.1 (md5_symbol digits) rest [] derived)
+    go error.Memory h = refl
+    go (error.Other m) h = absurd h
+    go (error.Utf8 m) h = absurd h
+    go (error.FromUtf8 m) h = absurd h

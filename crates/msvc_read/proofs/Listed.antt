@@ -28,8 +28,7 @@ noted (Some x) notes e = let same : x.2.notes ≡ notes = cc in (x.0, x.1, x.2, 
 -- what is derived, with these notes, and alone
 abbrev pub OneNoted : List ℕ → List Note → Type 0
 OneNoted text notes = (tree : SymbolTree) × (rest : List ℕ) × Derives text tree rest notes
-    × ((other : SymbolTree) (behind : List ℕ) (others : List Note) → Derives text other behind others
-    → (other ≡ tree) × (behind ≡ rest) × (others ≡ notes))
+    × IsOnly text tree rest notes
 
 pub read-noted : (text : List ℕ) (notes : List Note) → notes_read text ≡ Some notes → OneNoted text notes
 read-noted text notes e =

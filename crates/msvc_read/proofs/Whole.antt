@@ -23,7 +23,7 @@ use Rattle.msvc_read.specs.Hashes.{HashesStand}
 use Rattle.msvc_read.specs.Parser.{Refuses, with_length}
 use Rattle.msvc_read.specs.Parts.{NamesAreParts}
 use Rattle.msvc_read.specs.Prefix.{IsReadTo}
-use Rattle.msvc_read.specs.Reads.{Derives, Found, read_name}
+use Rattle.msvc_read.specs.Reads.{Derives, Found, IsOnly, read_name}
 use Rattle.msvc_read.specs.Refusals.{IsErrorOf, IsRefusalAt, IsNoSymbol, IsNoSymbolWithin, IsRefusedRightly}
 use Rattle.msvc_read.specs.Refusals.{IsRefusedWithin, begins_with}
 use Rattle.msvc_read.specs.Rules.{after, symbol}
@@ -46,9 +46,8 @@ whole text (Some x) tree n e =
 
 -- what is derived, and alone
 abbrev pub OneDerived : List ℕ → SymbolTree → Type 0
-OneDerived text tree = (rest : List ℕ) × (notes : List Note) × Derives text tree rest notes
-    × ((other : SymbolTree) (behind : List ℕ) (others : List Note) → Derives text other behind others
-    → (other ≡ tree) × (behind ≡ rest) × (others ≡ notes))
+OneDerived text tree =
+    (rest : List ℕ) × (notes : List Note) × Derives text tree rest notes × IsOnly text tree rest notes
 
 -- and so many bytes of the text were read for it
 abbrev pub OneRead : List ℕ → SymbolTree → ℕ → Type 0

@@ -1,6 +1,8 @@
 -- Hashes, which stand for names that were too long.
 use Rattle.std.specs.Prelude.{ℕ, List, ◌∷◌, ◌++◌, true, ◌≡◌, codes}
 use Rattle.msvc_tree.specs.Trees.{SymbolTree, md5_symbol}
+use Rattle.msvc_tree.specs.declared.error.ErrorRepr.{ErrorRepr}
+use Rattle.msvc_tree.specs.declared.error.ErrorRepr.TheVariants as error
 use Rattle.msvc_read.specs.Grammar.{is_hash}
 
 -- the text of that symbol, and any bytes behind it
@@ -11,3 +13,8 @@ hashed_text digits rest = codes "??@" ++ (digits ++ 64 ∷ rest)
 abbrev pub HashesStand : List ℕ → SymbolTree → Type 0
 HashesStand text tree =
     (digits rest : List ℕ) → is_hash digits ≡ true → text ≡ hashed_text digits rest → tree ≡ md5_symbol digits
+
+-- where a text begins with a hash, it is refused for memory alone
+abbrev pub HashesAreRead : List ℕ → ErrorRepr → Type 0
+HashesAreRead text e =
+    (digits rest : List ℕ) → is_hash digits ≡ true → text ≡ hashed_text digits rest → e ≡ error.Memory

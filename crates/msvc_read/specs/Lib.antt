@@ -1,6 +1,7 @@
 pub mod Counts
 pub mod Grammar
 pub mod Hashes
+pub mod Laws
 pub mod Letters
 pub mod Parser
 pub mod Parts

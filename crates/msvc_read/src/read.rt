@@ -8,11 +8,12 @@ ghost use Rattle.msvc_tree.specs.NodeView.{whole_of};
 ghost use Rattle.msvc_tree.specs.Trees.{SymbolTree};
 ghost use Rattle.msvc_tree.specs.View.{tree_of};
 ghost use Rattle.msvc_read.specs.Counts.{node_count};
-ghost use Rattle.msvc_read.specs.Hashes.{HashesStand};
+ghost use Rattle.msvc_read.specs.Hashes.{HashesAreRead, HashesStand};
+ghost use Rattle.msvc_read.specs.Laws.{HasOneTree, TablesAreHandedBack, TypesAreLocal};
 ghost use Rattle.msvc_read.specs.Parser.{IsRead, note_of, with_length, Refuses};
 ghost use Rattle.msvc_read.specs.Parts.{NamesAreParts};
 ghost use Rattle.msvc_read.specs.Prefix.{IsReadTo};
-ghost use Rattle.msvc_read.specs.Reads.{Derives, read_name};
+ghost use Rattle.msvc_read.specs.Reads.{Derives, IsOnly, read_name};
 ghost use Rattle.msvc_read.specs.Refusals.{IsRefusedRightly, IsRefusedWithin, IsRefusalAt, begins_with};
 ghost use Rattle.msvc_read.specs.Rules.{after, symbol};
 ghost use Rattle.msvc_read.specs.State.{Count, Note, beginning, beginning_with};
@@ -47,16 +48,18 @@ const MOST_ROOM: usize = 1 << 20;
 /// The tree of the symbol that `input` begins with. Its names are parts of `input`, which it borrows; bytes after a
 /// finished symbol stay unread.
 ///
-/// A refusal has an offset into `input`, in bytes; one for want of memory has none, and leaves nothing behind.
+/// A refusal has an offset into `input`, in bytes; out of memory, there is none. It leaves nothing behind.
 pub fn parse<'a>(alloc: Global, input: &'a str) -> Result<ParseResult<'a>, Error>
     ensures derived { IfOk result (λ r. (rest : List ℕ) × (notes : List Note)
-        × Derives input.now (tree_of r) rest notes
-        × ((tree : SymbolTree) (behind : List ℕ) (others : List Note) → Derives input.now tree behind others
-        → (tree ≡ tree_of r) × (behind ≡ rest) × (others ≡ notes))) }
+        × Derives input.now (tree_of r) rest notes × IsOnly input.now (tree_of r) rest notes) }
     ensures written_out { DigitsCanBeWrittenOut input.now }
     ensures parts { IfOk result (λ r. NamesAreParts input.now (tree_of r)) }
     ensures texts { IfOk result (λ r. EachName IsUtf8 (tree_of r)) }
     ensures hashes { IfOk result (λ r. HashesStand input.now (tree_of r)) }
+    ensures unique { HasOneTree input.now }
+    ensures local { TypesAreLocal }
+    ensures tables { TablesAreHandedBack }
+    ensures hashes_read { IfErr result (λ e. HashesAreRead input.now e) }
     ensures refused { IfErr result (λ e. IsRefusedRightly input.now e) }
     ensures begins { (begins_with (codes "?") input.now → ⊥) → IfErr result (λ e. IsRefusalAt input.now 0 e) }
     ensures begins_ok { IfOk result (λ r. begins_with (codes "?") input.now) }
@@ -73,9 +76,7 @@ pub fn parse<'a>(alloc: Global, input: &'a str) -> Result<ParseResult<'a>, Error
 /// It refuses where [`parse`] does, with the same refusal.
 pub fn parse_prefix<'a>(alloc: Global, input: &'a str) -> Result<(ParseResult<'a>, usize), Error>
     ensures derived { IfOk result (λ r. (rest : List ℕ) × (notes : List Note)
-        × Derives input.now (tree_of r.0) rest notes
-        × ((tree : SymbolTree) (behind : List ℕ) (others : List Note) → Derives input.now tree behind others
-        → (tree ≡ tree_of r.0) × (behind ≡ rest) × (others ≡ notes))) }
+        × Derives input.now (tree_of r.0) rest notes × IsOnly input.now (tree_of r.0) rest notes) }
     ensures prefix { IfOk result (λ r. (tree : SymbolTree) (rest : List ℕ) (notes : List Note)
         → Derives input.now tree rest notes → IsReadTo r.1 input.now tree rest notes) }
     ensures boundary { IfOk result (λ r. IsCharBoundary input.now r.1) }
@@ -83,6 +84,7 @@ pub fn parse_prefix<'a>(alloc: Global, input: &'a str) -> Result<(ParseResult<'a
     ensures parts { IfOk result (λ r. NamesAreParts input.now (tree_of r.0)) }
     ensures texts { IfOk result (λ r. EachName IsUtf8 (tree_of r.0)) }
     ensures hashes { IfOk result (λ r. HashesStand input.now (tree_of r.0)) }
+    ensures hashes_read { IfErr result (λ e. HashesAreRead input.now e) }
     ensures refused { IfErr result (λ e. IsRefusedRightly input.now e) }
     ensures begins { (begins_with (codes "?") input.now → ⊥) → IfErr result (λ e. IsRefusalAt input.now 0 e) }
     ensures begins_ok { IfOk result (λ r. begins_with (codes "?") input.now) }
@@ -105,9 +107,7 @@ pub fn parse_within<'a>(
     nodes: usize,
 ) -> Result<ParseResult<'a>, Error>
     ensures derived { IfOk result (λ r. (rest : List ℕ) × (notes : List Note)
-        × Derives input.now (tree_of r) rest notes
-        × ((tree : SymbolTree) (behind : List ℕ) (others : List Note) → Derives input.now tree behind others
-        → (tree ≡ tree_of r) × (behind ≡ rest) × (others ≡ notes))) }
+        × Derives input.now (tree_of r) rest notes × IsOnly input.now (tree_of r) rest notes) }
     ensures within { IfOk result (λ r. node_count (tree_of r) ≤ nodes) }
     ensures parts { IfOk result (λ r. NamesAreParts input.now (tree_of r)) }
     ensures texts { IfOk result (λ r. EachName IsUtf8 (tree_of r)) }
@@ -136,9 +136,7 @@ pub fn read_symbol<'a, 'b>(
     input: &'a str,
 ) -> Result<Whole<'a, 'b>, Error>
     ensures derived { IfOk result (λ r. (rest : List ℕ) × (notes : List Note)
-        × Derives input.now (whole_of r) rest notes
-        × ((tree : SymbolTree) (behind : List ℕ) (others : List Note) → Derives input.now tree behind others
-        → (tree ≡ whole_of r) × (behind ≡ rest) × (others ≡ notes))) }
+        × Derives input.now (whole_of r) rest notes × IsOnly input.now (whole_of r) rest notes) }
     ensures written_out { DigitsCanBeWrittenOut input.now }
     ensures parts { IfOk result (λ r. NamesAreParts input.now (whole_of r)) }
     ensures texts { IfOk result (λ r. EachName IsUtf8 (whole_of r)) }
@@ -164,9 +162,7 @@ pub fn read_symbol_within<'a, 'b>(
     nodes: usize,
 ) -> Result<(Whole<'a, 'b>, usize), Error>
     ensures derived { IfOk result (λ r. (rest : List ℕ) × (notes : List Note)
-        × Derives input.now (whole_of r.0) rest notes
-        × ((tree : SymbolTree) (behind : List ℕ) (others : List Note) → Derives input.now tree behind others
-        → (tree ≡ whole_of r.0) × (behind ≡ rest) × (others ≡ notes))) }
+        × Derives input.now (whole_of r.0) rest notes × IsOnly input.now (whole_of r.0) rest notes) }
     ensures within { IfOk result (λ r. node_count (whole_of r.0) ≤ nodes) }
     ensures prefix { IfOk result (λ r. (tree : SymbolTree) (rest : List ℕ) (notes : List Note)
         → Derives input.now tree rest notes → IsReadTo r.1 input.now tree rest notes) }
@@ -193,9 +189,7 @@ pub fn read_symbol_within<'a, 'b>(
 /// It refuses where [`parse`] does, with the same refusal.
 pub fn symbol_length(alloc: Global, input: &str) -> Result<usize, Error>
     ensures derived { IfOk result (λ _. (tree : SymbolTree) × (rest : List ℕ) × (notes : List Note)
-        × Derives input.now tree rest notes
-        × ((other : SymbolTree) (behind : List ℕ) (others : List Note) → Derives input.now other behind others
-        → (other ≡ tree) × (behind ≡ rest) × (others ≡ notes))) }
+        × Derives input.now tree rest notes × IsOnly input.now tree rest notes) }
     ensures prefix { IfOk result (λ bytes. (tree : SymbolTree) (rest : List ℕ) (notes : List Note)
         → Derives input.now tree rest notes → IsReadTo bytes input.now tree rest notes) }
     ensures boundary { IfOk result (λ bytes. IsCharBoundary input.now bytes) }
@@ -215,9 +209,7 @@ pub fn symbol_length(alloc: Global, input: &str) -> Result<usize, Error>
 /// It refuses where [`parse_within`] does, with the same refusal.
 pub fn symbol_length_within(alloc: Global, input: &str, nodes: usize) -> Result<usize, Error>
     ensures derived { IfOk result (λ _. (tree : SymbolTree) × (rest : List ℕ) × (notes : List Note)
-        × Derives input.now tree rest notes
-        × ((other : SymbolTree) (behind : List ℕ) (others : List Note) → Derives input.now other behind others
-        → (other ≡ tree) × (behind ≡ rest) × (others ≡ notes))
+        × Derives input.now tree rest notes × IsOnly input.now tree rest notes
         × (node_count tree ≤ nodes)) }
     ensures prefix { IfOk result (λ bytes. (tree : SymbolTree) (rest : List ℕ) (notes : List Note)
         → Derives input.now tree rest notes → IsReadTo bytes input.now tree rest notes) }
@@ -243,8 +235,7 @@ pub fn symbol_length_within(alloc: Global, input: &str, nodes: usize) -> Result<
 pub fn back_references(alloc: Global, input: &str) -> Result<Vec<BackReference>, Error>
     ensures listed { IfOk result (λ found. (tree : SymbolTree) × (rest : List ℕ)
         × Derives input.now tree rest (map note_of found.items)
-        × ((other : SymbolTree) (behind : List ℕ) (others : List Note) → Derives input.now other behind others
-        → (other ≡ tree) × (behind ≡ rest) × (others ≡ map note_of found.items))) }
+        × IsOnly input.now tree rest (map note_of found.items)) }
     ensures rising { IfOk result (λ found. AreRising (map note_of found.items)) }
     ensures written_out { IfOk result (λ found. (tree : SymbolTree) (rest : List ℕ) (notes : List Note)
         → Derives input.now tree rest notes → CanBeWrittenOut input.now tree rest (map note_of found.items)) }

@@ -6,4 +6,4 @@ pub returns-clause-declared : goal.returns-clause-declared
 returns-clause-declared c =
     let declared = rw c.llvm.ensures at c.demangle.ensures.declared in
     IfOk-weaker _ _ _
-    (λ text h. inl (h.0, (h.1, h.2, h.3, λ other behind others d. (h.4 other behind others d).0), h.5)) declared
+    (λ text h. inl (h.0, (h.1, h.2, h.3, h.4), h.5)) declared

@@ -1,4 +1,5 @@
 use Rattle.msvc_tree.specs.View.{tree_of}
+use Rattle.msvc_read.proofs.Hashes.{hashes-read}
 use Rattle.msvc_read.proofs.Whole.{read-boundary, read-derived, read-hashes, read-parts, read-prefix, read-texts}
 use Rattle.msvc_read.proofs.Whole.{error-refused, refused-at-once}
 use Rattle.msvc_read.proofs.Written.{all_written_out}
@@ -39,3 +40,7 @@ pub returns-in-Err-clause-begins : goal.returns-in-Err-clause-begins
 returns-in-Err-clause-begins c never =
     refused-at-once c.args.input.now c.in-Err.refusal c.error.result c.in-Err.ensures.start
     (rw c.as_bytes.ensures.value at c.error.ensures) never
+
+pub returns-in-Err-clause-hashes_read : goal.returns-in-Err-clause-hashes_read
+returns-in-Err-clause-hashes_read c =
+    hashes-read c.args.input.now c.error.result (returns-in-Err-clause-refused c)
