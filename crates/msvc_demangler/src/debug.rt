@@ -1,47 +1,331 @@
-//! The debug text of a tree, for a person to read. Nothing is promised of it.
+//! The tree of a symbol for a person to read, on one line, by the names that [`crate::Type`] and its parts have: of
+//! `?f@A@@QBEHPBD@Z`, `A::f: MemberFunction(PUBLIC Thiscall CONST [Ptr(CONST Char)] Int)`. Nothing is promised of it.
+//!
+//! No function here calls itself: what stands inside a tree goes onto a stack, so a deep tree takes memory alone.
 
+use bitflags::Flags;
+use msvc_tree::flags::StorageClass;
+use msvc_tree::kinds::{Guard, Mark, NumberedType, PlainType, Table};
+use msvc_tree::nodes::{BaseClass, Function, Name, Symbol, Type, Whole};
 use std::alloc::{AllocError, Global};
-use std::str::from_utf8;
 
-/// A debug text in which each list of bytes is the text that it spells: `"fo"` for `[102, 111]`.
-pub(crate) fn with_texts(alloc: Global, debug: &str) -> Result<String, AllocError> {
+/// What is still to be shown.
+#[derive(Clone, Copy)]
+enum Item<'a, 'b> {
+    Text(&'static str),
+    Name(&'b Name<'a, 'b>),
+    /// The names of a scope, the innermost first; they are shown from the outermost on, each with `::` after it.
+    Scope(&'b [&'b Name<'a, 'b>]),
+    Type(&'b Type<'a, 'b>),
+    /// The types of a list, with commas between them.
+    Types(&'b [&'b Type<'a, 'b>]),
+    Function(&'b Function<'a, 'b>),
+}
+
+/// The text of a symbol's tree, and a line feed.
+pub(crate) fn tree_text<'a, 'b>(
+    alloc: Global,
+    whole: &'b Whole<'a, 'b>,
+) -> Result<String, AllocError> {
     let mut text = String::new(alloc);
-    let mut first = true;
-    for part in debug.split('[') {
-        if first {
-            text.push_str(part)?;
-        } else {
-            push_list(alloc, &mut text, part)?;
-        }
-        first = false;
+    let mut stack = vec![in alloc; Item::Text("\n")]?;
+    push_whole(&mut stack, whole)?;
+    'items: for _ in 0..u64::MAX {
+        let Some(item) = stack.pop() else {
+            return Ok(text);
+        };
+        show(alloc, &mut stack, &mut text, item)?;
     }
     Ok(text)
 }
 
-/// What stands behind the bracket that opens a list.
-fn push_list(alloc: Global, text: &mut String, part: &str) -> Result<(), AllocError> {
-    let (list, rest) = part.split_once(']').unwrap_or((part, ""));
-    let bytes = bytes_of(alloc, list)?;
-    match from_utf8(&bytes) {
-        Ok(spelled) if !spelled.is_empty() => {
-            let quoted = format!(in alloc; "{spelled:?}{rest}")?;
-            text.push_str(quoted.as_str())
+/// Shows what an item begins with, and puts the rest of it onto the stack, the last first.
+fn show<'a, 'b>(
+    alloc: Global,
+    stack: &mut Vec<Item<'a, 'b>>,
+    text: &mut String,
+    item: Item<'a, 'b>,
+) -> Result<(), AllocError> {
+    match item {
+        Item::Text(word) => text.push_str(word),
+        Item::Name(name) => show_name(alloc, stack, text, name),
+        Item::Scope(names) => show_scope(stack, names),
+        Item::Type(shown) => show_type(alloc, stack, text, shown),
+        Item::Types(types) => show_types(stack, types),
+        Item::Function(function) => show_function(alloc, stack, text, function),
+    }
+}
+
+fn show_scope<'a, 'b>(
+    stack: &mut Vec<Item<'a, 'b>>,
+    names: &'b [&'b Name<'a, 'b>],
+) -> Result<(), AllocError> {
+    let Some((innermost, outer)) = names.split_first() else {
+        return Ok(());
+    };
+    push(stack, Item::Text("::"))?;
+    push(stack, Item::Name(*innermost))?;
+    push(stack, Item::Scope(outer))
+}
+
+fn show_types<'a, 'b>(
+    stack: &mut Vec<Item<'a, 'b>>,
+    types: &'b [&'b Type<'a, 'b>],
+) -> Result<(), AllocError> {
+    let Some((first, rest)) = types.split_first() else {
+        return Ok(());
+    };
+    if !rest.is_empty() {
+        push(stack, Item::Types(rest))?;
+        push(stack, Item::Text(", "))?;
+    }
+    push(stack, Item::Type(*first))
+}
+
+/// Puts an item onto the stack.
+fn push<'a, 'b>(stack: &mut Vec<Item<'a, 'b>>, item: Item<'a, 'b>) -> Result<(), AllocError> {
+    stack.push(item)?;
+    Ok(())
+}
+
+/// A name in its scope, and its type.
+fn push_whole<'a, 'b>(
+    stack: &mut Vec<Item<'a, 'b>>,
+    whole: &Whole<'a, 'b>,
+) -> Result<(), AllocError> {
+    push(stack, Item::Type(whole.symbol_type))?;
+    push(stack, Item::Text(": "))?;
+    push_symbol(stack, &whole.symbol)
+}
+
+/// A name in its scope.
+fn push_symbol<'a, 'b>(
+    stack: &mut Vec<Item<'a, 'b>>,
+    symbol: &Symbol<'a, 'b>,
+) -> Result<(), AllocError> {
+    push(stack, Item::Name(symbol.name))?;
+    push(stack, Item::Scope(symbol.scope))
+}
+
+fn show_name<'a, 'b>(
+    alloc: Global,
+    stack: &mut Vec<Item<'a, 'b>>,
+    text: &mut String,
+    name: &Name<'a, 'b>,
+) -> Result<(), AllocError> {
+    match name {
+        Name::Source(spelled) => push_spelled(alloc, text, "", *spelled, ""),
+        Name::Interface(spelled) => push_spelled(alloc, text, "AsInterface(", *spelled, ")"),
+        Name::Md5(digits) => push_spelled(alloc, text, "Md5(", *digits, ")"),
+        Name::Anonymous => text.push_str("AnonymousNamespace"),
+        Name::AnonymousDigits(digits) => {
+            push_spelled(alloc, text, "AnonymousNamespace(", digits.as_bytes(), ")")
         }
-        _ => {
-            text.push('[')?;
-            text.push_str(part)
+        Name::Plain(operator) => push_text(text, format!(in alloc; "{operator:?}")),
+        Name::Guard(guard, number) => push_guard(alloc, text, *guard, *number),
+        Name::TypeDescriptor(set, described) => {
+            text.push_str("RTTITypeDescriptor(")?;
+            push_set(text, *set)?;
+            push(stack, Item::Text(")"))?;
+            push(stack, Item::Type(*described))
+        }
+        Name::BaseClassDescriptor(place) => push_place(alloc, text, *place),
+        Name::Template(template) => {
+            push(stack, Item::Text(">"))?;
+            push(stack, Item::Types(template.arguments))?;
+            push(stack, Item::Text("<"))?;
+            push(stack, Item::Name(template.name))
+        }
+        Name::Discriminator(number) => {
+            push_text(text, format!(in alloc; "Discriminator({number})"))
+        }
+        Name::Nested(whole) => {
+            push(stack, Item::Text(")"))?;
+            push_whole(stack, *whole)?;
+            text.push('(')
         }
     }
 }
 
-/// The bytes of a list, or none where it is of something else.
-fn bytes_of(alloc: Global, list: &str) -> Result<Vec<u8>, AllocError> {
-    let mut bytes = Vec::new(alloc);
-    for number in list.split(", ") {
-        match number.parse::<u8>() {
-            Ok(byte) => bytes.push(byte)?,
-            Err(_) => return Ok(Vec::new(alloc)),
+fn show_type<'a, 'b>(
+    alloc: Global,
+    stack: &mut Vec<Item<'a, 'b>>,
+    text: &mut String,
+    shown: &Type<'a, 'b>,
+) -> Result<(), AllocError> {
+    match shown {
+        Type::Plain(plain) => text.push_str(plain_word(*plain)),
+        Type::Base(base, set) => {
+            push_set(text, *set)?;
+            push_text(text, format!(in alloc; "{base:?}"))
+        }
+        Type::Tagged(tag, set, symbol) => {
+            push_text(text, format!(in alloc; "{tag:?}("))?;
+            push_set(text, *set)?;
+            push(stack, Item::Text(")"))?;
+            push_symbol(stack, *symbol)
+        }
+        Type::Numbered(kind, number) => {
+            let word = numbered_word(*kind);
+            push_text(text, format!(in alloc; "{word}({number})"))
+        }
+        Type::ConstantString(bytes) => push_literal(alloc, text, *bytes),
+        Type::Pointing(mark, set, inner) => {
+            text.push_str(mark_word(*mark))?;
+            push_inside(stack, text, *set, *inner)
+        }
+        Type::Array(length, set, inner) => {
+            push_text(text, format!(in alloc; "Array({length} "))?;
+            push_inside(stack, text, *set, *inner)
+        }
+        Type::Function(function) => {
+            push(stack, Item::Function(*function))?;
+            text.push_str("NonMemberFunction(")
+        }
+        Type::MemberFunction(function) => {
+            push(stack, Item::Function(*function))?;
+            text.push_str("MemberFunction(")
+        }
+        Type::MemberPointer(class, function) => {
+            push(stack, Item::Function(*function))?;
+            push(stack, Item::Text(" "))?;
+            push_symbol(stack, *class)?;
+            text.push_str("MemberFunctionPointer(")
+        }
+        Type::Variable(kind, set, inner) => {
+            push_text(text, format!(in alloc; "Var({kind:?} "))?;
+            push_inside(stack, text, *set, *inner)
+        }
+        Type::Table(table, set, scope) => {
+            text.push_str(table_word(*table))?;
+            push_set(text, *set)?;
+            push(stack, Item::Text(")"))?;
+            push(stack, Item::Scope(scope.names))
+        }
+        Type::VcallThunk(offset, convention) => {
+            push_text(text, format!(in alloc; "VCallThunk({offset} {convention:?})"))
         }
     }
-    Ok(bytes)
+}
+
+/// The qualifiers of a type, the type inside, and the bracket that closes it.
+fn push_inside<'a, 'b>(
+    stack: &mut Vec<Item<'a, 'b>>,
+    text: &mut String,
+    set: StorageClass,
+    inner: &'b Type<'a, 'b>,
+) -> Result<(), AllocError> {
+    push_set(text, set)?;
+    push(stack, Item::Text(")"))?;
+    push(stack, Item::Type(inner))
+}
+
+/// What a function has, after the bracket that opens it: its class, convention and qualifiers, its parameters in square
+/// brackets, and what it returns.
+fn show_function<'a, 'b>(
+    alloc: Global,
+    stack: &mut Vec<Item<'a, 'b>>,
+    text: &mut String,
+    function: &Function<'a, 'b>,
+) -> Result<(), AllocError> {
+    let convention = function.convention;
+    push_set(text, function.class)?;
+    push_text(text, format!(in alloc; "{convention:?} "))?;
+    push_set(text, function.qualifiers)?;
+    text.push('[')?;
+    push(stack, Item::Text(")"))?;
+    push(stack, Item::Type(function.returned))?;
+    push(stack, Item::Text("] "))?;
+    push(stack, Item::Types(function.parameters))
+}
+
+/// The names of a set's bits, each with a space after it.
+fn push_set<F: Flags>(text: &mut String, set: F) -> Result<(), AllocError> {
+    for (name, _) in set.iter_names() {
+        text.push_str(name)?;
+        text.push(' ')?;
+    }
+    Ok(())
+}
+
+fn push_text(text: &mut String, more: Result<String, AllocError>) -> Result<(), AllocError> {
+    text.push_str(more?.as_str())
+}
+
+/// Bytes of the symbol, between two words.
+fn push_spelled(
+    alloc: Global,
+    text: &mut String,
+    before: &str,
+    bytes: &[u8],
+    after: &str,
+) -> Result<(), AllocError> {
+    text.push_str(before)?;
+    push_text(text, String::from_utf8_lossy(alloc, bytes))?;
+    text.push_str(after)
+}
+
+/// The bytes of a string literal, in quotes.
+fn push_literal(alloc: Global, text: &mut String, bytes: &[u8]) -> Result<(), AllocError> {
+    let spelled = String::from_utf8_lossy(alloc, bytes)?;
+    push_text(text, format!(in alloc; "ConstantString({spelled:?})"))
+}
+
+fn push_guard(
+    alloc: Global,
+    text: &mut String,
+    guard: Guard,
+    number: Option<u32>,
+) -> Result<(), AllocError> {
+    let word = match guard {
+        Guard::Static => "LocalStaticGuard",
+        Guard::Thread => "LocalStaticThreadGuard",
+    };
+    push_text(text, format!(in alloc; "{word}({number:?})"))
+}
+
+fn push_place(alloc: Global, text: &mut String, place: &BaseClass) -> Result<(), AllocError> {
+    let BaseClass {
+        member,
+        pointer,
+        entry,
+        attributes,
+    } = *place;
+    push_text(
+        text,
+        format!(in alloc; "RTTIBaseClassDescriptor({member} {pointer} {entry} {attributes})"),
+    )
+}
+
+fn plain_word(plain: PlainType) -> &'static str {
+    match plain {
+        PlainType::None => "None",
+        PlainType::EmptyPack => "EmptyParameterPack",
+        PlainType::Rtti => "RTTIType",
+        PlainType::Variadic => "VarArgs",
+        PlainType::Nullptr => "Nullptr",
+    }
+}
+
+fn numbered_word(kind: NumberedType) -> &'static str {
+    match kind {
+        NumberedType::Constant => "Constant",
+        NumberedType::TemplateParameter => "TemplateParameterWithIndex",
+        NumberedType::ThreadSafeGuard => "ThreadSafeStaticGuard",
+    }
+}
+
+fn mark_word(mark: Mark) -> &'static str {
+    match mark {
+        Mark::Pointer => "Ptr(",
+        Mark::Reference => "Ref(",
+        Mark::RValueReference => "RValueRef(",
+    }
+}
+
+fn table_word(table: Table) -> &'static str {
+    match table {
+        Table::Functions => "CXXVFTable(",
+        Table::Bases => "CXXVBTable(",
+    }
 }

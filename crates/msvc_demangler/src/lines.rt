@@ -1,6 +1,6 @@
 //! `undname` over symbols and lines: what the program does, over readers and writers.
 
-ghost use Rattle.std.specs.Prelude.{◌≡◌, ◌≢◌, ◌++◌, ◌∷◌, ℕ, List, [], IfErr, IfOk, OnOk, OnSome, string_bytes};
+ghost use Rattle.std.specs.Prelude.{◌≡◌, ◌≢◌, ◌++◌, ◌∷◌, ℕ, List, [], IfErr, IfOk, OnOk, OnSome};
 ghost use Rattle.std.specs.Io.KnownBytes.{Appends, Consumes, IsAtEnd};
 ghost use Rattle.msvc_tree.specs.declared.error.ErrorRepr.TheVariants.{Memory};
 ghost use Rattle.msvc_demangler.specs.Answers.{IsAnswer, IsLineText, IsText};
@@ -8,18 +8,18 @@ ghost use Rattle.msvc_demangler.specs.Lines.{line_of};
 ghost use Rattle.msvc_demangler.specs.Faults.{Marks, mark, no_mark};
 ghost use Rattle.msvc_demangler.specs.Runs.{Writes, WritesLines};
 
-use crate::debug::with_texts;
+use crate::debug::tree_text;
 use crate::room::Room;
 use crate::watched::{Fault, Taken, Watched};
-use msvc_read::parse;
+use bumpalo::Bump;
+use msvc_read::read_symbol;
 use msvc_tree::error::Error;
 use msvc_tree::flags::DemangleFlags;
-use msvc_tree::tree::discard;
 use std::alloc::Global;
 use std::io::{BufRead, Write};
 use std::str::from_utf8;
 
-/// Does what the words behind the program's name ask for: each symbol in its order, or, where there is none, the lines
+/// Does what the words after the program's name ask for: each symbol in its order, or, where there is none, the lines
 /// of `input`. A first word `-v` is no symbol; with it each tree goes to `err` before its declaration.
 ///
 /// It ends at the first fault, neither flushes nor prints what that was, and leaves both to the program.
@@ -131,18 +131,18 @@ fn report<E: Write>(alloc: Global, refusal: &Error, err: &mut Watched<E>) -> Res
 fn show_tree<E: Write>(alloc: Global, symbol: &str, err: &mut Watched<E>) -> Result<(), Fault>
     ensures marks { Marks result no_mark no_mark (mark err.old err.new) }
 {
-    match tree_text(alloc, symbol) {
+    match shown(alloc, symbol) {
         Ok(text) => put_all(err, text.as_bytes()),
         Err(_) => Err(Fault::Memory),
     }
 }
 
-/// The debug text of a symbol's tree, its names as texts, and a line feed.
-fn tree_text(alloc: Global, symbol: &str) -> Result<String, Error> {
-    let tree = parse(alloc, symbol)?;
-    let debug = format!(in alloc; "{tree:?}\n");
-    discard(tree);
-    Ok(with_texts(alloc, debug?.as_str())?)
+/// The text of a symbol's tree, and a line feed.
+fn shown(alloc: Global, symbol: &str) -> Result<String, Error> {
+    let arena = Bump::new(alloc);
+    let whole = read_symbol(alloc, &arena, symbol)?;
+    let text = tree_text(alloc, &whole)?;
+    Ok(text)
 }
 
 /// Writes some bytes and a line feed.
