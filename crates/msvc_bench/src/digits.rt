@@ -20,7 +20,7 @@ mod tests {
         Ok(text)
     }
 
-    /// Symbols and their digits. A digit inside a type, or behind a `$`, is not listed.
+    /// Symbols and their digits. A digit inside a type, or after a `$`, is not listed.
     const ROWS: [(&str, &str); 12] = [
         ("?x@@3P6AHP6AHM@Z0@ZEA", "(16, 9, 16)"),
         ("?f@@YAX$X0@Z", "(9, 7, 9)"),

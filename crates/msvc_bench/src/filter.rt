@@ -1,5 +1,5 @@
-//! The filter over texts, on streams of memory: what it writes is compared with what `docs/msvcfilt.md` says, also where
-//! a stream fails.
+//! The filter over texts, on streams of memory: what it writes is compared with what `docs/msvcfilt.md` says, also
+//! where a stream fails.
 
 #[cfg(test)]
 mod tests {
@@ -50,7 +50,7 @@ mod tests {
             b"__imp_?f@@YAXXZ $pdata$?f@@YAXXZ $LN5@?f@@YAXXZ",
             b"__imp_void __cdecl f(void) $pdata$void __cdecl f(void) $LN5@void __cdecl f(void)",
         ),
-        // A second `?` of a word that is no symbol begins none; one behind a symbol may, by the byte before it.
+        // A second `?` of a word that is no symbol begins none; one after a symbol may, by the byte before it.
         (b"?1_?x@@3HA -?x@@3HA", b"?1_?x@@3HA -int x"),
         (
             b"?x@@3HA$?x@@3HA ?x@@3HA?x@@3HA",
@@ -102,7 +102,7 @@ mod tests {
         Ok(bytes)
     }
 
-    /// A candidate has room for so many bytes, and a storage class may stand behind it.
+    /// A candidate has room for so many bytes, and a storage class may stand after it.
     #[test]
     fn longest_candidates(rt: HostRuntime) -> Result<(), Fail> {
         for (count, is_symbol) in [(4_091, true), (4_092, false)] {
@@ -145,8 +145,8 @@ mod tests {
         (usize::MAX, None),
     ];
 
-    /// Runs over a reader of `LINES` and a writer, of so many bytes at a time at most, which fail as is said. Says why it
-    /// ended, which streams are marked, how many calls came after a failure, what is left and what was written.
+    /// Runs over a reader of `LINES` and a writer, of so many bytes at a time at most, which fail as is said. Says why
+    /// it ended, which streams are marked, how many calls came after a failure, what is left and what was written.
     fn run_over(
         alloc: Global,
         most: usize,

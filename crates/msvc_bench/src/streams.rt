@@ -1,5 +1,5 @@
-//! A reader and a writer of memory that move as few bytes in a call as is asked for, and fail in one call, where and how
-//! is asked for. After that they would go on, and count the calls that still come.
+//! A reader and a writer of memory that move as few bytes in a call as is asked for, and fail in one call, where and
+//! how is asked for. After that they would go on, and count the calls that still come.
 
 ghost use Rattle.std.specs.Prelude.{◌≤◌, IfOk};
 

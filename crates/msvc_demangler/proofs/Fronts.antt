@@ -1,5 +1,6 @@
 -- How much of some bytes a candidate has.
-use Rattle.std.proofs.Common.{ℕ, List, length, take, get_or, ◌≡◌, ◌≤◌, ◌<◌, ◌∙◌, Bool, true, false, nat_lt, refl, sym, ap}
+use Rattle.std.proofs.Common.{ℕ, List, length, take, get_or, ◌≡◌, ◌≤◌, ◌<◌, ◌∙◌, Bool, true, false, nat_lt, refl, sym}
+use Rattle.std.proofs.Common.{ap}
 use Rattle.std.proofs.Common.{arith, take_all, length-take}
 use Rattle.std.proofs.lemmas.Bool.{ltb-false, ltb-true}
 use Rattle.std.proofs.lemmas.List.{take-take}
@@ -21,10 +22,12 @@ visible-front left len within most seen end = go (nat_lt len most_bytes) refl
         prefix_len_is is_visible left len 0 within seen (λ more. end more below) in
         let long = length-take len left in
         ap (λ n. take n left) (sym all)
-        ∙ sym (take_all most_bytes (take_while is_visible left) (omega (arith, length-take (prefix_len is_visible left) left)))
+        ∙ sym (take_all most_bytes (take_while is_visible left) (omega (arith, length-take
+        (prefix_len is_visible left) left)))
     go false e =
         let full : len ≡ most_bytes = omega (arith, ltb-false len most_bytes e) in
-        let enough : most_bytes ≤ prefix_len is_visible left = at (nat_lt (prefix_len is_visible left) most_bytes) refl in
+        let enough : most_bytes ≤ prefix_len is_visible left = at (nat_lt
+        (prefix_len is_visible left) most_bytes) refl in
         ap (λ n. take n left) full ∙ sym (take-take most_bytes (prefix_len is_visible left) left enough)
       where
         at : (b : Bool) → nat_lt (prefix_len is_visible left) most_bytes ≡ b → most_bytes ≤ prefix_len is_visible left

@@ -14,7 +14,8 @@ use Rattle.msvc_demangler.proofs.Joined.{AreJoined, IsTheText, the_text}
 use Rattle.msvc_demangler.proofs.Pieces.{IsLines-append}
 
 -- Some lines are finished and their text is written, and a part of the next was taken.
-pub record Going (T : List ℕ → List ℕ → Type 0) (reader reads writer writes : Option (List ℕ)) (part : List ℕ) : Type 0 where
+pub record Going (T : List ℕ → List ℕ → Type 0) (reader reads writer writes : Option (List ℕ))
+    (part : List ℕ) : Type 0 where
   pub finished : List ℕ
   pub text : List ℕ
   pub taken : Consumes reader reads (finished ++ part)
@@ -23,7 +24,8 @@ pub record Going (T : List ℕ → List ℕ → Type 0) (reader reads writer wri
   pub unended : IsWithoutEnd part
   pub is : T finished text
 
-pub Going-start : {T P : List ℕ → List ℕ → Type 0} (laws : AreJoined T P) (reader writer : Option (List ℕ)) → Going T reader reader writer writer []
+pub Going-start : {T P : List ℕ → List ℕ → Type 0} (laws : AreJoined T P) (reader writer : Option (List ℕ))
+    → Going T reader reader writer writer []
 Going-start laws reader writer = record {
   finished = [];
   text = [];
@@ -35,7 +37,8 @@ Going-start laws reader writer = record {
 }
 
 -- more of the line was taken
-pub Going-part : {T : List ℕ → List ℕ → Type 0} (reader reads later writer writes : Option (List ℕ)) (part more : List ℕ)
+pub Going-part : {T : List ℕ → List ℕ → Type 0} (reader reads later writer writes : Option (List ℕ))
+    (part more : List ℕ)
     → Going T reader reads writer writes part → Consumes reads later more → IsWithoutEnd more
     → Going T reader later writer writes (part ++ more)
 Going-part reader reads later writer writes part more so taken unended = record {
@@ -60,7 +63,8 @@ ended-some [] (x ∷ xs) e = cc
 ended-some (x ∷ xs) front e = cc
 
 -- the line was answered
-pub Going-line : {T P : List ℕ → List ℕ → Type 0} (laws : AreJoined T P) (reader reads later writer writes on : Option (List ℕ)) (part front : List ℕ)
+pub Going-line : {T P : List ℕ → List ℕ → Type 0} (laws : AreJoined T P)
+    (reader reads later writer writes on : Option (List ℕ)) (part front : List ℕ)
     → Going T reader reads writer writes part → Consumes reads later (front ++ 10 ∷ []) → IsWithoutEnd front
     → (text : List ℕ) → Appends writes on text → P (part ++ (front ++ 10 ∷ [])) text
     → Going T reader later writer on []
@@ -82,7 +86,8 @@ Going-line laws reader reads later writer writes on part front so taken unended 
     }
 
 -- a fault while the line was answered
-pub LeavesOff-line : {T P : List ℕ → List ℕ → Type 0} (laws : AreJoined T P) (e : Fault) (finished part text more : List ℕ) → IsLines finished → part ≢ [] → IsOfOneLine part
+pub LeavesOff-line : {T P : List ℕ → List ℕ → Type 0} (laws : AreJoined T P) (e : Fault)
+    (finished part text more : List ℕ) → IsLines finished → part ≢ [] → IsOfOneLine part
     → T finished text → WritesPart e (P part) more
     → LeavesOff e (IsTheText T) (finished ++ part) (text ++ more)
 LeavesOff-line laws Read finished part text more lines some one is h = absurd h
@@ -109,7 +114,8 @@ no_writer (inl out) = let no : false ≡ true = out.0 in cc
 no_writer (inr err) = let no : false ≡ true = err.1 in cc
 
 -- a fault of the reader, or no memory for what it shows
-pub LeavesOff-part : {T P : List ℕ → List ℕ → Type 0} (laws : AreJoined T P) (e : Fault) (reader : Mark) (finished part text : List ℕ) → MarksAt e reader no_mark no_mark
+pub LeavesOff-part : {T P : List ℕ → List ℕ → Type 0} (laws : AreJoined T P) (e : Fault) (reader : Mark)
+    (finished part text : List ℕ) → MarksAt e reader no_mark no_mark
     → IsLines finished → IsWithoutEnd part → T finished text → LeavesOff e (IsTheText T) (finished ++ part) text
 LeavesOff-part laws Read reader finished part text marks lines unended is =
     (finished, part, refl, lines, unended, the_text laws _ _ is)
@@ -118,7 +124,8 @@ LeavesOff-part laws Memory reader finished part text marks lines unended is =
     (finished, part, refl, lines, inl unended, the_text laws _ _ is)
 
 -- the answer to a line, or the fault that came
-pub WritesText-line : {A : Type 0} {T P : List ℕ → List ℕ → Type 0} (laws : AreJoined T P) (r : Result A Fault) (finished part text more : List ℕ) → IsLines finished
+pub WritesText-line : {A : Type 0} {T P : List ℕ → List ℕ → Type 0} (laws : AreJoined T P) (r : Result A Fault)
+    (finished part text more : List ℕ) → IsLines finished
     → part ≢ []
     → IsOfOneLine part → T finished text → Writes r (P part) more
     → WritesText r (IsTheText T) (finished ++ part) (text ++ more)
@@ -128,7 +135,8 @@ WritesText-line laws (Err e) finished part text more lines some one is h =
     LeavesOff-line laws e finished part text more lines some one is h
 
 -- what a run has done, in the words of its contract
-abbrev pub Did : {A : Type 0} → (T : List ℕ → List ℕ → Type 0) → Result A Fault → (reader reads writer writes : Option (List ℕ)) → Type 0
+abbrev pub Did : {A : Type 0} → (T : List ℕ → List ℕ → Type 0) → Result A Fault
+    → (reader reads writer writes : Option (List ℕ)) → Type 0
 Did T result reader reads writer writes = (taken text : List ℕ) × Consumes reader reads taken
     × Appends writer writes text × WritesText result (IsTheText T) taken text
 
@@ -143,7 +151,8 @@ Consumes-none reader reads later bytes more first second none =
     subst (Consumes reader later) (ap (λ l. bytes ++ l) none ∙ append-nil bytes) (Consumes-trans _ _ _ _ _ first second)
 
 -- it ended where the reader was asked
-pub Going-asked : {T P : List ℕ → List ℕ → Type 0} (laws : AreJoined T P) (e : Fault) (mark : Mark) (reader reads later writer writes : Option (List ℕ)) (part more : List ℕ)
+pub Going-asked : {T P : List ℕ → List ℕ → Type 0} (laws : AreJoined T P) (e : Fault) (mark : Mark)
+    (reader reads later writer writes : Option (List ℕ)) (part more : List ℕ)
     → Going T reader reads writer writes part → Consumes reads later more → more ≡ [] → MarksAt e mark no_mark no_mark
     → DidPart T e reader later writer writes
 Going-asked laws e mark reader reads later writer writes part more so taken none marks = (
@@ -155,7 +164,8 @@ Going-asked laws e mark reader reads later writer writes part more so taken none
 )
 
 -- it ended where a line was answered
-pub Going-fault : {T P : List ℕ → List ℕ → Type 0} (laws : AreJoined T P) (e : Fault) (reader reads later writer writes on : Option (List ℕ)) (part front : List ℕ)
+pub Going-fault : {T P : List ℕ → List ℕ → Type 0} (laws : AreJoined T P) (e : Fault)
+    (reader reads later writer writes on : Option (List ℕ)) (part front : List ℕ)
     → Going T reader reads writer writes part → Consumes reads later (front ++ 10 ∷ []) → IsWithoutEnd front
     → (text : List ℕ) → Appends writes on text → WritesPart e (P (part ++ (front ++ 10 ∷ []))) text
     → DidPart T e reader later writer on
@@ -171,7 +181,8 @@ Going-fault laws e reader reads later writer writes on part front so taken unend
     )
 
 -- it ended with the reader, at the end of a line
-pub Going-end : {T P : List ℕ → List ℕ → Type 0} (laws : AreJoined T P) (reader reads later writer writes : Option (List ℕ)) (part more : List ℕ)
+pub Going-end : {T P : List ℕ → List ℕ → Type 0} (laws : AreJoined T P)
+    (reader reads later writer writes : Option (List ℕ)) (part more : List ℕ)
     → Going T reader reads writer writes part → Consumes reads later more → more ≡ [] → part ≡ []
     → (taken text : List ℕ) × Consumes reader later taken × Appends writer writes text × IsTheText T taken text
 Going-end laws reader reads later writer writes part more so taken none empty = (
@@ -183,8 +194,9 @@ Going-end laws reader reads later writer writes part more so taken none empty = 
   the_text laws _ _ so.is,
 )
 
--- and behind a line that no line feed ends
-pub Going-rest : {A : Type 0} {T P : List ℕ → List ℕ → Type 0} (laws : AreJoined T P) (r : Result A Fault) (reader reads later writer writes on : Option (List ℕ))
+-- and after a line that no line feed ends
+pub Going-rest : {A : Type 0} {T P : List ℕ → List ℕ → Type 0} (laws : AreJoined T P) (r : Result A Fault)
+    (reader reads later writer writes on : Option (List ℕ))
     (part more : List ℕ) → Going T reader reads writer writes part → Consumes reads later more → more ≡ [] → part ≢ []
     → (text : List ℕ) → Appends writes on text → Writes r (P part) text
     → Did T r reader later writer on

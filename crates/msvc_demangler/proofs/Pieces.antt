@@ -23,11 +23,11 @@ joined-append : (x : ℕ) (ps qs : List (List ℕ)) (p : List ℕ) (rest : List 
     → joined x (ps ++ qs) ≡ joined x ps ++ qs
 joined-append x ps qs p rest e = rw e refl
 
--- a cut behind a line feed leaves the cuts on both sides as they are
-pieces-behind : (front more : List ℕ) → pieces (front ++ 10 ∷ more) ≡ pieces (front ++ 10 ∷ []) ++ pieces more
+-- a cut after a line feed leaves the cuts on both sides as they are
+pieces-after : (front more : List ℕ) → pieces (front ++ 10 ∷ more) ≡ pieces (front ++ 10 ∷ []) ++ pieces more
 unfolding pieces
-pieces-behind [] more = refl
-pieces-behind (x ∷ xs) more = at (eqb x 10) (pieces-behind xs more)
+pieces-after [] more = refl
+pieces-after (x ∷ xs) more = at (eqb x 10) (pieces-after xs more)
   where
     some : (l : List ℕ) → (p : List ℕ) × (ps : List (List ℕ)) × (pieces (l ++ 10 ∷ []) ≡ p ∷ ps)
     some [] = pieces-some 10 []
@@ -44,7 +44,7 @@ pieces-behind (x ∷ xs) more = at (eqb x 10) (pieces-behind xs more)
 pieces-append : (finished more : List ℕ) → IsLines finished → pieces (finished ++ more) ≡ pieces finished ++ pieces more
 unfolding pieces
 pieces-append finished more (inl e) = rw e refl
-pieces-append finished more (inr h) = rw h.1 (rw (append_assoc h.0 (10 ∷ []) more) (pieces-behind h.0 more))
+pieces-append finished more (inr h) = rw h.1 (rw (append_assoc h.0 (10 ∷ []) more) (pieces-after h.0 more))
 
 -- one line is one piece
 pieces-without_end : (x : ℕ) (xs : List ℕ) → IsWithoutEnd (x ∷ xs) → pieces (x ∷ xs) ≡ (x ∷ xs) ∷ []
@@ -66,7 +66,7 @@ pieces-one [] some h = absurd (some refl)
 pieces-one (x ∷ xs) some (inl h) = pieces-without_end x xs h
 pieces-one (x ∷ xs) some (inr h) = rw h.2 (pieces-with_end h.0 h.1)
 
--- so the pieces of lines that were finished and of a line behind them are the pieces of before and that line
+-- so the pieces of lines that were finished and of a line after them are the pieces of before and that line
 pub pieces-line : (finished part : List ℕ) → IsLines finished → part ≢ [] → IsOfOneLine part
     → pieces (finished ++ part) ≡ pieces finished ++ part ∷ []
 pieces-line finished part lines some one =
@@ -86,6 +86,6 @@ pub lines_of-nil : lines_of [] ≡ []
 unfolding pieces
 lines_of-nil = refl
 
--- the bytes finished, with a line behind them
+-- the bytes finished, with a line after them
 pub IsLines-append : (finished front : List ℕ) → IsLines (finished ++ (front ++ 10 ∷ []))
 IsLines-append finished front = inr (finished ++ front, sym (append_assoc finished front (10 ∷ [])))

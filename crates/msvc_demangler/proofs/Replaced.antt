@@ -12,7 +12,8 @@ use Rattle.msvc_demangler.proofs.Symbols.{symbol-only}
 IsTextOf-only : (flags : ℕ) (asked : Bool) (last : ℕ) (left first second : List ℕ)
     → IsTextOf flags asked last left first → IsTextOf flags asked last left second → second ≡ first
 IsTextOf-only flags _ _ _ _ _ nothing nothing = refl
-IsTextOf-only flags _ _ _ _ _ (stays {b = b} refused t) (stays again u) = ap (λ l. b ∷ l) (IsTextOf-only flags _ _ _ _ _ t u)
+IsTextOf-only flags _ _ _ _ _ (stays {b = b} refused t) (stays again u) = ap (λ l. b ∷ l)
+    (IsTextOf-only flags _ _ _ _ _ t u)
 IsTextOf-only flags _ _ _ _ _ (stays refused t) (replaced start is u) = absurd (refused start _ _ is)
 IsTextOf-only flags _ _ _ _ _ (replaced start is t) (stays refused u) = absurd (refused start _ _ is)
 IsTextOf-only flags _ _ _ _ _

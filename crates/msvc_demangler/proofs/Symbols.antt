@@ -39,6 +39,14 @@ unfolding Fine eats eater rank
 symbol-eats text tree rest notes d =
     let less : Less text (eats (call symbol)) rest = shorter d.1 ranks refl in omega arith
 
+-- symbols at one start take as many bytes
+as-many : (left : List ℕ) (tree other : SymbolTree) (rest remaining : List ℕ) (notes others : List Note)
+    → Derives (candidate left) tree rest notes → Derives (candidate left) other remaining others
+    → taken left (length (candidate left) - length rest) ≡ taken left (length (candidate left) - length remaining)
+as-many left tree other rest remaining notes others d e =
+    ap (λ l. taken left (length (candidate left) - length l))
+    (derived-only (candidate left) tree other rest remaining notes others d e).1
+
 -- a symbol that was read
 pub symbol-read : (flags read : ℕ) (left input text : List ℕ) → input ≡ candidate left → (tree : SymbolTree)
     (rest : List ℕ) (notes : List Note) → Derives input tree rest notes → node_count tree ≤ most_nodes
@@ -58,16 +66,15 @@ symbol-read flags read left input text same tree rest notes derived nodes declar
       ends = ends;
     }
 
--- no symbol where it goes on behind what was read
+-- no symbol where it goes on after what was read
 pub no_symbol-goes_on : (flags read : ℕ) (left input : List ℕ) → input ≡ candidate left → (tree : SymbolTree)
     (rest : List ℕ) (notes : List Note) → Derives input tree rest notes → read + length rest ≡ length input
     → goes_on (drop (taken left read) left) ≡ true → IsNoSymbol flags left
 no_symbol-goes_on flags read left input same tree rest notes derived to on bytes other s =
     let here = subst (λ l. Derives l tree rest notes) same derived in
-    let one = derived-only (candidate left) s.tree tree s.rest rest s.notes notes s.derived here in
     let so_many : read ≡ length (candidate left) - length rest = omega (arith, ap length same) in
     let equal : bytes ≡ taken left read =
-    s.takes ∙ ap (λ l. taken left (length (candidate left) - length l)) one.1 ∙ sym (ap (taken left) so_many) in
+    s.takes ∙ as-many left s.tree tree s.rest rest s.notes notes s.derived here ∙ sym (ap (taken left) so_many) in
     let no : true ≡ false = sym on ∙ sym (ap (λ n. goes_on (drop n left)) equal) ∙ s.ends in cc
 
 -- no symbol where the declaration is too long
@@ -103,6 +110,6 @@ pub symbol-only : (flags : ℕ) (left : List ℕ) (bytes others : ℕ) (text oth
     → IsSymbol flags left others other → (others ≡ bytes) × (other ≡ text)
 symbol-only flags left bytes others text other s t =
     let one = derived-only (candidate left) t.tree s.tree t.rest s.rest t.notes s.notes t.derived s.derived in (
-      t.takes ∙ ap (λ l. taken left (length (candidate left) - length l)) one.1 ∙ sym s.takes,
+      t.takes ∙ as-many left t.tree s.tree t.rest s.rest t.notes s.notes t.derived s.derived ∙ sym s.takes,
       t.declared ∙ ap (λ z. declaration z flags) one.0 ∙ sym s.declared,
     )

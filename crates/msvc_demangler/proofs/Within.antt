@@ -1,6 +1,7 @@
 -- The text of a line, on its way.
 use Rattle.std.proofs.Common.{◌≡◌, ◌≤◌, ◌<◌, ◌+◌, ◌-◌, ◌++◌, ◌∷◌, [], ◌∙◌, ℕ, List, Bool, true, false, length, take}
-use Rattle.std.proofs.Common.{drop, get_or, refl, sym, ap, subst, append_assoc, append-nil, add-one, drop-cons, take_all}
+use Rattle.std.proofs.Common.{drop, get_or, refl, sym, ap, subst, append_assoc, append-nil, add-one, drop-cons}
+use Rattle.std.proofs.Common.{take_all}
 use Rattle.std.proofs.Common.{arith, length-drop}
 use Rattle.std.proofs.lemmas.List.{drop-drop, get_or-drop, take_more}
 use Rattle.msvc_demangler.specs.Filtered.{IsNoSymbol, IsSymbol, IsTextOf, IsTextOfLine, nothing, replaced, stays}
@@ -58,7 +59,8 @@ Within-replaced flags line out kept at asked last bytes first so inside start is
     let whole : drop at line ≡ b ∷ left = drop-cons line at 0 inside ∙ ap (λ n. b ∷ drop n line) (sym (add-one at)) in
     let here = take (at - kept) (drop kept line) in
     let end : get_or (drop at line) (bytes - 1) 0 ≡ get_or line (at + bytes - 1) 0 =
-    get_or-drop at line (bytes - 1) 0 ∙ ap (λ i. get_or line i 0) (let e : at + (bytes - 1) ≡ at + bytes - 1 = omega arith in e) in
+    get_or-drop at line (bytes - 1) 0 ∙ ap (λ i. get_or line i 0) (let e : at +
+    (bytes - 1) ≡ at + bytes - 1 = omega arith in e) in
     record {
       inside = omega (arith, length-drop at line);
       order = omega arith;

@@ -16,7 +16,7 @@ abbrev pub most_declared : ℕ
 most_declared = 65536
 
 -- The bytes at a start begin with a symbol: the grammar derives a tree from the candidate there that is not too large.
--- It takes so many bytes, behind which it doesn't go on, and this is its declaration.
+-- It takes so many bytes, after which it doesn't go on, and this is its declaration.
 pub record IsSymbol (flags : ℕ) (left : List ℕ) (bytes : ℕ) (text : List ℕ) : Type 0 where
   pub tree : SymbolTree
   pub rest : List ℕ
@@ -35,18 +35,19 @@ IsNoSymbol flags left = (bytes : ℕ) (text : List ℕ) → IsSymbol flags left 
 -- declaration takes the place of the bytes that it takes.
 pub data IsTextOf (flags : ℕ) : (asked : Bool) (last : ℕ) → List ℕ → List ℕ → Type 0 where
   nothing : {asked : Bool} {last : ℕ} → IsTextOf flags asked last [] []
-  stays : {asked : Bool} {last b : ℕ} {left text : List ℕ} → (is_start asked last b ≡ true → IsNoSymbol flags (b ∷ left))
+  stays : {asked : Bool} {last b : ℕ} {left text : List ℕ} → (is_start asked last b ≡ true
+  → IsNoSymbol flags (b ∷ left))
       → IsTextOf flags (is_asked asked b) b left text → IsTextOf flags asked last (b ∷ left) (b ∷ text)
   replaced : {asked : Bool} {last b bytes : ℕ} {left first text : List ℕ} → is_start asked last b ≡ true
       → IsSymbol flags (b ∷ left) bytes first
       → IsTextOf flags false (slice_index (b ∷ left) (bytes - 1)) (drop bytes (b ∷ left)) text
       → IsTextOf flags asked last (b ∷ left) (first ++ text)
 
--- a line begins behind a line feed, and no word goes on there
+-- a line begins after a line feed, and no word goes on there
 abbrev pub IsTextOfLine : ℕ → List ℕ → List ℕ → Type 0
 IsTextOfLine flags line text = IsTextOf flags false 10 line text
 
--- the texts of lines, one behind another
+-- the texts of lines, one after another
 pub data IsTextOfLines (flags : ℕ) : List (List ℕ) → List ℕ → Type 0 where
   none : IsTextOfLines flags [] []
   one_more : {line first text : List ℕ} {lines : List (List ℕ)} → IsTextOfLine flags line first

@@ -7,7 +7,7 @@ abbrev pub joined : ℕ → List (List ℕ) → List (List ℕ)
 joined x [] = (x ∷ []) ∷ []
 joined x (p ∷ ps) = (x ∷ p) ∷ ps
 
--- the bytes cut behind each line feed
+-- the bytes cut after each line feed
 unfoldable pub pieces : List ℕ → List (List ℕ)
 pieces [] = []
 pieces (x ∷ xs) = if x == 10 then (x ∷ []) ∷ pieces xs else joined x (pieces xs)

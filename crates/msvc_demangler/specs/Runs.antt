@@ -26,7 +26,7 @@ IsOfOneLine bytes = IsWithoutEnd bytes ⊎ IsWithEnd bytes
 
 -- What a run over lines that failed has written of what it took from the reader, where P says what the text of some
 -- bytes is: the text of the lines finished before, and where a write failed also a beginning of what it would write for
--- the line behind them.
+-- the line after them.
 abbrev pub LeavesOff : Fault → (P : List ℕ → List ℕ → Type 0) → List ℕ → List ℕ → Type 0
 LeavesOff Read P taken text = (finished part : List ℕ) × (taken ≡ finished ++ part) × IsLines finished
     × IsWithoutEnd part × P finished text

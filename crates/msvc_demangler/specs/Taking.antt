@@ -8,7 +8,7 @@ use Rattle.msvc_demangler.specs.declared.watched.Taken.TheVariants.{Part, Line, 
 abbrev pub IsWithoutEnd : List ℕ → Type 0
 IsWithoutEnd bytes = All (λ b. b ≢ 10) bytes
 
--- a line feed behind bytes that have none
+-- a line feed after bytes that have none
 abbrev pub IsWithEnd : List ℕ → Type 0
 IsWithEnd bytes = (front : List ℕ) × IsWithoutEnd front × (bytes ≡ front ++ 10 ∷ [])
 

@@ -9,16 +9,16 @@ use Rattle.std.specs.Str.Lossy.{utf8_valid_len}
 abbrev pub is_of_word : ℕ → Bool
 is_of_word b = is_ascii_alphanumeric b || (b == 95 || (b == 36 || (b == 64 || b == 63)))
 
--- behind a letter, a digit or a full stop no symbol begins
+-- after a letter, a digit or a full stop no symbol begins
 abbrev pub hides : ℕ → Bool
 hides b = is_ascii_alphanumeric b || b == 46
 
 -- A word starts at its first `?`, unless the byte before it hides it. So it matters of the bytes before: the last of
--- them, and whether the word that goes on behind them has been asked, that is, has had a `?`.
+-- them, and whether the word that goes on after them has been asked, that is, has had a `?`.
 abbrev pub is_start : (asked : Bool) (last b : ℕ) → Bool
 is_start asked last b = b == 63 && not (asked || hides last)
 
--- whether it has, behind one byte more
+-- whether it has, after one byte more
 abbrev pub is_asked : (asked : Bool) (b : ℕ) → Bool
 is_asked asked b = (asked || b == 63) && is_of_word b
 
@@ -48,7 +48,7 @@ abbrev pub is_left_over : List ℕ → Bool
 is_left_over [] = false
 is_left_over (b ∷ bs) = (b == 64 || is_ascii_uppercase b) && ends_word bs
 
--- A letter, a digit, an `_` or an `@` is next: behind a symbol, that it goes on in a way that the reader doesn't know.
+-- A letter, a digit, an `_` or an `@` is next: after a symbol, that it goes on in a way that the reader doesn't know.
 abbrev pub goes_on : List ℕ → Bool
 goes_on [] = false
 goes_on (b ∷ bs) = is_ascii_alphanumeric b || (b == 95 || b == 64)

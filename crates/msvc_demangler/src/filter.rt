@@ -1,6 +1,7 @@
 //! The filter over texts: each symbol in them is replaced by its declaration.
 
-ghost use Rattle.std.specs.Prelude.{◌≡◌, ◌≤◌, ◌<◌, ℕ, List, IfNone, IfOk, IfSome, OnOk, OnSome, length, slice_index, true};
+ghost use Rattle.std.specs.Prelude.{◌≡◌, ◌≤◌, ◌<◌, ℕ, List, IfNone, IfOk, IfSome, OnOk, OnSome, length, slice_index};
+ghost use Rattle.std.specs.Prelude.{true};
 ghost use Rattle.std.specs.Io.KnownBytes.{Appends, Consumes, IsAtEnd};
 ghost use Rattle.msvc_demangler.specs.Faults.{Marks, mark, no_mark};
 ghost use Rattle.msvc_demangler.specs.Filtered.{IsFiltered, IsNoSymbol, IsSymbol, IsTextOfLine};
@@ -25,8 +26,8 @@ const MOST_DECLARED: usize = 65_536;
 /// stays as it came, to the byte.
 ///
 /// It goes line by line: a line is read whole, then filtered, then written. So a fault never leaves a part of a line
-/// behind, unless a write fails. At each start at most 4,096 bytes are read as a symbol, of at most 10,000 nodes, and at
-/// most 65,536 are printed; so the time is linear in the bytes.
+/// behind, unless a write fails. At each start at most 4,096 bytes are read as a symbol, of at most 10,000 nodes, and
+/// at most 65,536 are printed; so the time is linear in the bytes.
 pub fn filter_text<R: BufRead, W: Write>(
     alloc: Global,
     input: &mut Watched<R>,

@@ -78,8 +78,8 @@ impl<R: BufRead> Watched<R> {
     /// Asks the reader once, and appends what it takes to `bytes`: up to a line feed, or all that the reader shows. The
     /// reader has been asked so many times before; it has failed where it was asked 2^64 - 1 times.
     ///
-    /// A failed call is answered at once, an interrupted one too, and nothing is taken then. That the reader is asked no
-    /// second time can't be said by a clause, since a reader's contract tells its bytes and counts no calls.
+    /// A failed call is answered at once, an interrupted one too, and nothing is taken then. That the reader is asked
+    /// no second time can't be said by a clause, since a reader's contract tells its bytes and counts no calls.
     pub(crate) fn take(&mut self, asked: u64, bytes: &mut Vec<u8>) -> Result<Taken, Fault>
         ensures taken { (taken : List ℕ) × (bytes.new.items ≡ bytes.old.items ++ taken)
             × Consumes (R.remaining self.old.stream) (R.remaining self.new.stream) taken × TakenAs result taken }

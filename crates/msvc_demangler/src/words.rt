@@ -17,21 +17,21 @@ fn is_of_word(byte: u8) -> bool
     byte.is_ascii_alphanumeric() || matches!(byte, b'_' | b'$' | b'@' | b'?')
 }
 
-/// Whether no symbol begins behind a byte.
+/// Whether no symbol begins after a byte.
 fn hides(byte: u8) -> bool
     ensures { result ≡ hides byte }
 {
     byte.is_ascii_alphanumeric() || byte == b'.'
 }
 
-/// Whether a word starts at a byte, where the word has been asked or not, and behind the last byte.
+/// Whether a word starts at a byte, where the word has been asked or not, and after the last byte.
 pub(crate) fn is_start(asked: bool, last: u8, byte: u8) -> bool
     ensures { result ≡ is_start asked last byte }
 {
     byte == b'?' && !(asked || hides(last))
 }
 
-/// Whether the word that goes on behind a byte has been asked.
+/// Whether the word that goes on after a byte has been asked.
 pub(crate) fn is_asked(asked: bool, byte: u8) -> bool
     ensures { result ≡ is_asked asked byte }
 {
@@ -95,12 +95,12 @@ fn is_left_over(left: &[u8]) -> bool
     ensures left_over { result ≡ is_left_over left.now }
 {
     match left {
-        [b'@' | b'A'..=b'Z', behind @ ..] => ends_word(behind),
+        [b'@' | b'A'..=b'Z', rest @ ..] => ends_word(rest),
         _ => false,
     }
 }
 
-/// Whether a symbol goes on behind the bytes that it takes, in a way that the reader doesn't know.
+/// Whether a symbol goes on after the bytes that it takes, in a way that the reader doesn't know.
 pub(crate) fn goes_on(left: &[u8], bytes: usize) -> bool
     requires { bytes ≤ length left.now }
     ensures { result ≡ goes_on (drop bytes left.now) }

@@ -1,5 +1,6 @@
 -- A text copied to the front of a buffer up to the last place at which a character begins, and a NUL after it.
-use Rattle.std.proofs.Common.{◌≡◌, ℕ, ◌-◌, ◌<◌, ◌≤◌, ◌==◌, ◌∙◌, ap, List, [], ◌∷◌, ◌++◌, length, set, take, drop, suc, zero}
+use Rattle.std.proofs.Common.{◌≡◌, ℕ, ◌-◌, ◌<◌, ◌≤◌, ◌==◌, ◌∙◌, ap, List, [], ◌∷◌, ◌++◌, length, set, take, drop, suc}
+use Rattle.std.proofs.Common.{zero}
 use Rattle.std.proofs.Common.{sym, subst, get_or, arith, true, false}
 use Rattle.std.proofs.Math.Seq.{drop-cons, set-append_seam}
 use Rattle.std.proofs.lemmas.Str.{IsCharBoundary-from_take, IsUtf8-take}

@@ -1,5 +1,5 @@
-//! The demangler for C: three calls that `include/msvc_demangler.h` declares. They take and answer bytes, keep no state,
-//! and can be called by any number of threads.
+//! The demangler for C: three calls that `include/msvc_demangler.h` declares. They take and answer bytes, keep no
+//! state, and can be called by any number of threads.
 #![tactic(auto)]
 
 ghost use Rattle.std.specs.Prelude.{◌≡◌, ℕ, Result, String, IfErr, IfOk, length, string_bytes};
@@ -27,7 +27,8 @@ const TOO_MANY_NODES: &str = "more nodes than allowed";
 #[repr(C)]
 #[derive(Drop)]
 pub struct Answer {
-    /// 0: a symbol; 1: none, by the grammar; 2: no UTF-8; 3: memory was refused; 4: a symbol of more nodes than allowed.
+    /// 0: a symbol; 1: none, by the grammar; 2: no UTF-8; 3: memory was refused; 4: a symbol of more nodes than
+    /// allowed.
     pub status: u32,
     /// The place, in bytes, at which the symbol was refused, or up to which it is UTF-8; else 0.
     pub offset: usize,

@@ -2,8 +2,8 @@
 //! its declaration, as `llvm-undname` spells it: of `foo!?crash@@YAXXZ+0x12`, `foo!void __cdecl crash(void)+0x12`.
 //! With `-n` types are left away.
 //!
-//! The status is 0, and 1 where a file or standard input can't be read, the text can't be written, or memory is refused.
-//! Then standard error says which. Behind a file that can't be read the rest is filtered.
+//! The status is 0, and 1 where a file or standard input can't be read, the text can't be written, or memory is
+//! refused. Then standard error says which. After a file that can't be read the rest is filtered.
 #![tactic(auto)]
 
 use clap::{Arg, ArgAction, Command};

@@ -47,7 +47,7 @@ fn run(rt: &HostRuntime) -> Result<(), Fault> {
     done.and(explained).and(printed)
 }
 
-/// The arguments behind the program's name.
+/// The arguments after the program's name.
 fn words(rt: &HostRuntime) -> Result<Vec<String>, Fault> {
     let mut words = Vec::new(rt.alloc());
     for word in env::args(rt).map_err(|_| Fault::Memory)?.skip(1) {

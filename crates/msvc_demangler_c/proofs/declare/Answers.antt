@@ -6,4 +6,5 @@ returns-in-Ok c = c.in-Ok.ensures.declared
 
 pub returns-in-Err : goal.returns-in-Err
 returns-in-Err c =
-    refused-of c.args.bound c.args.symbol.now c.in-Err.refusal c.refused.result c.in-Err.ensures.refused c.refused.ensures
+    refused-of c.args.bound c.args.symbol.now c.in-Err.refusal c.refused.result c.in-Err.ensures.refused
+    c.refused.ensures

@@ -19,7 +19,8 @@ pub returns-in_err-take-clause-text : goal.returns-in_err-take-clause-text
 returns-in_err-take-clause-text g c =
     let p = err_from_is_err_and c.from_residual.result c.from_residual.ensures.1 in
     let e = c.in_err-take.ensures in
-    rw (p.1, p.2) (Going-asked (replaced-joined c.args.flags.0) _ _ _ _ _ _ _ _ e.taken.0 c.pieces.invariant.0 e.taken.2 e.taken.3 e.marks)
+    rw (p.1, p.2) (Going-asked (replaced-joined c.args.flags.0) _ _ _ _ _ _ _ _ e.taken.0 c.pieces.invariant.0
+    e.taken.2 e.taken.3 e.marks)
 
 pub returns-in_err-put_filtered-in-Line-clause-text : goal.returns-in_err-put_filtered-in-Line-clause-text
 returns-in_err-put_filtered-in-Line-clause-text g c =
@@ -30,8 +31,10 @@ returns-in_err-put_filtered-in-Line-clause-text g c =
     let text = c.in_err-put_filtered-in-Line.ensures.text in
     let line = c.deref.ensures.value ∙ e.taken.1 ∙ ap (λ l. c.pieces.piece.items ++ l) cut.2 in
     rw (p.1, p.2)
-    (Going-fault (replaced-joined c.args.flags.0) _ _ _ _ _ _ _ _ cut.0 c.pieces.invariant.0 (subst (Consumes _ _) cut.2 e.taken.2) cut.1 text.0 text.1
-    (subst (λ l. WritesPart c.in_err-put_filtered-in-Line.field-0.0 (IsTextOfLine c.args.flags.0 l) text.0) line text.2))
+    (Going-fault (replaced-joined c.args.flags.0) _ _ _ _ _ _ _ _ cut.0 c.pieces.invariant.0 (subst
+    (Consumes _ _) cut.2 e.taken.2) cut.1 text.0 text.1
+    (subst (λ l. WritesPart c.in_err-put_filtered-in-Line.field-0.0
+    (IsTextOfLine c.args.flags.0 l) text.0) line text.2))
 
 pub returns-then-is_empty-clause-text : goal.returns-then-is_empty-clause-text
 returns-then-is_empty-clause-text g c =
@@ -53,7 +56,8 @@ returns-in-End-clause-text g c =
     let some : c.take.new.bytes.items ≢ [] = search rules in
     let r = c.put_filtered-in-End.result in
     let whole = c.deref-in-End.ensures.value ∙ part in
-    Going-rest (replaced-joined c.args.flags.0) r _ _ _ _ _ _ _ e.taken.0 c.pieces.invariant.0 e.taken.2 cut (subst (λ l. l ≢ []) part some)
+    Going-rest (replaced-joined c.args.flags.0) r _ _ _ _ _ _ _ e.taken.0 c.pieces.invariant.0 e.taken.2 cut (subst
+    (λ l. l ≢ []) part some)
     text.0 text.1 (subst (λ l. Writes r (IsTextOfLine c.args.flags.0 l) text.0) whole text.2)
 
 pub pieces-preserved : goal.pieces-preserved
@@ -72,7 +76,8 @@ pieces-preserved g c =
           let text = w.in_ok-put_filtered-in-Line.ensures.text in
           let whole = w.deref.ensures.value ∙ e.taken.1 ∙ ap (λ l. c.pieces.piece.items ++ l) cut.2 in
           rw (w.out-is, w.piece-is, w.clear.ensures.items) (
-            Going-line (replaced-joined c.args.flags.0) _ _ _ _ _ _ _ cut.0 c.pieces.invariant.0 (subst (Consumes _ _) cut.2 e.taken.2) cut.1 text.0
+            Going-line (replaced-joined c.args.flags.0) _ _ _ _ _ _ _ cut.0 c.pieces.invariant.0 (subst
+            (Consumes _ _) cut.2 e.taken.2) cut.1 text.0
                 text.1 (subst (λ l. IsTextOfLine c.args.flags.0 l text.0) whole text.2),
             e.marks.0 ∙ c.pieces.invariant.1,
             w.in_ok-put_filtered-in-Line.ensures.marks.1 ∙ c.pieces.invariant.2,
@@ -82,4 +87,5 @@ pieces-preserved g c =
 pub returns-clause-text : goal.returns-clause-text
 returns-clause-text g c =
     let e = c.in-Err.ensures in
-    Going-asked (replaced-joined c.args.flags.0) _ _ _ _ _ _ _ _ e.taken.0 c.pieces.invariant.0 e.taken.2 e.taken.3 e.marks
+    Going-asked (replaced-joined c.args.flags.0) _ _ _ _ _ _ _ _ e.taken.0 c.pieces.invariant.0 e.taken.2 e.taken.3
+    e.marks

@@ -13,7 +13,8 @@ pub returns-else-goes_on-clause-some : goal.returns-else-goes_on-clause-some
 returns-else-goes_on-clause-some c =
     let d = rw c.in-Some.is at c.in-Ok.ensures.declared in
     let ends = sym (rw c.taken-bytes.ensures.taken at c.goes_on.ensures) ∙ c.if-goes_on.false in
-    let is = symbol-read c.args.flags.0 c.in-Some.read c.args.left.now c.candidate.result.now _ c.candidate.ensures d.0 d.1
+    let is = symbol-read c.args.flags.0 c.in-Some.read c.args.left.now c.candidate.result.now _ c.candidate.ensures
+    d.0 d.1
     d.2 d.3 d.4 d.6 d.5 d.7 ends in (
       rw c.taken-bytes.ensures.taken is,
       omega (arith, d.5, symbol-eats _ d.0 d.1 d.2 d.3, c.taken-bytes.ensures.least),
@@ -24,7 +25,8 @@ pub returns-then-goes_on-clause-none : goal.returns-then-goes_on-clause-none
 returns-then-goes_on-clause-none c =
     let d = rw c.in-Some.is at c.in-Ok.ensures.declared in
     let on = sym (rw c.taken-bytes.ensures.taken at c.goes_on.ensures) ∙ c.if-goes_on.true in
-    no_symbol-goes_on c.args.flags.0 c.in-Some.read c.args.left.now c.candidate.result.now c.candidate.ensures d.0 d.1 d.2
+    no_symbol-goes_on c.args.flags.0 c.in-Some.read c.args.left.now c.candidate.result.now c.candidate.ensures d.0 d.1
+    d.2
     d.3 d.5 on
 
 pub returns-in-None-clause-none : goal.returns-in-None-clause-none
