@@ -39,5 +39,5 @@ TypesAreLocal = (q : ℕ) (left rest : List ℕ) (s : State) (v : TypeTree) (t :
 
 -- what is read with tables of its own, as a template is, leaves those before it as they were
 abbrev pub TablesAreHandedBack : Type 0
-TablesAreHandedBack = {a : Sort} {r : Rule a} {left : List ℕ} {s : State} {v : Value a} {rest : List ℕ} {t : State}
+TablesAreHandedBack = (a : Sort) (r : Rule a) (left : List ℕ) (s : State) (v : Value a) (rest : List ℕ) (t : State)
     → Reads a (apart r) left s v rest t → SameTables t s
