@@ -6,19 +6,25 @@
 use bitflags::Flags;
 use msvc_tree::flags::StorageClass;
 use msvc_tree::kinds::{Guard, Mark, NumberedType, PlainType, Table};
-use msvc_tree::nodes::{BaseClass, Function, Name, Symbol, Type, Whole};
+use msvc_tree::nodes::{BaseClass, Function, Name, Scope, Symbol, Type, Whole};
 use std::alloc::{AllocError, Global};
+
+/// Types of a list.
+#[derive(Clone, Copy)]
+struct Types<'a, 'b> {
+    types: &'b [&'b Type<'a, 'b>],
+}
 
 /// What is still to be shown.
 #[derive(Clone, Copy)]
 enum Item<'a, 'b> {
-    Text(&'static str),
+    Text(&'b str),
     Name(&'b Name<'a, 'b>),
     /// The names of a scope, the innermost first; they are shown from the outermost on, each with `::` after it.
-    Scope(&'b [&'b Name<'a, 'b>]),
+    Scope(Scope<'a, 'b>),
     Type(&'b Type<'a, 'b>),
     /// The types of a list, with commas between them.
-    Types(&'b [&'b Type<'a, 'b>]),
+    Types(Types<'a, 'b>),
     Function(&'b Function<'a, 'b>),
 }
 
@@ -49,9 +55,9 @@ fn show<'a, 'b>(
     match item {
         Item::Text(word) => text.push_str(word),
         Item::Name(name) => show_name(alloc, stack, text, name),
-        Item::Scope(names) => show_scope(stack, names),
+        Item::Scope(scope) => show_scope(stack, scope.names),
         Item::Type(shown) => show_type(alloc, stack, text, shown),
-        Item::Types(types) => show_types(stack, types),
+        Item::Types(list) => show_types(stack, list.types),
         Item::Function(function) => show_function(alloc, stack, text, function),
     }
 }
@@ -65,7 +71,7 @@ fn show_scope<'a, 'b>(
     };
     push(stack, Item::Text("::"))?;
     push(stack, Item::Name(*innermost))?;
-    push(stack, Item::Scope(outer))
+    push_scope(stack, outer)
 }
 
 fn show_types<'a, 'b>(
@@ -76,7 +82,7 @@ fn show_types<'a, 'b>(
         return Ok(());
     };
     if !rest.is_empty() {
-        push(stack, Item::Types(rest))?;
+        push_types(stack, rest)?;
         push(stack, Item::Text(", "))?;
     }
     push(stack, Item::Type(*first))
@@ -86,6 +92,30 @@ fn show_types<'a, 'b>(
 fn push<'a, 'b>(stack: &mut Vec<Item<'a, 'b>>, item: Item<'a, 'b>) -> Result<(), AllocError> {
     stack.push(item)?;
     Ok(())
+}
+
+fn push_scope<'a, 'b>(
+    stack: &mut Vec<Item<'a, 'b>>,
+    names: &'b [&'b Name<'a, 'b>],
+) -> Result<(), AllocError> {
+    push(
+        stack,
+        Item::Scope(Scope {
+            names,
+        }),
+    )
+}
+
+fn push_types<'a, 'b>(
+    stack: &mut Vec<Item<'a, 'b>>,
+    types: &'b [&'b Type<'a, 'b>],
+) -> Result<(), AllocError> {
+    push(
+        stack,
+        Item::Types(Types {
+            types,
+        }),
+    )
 }
 
 /// A name in its scope, and its type.
@@ -104,7 +134,7 @@ fn push_symbol<'a, 'b>(
     symbol: &Symbol<'a, 'b>,
 ) -> Result<(), AllocError> {
     push(stack, Item::Name(symbol.name))?;
-    push(stack, Item::Scope(symbol.scope))
+    push_scope(stack, symbol.scope)
 }
 
 fn show_name<'a, 'b>(
@@ -132,7 +162,7 @@ fn show_name<'a, 'b>(
         Name::BaseClassDescriptor(place) => push_place(alloc, text, *place),
         Name::Template(template) => {
             push(stack, Item::Text(">"))?;
-            push(stack, Item::Types(template.arguments))?;
+            push_types(stack, template.arguments)?;
             push(stack, Item::Text("<"))?;
             push(stack, Item::Name(template.name))
         }
@@ -200,7 +230,7 @@ fn show_type<'a, 'b>(
             text.push_str(table_word(*table))?;
             push_set(text, *set)?;
             push(stack, Item::Text(")"))?;
-            push(stack, Item::Scope(scope.names))
+            push_scope(stack, scope.names)
         }
         Type::VcallThunk(offset, convention) => {
             push_text(text, format!(in alloc; "VCallThunk({offset} {convention:?})"))
@@ -236,7 +266,7 @@ fn show_function<'a, 'b>(
     push(stack, Item::Text(")"))?;
     push(stack, Item::Type(function.returned))?;
     push(stack, Item::Text("] "))?;
-    push(stack, Item::Types(function.parameters))
+    push_types(stack, function.parameters)
 }
 
 /// The names of a set's bits, each with a space after it.
