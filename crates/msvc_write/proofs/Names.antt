@@ -8,7 +8,7 @@ use Rattle.msvc_tree.specs.Trees.{names, no_names}
 use Rattle.msvc_tree.specs.NodeView.{name_of, names_in}
 use Rattle.msvc_tree.specs.declared.nodes.Name.{Name}
 use Rattle.msvc_tree.specs.declared.kinds.Table.TheVariants.{Functions}
-use Rattle.msvc_write.specs.Declaration.{name_pieces, scope_prefix, table_end}
+use Rattle.msvc_write.specs.Declaration.{name_pieces, scope_pieces, scope_prefix, table_end}
 use Rattle.msvc_write.proofs.Settling.{settle_all-append, settle_all-none, settled_two}
 use Rattle.msvc_write.specs.Pieces.{Piece, settle_all, text}
 use Rattle.msvc_write.proofs.Stack.{work_one}
@@ -22,7 +22,7 @@ scope_prefix-last : (ns : List (Bor Name)) (d : Bor Name) (k flags : ℕ) → k 
     scope_prefix (names_in (take (suc k) ns)) flags
     ≡ (name_pieces (name_of (get_or ns k d).now) false flags ++ text (codes "::") ∷ [])
     ++ scope_prefix (names_in (take k ns)) flags
-unfolding scope_prefix
+unfolding scope_pieces
 scope_prefix-last [] d k flags in_range = absurd (omega arith)
 scope_prefix-last (x ∷ xs) d zero flags in_range = simp (append-nil)
 scope_prefix-last (x ∷ xs) d (suc k) flags in_range =
@@ -52,7 +52,7 @@ written-last ns d k flags out out1 out2 some fits e e' =
     ∙ sym (settle_all-append out _ _) ∙ ap (settle_all out) (sym (scope_prefix-left ns d k flags some fits))
 
 pub scope_prefix-none : (ns : List (Bor Name)) (flags : ℕ) → scope_prefix (names_in (take 0 ns)) flags ≡ []
-unfolding scope_prefix
+unfolding scope_pieces
 scope_prefix-none ns flags = refl
 
 -- where no name is left, all of the scope is written

@@ -5,6 +5,7 @@ use Rattle.std.specs.Fmt.{signed_decimal}
 use Rattle.msvc_tree.specs.Trees.{TypeTree, operator, member_function}
 use Rattle.msvc_tree.specs.declared.kinds.PlainOperator.{PlainOperator}
 use Rattle.msvc_tree.specs.declared.kinds.PlainOperator.TheVariants as plain_operator
+use Rattle.msvc_write.proofs.Halves.{around-halves}
 use Rattle.msvc_write.specs.Declaration.{conversion}
 use Rattle.msvc_write.specs.Operators.{base_class_pieces, listed, own_kind, spaced}
 use Rattle.msvc_write.specs.Pieces.{Piece, settle_all, text}
@@ -27,7 +28,8 @@ own_kind-other _ a b c d e = refl
 pub conversion-return : (t : TypeTree) (name : List Piece) (flags : ℕ) →
     conversion t name flags ≡ conversion_to (member_return t) name flags
 unfolding conversion conversion_to member_return
-conversion-return (member_function f c ts q t) name flags = refl
+conversion-return (member_function f c ts q t) name flags =
+    ap (λ x. text (codes "operator ") ∷ x) (around-halves t [] flags)
 conversion-return _ name flags = refl
 
 pub return_weight-bound : (t : TypeTree) → return_weight (member_return t) ≤ type_weight t

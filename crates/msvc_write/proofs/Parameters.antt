@@ -2,17 +2,19 @@
 use Rattle.std.proofs.Common.{◌≡◌, ℕ, ℤ, suc, ◌+◌, ◌-◌, ◌<◌, ◌≤◌, List, [], ◌∷◌, ◌++◌, Bool, true, false, cond, length}
 use Rattle.std.proofs.Common.{get_or, drop, take, refl, ap, sym, ◌∙◌, arith, codes}
 use Rattle.std.proofs.lemmas.List.{append_assoc, take_all}
-use Rattle.std.specs.Fmt.{signed_decimal}
 use Rattle.msvc_tree.specs.Trees.{TypeTree, TypeTrees, array, no_types, types}
 use Rattle.std.specs.Borrow.{Bor}
 use Rattle.msvc_tree.specs.NodeView.{type_of, types_in}
 use Rattle.msvc_tree.specs.declared.flags.StorageClass.{StorageClass}
 use Rattle.msvc_tree.specs.declared.nodes.Type.{«Type»}
 use Rattle.msvc_write.proofs.Settling.{settle_all-append, settle_all-first, settled_three}
-use Rattle.msvc_write.specs.Declaration.{after, before, is_empty_pack, member_pointer_end, parameters}
-use Rattle.msvc_write.specs.Functions.{function_end, own_qualifier, own_qualifiers, separator}
+use Rattle.msvc_write.proofs.Halves.{around-halves}
+use Rattle.msvc_write.specs.Declaration.{grown, is_empty_pack, length_pieces, parameters}
+use Rattle.msvc_write.specs.Functions.{own_qualifier, own_qualifiers, separator}
+use Rattle.msvc_write.specs.Halves.{after, before, function_end, member_pointer_end}
 use Rattle.msvc_write.specs.Pieces.{Piece, settle_all, text}
 use Rattle.msvc_write.specs.Weights.{type_weight, types_weight}
+use Rattle.msvc_write.specs.Sides.{alone, around}
 use Rattle.msvc_write.specs.Words.{closing}
 use Rattle.msvc_write.specs.Work.{Lightens, end_pieces, rest_of_parameters, work}
 use Rattle.msvc_write.specs.declared.item.Item.{Item}
@@ -73,8 +75,8 @@ rest-dropped ts d first end flags some pack =
     let t : TypeTree = type_of (get_or ts 0 d).now in
     let us : TypeTrees = types_in (take (length ts - 1) (drop 1 ts)) in
     ap (λ us. parameters us first flags ++ end_pieces end flags) (types_in-first ts d some)
-    ∙ ap (λ b. cond b (parameters us first flags) (separator first flags ++ (before t false flags
-    ++ (after t false flags ++ parameters us false flags))) ++ end_pieces end flags) pack
+    ∙ ap (λ b. cond b (parameters us first flags) (separator first flags ++ (around (grown t false alone flags) []
+    ++ parameters us false flags)) ++ end_pieces end flags) pack
 
 -- any other type is printed on both sides of nothing, and then the rest
 pub rest-kept : (ts : List (Bor «Type»)) (d : Bor «Type») (first : Bool) (end : ListEnd) (flags : ℕ) →
@@ -92,8 +94,10 @@ rest-kept ts d first end flags some kept =
     let b : List Piece = before t false flags in
     let a : List Piece = after t false flags in
     let later : List Piece = parameters us false flags in
+    let whole : List Piece = around (grown t false alone flags) [] in
     ap (λ us. parameters us first flags ++ last) (types_in-first ts d some)
-    ∙ ap (λ c. cond c (parameters us first flags) (s ++ (b ++ (a ++ later))) ++ last) kept
+    ∙ ap (λ c. cond c (parameters us first flags) (s ++ (whole ++ later)) ++ last) kept
+    ∙ ap (λ x. (s ++ x) ++ last) (ap (λ x. x ++ later) (around-halves t [] flags) ∙ append_assoc b a later)
     ∙ append_assoc s (b ++ (a ++ later)) last
     ∙ ap (λ ps. s ++ ps) (append_assoc b (a ++ later) last ∙ ap (λ ps. b ++ ps) (append_assoc a later last))
 
@@ -105,19 +109,14 @@ settled_four out out1 a b c d e =
 
 -- behind the length of a level of an array stands what is after its elements
 pub settled-array : (out out1 : List ℕ) (pointed : Bool) (m n : ℤ) (t : TypeTree) (q flags : ℕ) →
-    out1 ≡ settle_all out (closing pointed ++ (text (codes "[") ∷ text (signed_decimal m) ∷ text (codes "]") ∷ [])) →
+    out1 ≡ settle_all out (closing pointed ++ length_pieces m) →
     m ≡ n → settle_all out1 (after t false flags) ≡ settle_all out (after (array n t q) pointed flags)
 unfolding after
 settled-array out out1 pointed m n t q flags e same =
     ap (λ x. settle_all x (after t false flags)) e
-    ∙ sym (settle_all-append out
-    (closing pointed ++ (text (codes "[") ∷ text (signed_decimal m) ∷ text (codes "]") ∷ []))
-    (after t false flags))
-    ∙ ap (settle_all out) (append_assoc (closing pointed)
-    (text (codes "[") ∷ text (signed_decimal m) ∷ text (codes "]") ∷ [])
-    (after t false flags))
-    ∙ ap (λ k. settle_all out (closing pointed
-    ++ (text (codes "[") ∷ text (signed_decimal k) ∷ text (codes "]") ∷ after t false flags))) same
+    ∙ sym (settle_all-append out (closing pointed ++ length_pieces m) (after t false flags))
+    ∙ ap (settle_all out) (append_assoc (closing pointed) (length_pieces m) (after t false flags))
+    ∙ ap (λ k. settle_all out (closing pointed ++ (length_pieces k ++ after t false flags))) same
 
 -- what a function has after its name, from its parts
 pub settled-function_end : (out out1 out2 : List ℕ) (ts : List (Bor «Type»)) (pointed : Bool) (set : StorageClass)

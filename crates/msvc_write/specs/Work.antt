@@ -3,11 +3,12 @@ use Rattle.std.specs.Prelude.{ℕ, ◌+◌, ◌<◌, ◌≡◌, List, [], ◌∷
 use Rattle.std.specs.Prelude.{codes}
 use Rattle.std.specs.Borrow.{Bor}
 use Rattle.msvc_tree.specs.NodeView.{name_of, names_in, type_of, types_in}
-use Rattle.msvc_tree.specs.Trees.{NameTree, NameTrees, TypeTree, plain, member_function}
+use Rattle.msvc_tree.specs.Trees.{TypeTree, plain, member_function}
 use Rattle.msvc_tree.specs.declared.kinds.PlainType.TheVariants as plain_kind
 use Rattle.msvc_tree.specs.declared.nodes.Type.{«Type»}
-use Rattle.msvc_write.specs.Declaration.{after, before, name_pieces, parameters, scope_prefix, symbol_name}
+use Rattle.msvc_write.specs.Declaration.{name_pieces, parameters, scope_prefix, symbol_name}
 use Rattle.msvc_write.specs.Functions.{calling, own_qualifiers}
+use Rattle.msvc_write.specs.Halves.{after, before, pointed_name}
 use Rattle.msvc_write.specs.Operators.{spaced}
 use Rattle.msvc_write.specs.Pieces.{Piece, text, space, settle_all}
 use Rattle.msvc_write.specs.Weights.{name_weight, scope_weight, symbol_weight, type_weight, types_weight}
@@ -18,17 +19,12 @@ use Rattle.msvc_write.specs.declared.item.Item.TheVariants.{Qualifiers, Mark, Ar
 use Rattle.msvc_write.specs.declared.item.Item.TheVariants.{Before, After}
 use Rattle.msvc_write.specs.declared.item.ListEnd.{ListEnd}
 use Rattle.msvc_write.specs.declared.item.ListEnd.TheVariants.{Round, Bare, Angle}
-use Rattle.msvc_write.specs.declared.text.Space.TheVariants.{AfterAngle, AfterPointer}
+use Rattle.msvc_write.specs.declared.text.Space.TheVariants.{AfterAngle}
 
 -- the type of a symbol, or none
 abbrev pub own_type : Option (Bor «Type») → TypeTree
 own_type None = plain plain_kind.None
 own_type (Some t) = type_of t.now
-
--- the class whose member function is pointed to, behind the calling convention
-abbrev pub pointed_name : NameTree → NameTrees → ℕ → List Piece
-pointed_name n scope flags =
-    space AfterPointer ∷ (symbol_name n scope (plain plain_kind.None) flags ++ text (codes "::*") ∷ [])
 
 -- what a member function returns
 unfoldable pub member_return : TypeTree → Option TypeTree

@@ -8,7 +8,8 @@ ghost use Rattle.msvc_tree.specs.Trees.{plain};
 ghost use Rattle.msvc_tree.specs.NodeView.{name_of, names_in, type_of, types_in};
 ghost use Rattle.msvc_write.specs.Declaration.{name_pieces, quoted, quoted_unless, scope_prefix, spelled_name};
 ghost use Rattle.msvc_write.specs.Declaration.{class_name, conversion, scope_path, symbol_as, symbol_name};
-ghost use Rattle.msvc_write.specs.Declaration.{after, angled, before, parameters, symbol_pieces};
+ghost use Rattle.msvc_write.specs.Declaration.{angled, grown, parameters, symbol_pieces};
+ghost use Rattle.msvc_write.specs.Halves.{after, before, pointed_name};
 ghost use Rattle.msvc_tree.specs.declared.kinds.PlainType.TheVariants as plain_kind;
 ghost use Rattle.msvc_tree.specs.declared.kinds.Spelling.TheVariants as spelling_kind;
 ghost use Rattle.msvc_write.specs.declared.text.Space.TheVariants.{AfterPointer};
@@ -16,8 +17,8 @@ ghost use Rattle.msvc_write.specs.Operators.{spaced};
 ghost use Rattle.msvc_write.specs.Pieces.{settle_all, space, text};
 ghost use Rattle.msvc_write.specs.Weights.{name_weight, scope_weight, symbol_weight, type_weight, types_weight};
 ghost use Rattle.msvc_write.specs.Weights.{whole_weight};
-ghost use Rattle.msvc_write.specs.Words.{first_half, last_half};
-ghost use Rattle.msvc_write.specs.Work.{member_return, own_type, pointed_name, work, Lightens, Prints, Pushes};
+ghost use Rattle.msvc_write.specs.Sides.{alone, kept_left, kept_right};
+ghost use Rattle.msvc_write.specs.Work.{member_return, own_type, work, Lightens, Prints, Pushes};
 
 use crate::item::{Item, ListEnd, Types, push};
 use crate::operator::{
@@ -128,7 +129,7 @@ fn push_last<'a, 'b>(
     t: &'b Type<'a, 'b>,
     flags: DemangleFlags,
 ) -> Result<(), AllocError>
-    ensures text { OnOk result (Pushes (last_half (after (type_of t.now) false flags.0) flags.0) flags.0
+    ensures text { OnOk result (Pushes (kept_right (after (type_of t.now) false flags.0) flags.0) flags.0
         stack.old.items stack.new.items) }
     ensures lighter { OnOk result (work stack.new.items ≤ type_weight (type_of t.now) + work stack.old.items) }
 {
@@ -144,7 +145,7 @@ fn push_first<'a, 'b>(
     t: &'b Type<'a, 'b>,
     flags: DemangleFlags,
 ) -> Result<(), AllocError>
-    ensures text { OnOk result (Pushes (first_half (before (type_of t.now) false flags.0) flags.0) flags.0
+    ensures text { OnOk result (Pushes (kept_left (before (type_of t.now) false flags.0) flags.0) flags.0
         stack.old.items stack.new.items) }
     ensures lighter { OnOk result (work stack.new.items ≤ type_weight (type_of t.now) + work stack.old.items) }
 {
@@ -204,14 +205,14 @@ fn print_nested<'a, 'b>(
 }
 
 /// Prints the descriptor of a type.
-#[tactic(auto, using(crate::proofs::Stack::pushes))]
+#[tactic(auto, using(crate::proofs::Halves::pushed_left))]
 fn print_descriptor<'a, 'b>(
     stack: &mut Vec<Item<'a, 'b>, &'b Bump>,
     out: &mut Vec<u8>,
     described: &'b Type<'a, 'b>,
     flags: DemangleFlags,
 ) -> Result<(), AllocError>
-    ensures text { OnOk result (Prints (space AfterPointer ∷ (before (type_of described.now) false flags.0
+    ensures text { OnOk result (Prints (space AfterPointer ∷ ((grown (type_of described.now) false alone flags.0).left
         ++ text (codes "::`RTTI Type Descriptor'") ∷ [])) flags.0
         stack.old.items out.old.items stack.new.items out.new.items) }
     ensures lighter { OnOk result (Lightens (3 + type_weight (type_of described.now))

@@ -6,13 +6,14 @@ ghost use Rattle.msvc_tree.specs.Trees.{plain, numbered};
 ghost use Rattle.msvc_tree.specs.NodeView.{name_of, names_in, type_of, types_in};
 ghost use Rattle.msvc_tree.specs.declared.kinds.PlainType.TheVariants as plain_kind;
 ghost use Rattle.msvc_tree.specs.declared.kinds.Table.TheVariants.{Functions};
-ghost use Rattle.msvc_write.specs.Declaration.{after, before, is_empty_pack, member_pointer_end, parameters};
-ghost use Rattle.msvc_write.specs.Declaration.{scope_path, symbol_name, table_end};
-ghost use Rattle.msvc_write.specs.Functions.{calling, function_end, own_qualifier, separator};
+ghost use Rattle.msvc_write.specs.Declaration.{is_empty_pack, length_pieces, parameters, scope_path, symbol_name};
+ghost use Rattle.msvc_write.specs.Declaration.{table_end, thunk_end};
+ghost use Rattle.msvc_write.specs.Functions.{calling, own_qualifier};
+ghost use Rattle.msvc_write.specs.Halves.{after, before, function_end, member_pointer_end, pointed_name};
 ghost use Rattle.msvc_write.specs.Pieces.{settle_all, text};
 ghost use Rattle.msvc_write.specs.Words.{qualifiers, opening, closing, variable_word};
 ghost use Rattle.msvc_write.specs.Weights.{scope_weight, symbol_weight, type_weight, types_weight};
-ghost use Rattle.msvc_write.specs.Work.{item_pieces, item_weight, pointed_name, rest_of_parameters, work};
+ghost use Rattle.msvc_write.specs.Work.{item_pieces, item_weight, rest_of_parameters, work};
 ghost use Rattle.msvc_write.specs.Work.{Prints, Pushes, Lightens};
 
 use crate::function::{write_calling, write_list_end, write_member_start, write_separator};
@@ -32,7 +33,7 @@ use msvc_tree::tree::{CallingConv, VarStorageKind};
 use std::alloc::AllocError;
 
 /// Prints what a type has before that which it is grown around.
-#[tactic(auto, using(crate::proofs::Nodes::printed), unfolding(crate::specs::Declaration::before, crate::specs::Weights::type_weight, msvc_tree::specs::NodeView::type_of))]
+#[tactic(auto, using(crate::proofs::Nodes::printed), unfolding(crate::specs::Halves::before, crate::specs::Weights::type_weight, msvc_tree::specs::NodeView::type_of))]
 fn print_before<'a, 'b>(
     stack: &mut Vec<Item<'a, 'b>, &'b Bump>,
     out: &mut Vec<u8>,
@@ -76,7 +77,7 @@ fn print_before<'a, 'b>(
 }
 
 /// Writes what has nothing in it.
-#[tactic(auto, using(crate::proofs::Settling::settling), unfolding(crate::specs::Declaration::before))]
+#[tactic(auto, using(crate::proofs::Settling::settling), unfolding(crate::specs::Halves::before))]
 fn write_plain(
     out: &mut Vec<u8>,
     kind: PlainType,
@@ -95,7 +96,7 @@ fn write_plain(
 }
 
 /// Writes what has one number in it.
-#[tactic(auto, using(crate::proofs::Settling::settling), unfolding(crate::specs::Declaration::before))]
+#[tactic(auto, using(crate::proofs::Settling::settling), unfolding(crate::specs::Halves::before))]
 fn write_numbered(
     out: &mut Vec<u8>,
     kind: NumberedType,
@@ -114,7 +115,7 @@ fn write_numbered(
 
 /// Prints what a type has before that which it is grown around, where it stands inside another: one that has no type in
 /// it at once, as most have none.
-#[tactic(auto, using(crate::proofs::Nodes::printed), unfolding(crate::specs::Declaration::before, crate::specs::Weights::type_weight, msvc_tree::specs::NodeView::type_of))]
+#[tactic(auto, using(crate::proofs::Nodes::printed), unfolding(crate::specs::Halves::before, crate::specs::Weights::type_weight, msvc_tree::specs::NodeView::type_of))]
 fn print_inner<'a, 'b>(
     stack: &mut Vec<Item<'a, 'b>, &'b Bump>,
     out: &mut Vec<u8>,
@@ -175,7 +176,7 @@ fn print_variable<'a, 'b>(
 }
 
 /// Prints what a type has after it.
-#[tactic(auto, using(crate::proofs::Nodes::printed), unfolding(crate::specs::Declaration::after, crate::specs::Weights::type_weight, msvc_tree::specs::NodeView::type_of))]
+#[tactic(auto, using(crate::proofs::Nodes::printed), unfolding(crate::specs::Halves::after, crate::specs::Weights::type_weight, msvc_tree::specs::NodeView::type_of))]
 pub fn print_after<'a, 'b>(
     stack: &mut Vec<Item<'a, 'b>, &'b Bump>,
     out: &mut Vec<u8>,
@@ -212,7 +213,7 @@ pub fn print_after<'a, 'b>(
 }
 
 /// Whether a type may have something after it.
-#[tactic(auto, unfolding(crate::specs::Declaration::after, msvc_tree::specs::NodeView::type_of))]
+#[tactic(auto, unfolding(crate::specs::Halves::after, msvc_tree::specs::NodeView::type_of))]
 fn may_have_after<'a, 'b>(t: &'b Type<'a, 'b>) -> bool
     ensures { result ≡ false → (pointed : Bool) (flags : ℕ) → after (type_of t.now) pointed flags ≡ [] }
 {
@@ -234,7 +235,7 @@ fn may_have_after<'a, 'b>(t: &'b Type<'a, 'b>) -> bool
 }
 
 /// Whether a type, or what it points to, may have something after it.
-#[tactic(auto, unfolding(crate::specs::Declaration::after, msvc_tree::specs::NodeView::type_of))]
+#[tactic(auto, unfolding(crate::specs::Halves::after, msvc_tree::specs::NodeView::type_of))]
 fn has_after<'a, 'b>(t: &'b Type<'a, 'b>) -> bool
     ensures { result ≡ false → (pointed : Bool) (flags : ℕ) → after (type_of t.now) pointed flags ≡ [] }
 {
@@ -502,8 +503,7 @@ fn write_thunk(
 /// Writes what a thunk has after its name: the offset in the table, and the model of memory.
 #[tactic(auto, using(crate::proofs::Settling::settling))]
 fn write_thunk_end(out: &mut Vec<u8>, number: i32, flags: DemangleFlags) -> Result<(), AllocError>
-    ensures { OnOk result (out.new.items ≡ settle_all out.old.items (text (codes "{")
-        ∷ text (signed_decimal number) ∷ (separator false flags.0 ++ text (codes "{flat}}") ∷ []))) }
+    ensures { OnOk result (out.new.items ≡ settle_all out.old.items (thunk_end number flags.0)) }
 {
     write_text(out, b"{")?;
     write_number(out, number)?;
@@ -525,7 +525,7 @@ fn write_template_parameter(out: &mut Vec<u8>, number: i32) -> Result<(), AllocE
 #[tactic(auto, using(crate::proofs::Stack::pushes))]
 fn write_length(out: &mut Vec<u8>, length: i32, pointed: bool) -> Result<(), AllocError>
     ensures { OnOk result (out.new.items ≡ settle_all out.old.items
-        (closing pointed ++ (text (codes "[") ∷ text (signed_decimal length) ∷ text (codes "]") ∷ []))) }
+        (closing pointed ++ length_pieces length)) }
 {
     write_closing(out, pointed)?;
     write_text(out, b"[")?;

@@ -1,11 +1,11 @@
 use Rattle.std.proofs.Common.{[], ap, sym, ◌∙◌, arith}
-use Rattle.msvc_write.specs.Declaration.{class_name}
+use Rattle.msvc_write.specs.Declaration.{class_name, scope_pieces}
 use Rattle.msvc_write.proofs.Names.{names_in-first, names_in-none, scope_weight-positive, work-first}
 use Rattle.msvc_write.proofs.Stack.{pushed_one, same_pieces, work_one}
 use Rattle.msvc_write.proofs.name.push_constructor.Goals as goal
 
 pub returns-in_ok-push-in-empty-clause-text : goal.returns-in_ok-push-in-empty-clause-text
-unfolding class_name
+unfolding scope_pieces
 returns-in_ok-push-in-empty-clause-text c = λ out. pushed_one _ _ _ out _ c.in_ok-push-in-empty.ensures
     ∙ same_pieces _ out _ _ _
     (sym (ap (λ ns. class_name ns [] c.args.flags.0) (names_in-none _ c.in-empty.len_below)))
@@ -15,7 +15,7 @@ returns-in_ok-push-in-empty-clause-lighter c =
     omega (arith, work_one _ _ _ c.in_ok-push-in-empty.ensures, scope_weight-positive c.args.names.now)
 
 pub returns-in_ok-push-in-len1-up-clause-text : goal.returns-in_ok-push-in-len1-up-clause-text
-unfolding class_name
+unfolding scope_pieces
 returns-in_ok-push-in-len1-up-clause-text c = λ out. pushed_one _ _ _ out _ c.in_ok-push-in-len1-up.ensures
     ∙ same_pieces _ out _ _ _
     (sym (ap (λ ns. class_name ns [] c.args.flags.0) (names_in-first _ _ c.in-len1-up.len_at_least)))

@@ -1,12 +1,12 @@
 use Rattle.std.proofs.Common.{◌∷◌, [], ap, sym, ◌∙◌, arith, codes}
-use Rattle.msvc_write.specs.Declaration.{class_name}
+use Rattle.msvc_write.specs.Declaration.{class_name, scope_pieces}
 use Rattle.msvc_write.specs.Pieces.{text}
 use Rattle.msvc_write.proofs.Names.{names_in-first, names_in-none, scope_weight-positive, work-first}
 use Rattle.msvc_write.proofs.Stack.{pushed_one, pushed_two, same_pieces, work_one}
 use Rattle.msvc_write.proofs.name.push_destructor.Goals as goal
 
 pub returns-in_ok-push-in-empty-clause-text : goal.returns-in_ok-push-in-empty-clause-text
-unfolding class_name
+unfolding scope_pieces
 returns-in_ok-push-in-empty-clause-text c = λ out. pushed_one _ _ _ out _ c.in_ok-push-in-empty.ensures
     ∙ same_pieces _ out _ _ _
     (sym (ap (λ ns. class_name ns (text (codes "~") ∷ []) c.args.flags.0) (names_in-none _ c.in-empty.len_below)))
@@ -16,7 +16,7 @@ returns-in_ok-push-in-empty-clause-lighter c =
     omega (arith, work_one _ _ _ c.in_ok-push-in-empty.ensures, scope_weight-positive c.args.names.now)
 
 pub returns-in_ok-push-in-len1-up-2-clause-text : goal.returns-in_ok-push-in-len1-up-2-clause-text
-unfolding class_name
+unfolding scope_pieces
 returns-in_ok-push-in-len1-up-2-clause-text c = λ out.
     pushed_two _ _ _ _ _ out _ c.in_ok-push-in-len1-up.ensures c.in_ok-push-in-len1-up-2.ensures
     ∙ same_pieces _ out _ _ _

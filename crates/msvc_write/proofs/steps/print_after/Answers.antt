@@ -4,7 +4,7 @@ use Rattle.msvc_tree.specs.NodeView.{type_of}
 use Rattle.msvc_tree.proofs.NodeViews.{type_of-MemberPointer, type_of-Table}
 use Rattle.msvc_write.proofs.Parameters.{settled-array}
 use Rattle.msvc_write.proofs.Stack.{same_pieces}
-use Rattle.msvc_write.specs.Declaration.{after}
+use Rattle.msvc_write.specs.Halves.{after}
 use Rattle.msvc_write.specs.Pieces.{settle_all}
 use Rattle.msvc_write.specs.Weights.{type_weight}
 use Rattle.msvc_write.specs.Work.{Lightens, Prints, finished}

@@ -2,7 +2,7 @@ use Rattle.std.specs.Prelude.{OnOk}
 use Rattle.std.proofs.Common.{ap, sym, subst, ◌∙◌}
 use Rattle.msvc_tree.specs.NodeView.{type_of}
 use Rattle.msvc_tree.proofs.NodeViews.{type_of-Tagged}
-use Rattle.msvc_write.specs.Declaration.{before}
+use Rattle.msvc_write.specs.Halves.{before}
 use Rattle.msvc_write.specs.Weights.{type_weight}
 use Rattle.msvc_write.specs.Work.{Lightens, Prints}
 use Rattle.msvc_write.proofs.steps.print_before.Goals as goal
