@@ -8,6 +8,7 @@ ghost use Rattle.msvc_tree.specs.NodeView.{whole_of};
 ghost use Rattle.msvc_tree.specs.View.{tree_of};
 ghost use Rattle.msvc_tree.specs.declared.error.ErrorRepr.TheVariants.{Memory};
 ghost use Rattle.msvc_write.specs.Declaration.{declaration};
+ghost use Rattle.msvc_write.specs.Laws.{IsTextOfOtherTypes, IsTextUnderOtherBits};
 ghost use Rattle.msvc_write.specs.Work.{finished};
 
 use crate::item::Item;
@@ -115,7 +116,7 @@ fn declared(
 }
 
 /// The declaration of a symbol as a text, under the flags of printing. Bits that are no flag change nothing. Where
-/// names of the symbol are not UTF-8, what is no character is shown as U+FFFD. It refuses only for want of memory.
+/// names of the symbol are not UTF-8, what is no character is shown as U+FFFD. It refuses only when out of memory.
 pub fn serialize(
     alloc: Global,
     input: &ParseResult<'_>,
@@ -125,6 +126,9 @@ pub fn serialize(
         string_bytes text ≡ declaration (tree_of input.now) flags.0) }
     ensures lossy { IfOk result (λ text.
         string_bytes text ≡ utf8_lossy (declaration (tree_of input.now) flags.0)) }
+    ensures other_bits { IfOk result (λ text.
+        IsTextUnderOtherBits (string_bytes text) (tree_of input.now) flags.0) }
+    ensures name_only { IfOk result (λ text. IsTextOfOtherTypes (string_bytes text) (tree_of input.now) flags.0) }
     ensures memory { IfErr result (λ e. e ≡ Memory) }
 {
     let bytes = declared(alloc, input, flags)?;
