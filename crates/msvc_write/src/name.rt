@@ -2,12 +2,12 @@
 //! written at once. What holds trees goes onto the stack of work.
 
 ghost use Rattle.std.specs.Prelude.{ℕ, List, ◌≡◌, ◌≤◌, ◌+◌, ◌++◌, ◌∷◌, [], Bool, true, false, OnOk, IfOk};
-ghost use Rattle.std.specs.Prelude.{codes, take, length, option_map};
+ghost use Rattle.std.specs.Prelude.{codes, cond, take, length, option_map};
 ghost use Rattle.std.specs.Fmt.{signed_decimal};
 ghost use Rattle.msvc_tree.specs.Trees.{plain};
 ghost use Rattle.msvc_tree.specs.NodeView.{name_of, names_in, type_of, types_in};
 ghost use Rattle.msvc_write.specs.Declaration.{name_pieces, quoted, quoted_unless, scope_prefix, spelled_name};
-ghost use Rattle.msvc_write.specs.Declaration.{class_name, conversion, scope_path, symbol_as, symbol_name};
+ghost use Rattle.msvc_write.specs.Declaration.{class_name, conversion, scope_path, symbol_as, symbol_name, tilde};
 ghost use Rattle.msvc_write.specs.Declaration.{angled, grown, parameters, symbol_pieces};
 ghost use Rattle.msvc_write.specs.Halves.{after, before, pointed_name};
 ghost use Rattle.msvc_tree.specs.declared.kinds.PlainType.TheVariants as plain_kind;
@@ -24,7 +24,8 @@ use crate::item::{Item, ListEnd, Types, push};
 use crate::operator::{
     OwnName, operator_word, own_name, write_base_class, write_guard, write_spaced,
 };
-use crate::text::{Space, has, name_space, write_number, write_space, write_text};
+use crate::text::{Space, name_space, write_number, write_space, write_text};
+use bitflags::Flags;
 use bumpalo::Bump;
 use msvc_tree::flags::DemangleFlags;
 use msvc_tree::nodes::{Name, Scope, Symbol, Type, Whole};
@@ -133,7 +134,7 @@ fn push_last<'a, 'b>(
         stack.old.items stack.new.items) }
     ensures lighter { OnOk result (work stack.new.items ≤ type_weight (type_of t.now) + work stack.old.items) }
 {
-    if !has(flags, DemangleFlags::NAME_ONLY) {
+    if !flags.contains(DemangleFlags::NAME_ONLY) {
         push(stack, Item::After(t, false))?;
     }
     Ok(())
@@ -149,10 +150,10 @@ fn push_first<'a, 'b>(
         stack.old.items stack.new.items) }
     ensures lighter { OnOk result (work stack.new.items ≤ type_weight (type_of t.now) + work stack.old.items) }
 {
-    if has(flags, DemangleFlags::NAME_ONLY) {
+    if flags.contains(DemangleFlags::NAME_ONLY) {
         return Ok(());
     }
-    if !has(flags, DemangleFlags::NO_FUNCTION_RETURNS) {
+    if !flags.contains(DemangleFlags::NO_FUNCTION_RETURNS) {
         push(stack, Item::Before(t, false))?;
     }
     Ok(())
@@ -357,13 +358,14 @@ pub fn print_path<'a, 'b>(
     }
 }
 
-/// Pushes what a constructor prints: the innermost name of its scope.
-fn push_constructor<'a, 'b>(
+/// Pushes what a constructor or a destructor prints: the innermost name of its scope, that of a destructor after `~`.
+fn push_class_name<'a, 'b>(
     stack: &mut Vec<Item<'a, 'b>, &'b Bump>,
     names: &'b [&'b Name<'a, 'b>],
+    destructor: bool,
     flags: DemangleFlags,
 ) -> Result<(), AllocError>
-    ensures text { OnOk result (Pushes (class_name (names_in names.now) [] flags.0) flags.0
+    ensures text { OnOk result (Pushes (class_name (names_in names.now) (cond destructor tilde []) flags.0) flags.0
         stack.old.items stack.new.items) }
     ensures lighter { OnOk result (work stack.new.items ≤ 1 + scope_weight (names_in names.now)
         + work stack.old.items) }
@@ -375,30 +377,9 @@ fn push_constructor<'a, 'b>(
         }
         [name, ..] => {
             push(stack, Item::Name(*name, false))?;
-            Ok(())
-        }
-    }
-}
-
-/// Pushes what a destructor prints: the innermost name of its scope behind `~`.
-fn push_destructor<'a, 'b>(
-    stack: &mut Vec<Item<'a, 'b>, &'b Bump>,
-    names: &'b [&'b Name<'a, 'b>],
-    flags: DemangleFlags,
-) -> Result<(), AllocError>
-    ensures text { OnOk result (Pushes (class_name (names_in names.now) (text (codes "~") ∷ []) flags.0) flags.0
-        stack.old.items stack.new.items) }
-    ensures lighter { OnOk result (work stack.new.items ≤ 1 + scope_weight (names_in names.now)
-        + work stack.old.items) }
-{
-    match names {
-        [] => {
-            push(stack, Item::Text(b"[invalid]"))?;
-            Ok(())
-        }
-        [name, ..] => {
-            push(stack, Item::Name(*name, false))?;
-            push(stack, Item::Text(b"~"))?;
+            if destructor {
+                push(stack, Item::Text(b"~"))?;
+            }
             Ok(())
         }
     }
@@ -489,11 +470,11 @@ fn print_symbol_as<'a, 'b>(
     match kind {
         OwnName::Ordinary => print_in_scope(stack, out, symbol.scope, symbol.name, flags),
         OwnName::Constructor => {
-            push_constructor(stack, symbol.scope, flags)?;
+            push_class_name(stack, symbol.scope, false, flags)?;
             print_scope(stack, out, symbol.scope, flags)
         }
         OwnName::Destructor => {
-            push_destructor(stack, symbol.scope, flags)?;
+            push_class_name(stack, symbol.scope, true, flags)?;
             print_scope(stack, out, symbol.scope, flags)
         }
         OwnName::Conversion => {
