@@ -1,4 +1,4 @@
--- What is grown around anything stands between the two halves that the printer prints.
+-- A type puts on the left and on the right of a name what the printer prints before and after it.
 use Rattle.std.proofs.Common.{◌≡◌, ℕ, ℤ, List, [], ◌∷◌, ◌++◌, Bool, true, false, refl, ap, sym, ◌∙◌, codes}
 use Rattle.std.proofs.lemmas.List.{append-nil, append_assoc}
 use Rattle.std.specs.Fmt.{signed_decimal}
@@ -7,7 +7,7 @@ use Rattle.msvc_tree.specs.Trees.{function, member_function, member_pointer, var
 use Rattle.msvc_tree.specs.declared.kinds.NumberedType.TheVariants as number_kind
 use Rattle.msvc_tree.specs.declared.kinds.PlainType.TheVariants as plain_kind
 use Rattle.msvc_write.specs.Declaration.{conversion, grown, length_pieces, parameters, symbol_name, symbol_pieces}
-use Rattle.msvc_write.specs.Functions.{calling, member_start, own_qualifier, own_qualifiers, parameter_list}
+use Rattle.msvc_write.specs.Functions.{calling, member_start, function_qualifier, function_qualifiers, parameter_list}
 use Rattle.msvc_write.specs.Halves.{after, before, function_end, member_pointer_end, pointed_name}
 use Rattle.msvc_write.specs.Pieces.{Piece, text}
 use Rattle.msvc_write.specs.Sides.{Sides, alone, around, between, kept_left, kept_right}
@@ -26,16 +26,16 @@ between-nothing s = ap (λ x. record { left = s.left; right = x }) (sym (append-
 function_end-parts : (pointed : Bool) (ps : List Piece) (set flags : ℕ) (returned : List Piece) →
     parameter_list pointed ps set flags ++ returned ≡ function_end pointed ps set flags returned
 function_end-parts pointed ps set flags returned =
-    append_assoc (closing pointed) (text (codes "(") ∷ (ps ++ (text (codes ")") ∷ own_qualifiers set flags))) returned
-    ∙ ap (λ x. closing pointed ++ (text (codes "(") ∷ x))
-    (append_assoc ps (text (codes ")") ∷ own_qualifiers set flags) returned)
+    let end : List Piece = text (codes ")") ∷ function_qualifiers set flags in
+    append_assoc (closing pointed) (text (codes "(") ∷ (ps ++ end)) returned
+    ∙ ap (λ x. closing pointed ++ (text (codes "(") ∷ x)) (append_assoc ps end returned)
 
 member_pointer_end-parts : (ps : List Piece) (set : ℕ) (returned : List Piece) →
-    ((text (codes ")(") ∷ (ps ++ text (codes ")") ∷ [])) ++ returned) ++ own_qualifier 1 (codes "const") set
+    ((text (codes ")(") ∷ (ps ++ text (codes ")") ∷ [])) ++ returned) ++ function_qualifier 1 (codes "const") set
     ≡ member_pointer_end ps set returned
 unfolding member_pointer_end
 member_pointer_end-parts ps set returned =
-    let const : List Piece = own_qualifier 1 (codes "const") set in
+    let const : List Piece = function_qualifier 1 (codes "const") set in
     ap (λ x. text (codes ")(") ∷ x) (ap (λ x. x ++ const) (append_assoc ps (text (codes ")") ∷ []) returned)
     ∙ append_assoc ps (text (codes ")") ∷ returned) const)
 
@@ -79,7 +79,7 @@ grown-halves (member_pointer n scope class convention ts set t) pointed inside f
     let more = calling true convention flags ++ pointed_name n scope flags in
     let ps = parameters ts true flags in
     let end = text (codes ")(") ∷ (ps ++ text (codes ")") ∷ []) in
-    let const = own_qualifier 1 (codes "const") set in
+    let const = function_qualifier 1 (codes "const") set in
     ap (λ s. between [] s const) (grown-halves t false (between more inside end) flags
     ∙ between-twice (before t false flags) more end (after t false flags) inside)
     ∙ between-twice [] (before t false flags ++ more) (end ++ after t false flags) const inside

@@ -17,7 +17,7 @@ use Rattle.msvc_write.specs.Work.{Lightens, work}
 use Rattle.msvc_write.specs.declared.item.Item.{Item}
 use Rattle.msvc_write.specs.declared.item.Item.TheVariants as item
 
--- the names of a scope up to one begin with that one, and the others stand behind it
+-- the names of a scope up to one begin with that one, and the others stand after it
 scope_prefix-last : (ns : List (Bor Name)) (d : Bor Name) (k flags : ℕ) → k < length ns →
     scope_prefix (names_in (take (suc k) ns)) flags
     ≡ (name_pieces (name_of (get_or ns k d).now) false flags ++ text (codes "::") ∷ [])
@@ -41,7 +41,7 @@ pub scope_prefix-left : (ns : List (Bor Name)) (d : Bor Name) (k flags : ℕ) �
 scope_prefix-left ns d k flags some fits = ap (λ j. scope_prefix (names_in (take j ns)) flags) (one_more k some)
     ∙ scope_prefix-last ns d (k - 1) flags (omega arith)
 
--- the last of the names that are left is written with `::` behind it
+-- the last of the names that are left is written with `::` after it
 pub written-last : (ns : List (Bor Name)) (d : Bor Name) (k flags : ℕ) (out out1 out2 : List ℕ) → 0 < k →
     k ≤ length ns → out1 ≡ settle_all out (name_pieces (name_of (get_or ns (k - 1) d).now) false flags) →
     out2 ≡ settle_all out1 (text (codes "::") ∷ []) →
@@ -116,12 +116,12 @@ names_in-first (x ∷ xs) d some =
     (sym (ap (λ k. take k xs) one ∙ take_all (length xs) xs (omega arith)))
 
 -- the innermost name of a scope weighs less than the scope, by the others
-pub work-first : (ns : List (Bor Name)) (d : Bor Name) (own : Bool) (s s' : List Item) → 1 ≤ length ns →
-    s' ≡ s ++ item.Name (get_or ns 0 d) own ∷ [] →
+pub work-first : (ns : List (Bor Name)) (d : Bor Name) (of_symbol : Bool) (s s' : List Item) → 1 ≤ length ns →
+    s' ≡ s ++ item.Name (get_or ns 0 d) of_symbol ∷ [] →
     3 + work s' + scope_weight (names_in (take (length ns - 1) (drop 1 ns))) ≡ scope_weight (names_in ns) + work s
 unfolding scope_weight
-work-first ns d own s s' some e =
-    omega (arith, work_one s s' (item.Name (get_or ns 0 d) own) e, ap scope_weight (names_in-first ns d some))
+work-first ns d of_symbol s s' some e =
+    omega (arith, work_one s s' (item.Name (get_or ns 0 d) of_symbol) e, ap scope_weight (names_in-first ns d some))
 
 -- a table of virtual functions that is for a scope says so
 pub table_end-some : (ns : List (Bor Name)) (path : List Piece) → 1 ≤ length ns →

@@ -10,7 +10,7 @@ use Rattle.msvc_tree.specs.declared.nodes.Type.{«Type»}
 use Rattle.msvc_write.proofs.Settling.{settle_all-append, settle_all-first, settled_three}
 use Rattle.msvc_write.proofs.Halves.{around-halves}
 use Rattle.msvc_write.specs.Declaration.{grown, is_empty_pack, length_pieces, parameters}
-use Rattle.msvc_write.specs.Functions.{own_qualifier, own_qualifiers, separator}
+use Rattle.msvc_write.specs.Functions.{function_qualifier, function_qualifiers, separator}
 use Rattle.msvc_write.specs.Halves.{after, before, function_end, member_pointer_end}
 use Rattle.msvc_write.specs.Pieces.{Piece, settle_all, text}
 use Rattle.msvc_write.specs.Weights.{type_weight, types_weight}
@@ -58,7 +58,7 @@ unfolding types_weight
 types_weight-positive [] = omega arith
 types_weight-positive (x ∷ xs) = omega arith
 
--- what stands behind the last type of a list
+-- what stands after the last type of a list
 pub rest-end : (ts : List (Bor «Type»)) (first : Bool) (end : ListEnd) (flags : ℕ) → length ts < 1 →
     rest_of_parameters ts first end flags ≡ end_pieces end flags
 unfolding parameters
@@ -107,7 +107,7 @@ settled_four out out1 a b c d e =
     sym (settle_all-append (settle_all out1 b) c d) ∙ sym (settle_all-append out1 b (c ++ d))
     ∙ ap (λ x. settle_all x (b ++ (c ++ d))) e ∙ sym (settle_all-append out a (b ++ (c ++ d)))
 
--- behind the length of a level of an array stands what is after its elements
+-- after the length of a level of an array stands what is after its elements
 pub settled-array : (out out1 : List ℕ) (pointed : Bool) (m n : ℤ) (t : TypeTree) (q flags : ℕ) →
     out1 ≡ settle_all out (closing pointed ++ length_pieces m) →
     m ≡ n → settle_all out1 (after t false flags) ≡ settle_all out (after (array n t q) pointed flags)
@@ -126,8 +126,8 @@ pub settled-function_end : (out out1 out2 : List ℕ) (ts : List (Bor «Type»))
     ≡ settle_all out (function_end pointed (parameters (types_in ts) true flags) set.0 flags returned)
 settled-function_end out out1 out2 ts pointed set flags returned e e' =
     let ps : List Piece = parameters (types_in ts) true flags in
-    let end : List Piece = text (codes ")") ∷ own_qualifiers set.0 flags in
-    let later : List Piece = ps ++ (text (codes ")") ∷ (own_qualifiers set.0 flags ++ returned)) in
+    let end : List Piece = text (codes ")") ∷ function_qualifiers set.0 flags in
+    let later : List Piece = ps ++ (text (codes ")") ∷ (function_qualifiers set.0 flags ++ returned)) in
     sym (settle_all-append out2 (ps ++ end) returned)
     ∙ ap (λ x. settle_all out2 x) (append_assoc ps end returned)
     ∙ ap (λ x. settle_all x later) (e' ∙ ap (λ x. settle_all x (text (codes "(") ∷ [])) e)
@@ -138,12 +138,12 @@ settled-function_end out out1 out2 ts pointed set flags returned e e' =
 pub settled-member_pointer_end : (out out1 : List ℕ) (ts : List (Bor «Type»)) (set flags : ℕ) (returned : List Piece) →
     out1 ≡ settle_all out (text (codes ")(") ∷ []) →
     settle_all (settle_all (settle_all out1 (rest_of_parameters ts true Bare flags)) returned)
-    (own_qualifier 1 (codes "const") set)
+    (function_qualifier 1 (codes "const") set)
     ≡ settle_all out (member_pointer_end (parameters (types_in ts) true flags) set returned)
 unfolding member_pointer_end
 settled-member_pointer_end out out1 ts set flags returned e =
     let ps : List Piece = parameters (types_in ts) true flags in
-    let const : List Piece = own_qualifier 1 (codes "const") set in
+    let const : List Piece = function_qualifier 1 (codes "const") set in
     let end : List Piece = text (codes ")") ∷ [] in
     let later : List Piece = ps ++ (end ++ (returned ++ const)) in
     settled_three out1 (ps ++ end) returned const

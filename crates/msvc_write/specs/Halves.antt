@@ -1,6 +1,6 @@
--- What the printer's two passes print: what a type puts on the left of all that is inside it, the outermost first, and
--- what it puts on the right, the innermost first. The printer's own: no public contract speaks of it. `proofs/Halves`
--- shows that what is grown around anything stands between the two.
+-- What the printer's two passes over a type print: `before` the name what the type and those in it put on its left, the
+-- outermost first, and `after` the name what they put on its right, that nearest the name first. For the printer alone:
+-- no public contract speaks of it. `proofs/Halves` shows that these are what `grown` puts on the two sides.
 use Rattle.std.specs.Prelude.{ℕ, List, [], ◌∷◌, ◌++◌, Bool, true, false, codes}
 use Rattle.std.specs.Fmt.{signed_decimal}
 use Rattle.msvc_tree.specs.declared.kinds.NumberedType.TheVariants as number_kind
@@ -9,7 +9,7 @@ use Rattle.msvc_tree.specs.Trees.{NameTree, NameTrees, TypeTree, plain, base, ta
 use Rattle.msvc_tree.specs.Trees.{function, member_function, member_pointer, variable, table, vcall_thunk}
 use Rattle.msvc_write.specs.Declaration.{length_pieces, parameters, pointed_class, scope_path, symbol_name, table_end}
 use Rattle.msvc_write.specs.Declaration.{thunk_end}
-use Rattle.msvc_write.specs.Functions.{calling, member_start, own_qualifier, own_qualifiers}
+use Rattle.msvc_write.specs.Functions.{calling, member_start, function_qualifier, function_qualifiers}
 use Rattle.msvc_write.specs.Pieces.{Piece, text}
 use Rattle.msvc_write.specs.Words.{base_word, variable_word, tag_word, mark_word, qualifiers, marked}
 use Rattle.msvc_write.specs.Words.{opening, closing}
@@ -25,14 +25,14 @@ pointed_name n scope flags = pointed_class (plain_name n scope flags)
 -- what stands after the name of a function: its parameters, its qualifiers, and the rest of what it returns
 abbrev pub function_end : Bool → List Piece → ℕ → ℕ → List Piece → List Piece
 function_end pointed parameters set flags returned = closing pointed
-    ++ (text (codes "(") ∷ (parameters ++ (text (codes ")") ∷ (own_qualifiers set flags ++ returned))))
+    ++ (text (codes "(") ∷ (parameters ++ (text (codes ")") ∷ (function_qualifiers set flags ++ returned))))
 
 -- what stands after a pointer to a member function: its parameters, the rest of what it returns, and its `const`
 unfoldable pub member_pointer_end : List Piece → ℕ → List Piece → List Piece
 member_pointer_end parameters set returned = text (codes ")(") ∷ (parameters
-    ++ (text (codes ")") ∷ (returned ++ own_qualifier 1 (codes "const") set)))
+    ++ (text (codes ")") ∷ (returned ++ function_qualifier 1 (codes "const") set)))
 
--- what a type has before that which it is grown around
+-- what a type has before the name
 unfoldable pub before : TypeTree → Bool → ℕ → List Piece
 before (base b set) pointed flags = text (base_word b flags) ∷ qualifiers set flags
 before (tagged tag n scope set) pointed flags =
@@ -55,7 +55,7 @@ before (vcall_thunk n convention) pointed flags = text (codes "[thunk]: ") ∷ c
 before (variable t kind set) pointed flags = text (variable_word kind) ∷ (before t false flags ++ qualifiers set flags)
 before _ pointed flags = []
 
--- what it has after it
+-- what it has after the name
 unfoldable pub after : TypeTree → Bool → ℕ → List Piece
 after (pointing m t set) pointed flags = after t true flags
 after (array n t set) pointed flags = closing pointed ++ (length_pieces n ++ after t false flags)

@@ -1,4 +1,4 @@
--- What the printer's stack of work means, and how much it is. The printer's own: no public contract speaks of it.
+-- What the printer's stack of work means, and how much it is. For the printer alone: no public contract speaks of it.
 use Rattle.std.specs.Prelude.{ℕ, ◌+◌, ◌<◌, ◌≡◌, List, [], ◌∷◌, ◌++◌, Bool, false, Option, Some, None}
 use Rattle.std.specs.Prelude.{codes}
 use Rattle.std.specs.Borrow.{Bor}
@@ -7,7 +7,7 @@ use Rattle.msvc_tree.specs.Trees.{TypeTree, plain, member_function}
 use Rattle.msvc_tree.specs.declared.kinds.PlainType.TheVariants as plain_kind
 use Rattle.msvc_tree.specs.declared.nodes.Type.{«Type»}
 use Rattle.msvc_write.specs.Declaration.{name_pieces, parameters, scope_prefix, symbol_name}
-use Rattle.msvc_write.specs.Functions.{calling, own_qualifiers}
+use Rattle.msvc_write.specs.Functions.{calling, function_qualifiers}
 use Rattle.msvc_write.specs.Halves.{after, before, pointed_name}
 use Rattle.msvc_write.specs.Operators.{spaced}
 use Rattle.msvc_write.specs.Pieces.{Piece, text, space, settle_all}
@@ -22,9 +22,9 @@ use Rattle.msvc_write.specs.declared.item.ListEnd.TheVariants.{Round, Bare, Angl
 use Rattle.msvc_write.specs.declared.text.Space.TheVariants.{AfterAngle}
 
 -- the type of a symbol, or none
-abbrev pub own_type : Option (Bor «Type») → TypeTree
-own_type None = plain plain_kind.None
-own_type (Some t) = type_of t.now
+abbrev pub type_or_none : Option (Bor «Type») → TypeTree
+type_or_none None = plain plain_kind.None
+type_or_none (Some t) = type_of t.now
 
 -- what a member function returns
 unfoldable pub member_return : TypeTree → Option TypeTree
@@ -40,9 +40,9 @@ unfoldable pub return_weight : Option TypeTree → ℕ
 return_weight None = 0
 return_weight (Some t) = type_weight t
 
--- what stands behind the last type of a list
+-- what stands after the last type of a list
 abbrev pub end_pieces : ListEnd → ℕ → List Piece
-end_pieces (Round set) flags = text (codes ")") ∷ own_qualifiers set.0 flags
+end_pieces (Round set) flags = text (codes ")") ∷ function_qualifiers set.0 flags
 end_pieces Bare flags = text (codes ")") ∷ []
 end_pieces Angle flags = space AfterAngle ∷ text (codes ">") ∷ []
 
@@ -53,9 +53,9 @@ rest_of_parameters ts first end flags = parameters (types_in ts) first flags ++ 
 -- the pieces that an item stands for
 abbrev pub item_pieces : Item → ℕ → List Piece
 item_pieces (Text bytes) flags = text bytes.now ∷ []
-item_pieces (Name n own) flags = name_pieces (name_of n.now) own flags
+item_pieces (Name n of_symbol) flags = name_pieces (name_of n.now) of_symbol flags
 item_pieces (Scope s) flags = scope_prefix (names_in s.names.now) flags
-item_pieces (Symbol s own) flags = symbol_name (name_of s.now.name.now) (names_in s.now.scope.now) (own_type own) flags
+item_pieces (Symbol s t) flags = symbol_name (name_of s.now.name.now) (names_in s.now.scope.now) (type_or_none t) flags
 item_pieces (Class s) flags = pointed_name (name_of s.now.name.now) (names_in s.now.scope.now) flags
 item_pieces (Spaced word) flags = spaced word.now
 item_pieces (Qualifiers set) flags = qualifiers set.0 flags
@@ -68,9 +68,9 @@ item_pieces (After t pointed) flags = after (type_of t.now) pointed flags
 
 abbrev pub item_weight : Item → ℕ
 item_weight (Text bytes) = 1
-item_weight (Name n own) = name_weight (name_of n.now)
+item_weight (Name n of_symbol) = name_weight (name_of n.now)
 item_weight (Scope s) = scope_weight (names_in s.names.now)
-item_weight (Symbol s own) = symbol_weight (name_of s.now.name.now) (names_in s.now.scope.now) (own_type own)
+item_weight (Symbol s t) = symbol_weight (name_of s.now.name.now) (names_in s.now.scope.now) (type_or_none t)
 item_weight (Class s) =
     3 + symbol_weight (name_of s.now.name.now) (names_in s.now.scope.now) (plain plain_kind.None)
 item_weight (Spaced word) = 1
@@ -82,7 +82,7 @@ item_weight (Parameters left first end) = types_weight (types_in left.types.now)
 item_weight (Before t pointed) = type_weight (type_of t.now)
 item_weight (After t pointed) = type_weight (type_of t.now)
 
--- the text once all work on the stack, the last item first, is written behind what is there
+-- the text once all work on the stack, the last item first, is written after what is there
 unfoldable pub finished : List Item → List ℕ → ℕ → List ℕ
 finished [] out flags = out
 finished (item ∷ above) out flags = settle_all (finished above out flags) (item_pieces item flags)

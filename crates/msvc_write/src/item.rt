@@ -8,7 +8,7 @@ use msvc_tree::nodes::{Name, Scope, Symbol, Type};
 use msvc_tree::tree::CallingConv;
 use std::alloc::AllocError;
 
-/// What stands behind the last type of a list.
+/// What stands after the last type of a list.
 #[derive(Clone, Copy)]
 pub enum ListEnd {
     /// `)`, and the qualifiers of the function itself, whose parameters the list is.
@@ -30,11 +30,11 @@ pub struct Types<'a, 'b> {
 pub enum Item<'a, 'b> {
     /// Fixed words.
     Text(&'b [u8]),
-    /// Fixed words behind the space that operators begin with.
+    /// Fixed words after the space that operators begin with.
     Spaced(&'b [u8]),
     /// A name. The flag says whether it is the name of a symbol itself.
     Name(&'b Name<'a, 'b>, bool),
-    /// The names of a scope, the innermost first, each with `::` behind it.
+    /// The names of a scope, the innermost first, each with `::` after it.
     Scope(Scope<'a, 'b>),
     /// A name in its scope, and the type of the symbol that it is the name of.
     Symbol(&'b Symbol<'a, 'b>, Option<&'b Type<'a, 'b>>),
@@ -48,7 +48,7 @@ pub enum Item<'a, 'b> {
     ArrayLevel(StorageClass, bool),
     /// How a function is called, and the parenthesis before the mark of a pointer to it.
     Calling(bool, CallingConv),
-    /// The types that are left of a list, and what stands behind the last. The flag says whether none was printed yet.
+    /// The types that are left of a list, and what stands after the last. The flag says whether none was printed yet.
     Parameters(Types<'a, 'b>, bool, ListEnd),
     /// What a type has before that which it is grown around. The flag says whether that is the mark of a pointer.
     Before(&'b Type<'a, 'b>, bool),
@@ -56,6 +56,7 @@ pub enum Item<'a, 'b> {
     After(&'b Type<'a, 'b>, bool),
 }
 
+/// Puts an item onto the stack. Of what `Vec::push` ensures, its clause is the one that proofs of steps go by.
 pub fn push<'a, 'b>(
     stack: &mut Vec<Item<'a, 'b>, &'b Bump>,
     item: Item<'a, 'b>,

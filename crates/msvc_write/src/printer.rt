@@ -1,4 +1,4 @@
-//! The loop over the stack, and its bytes as a text.
+//! The loop over the stack, one step for each item, and its bytes as a text.
 
 ghost use Rattle.std.specs.Prelude.{◌≡◌, ◌≤◌, ◌<◌, OnOk, IfOk, IfErr, IsFalse, IsTrue, length, string_bytes};
 ghost use Rattle.std.specs.Str.{IsUtf8};
@@ -9,11 +9,14 @@ ghost use Rattle.msvc_tree.specs.View.{tree_of};
 ghost use Rattle.msvc_tree.specs.declared.error.ErrorRepr.TheVariants.{Memory};
 ghost use Rattle.msvc_write.specs.Declaration.{declaration};
 ghost use Rattle.msvc_write.specs.Laws.{IsTextOfOtherTypes, IsTextUnderOtherBits};
-ghost use Rattle.msvc_write.specs.Work.{finished};
+ghost use Rattle.msvc_write.specs.Work.{Lightens, Prints, finished, item_pieces, item_weight};
 
+use crate::function_types::write_calling;
 use crate::item::Item;
-use crate::name::push_whole;
-use crate::steps::step;
+use crate::operators::write_spaced;
+use crate::qualified_names::{print_class, print_name, print_scope, print_symbol, push_whole};
+use crate::text::{write_mark, write_qualifiers, write_text};
+use crate::types::{print_after, print_before, print_parameters, write_level};
 use bumpalo::Bump;
 use msvc_tree::error::Error;
 use msvc_tree::flags::DemangleFlags;
@@ -32,8 +35,39 @@ const FIRST_ITEMS: usize = 32;
 /// take. What is not written to costs nothing.
 const FIRST_ROOM: usize = 1 << 15;
 
-/// Prints the items of the stack, the last first, and says whether it came to the end: it goes on until none is left, or
-/// `out` has more than so many bytes.
+/// Prints one item of the stack.
+#[tactic(auto, using(crate::proofs::Stack::pushes))]
+fn step<'a, 'b>(
+    stack: &mut Vec<Item<'a, 'b>, &'b Bump>,
+    out: &mut Vec<u8>,
+    item: Item<'a, 'b>,
+    flags: DemangleFlags,
+) -> Result<(), AllocError>
+    ensures text { OnOk result (Prints (item_pieces item.entry flags.0) flags.0
+        stack.old.items out.old.items stack.new.items out.new.items) }
+    ensures lighter { OnOk result (Lightens (item_weight item.entry) stack.old.items stack.new.items) }
+{
+    match item {
+        Item::Text(bytes) => write_text(out, bytes),
+        Item::Name(name, of_symbol) => print_name(stack, out, name, of_symbol, flags),
+        Item::Scope(scope) => print_scope(stack, out, scope.names, flags),
+        Item::Symbol(symbol, symbol_type) => print_symbol(stack, out, symbol, symbol_type, flags),
+        Item::Class(class) => print_class(stack, out, class, flags),
+        Item::Spaced(word) => write_spaced(out, word),
+        Item::Qualifiers(set) => write_qualifiers(out, set, flags),
+        Item::Mark(word, set) => write_mark(out, word, set, flags),
+        Item::ArrayLevel(set, pointed) => write_level(out, set, pointed, flags),
+        Item::Calling(pointed, convention) => write_calling(out, pointed, convention, flags),
+        Item::Parameters(left, first, end) => {
+            print_parameters(stack, out, left.types, first, end, flags)
+        }
+        Item::Before(t, pointed) => print_before(stack, out, t, pointed, flags),
+        Item::After(t, pointed) => print_after(stack, out, t, pointed, flags),
+    }
+}
+
+/// Prints the items of the stack, the last first, and says whether it came to the end: it goes on until none is left,
+/// or `out` has more than so many bytes.
 fn empty<'a, 'b>(
     stack: &mut Vec<Item<'a, 'b>, &'b Bump>,
     out: &mut Vec<u8>,
@@ -70,7 +104,7 @@ pub fn print<'a, 'b>(
 }
 
 /// The same, if the declaration has at most so many bytes, and whether it has. Where it is longer, `out` has more bytes
-/// than these, and nothing is printed behind the piece that made it so.
+/// than these, and nothing is printed after the piece that made it so.
 pub fn print_within<'a, 'b>(
     arena: &'b Bump,
     symbol: &'b Whole<'a, 'b>,

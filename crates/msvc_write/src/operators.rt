@@ -1,0 +1,220 @@
+//! Names of operators: their words, a row each, and which of them print otherwise as the name of a symbol itself.
+
+ghost use Rattle.std.specs.Fmt.{decimal};
+ghost use Rattle.std.specs.Prelude.{◌≡◌, ◌∷◌, [], OnOk};
+ghost use Rattle.msvc_tree.specs.Trees.{operator};
+ghost use Rattle.msvc_tree.specs.NodeView.{name_of};
+ghost use Rattle.msvc_write.specs.Operators.{base_class_pieces, guard_number, guard_pieces, guard_word, listed};
+ghost use Rattle.msvc_write.specs.Operators.{operator_word, name_kind, spaced};
+ghost use Rattle.msvc_write.specs.Pieces.{settle_all, text};
+
+use crate::function_types::write_separator;
+use crate::text::{Space, write_number, write_space, write_text};
+use itoa::Buffer;
+use msvc_tree::flags::DemangleFlags;
+use msvc_tree::kinds::{Guard, PlainOperator};
+use msvc_tree::nodes::{BaseClass, Name};
+use std::alloc::AllocError;
+
+/// How a name prints where it is the name of a symbol itself.
+#[derive(Clone, Copy)]
+pub enum NameKind {
+    /// As in any scope.
+    Ordinary,
+    /// As the innermost name of its scope.
+    Constructor,
+    /// The same after `~`.
+    Destructor,
+    /// As what the function returns.
+    Conversion,
+    /// As the table of virtual bases.
+    BaseTable,
+    /// Before its scope.
+    Literal,
+}
+
+#[tactic(auto, unfolding(crate::specs::Operators::name_kind))]
+fn operator_kind(plain: PlainOperator) -> NameKind
+    ensures { result ≡ name_kind (operator plain) }
+{
+    match plain {
+        PlainOperator::Ctor => NameKind::Constructor,
+        PlainOperator::Dtor => NameKind::Destructor,
+        PlainOperator::Conversion => NameKind::Conversion,
+        PlainOperator::VBTable => NameKind::BaseTable,
+        PlainOperator::LiteralOperatorName => NameKind::Literal,
+        _ => NameKind::Ordinary,
+    }
+}
+
+/// How a name prints where it is the name of a symbol itself.
+#[tactic(auto, unfolding(crate::specs::Operators::name_kind, msvc_tree::specs::NodeView::name_of))]
+pub fn name_kind<'a, 'b>(name: &'b Name<'a, 'b>) -> NameKind
+    ensures { result ≡ name_kind (name_of name.now) }
+{
+    match name {
+        Name::Plain(operator) => operator_kind(*operator),
+        _ => NameKind::Ordinary,
+    }
+}
+
+/// Writes fixed words after the space that operators begin with.
+#[tactic(auto, using(crate::proofs::Settling::settling))]
+pub fn write_spaced(out: &mut Vec<u8>, word: &[u8]) -> Result<(), AllocError>
+    ensures { OnOk result (out.new.items ≡ settle_all out.old.items (spaced word.now)) }
+{
+    write_space(out, Space::AfterPointer)?;
+    write_text(out, word)
+}
+
+/// Writes a number of any length.
+#[tactic(auto, unfolding(crate::specs::Pieces::settle_all))]
+fn write_index(out: &mut Vec<u8>, number: u32) -> Result<(), AllocError>
+    ensures { OnOk result (out.new.items ≡ settle_all out.old.items (text (decimal number) ∷ [])) }
+{
+    let mut buffer = Buffer::new();
+    write_text(out, buffer.format(number).as_bytes())?;
+    Ok(())
+}
+
+/// Writes the number of a guard, if it has one.
+#[tactic(auto, using(crate::proofs::Settling::settling), unfolding(crate::specs::Operators::guard_number))]
+fn write_guard_number(out: &mut Vec<u8>, number: Option<u32>) -> Result<(), AllocError>
+    ensures { OnOk result (out.new.items ≡ settle_all out.old.items (guard_number number)) }
+{
+    match number {
+        Some(index) => {
+            write_text(out, b"{")?;
+            write_index(out, index)?;
+            write_text(out, b"}")
+        }
+        None => Ok(()),
+    }
+}
+
+fn guard_word<'t>(guard: Guard) -> &'t [u8]
+    ensures { result.now ≡ guard_word guard }
+{
+    match guard {
+        Guard::Static => b"`local static guard'",
+        Guard::Thread => b"`local static thread guard'",
+    }
+}
+
+/// Writes the guard of a static variable.
+#[tactic(auto, using(crate::proofs::Settling::settling), unfolding(crate::specs::Operators::guard_pieces))]
+pub fn write_guard(out: &mut Vec<u8>, guard: Guard, number: Option<u32>) -> Result<(), AllocError>
+    ensures { OnOk result (out.new.items ≡ settle_all out.old.items (guard_pieces guard number)) }
+{
+    write_spaced(out, guard_word(guard))?;
+    write_guard_number(out, number)
+}
+
+/// Writes a comma and a number.
+#[tactic(auto, using(crate::proofs::Settling::settling))]
+fn write_listed(out: &mut Vec<u8>, number: i32, flags: DemangleFlags) -> Result<(), AllocError>
+    ensures { OnOk result (out.new.items ≡ settle_all out.old.items (listed number flags.0)) }
+{
+    write_separator(out, false, flags)?;
+    write_number(out, number)
+}
+
+/// Writes the place of a base class in an object, as run-time type information names it.
+#[tactic(auto, using(crate::proofs::Settling::settling), unfolding(crate::specs::Operators::base_class_pieces))]
+pub fn write_base_class(
+    out: &mut Vec<u8>,
+    class: &BaseClass,
+    flags: DemangleFlags,
+) -> Result<(), AllocError>
+    ensures { OnOk result (out.new.items ≡ settle_all out.old.items
+        (base_class_pieces class.now.member class.now.pointer class.now.entry class.now.attributes flags.0)) }
+{
+    write_spaced(out, b"`RTTI Base Class Descriptor at (")?;
+    write_number(out, class.member)?;
+    write_listed(out, class.pointer, flags)?;
+    write_listed(out, class.entry, flags)?;
+    write_listed(out, class.attributes, flags)?;
+    write_text(out, b")'")?;
+    Ok(())
+}
+
+/// The words of an operator.
+pub fn operator_word<'t>(operator: PlainOperator) -> &'t [u8]
+    ensures { result.now ≡ operator_word operator }
+{
+    match operator {
+        PlainOperator::Ctor => b"ctor",
+        PlainOperator::Dtor => b"dtor",
+        PlainOperator::New => b"operator new",
+        PlainOperator::Delete => b"operator delete",
+        PlainOperator::Equal => b"operator=",
+        PlainOperator::RShift => b"operator>>",
+        PlainOperator::LShift => b"operator<<",
+        PlainOperator::Bang => b"operator!",
+        PlainOperator::EqualEqual => b"operator==",
+        PlainOperator::BangEqual => b"operator!=",
+        PlainOperator::Subscript => b"operator[]",
+        PlainOperator::Conversion => b"operatorcast",
+        PlainOperator::Arrow => b"operator->",
+        PlainOperator::Star => b"operator*",
+        PlainOperator::PlusPlus => b"operator++",
+        PlainOperator::MinusMinus => b"operator--",
+        PlainOperator::Minus => b"operator-",
+        PlainOperator::Plus => b"operator+",
+        PlainOperator::Amp => b"operator&",
+        PlainOperator::ArrowStar => b"operator->*",
+        PlainOperator::Slash => b"operator/",
+        PlainOperator::Percent => b"operator%",
+        PlainOperator::Less => b"operator<",
+        PlainOperator::LessEqual => b"operator<=",
+        PlainOperator::Greater => b"operator>",
+        PlainOperator::GreaterEqual => b"operator>=",
+        PlainOperator::Comma => b"operator,",
+        PlainOperator::Call => b"operator()",
+        PlainOperator::Tilde => b"operator~",
+        PlainOperator::Caret => b"operator^",
+        PlainOperator::Pipe => b"operator|",
+        PlainOperator::AmpAmp => b"operator&&",
+        PlainOperator::PipePipe => b"operator||",
+        PlainOperator::StarEqual => b"operator*=",
+        PlainOperator::PlusEqual => b"operator+=",
+        PlainOperator::MinusEqual => b"operator-=",
+        PlainOperator::SlashEqual => b"operator/=",
+        PlainOperator::PercentEqual => b"operator%=",
+        PlainOperator::GreaterGreaterEqual => b"operator>>=",
+        PlainOperator::LessLessEqual => b"operator<<=",
+        PlainOperator::AmpEqual => b"operator&=",
+        PlainOperator::PipeEqual => b"operator|=",
+        PlainOperator::CaretEqual => b"operator^=",
+        PlainOperator::VFTable => b"`vftable'",
+        PlainOperator::VBTable => b"`vbtable'",
+        PlainOperator::VCall => b"`vcall'",
+        PlainOperator::Typeof => b"`typeof'",
+        PlainOperator::String => b"`string'",
+        PlainOperator::VBaseDtor => b"`vbase destructor'",
+        PlainOperator::VectorDeletingDtor => b"`vector deleting destructor'",
+        PlainOperator::DefaultCtorClosure => b"`default constructor closure'",
+        PlainOperator::ScalarDeletingDtor => b"`scalar deleting destructor'",
+        PlainOperator::VectorCtorIterator => b"`vector constructor iterator'",
+        PlainOperator::VectorDtorIterator => b"`vector destructor iterator'",
+        PlainOperator::VectorVBaseCtorIterator => b"`vector vbase constructor iterator'",
+        PlainOperator::VirtualDisplacementMap => b"`virtual displacement map'",
+        PlainOperator::EHVectorCtorIterator => b"`eh vector constructor iterator'",
+        PlainOperator::EHVectorDtorIterator => b"`eh vector destructor iterator'",
+        PlainOperator::EHVectorVBaseCtorIterator => b"`eh vector vbase constructor iterator'",
+        PlainOperator::CopyCtorClosure => b"`copy constructor closure'",
+        PlainOperator::LocalVFTable => b"`local vftable'",
+        PlainOperator::LocalVFTableCtorClosure => b"`local vftable constructor closure'",
+        PlainOperator::ArrayNew => b"operator new[]",
+        PlainOperator::ArrayDelete => b"operator delete[]",
+        PlainOperator::PlacementDeleteClosure => b"`placement delete closure'",
+        PlainOperator::PlacementArrayDeleteClosure => b"`placement delete[] closure'",
+        PlainOperator::RTTIBaseClassArray => b"`RTTI Base Class Array'",
+        PlainOperator::RTTIClassHierarchyDescriptor => b"`RTTI Class Hierarchy Descriptor'",
+        PlainOperator::RTTIClassCompleteObjectLocator => b"`RTTI Complete Object Locator'",
+        PlainOperator::DynamicInitializer => b"`dynamic initializer'",
+        PlainOperator::DynamicAtexitDtor => b"`dynamic atexit destructor'",
+        PlainOperator::LiteralOperatorName => b"operator \"\"",
+        PlainOperator::CoroutineAwait => b" co_await",
+    }
+}
