@@ -1,7 +1,6 @@
 -- A type puts on the left and on the right of a name what the printer prints before and after it.
-use Rattle.std.proofs.Common.{◌≡◌, ℕ, ℤ, List, [], ◌∷◌, ◌++◌, Bool, true, false, refl, ap, sym, ◌∙◌, codes}
+use Rattle.std.proofs.Common.{◌≡◌, ℕ, List, [], ◌∷◌, ◌++◌, Bool, true, false, refl, ap, sym, ◌∙◌, codes}
 use Rattle.std.proofs.lemmas.List.{append-nil, append_assoc}
-use Rattle.std.specs.Fmt.{signed_decimal}
 use Rattle.msvc_tree.specs.Trees.{NameTree, NameTrees, TypeTree, plain, base, tagged, numbered, pointing, array}
 use Rattle.msvc_tree.specs.Trees.{function, member_function, member_pointer, variable, table, vcall_thunk}
 use Rattle.msvc_tree.specs.declared.kinds.NumberedType.TheVariants as number_kind

@@ -4,7 +4,7 @@ ghost use Rattle.std.specs.Prelude.{◌≡◌, OnOk};
 ghost use Rattle.msvc_write.specs.Functions.{access_words, calling, convention_pieces, convention_word};
 ghost use Rattle.msvc_write.specs.Functions.{each_function_qualifier, kind_words, member_start, member_word};
 ghost use Rattle.msvc_write.specs.Functions.{member_words};
-ghost use Rattle.msvc_write.specs.Functions.{function_qualifier, function_qualifiers, separator, wide_qualifier};
+ghost use Rattle.msvc_write.specs.Functions.{function_qualifiers, separator, wide_qualifier};
 ghost use Rattle.msvc_write.specs.Pieces.{settle_all};
 ghost use Rattle.msvc_write.specs.Work.{end_pieces};
 

@@ -50,9 +50,9 @@ pub enum Item<'a, 'b> {
     Calling(bool, CallingConv),
     /// The types that are left of a list, and what stands after the last. The flag says whether none was printed yet.
     Parameters(Types<'a, 'b>, bool, ListEnd),
-    /// What a type has before that which it is grown around. The flag says whether that is the mark of a pointer.
+    /// What a type has before the name. The flag says whether it stands directly under a pointer or a reference.
     Before(&'b Type<'a, 'b>, bool),
-    /// What a type has after it.
+    /// What a type has after the name.
     After(&'b Type<'a, 'b>, bool),
 }
 

@@ -1,16 +1,14 @@
 //! Names of operators: their words, a row each, and which of them print otherwise as the name of a symbol itself.
 
-ghost use Rattle.std.specs.Fmt.{decimal};
-ghost use Rattle.std.specs.Prelude.{◌≡◌, ◌∷◌, [], OnOk};
+ghost use Rattle.std.specs.Prelude.{◌≡◌, OnOk};
 ghost use Rattle.msvc_tree.specs.Trees.{operator};
 ghost use Rattle.msvc_tree.specs.NodeView.{name_of};
 ghost use Rattle.msvc_write.specs.Operators.{base_class_pieces, guard_number, guard_pieces, guard_word, listed};
-ghost use Rattle.msvc_write.specs.Operators.{operator_word, name_kind, spaced};
-ghost use Rattle.msvc_write.specs.Pieces.{settle_all, text};
+ghost use Rattle.msvc_write.specs.Operators.{name_kind, operator_word, spaced};
+ghost use Rattle.msvc_write.specs.Pieces.{settle_all};
 
 use crate::function_types::write_separator;
 use crate::text::{Space, write_number, write_space, write_text};
-use itoa::Buffer;
 use msvc_tree::flags::DemangleFlags;
 use msvc_tree::kinds::{Guard, PlainOperator};
 use msvc_tree::nodes::{BaseClass, Name};
@@ -67,16 +65,6 @@ pub fn write_spaced(out: &mut Vec<u8>, word: &[u8]) -> Result<(), AllocError>
     write_text(out, word)
 }
 
-/// Writes a number of any length.
-#[tactic(auto, unfolding(crate::specs::Pieces::settle_all))]
-fn write_index(out: &mut Vec<u8>, number: u32) -> Result<(), AllocError>
-    ensures { OnOk result (out.new.items ≡ settle_all out.old.items (text (decimal number) ∷ [])) }
-{
-    let mut buffer = Buffer::new();
-    write_text(out, buffer.format(number).as_bytes())?;
-    Ok(())
-}
-
 /// Writes the number of a guard, if it has one.
 #[tactic(auto, using(crate::proofs::Settling::settling), unfolding(crate::specs::Operators::guard_number))]
 fn write_guard_number(out: &mut Vec<u8>, number: Option<u32>) -> Result<(), AllocError>
@@ -85,7 +73,7 @@ fn write_guard_number(out: &mut Vec<u8>, number: Option<u32>) -> Result<(), Allo
     match number {
         Some(index) => {
             write_text(out, b"{")?;
-            write_index(out, index)?;
+            write_number(out, index)?;
             write_text(out, b"}")
         }
         None => Ok(()),

@@ -1,7 +1,7 @@
 //! The text of names: each inside its scope, and that of a symbol after the names of its scope. What is spelled is
 //! written at once. What holds trees goes onto the stack of work.
 
-ghost use Rattle.std.specs.Prelude.{ℕ, List, ◌≡◌, ◌≤◌, ◌+◌, ◌++◌, ◌∷◌, [], Bool, true, false, OnOk, IfOk};
+ghost use Rattle.std.specs.Prelude.{ℕ, ◌≡◌, ◌≤◌, ◌+◌, ◌++◌, ◌∷◌, [], Bool, true, false, OnOk, IfOk};
 ghost use Rattle.std.specs.Prelude.{codes, cond, take, length, option_map};
 ghost use Rattle.std.specs.Fmt.{signed_decimal};
 ghost use Rattle.msvc_tree.specs.Trees.{plain};
@@ -125,7 +125,7 @@ fn write_anonymous(out: &mut Vec<u8>) -> Result<(), AllocError>
 }
 
 /// Pushes what a symbol has after its name, unless a flag drops it.
-fn push_last<'a, 'b>(
+fn push_right<'a, 'b>(
     stack: &mut Vec<Item<'a, 'b>, &'b Bump>,
     t: &'b Type<'a, 'b>,
     flags: DemangleFlags,
@@ -141,7 +141,7 @@ fn push_last<'a, 'b>(
 }
 
 /// Pushes what a symbol has before its name, unless a flag drops it.
-fn push_first<'a, 'b>(
+fn push_left<'a, 'b>(
     stack: &mut Vec<Item<'a, 'b>, &'b Bump>,
     t: &'b Type<'a, 'b>,
     flags: DemangleFlags,
@@ -173,9 +173,9 @@ pub fn push_whole<'a, 'b>(
         (names_in tree.now.symbol.scope.now) (type_of tree.now.symbol_type.now))
         (type_weight (type_of tree.now.symbol_type.now))) stack.old.items stack.new.items) }
 {
-    push_last(stack, tree.symbol_type, flags)?;
+    push_right(stack, tree.symbol_type, flags)?;
     push(stack, Item::Symbol(&tree.symbol, Some(tree.symbol_type)))?;
-    push_first(stack, tree.symbol_type, flags)?;
+    push_left(stack, tree.symbol_type, flags)?;
     Ok(())
 }
 

@@ -1,6 +1,6 @@
 //! The text of types, on both sides of a name: some of the pieces are written, and what is left goes onto the stack.
 
-ghost use Rattle.std.specs.Prelude.{ℕ, List, [], ◌∷◌, ◌++◌, ◌+◌, ◌≤◌, Bool, true, false, OnOk, ◌≡◌, codes};
+ghost use Rattle.std.specs.Prelude.{ℕ, [], ◌∷◌, ◌++◌, ◌+◌, ◌≤◌, Bool, true, false, OnOk, ◌≡◌, codes};
 ghost use Rattle.std.specs.Fmt.{signed_decimal};
 ghost use Rattle.msvc_tree.specs.Trees.{plain, numbered};
 ghost use Rattle.msvc_tree.specs.NodeView.{name_of, names_in, type_of, types_in};
@@ -9,7 +9,7 @@ ghost use Rattle.msvc_tree.specs.declared.kinds.Table.TheVariants.{Functions};
 ghost use Rattle.msvc_write.specs.Declaration.{is_empty_pack, length_pieces, parameters, scope_path, symbol_name};
 ghost use Rattle.msvc_write.specs.Declaration.{table_end, thunk_end};
 ghost use Rattle.msvc_write.specs.Functions.{calling, function_qualifier};
-ghost use Rattle.msvc_write.specs.Halves.{after, before, function_end, member_pointer_end, pointed_name};
+ghost use Rattle.msvc_write.specs.Halves.{after, before, function_end, member_pointer_end};
 ghost use Rattle.msvc_write.specs.Pieces.{settle_all, text};
 ghost use Rattle.msvc_write.specs.Words.{qualifiers, opening, closing, variable_word};
 ghost use Rattle.msvc_write.specs.Weights.{scope_weight, symbol_weight, type_weight, types_weight};
@@ -29,7 +29,7 @@ use msvc_tree::nodes::{Function, Name, Symbol, Type};
 use msvc_tree::tree::{CallingConv, VarStorageKind};
 use std::alloc::AllocError;
 
-/// Prints what a type has before that which it is grown around.
+/// Prints what a type has before the name.
 #[tactic(auto, using(crate::proofs::Nodes::printed), unfolding(crate::specs::Halves::before, crate::specs::Weights::type_weight, msvc_tree::specs::NodeView::type_of))]
 pub fn print_before<'a, 'b>(
     stack: &mut Vec<Item<'a, 'b>, &'b Bump>,
@@ -110,8 +110,8 @@ fn write_numbered(
     }
 }
 
-/// Prints what a type has before that which it is grown around, where it stands inside another: one that has no type in
-/// it at once, as most have none.
+/// Prints what a type has before the name, where it stands inside another: one that has no type in it at once, as most
+/// have none.
 #[tactic(auto, using(crate::proofs::Nodes::printed), unfolding(crate::specs::Halves::before, crate::specs::Weights::type_weight, msvc_tree::specs::NodeView::type_of))]
 fn print_inner<'a, 'b>(
     stack: &mut Vec<Item<'a, 'b>, &'b Bump>,
@@ -172,7 +172,7 @@ fn print_variable<'a, 'b>(
     print_inner(stack, out, inner, false, flags)
 }
 
-/// Prints what a type has after it.
+/// Prints what a type has after the name.
 #[tactic(auto, using(crate::proofs::Nodes::printed), unfolding(crate::specs::Halves::after, crate::specs::Weights::type_weight, msvc_tree::specs::NodeView::type_of))]
 pub fn print_after<'a, 'b>(
     stack: &mut Vec<Item<'a, 'b>, &'b Bump>,
@@ -209,7 +209,7 @@ pub fn print_after<'a, 'b>(
     }
 }
 
-/// Whether a type may have something after it.
+/// Whether a type may have something after the name.
 #[tactic(auto, unfolding(crate::specs::Halves::after, msvc_tree::specs::NodeView::type_of))]
 fn may_have_after<'a, 'b>(t: &'b Type<'a, 'b>) -> bool
     ensures { result ≡ false → (pointed : Bool) (flags : ℕ) → after (type_of t.now) pointed flags ≡ [] }
@@ -231,7 +231,7 @@ fn may_have_after<'a, 'b>(t: &'b Type<'a, 'b>) -> bool
     }
 }
 
-/// Whether a type, or what it points to, may have something after it.
+/// Whether a type, or what it points to, may have something after the name.
 #[tactic(auto, unfolding(crate::specs::Halves::after, msvc_tree::specs::NodeView::type_of))]
 fn has_after<'a, 'b>(t: &'b Type<'a, 'b>) -> bool
     ensures { result ≡ false → (pointed : Bool) (flags : ℕ) → after (type_of t.now) pointed flags ≡ [] }
@@ -242,7 +242,7 @@ fn has_after<'a, 'b>(t: &'b Type<'a, 'b>) -> bool
     }
 }
 
-/// Pushes what a type has after it, unless that is nothing.
+/// Pushes what a type has after the name, unless that is nothing.
 fn push_after<'a, 'b>(
     stack: &mut Vec<Item<'a, 'b>, &'b Bump>,
     t: &'b Type<'a, 'b>,

@@ -8,8 +8,8 @@ use Rattle.msvc_write.proofs.qualified_names.push_whole.Goals as goal
 
 pub returns-clause-text : goal.returns-clause-text
 returns-clause-text c =
-    λ out. c.in_ok-push_first.ensures.text out ∙ pushed_one _ _ _ _ _ c.in_ok-push.ensures
-    ∙ c.in_ok-push_last.ensures.text _
+    λ out. c.in_ok-push_left.ensures.text out ∙ pushed_one _ _ _ _ _ c.in_ok-push.ensures
+    ∙ c.in_ok-push_right.ensures.text _
     ∙ ap (λ x. finished c.args.stack.now.items x c.args.flags.0)
     (sym (settle_all-append out _ _ ∙ settle_all-append _ _ _))
     ∙ same_pieces _ out _ _ _ (sym (symbol_pieces-halves _ _ (type_of c.args.tree.now.symbol_type.now) c.args.flags.0))
@@ -17,7 +17,7 @@ returns-clause-text c =
 pub returns-clause-lighter : goal.returns-clause-lighter
 returns-clause-lighter c = omega (
   arith,
-  c.in_ok-push_first.ensures.lighter,
+  c.in_ok-push_left.ensures.lighter,
   work_one _ _ _ c.in_ok-push.ensures,
-  c.in_ok-push_last.ensures.lighter,
+  c.in_ok-push_right.ensures.lighter,
 )

@@ -1,8 +1,8 @@
 use Rattle.std.proofs.Common.{◌≡◌, sym, ◌∙◌, arith, rules, true, false}
-use Rattle.msvc_write.proofs.Dropped.{kept_left-kept, kept_left-name_only, kept_left-no_returns}
+use Rattle.msvc_write.proofs.Dropped.{kept_left-all, kept_left-name_only, kept_left-no_returns}
 use Rattle.msvc_write.proofs.Stack.{printed_none, pushed_one, same_pieces, work_one}
 use Rattle.msvc_write.specs.Flags.{has, name_only, no_function_returns}
-use Rattle.msvc_write.proofs.qualified_names.push_first.Goals as goal
+use Rattle.msvc_write.proofs.qualified_names.push_left.Goals as goal
 
 pub returns-then-contains-clause-text : goal.returns-then-contains-clause-text
 returns-then-contains-clause-text c =
@@ -14,7 +14,7 @@ returns-in_ok-push-clause-text c =
     let whole : has c.args.flags.0 name_only ≡ false = search rules in
     let returns : has c.args.flags.0 no_function_returns ≡ false = search rules in
     λ out. pushed_one _ _ _ out _ c.in_ok-push.ensures
-    ∙ same_pieces _ out _ _ _ (sym (kept_left-kept _ _ whole returns))
+    ∙ same_pieces _ out _ _ _ (sym (kept_left-all _ _ whole returns))
 
 pub returns-in_ok-push-clause-lighter : goal.returns-in_ok-push-clause-lighter
 returns-in_ok-push-clause-lighter c = omega (arith, work_one _ _ _ c.in_ok-push.ensures)

@@ -1,13 +1,13 @@
 use Rattle.std.proofs.Common.{◌≡◌, sym, ◌∙◌, arith, rules, true, false}
-use Rattle.msvc_write.proofs.Dropped.{kept_right-dropped, kept_right-kept}
+use Rattle.msvc_write.proofs.Dropped.{kept_right-dropped, kept_right-all}
 use Rattle.msvc_write.proofs.Stack.{printed_none, pushed_one, same_pieces, work_one}
 use Rattle.msvc_write.specs.Flags.{has, name_only}
-use Rattle.msvc_write.proofs.qualified_names.push_last.Goals as goal
+use Rattle.msvc_write.proofs.qualified_names.push_right.Goals as goal
 
 pub returns-in_ok-push-clause-text : goal.returns-in_ok-push-clause-text
 returns-in_ok-push-clause-text c =
     let is : has c.args.flags.0 name_only ≡ false = search rules in
-    λ out. pushed_one _ _ _ out _ c.in_ok-push.ensures ∙ same_pieces _ out _ _ _ (sym (kept_right-kept _ _ is))
+    λ out. pushed_one _ _ _ out _ c.in_ok-push.ensures ∙ same_pieces _ out _ _ _ (sym (kept_right-all _ _ is))
 
 pub returns-in_ok-push-clause-lighter : goal.returns-in_ok-push-clause-lighter
 returns-in_ok-push-clause-lighter c = omega (arith, work_one _ _ _ c.in_ok-push.ensures)
