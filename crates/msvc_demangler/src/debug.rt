@@ -34,7 +34,8 @@ pub(crate) fn tree_text<'a, 'b>(
     whole: &'b Whole<'a, 'b>,
 ) -> Result<String, AllocError> {
     let mut text = String::new(alloc);
-    let mut stack = vec![in alloc; Item::Text("\n")]?;
+    let mut stack = Vec::new(alloc);
+    push(&mut stack, Item::Text("\n"))?;
     push_whole(&mut stack, whole)?;
     'items: for _ in 0..u64::MAX {
         let Some(item) = stack.pop() else {
