@@ -25,7 +25,6 @@ use Rattle.msvc_read.proofs.Choices.{letter_step}
 use Rattle.msvc_read.proofs.FunctionSteps.{class_part_is, returned_member, returned_other}
 use Rattle.msvc_read.proofs.GuardSteps.{indexed_guard, indexed_other}
 use Rattle.msvc_read.proofs.NameSteps.{marked_name_step, nested_symbol_step}
-use Rattle.msvc_read.proofs.SymbolSteps.{symbol_body_step, template_symbol_step, named_symbol_step}
 use Rattle.msvc_read.proofs.SymbolSteps.{encoding_step, type_information_step, untyped_step}
 use Rattle.msvc_read.proofs.TypeSteps.{arrayed_step, indexed_step, named_step, points_step, plain_type_step}
 use Rattle.msvc_read.proofs.TypeSteps.{referred_step}
@@ -91,10 +90,6 @@ pub ruleset special_split = (special_name_here, plain_operator_step, guard_step,
 pub ruleset returned_split = (returned_member, returned_other)
 
 pub ruleset indexed_split = (indexed_other, indexed_guard)
-
-pub ruleset symbol_body_split = (symbol_body_step, template_symbol_step)
-
-pub ruleset symbol_split = (named_symbol_step, whole_of-is)
 
 pub ruleset encoding_split = (encoding_step, untyped_step, type_information_step)
 

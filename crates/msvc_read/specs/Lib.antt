@@ -8,6 +8,7 @@ pub mod Parts
 pub mod Prefix
 pub mod Reads
 pub mod Refusals
+pub mod Rows
 pub mod Rules
 pub mod Sorts
 pub mod Stack

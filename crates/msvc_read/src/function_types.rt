@@ -1,27 +1,28 @@
 //! Functions, and the functions of classes.
 
-ghost use Rattle.std.specs.Prelude.{◌≡◌, ◌≤◌, Some, length, map, IfOk, IfErr, true, false};
+ghost use Rattle.std.specs.Prelude.{◌≡◌, ◌≤◌, Some, drop, length, map, take, IfOk, true, false};
 ghost use Rattle.msvc_tree.specs.NodeView.{name_at, name_of, type_at, type_of};
 ghost use Rattle.msvc_tree.specs.Trees.{name_trees, type_trees};
 ghost use Rattle.msvc_read.specs.Grammar.{class_of_returned, has};
 ghost use Rattle.msvc_read.specs.Letters.{conventions};
 ghost use Rattle.msvc_read.specs.Parser.{is_bare, is_qualified, is_member, Eats, MayEat, ReadsAs, Stays, frame_of};
-ghost use Rattle.msvc_read.specs.Parser.{types_at, state_of};
+ghost use Rattle.msvc_read.specs.Parser.{state_of};
+ghost use Rattle.msvc_read.specs.Rows.{parts_at};
 ghost use Rattle.msvc_read.specs.Reads.{letter_here, read, read_name, with_value};
 ghost use Rattle.msvc_read.specs.Rules.{encoding_behind, function_qualifiers, own_qualifiers, return_qualifiers};
 ghost use Rattle.msvc_read.specs.Rules.{class_part, function_type, member_pointer, returned, signature, thunk_number};
 ghost use Rattle.msvc_read.specs.Sorts.{member_of, plain_function};
+ghost use Rattle.msvc_read.specs.Stack.{here, outer};
 ghost use Rattle.msvc_tree.specs.Trees as tree;
 
 use crate::letters::{self, OptionalLetters};
 use crate::limit::Limit;
 use crate::parser::Parser;
 use crate::qualified_names::TemplateNames;
-use crate::refusal::{Message, Refusal, Refused};
+use crate::refusal::{Message, Refused};
 use bitflags::Flags;
 use msvc_tree::flags::{FuncClass, StorageClass};
 use msvc_tree::kinds::PlainType;
-use msvc_tree::list::List;
 use msvc_tree::nodes::{Function, Symbol, Type};
 use msvc_tree::tree::CallingConv;
 
@@ -48,14 +49,6 @@ enum FunctionKind {
     Member,
 }
 
-/// What a function of either kind is made of.
-#[derive(Clone, Copy)]
-struct Signature<'a, 'b> {
-    convention: CallingConv,
-    returned: &'b Type<'a, 'b>,
-    parameters: List<'b, &'b Type<'a, 'b>>,
-}
-
 impl<'a, 'b, L: Limit> Parser<'a, 'b, L> {
     /// `FUNCTION = SIGNATURE`: a function outside of any class.
     #[cycle(readers)]
@@ -65,8 +58,12 @@ impl<'a, 'b, L: Limit> Parser<'a, 'b, L> {
         ensures eats { MayEat self.old self.new result }
     {
         self.count_node()?;
-        let f = self.signature(FunctionKind::Free)?;
-        self.put_function(f, StorageClass::empty())
+        let f = self.signature(
+            FunctionKind::Free,
+            FuncClass::empty(),
+            StorageClass::empty(),
+        )?;
+        self.put_function(f)
     }
 
     /// `MEMBER = [THUNK_NUMBER] [OWN_QUALIFIERS] SIGNATURE`.
@@ -79,8 +76,8 @@ impl<'a, 'b, L: Limit> Parser<'a, 'b, L> {
         self.count_node()?;
         self.thunk_number(class)?;
         let own = self.own_qualifiers(object_qualifiers(class));
-        let f = self.signature(FunctionKind::Member)?;
-        self.put_member(class, f, own)
+        let f = self.signature(FunctionKind::Member, class, own)?;
+        self.put_member(f)
     }
 
     /// `FUNCTION_TYPE = [OWN_QUALIFIERS] convention [class of what is returned] TYPE FUNCTION_PARAMETERS`.
@@ -98,13 +95,8 @@ impl<'a, 'b, L: Limit> Parser<'a, 'b, L> {
         let convention = self.convention()?;
         let q = self.class_of_returned();
         let returned = self.any_type(q)?;
-        let parameters = self.function_parameters()?;
-        let f = Signature {
-            convention,
-            returned,
-            parameters,
-        };
-        self.put_function(f, own)
+        let mark = self.function_parameters()?;
+        self.put_function_type(convention, own, returned, mark)
     }
 
     /// `MEMBER_POINTER = QUALIFIED_NAME ["E"] CLASS_PART SIGNATURE`.
@@ -118,88 +110,95 @@ impl<'a, 'b, L: Limit> Parser<'a, 'b, L> {
         let symbol = self.qualified_name(TemplateNames::NotMemorized)?;
         let size = self.optional_mark(b'E', StorageClass::PTR64);
         let (class, own) = self.class_part(form)?;
-        let f = self.signature(FunctionKind::Member)?;
-        self.put_member_pointer(symbol, class, f, size.union(own))
+        let f = self.signature(FunctionKind::Member, class, size.union(own))?;
+        self.put_member_pointer(symbol, f)
     }
 
     /// A function of its parts, put apart from the readers as `put_tagged` is.
     #[tactic(auto, using(crate::proofs::Nodes::views))]
-    fn put_function(
-        &mut self,
-        f: Signature<'a, 'b>,
-        own: StorageClass,
-    ) -> Result<&'b Type<'a, 'b>, Refused>
+    #[inline(never)]
+    fn put_function(&mut self, f: &'b Function<'a, 'b>) -> Result<&'b Type<'a, 'b>, Refused>
         ensures value { ReadsAs type_at self.old self.new result
-            (with_value (Some (tree.function f.entry.convention
-            (type_trees (map type_at f.entry.parameters.items.now)) own.0 (type_of f.entry.returned.now)))) }
+            (with_value (Some (tree.function f.now.convention (type_trees (map type_at f.now.parameters.now))
+            f.now.qualifiers.0 (type_of f.now.returned.now)))) }
         ensures stays { Stays self.old self.new result }
     {
-        let function = self.put_parts(FuncClass::empty(), f, own)?;
-        self.put_type(Type::Function(function))
+        self.put_type(Type::Function(f))
+    }
+
+    /// A function, that is part of a type, of its parts, likewise.
+    #[inline(never)]
+    fn put_function_type(
+        &mut self,
+        convention: CallingConv,
+        own: StorageClass,
+        returned: &'b Type<'a, 'b>,
+        mark: usize,
+    ) -> Result<&'b Type<'a, 'b>, Refused>
+        requires { mark ≤ length (outer self.old.listed_types) }
+        ensures value { ReadsAs type_at self.old self.new result
+            (with_value (Some (tree.function convention (type_trees (map type_at (here self.old.listed_types))) own.0
+            (type_of returned.now)))) }
+        ensures rest { IfOk result (λ _. self.new.rest.now ≡ self.old.rest.now) }
+        ensures kept { IfOk result (λ _. frame_of self.new ≡ record (frame_of self.old) {
+          listed_types = drop mark (outer self.old.listed_types);
+          types_before = take mark (outer self.old.listed_types);
+        }) }
+    {
+        let f = self.put_parts(convention, FuncClass::empty(), own, returned, mark)?;
+        self.put_function(f)
     }
 
     /// A member function of its parts, likewise.
     #[tactic(auto, using(crate::proofs::Nodes::views))]
-    fn put_member(
-        &mut self,
-        class: FuncClass,
-        f: Signature<'a, 'b>,
-        own: StorageClass,
-    ) -> Result<&'b Type<'a, 'b>, Refused>
+    #[inline(never)]
+    fn put_member(&mut self, f: &'b Function<'a, 'b>) -> Result<&'b Type<'a, 'b>, Refused>
         ensures value { ReadsAs type_at self.old self.new result
-            (with_value (Some (tree.member_function class.0 f.entry.convention
-            (type_trees (map type_at f.entry.parameters.items.now)) own.0 (type_of f.entry.returned.now)))) }
+            (with_value (Some (tree.member_function f.now.class.0 f.now.convention
+            (type_trees (map type_at f.now.parameters.now)) f.now.qualifiers.0 (type_of f.now.returned.now)))) }
         ensures stays { Stays self.old self.new result }
     {
-        let function = self.put_parts(class, f, own)?;
-        self.put_type(Type::MemberFunction(function))
+        self.put_type(Type::MemberFunction(f))
     }
 
     /// A pointer to a member function of its parts, likewise.
     #[tactic(auto, using(crate::proofs::Nodes::views))]
+    #[inline(never)]
     fn put_member_pointer(
         &mut self,
-        symbol: Symbol<'a, 'b>,
-        class: FuncClass,
-        f: Signature<'a, 'b>,
-        own: StorageClass,
+        symbol: &'b Symbol<'a, 'b>,
+        f: &'b Function<'a, 'b>,
     ) -> Result<&'b Type<'a, 'b>, Refused>
         ensures value { ReadsAs type_at self.old self.new result
-            (with_value (Some (tree.member_pointer (name_of symbol.entry.name.now)
-            (name_trees (map name_at symbol.entry.scope.now)) class.0 f.entry.convention
-            (type_trees (map type_at f.entry.parameters.items.now)) own.0 (type_of f.entry.returned.now)))) }
+            (with_value (Some (tree.member_pointer (name_of symbol.now.name.now)
+            (name_trees (map name_at symbol.now.scope.now)) f.now.class.0 f.now.convention
+            (type_trees (map type_at f.now.parameters.now)) f.now.qualifiers.0 (type_of f.now.returned.now)))) }
         ensures stays { Stays self.old self.new result }
     {
-        let symbol = self.put(symbol)?;
-        let function = self.put_parts(class, f, own)?;
-        self.put_type(Type::MemberPointer(symbol, function))
+        self.put_type(Type::MemberPointer(symbol, f))
     }
 
-    /// The parts of a function in the arena.
+    /// The parts of a function, whose parameters are listed, in the arena.
+    #[inline(never)]
     fn put_parts(
         &mut self,
+        convention: CallingConv,
         class: FuncClass,
-        f: Signature<'a, 'b>,
         own: StorageClass,
+        returned: &'b Type<'a, 'b>,
+        mark: usize,
     ) -> Result<&'b Function<'a, 'b>, Refused>
-        ensures node { IfOk result (λ p. p.now ≡ record {
-          convention = f.entry.convention;
-          class = class;
-          qualifiers = own;
-          parameters = f.entry.parameters.items;
-          returned = f.entry.returned;
-        }) }
+        requires { mark ≤ length (outer self.old.listed_types) }
+        ensures value { ReadsAs parts_at self.old self.new result
+            (with_value (Some (convention, (type_of returned.now, map type_at (here self.old.listed_types))))) }
+        ensures given { IfOk result (λ f. (f.now.class.0 ≡ class.0) × (f.now.qualifiers.0 ≡ own.0)) }
         ensures rest { IfOk result (λ _. self.new.rest.now ≡ self.old.rest.now) }
-        ensures state { IfOk result (λ _. state_of self.new ≡ state_of self.old) }
-        ensures kept { IfOk result (λ _. frame_of self.new ≡ frame_of self.old) }
-        ensures why { IfErr result (λ _. self.new.why ≡ Refusal.Memory) }
+        ensures kept { IfOk result (λ _. frame_of self.new ≡ record (frame_of self.old) {
+          listed_types = drop mark (outer self.old.listed_types);
+          types_before = take mark (outer self.old.listed_types);
+        }) }
     {
-        let Signature {
-            convention,
-            returned,
-            parameters,
-        } = f;
-        let parameters = parameters.items;
+        let parameters = self.listed_types(mark)?.items;
         self.put(Function {
             convention,
             class,
@@ -283,21 +282,22 @@ impl<'a, 'b, L: Limit> Parser<'a, 'b, L> {
     /// `SIGNATURE = convention RETURN_QUALIFIERS RETURNED FUNCTION_PARAMETERS`.
     #[cycle(readers)]
     #[tactic(auto, using(crate::proofs::FunctionSteps::signature_is))]
-    fn signature(&mut self, kind: FunctionKind) -> Result<Signature<'a, 'b>, Refused>
-        ensures value { ReadsAs (λ f. (f.convention, (type_of f.returned.now, types_at f.parameters)))
-            self.old self.new result
-            (read_name (signature (is_member kind))) }
+    #[inline(never)]
+    fn signature(
+        &mut self,
+        kind: FunctionKind,
+        class: FuncClass,
+        own: StorageClass,
+    ) -> Result<&'b Function<'a, 'b>, Refused>
+        ensures value { ReadsAs parts_at self.old self.new result (read_name (signature (is_member kind))) }
+        ensures given { IfOk result (λ f. (f.now.class.0 ≡ class.0) × (f.now.qualifiers.0 ≡ own.0)) }
         ensures eats { MayEat self.old self.new result }
     {
         let convention = self.convention()?;
         let q = self.return_qualifiers()?;
         let returned = self.returned(kind, q)?;
-        let parameters = self.function_parameters()?;
-        Ok(Signature {
-            convention,
-            returned,
-            parameters,
-        })
+        let mark = self.function_parameters()?;
+        self.put_parts(convention, class, own, returned, mark)
     }
 
     /// How a function is called.
@@ -351,7 +351,7 @@ impl<'a, 'b, L: Limit> Parser<'a, 'b, L> {
         ensures eats { Eats self.old self.new result }
     {
         if self.eat(b"@") {
-            return self.new_type(Type::Plain(PlainType::None));
+            return self.new_plain(PlainType::None);
         }
         self.any_type(q)
     }

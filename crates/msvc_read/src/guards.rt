@@ -1,14 +1,16 @@
 //! The guards of static variables in functions: their indices, and the numbers of thread-safe ones.
 
-ghost use Rattle.std.specs.Prelude.{◌≡◌, ◌<◌, ◌≤◌, ◌+◌, ◌*◌, None, Some, codes, map, true, IfOk, IfSome};
-ghost use Rattle.std.specs.Prelude.{if◌then◌else◌};
-ghost use Rattle.msvc_tree.specs.NodeView.{name_at, name_of, whole_of};
+ghost use Rattle.std.specs.Prelude.{◌≡◌, ◌<◌, ◌≤◌, ◌+◌, ◌*◌, None, Some, codes, drop, length, map, take, true, IfOk};
+ghost use Rattle.std.specs.Prelude.{IfSome, if◌then◌else◌};
+ghost use Rattle.msvc_tree.specs.NodeView.{name_at, name_of};
 ghost use Rattle.msvc_tree.specs.Trees.{name_trees, numbered};
 ghost use Rattle.msvc_read.specs.Grammar.{guard_marker, is_in_range, numbered_guard};
 ghost use Rattle.msvc_read.specs.Letters.{digits};
-ghost use Rattle.msvc_read.specs.Parser.{Eats, MayEat, ReadsAs, guard_of, indexed};
-ghost use Rattle.msvc_read.specs.Reads.{and_then, in_node, letter_here, read, read_name};
+ghost use Rattle.msvc_read.specs.Parser.{Eats, MayEat, ReadsAs, frame_of, guard_of, indexed};
+ghost use Rattle.msvc_read.specs.Reads.{and_then, in_node, letter_here, read, read_name, with_value};
+ghost use Rattle.msvc_read.specs.Rows.{named_at, whole_at};
 ghost use Rattle.msvc_read.specs.Rules.{decimal, guard_index, literal};
+ghost use Rattle.msvc_read.specs.Stack.{here, outer};
 ghost use Rattle.msvc_tree.specs.declared.kinds.NumberedType.TheVariants as number_kind;
 
 use crate::limit::Limit;
@@ -26,9 +28,12 @@ const GREATEST_NUMBER: u64 = 2147483647;
 impl<'a, 'b, L: Limit> Parser<'a, 'b, L> {
     /// A symbol's name, with the index that follows it if it is that of a guard.
     #[tactic(auto, using(crate::proofs::Nodes::indexed_split), unfolding(msvc_tree::specs::NodeView::name_of))]
-    pub fn indexed_symbol(&mut self, symbol: Symbol<'a, 'b>) -> Result<Symbol<'a, 'b>, Refused>
-        ensures value { ReadsAs (λ x. (name_of x.name.now, map name_at x.scope.now)) self.old self.new result
-            (indexed (name_of symbol.entry.name.now) (map name_at symbol.entry.scope.now)) }
+    pub fn indexed_symbol(
+        &mut self,
+        symbol: &'b Symbol<'a, 'b>,
+    ) -> Result<&'b Symbol<'a, 'b>, Refused>
+        ensures value { ReadsAs named_at self.old self.new result
+            (indexed (name_of symbol.now.name.now) (map name_at symbol.now.scope.now)) }
         ensures eats { MayEat self.old self.new result }
     {
         let Some(guard) = own_guard(symbol.name) else {
@@ -36,7 +41,7 @@ impl<'a, 'b, L: Limit> Parser<'a, 'b, L> {
         };
         let index = self.guard_index()?;
         let name = self.put_name(Name::Guard(guard, index))?;
-        Ok(Symbol {
+        self.put(Symbol {
             name,
             scope: symbol.scope,
         })
@@ -74,43 +79,72 @@ impl<'a, 'b, L: Limit> Parser<'a, 'b, L> {
     /// `NUMBERED_GUARD = GUARD_NUMBER NESTED_NAME SCOPE "4HA"`, after its `?$TSS`.
     #[cycle(readers)]
     #[tactic(auto, using(crate::proofs::GuardSteps::numbered_guard_step))]
-    pub fn numbered_guard(&mut self) -> Result<Whole<'a, 'b>, Refused>
-        ensures value { ReadsAs whole_of self.old self.new result (read numbered_guard) }
+    #[inline(never)]
+    pub fn numbered_guard(&mut self) -> Result<&'b Whole<'a, 'b>, Refused>
+        ensures value { ReadsAs whole_at self.old self.new result (read numbered_guard) }
         ensures eats { Eats self.old self.new result }
     {
         let number = self.guard_number()?;
         let name = self.nested_name()?;
-        let scope = self.scope()?.items;
-        self.guard_of_number(number.cast_signed(), Symbol { name, scope })
+        let mark = self.scope()?;
+        self.guard_of_number(number.cast_signed(), name, mark)
     }
 
-    /// The guard of this number for a symbol, whose `4HA` is left.
-    #[tactic(auto, using(crate::proofs::Nodes::whole_split), unfolding(msvc_tree::specs::NodeView::type_of))]
+    /// The guard of this number for a name in the scope whose names are listed. Its `4HA` is left.
+    #[inline(never)]
     fn guard_of_number(
         &mut self,
         number: i32,
-        symbol: Symbol<'a, 'b>,
-    ) -> Result<Whole<'a, 'b>, Refused>
-        ensures value { ReadsAs whole_of self.old self.new result
+        name: &'b Name<'a, 'b>,
+        mark: usize,
+    ) -> Result<&'b Whole<'a, 'b>, Refused>
+        requires { mark ≤ length (outer self.old.listed_names) }
+        ensures value { ReadsAs whole_at self.old self.new result
             (λ left s. and_then (read (literal (codes "4HA")) left s)
             (λ _ left s. in_node left s (λ left s. Some (
               record {
-                name = name_of symbol.entry.name.now;
-                scope = name_trees (map name_at symbol.entry.scope.now);
+                name = name_of name.now;
+                scope = name_trees (map name_at (here self.old.listed_names));
                 symbol_type = numbered number_kind.ThreadSafeGuard number;
               },
               left,
               s,
             )))) }
-        ensures eats { MayEat self.old self.new result }
+        ensures shorter { IfOk result (λ _. length self.new.rest.now ≤ length self.old.rest.now) }
+        ensures kept { IfOk result (λ _. frame_of self.new ≡ record (frame_of self.old) {
+          listed_names = drop mark (outer self.old.listed_names);
+          names_before = take mark (outer self.old.listed_names);
+        }) }
     {
         self.expected(b"4HA", Message::GuardTypeExpected)?;
         self.count_node()?;
+        self.put_guard(number, name, mark)
+    }
+
+    /// The guard of this number of its parts.
+    #[inline(never)]
+    fn put_guard(
+        &mut self,
+        number: i32,
+        name: &'b Name<'a, 'b>,
+        mark: usize,
+    ) -> Result<&'b Whole<'a, 'b>, Refused>
+        requires { mark ≤ length (outer self.old.listed_names) }
+        ensures value { ReadsAs whole_at self.old self.new result
+            (with_value (Some (record {
+              name = name_of name.now;
+              scope = name_trees (map name_at (here self.old.listed_names));
+              symbol_type = numbered number_kind.ThreadSafeGuard number;
+            }))) }
+        ensures rest { IfOk result (λ _. self.new.rest.now ≡ self.old.rest.now) }
+        ensures kept { IfOk result (λ _. frame_of self.new ≡ record (frame_of self.old) {
+          listed_names = drop mark (outer self.old.listed_names);
+          names_before = take mark (outer self.old.listed_names);
+        }) }
+    {
+        let symbol = self.put_symbol(name, mark)?;
         let symbol_type = self.put_type(Type::Numbered(NumberedType::ThreadSafeGuard, number))?;
-        Ok(Whole {
-            symbol,
-            symbol_type,
-        })
+        self.put_whole(symbol, symbol_type)
     }
 
     /// `GUARD_NUMBER = digit {digit} "@"`: to base 10, at most the greatest of 32 bits with a sign.

@@ -1,11 +1,11 @@
 //! Names that were too long, for which a hash stands.
 
 ghost use Rattle.std.specs.Prelude.{◌≡◌, is_some};
-ghost use Rattle.msvc_tree.specs.NodeView.{whole_of};
 ghost use Rattle.msvc_read.specs.Grammar.{hashed_symbol, is_hash};
 ghost use Rattle.msvc_read.specs.Letters.{hexadecimal_codes};
 ghost use Rattle.msvc_read.specs.Parser.{Eats, ReadsAs, hash_at, name_length};
 ghost use Rattle.msvc_read.specs.Reads.{read};
+ghost use Rattle.msvc_read.specs.Rows.{whole_at};
 ghost use Rattle.msvc_read.specs.Rules.{every, lookup};
 
 use crate::letters;
@@ -17,8 +17,9 @@ use msvc_tree::nodes::{Name, Whole};
 impl<'a, 'b, L: Limit> Parser<'a, 'b, L> {
     /// `HASHED_SYMBOL = 32 * hexadecimal digit "@"`, after its `??@`.
     #[tactic(auto, using(crate::proofs::SymbolSteps::hashed_symbol_step), unfolding(msvc_tree::specs::NodeView::name_of))]
-    pub fn hashed_symbol(&mut self) -> Result<Whole<'a, 'b>, Refused>
-        ensures value { ReadsAs whole_of self.old self.new result (read hashed_symbol) }
+    #[inline(never)]
+    pub fn hashed_symbol(&mut self) -> Result<&'b Whole<'a, 'b>, Refused>
+        ensures value { ReadsAs whole_at self.old self.new result (read hashed_symbol) }
         ensures eats { Eats self.old self.new result }
     {
         self.count_node()?;

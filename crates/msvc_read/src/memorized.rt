@@ -130,7 +130,7 @@ impl<'a, 'b, L: Limit> Parser<'a, 'b, L> {
     }
 
     /// Memorizes a name of as many nodes, and gives it back.
-    #[inline(always)]
+    #[inline(never)]
     pub fn memorize_name(
         &mut self,
         name: &'b Name<'a, 'b>,
@@ -152,7 +152,7 @@ impl<'a, 'b, L: Limit> Parser<'a, 'b, L> {
     }
 
     /// The name that a digit stands for.
-    #[inline(always)]
+    #[inline(never)]
     pub fn name_of_digit(&mut self, digit: u8) -> Result<&'b Name<'a, 'b>, Refused>
         ensures value { ReadsAs name_at self.old self.new result
             (λ left s. name_known (slice_get s.names digit) left s) }
@@ -181,7 +181,7 @@ impl<'a, 'b, L: Limit> Parser<'a, 'b, L> {
 
     /// The type that a digit stands for as a whole parameter. The digit, with which `begun` begins, is noted.
     #[tactic(auto, using(crate::proofs::Nodes::entry_split))]
-    #[inline(always)]
+    #[inline(never)]
     pub fn parameter_of_digit(
         &mut self,
         digit: u8,
@@ -207,7 +207,7 @@ impl<'a, 'b, L: Limit> Parser<'a, 'b, L> {
     }
 
     /// Memorizes the type of the bytes from `begun` up to those left, which has as many nodes, and gives it back.
-    #[inline(always)]
+    #[inline(never)]
     pub fn memorize_type(
         &mut self,
         memorized: &'b Type<'a, 'b>,

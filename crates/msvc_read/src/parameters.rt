@@ -1,13 +1,14 @@
 //! Parameters, and the table of types that they enter.
 
 ghost use Rattle.std.specs.Option.{option_map};
-ghost use Rattle.std.specs.Prelude.{◌≡◌, ◌≤◌, ◌-◌, nat_lt, ◌∷◌, ◌++◌, [], Some, drop, length, map, take, IfOk, IfErr};
-ghost use Rattle.std.specs.Prelude.{IfSome};
+ghost use Rattle.std.specs.Prelude.{◌≡◌, ◌≤◌, ◌<◌, ◌-◌, nat_lt, ◌∷◌, ◌++◌, [], Some, drop, length, map, take, IfOk};
+ghost use Rattle.std.specs.Prelude.{IfErr, IfSome};
 ghost use Rattle.msvc_tree.specs.NodeView.{type_at};
 ghost use Rattle.msvc_tree.specs.Trees.{base};
-ghost use Rattle.msvc_read.specs.Parser.{ellipsis_types, Eats, MayEat, ReadsAs, Stays, frame_of, parameters_stop};
+ghost use Rattle.msvc_read.specs.Parser.{ellipsis_types, Eats, ReadsAs, frame_of, parameters_stop};
 ghost use Rattle.msvc_read.specs.Parser.{counting_ellipsis, state_of, types_at};
-ghost use Rattle.msvc_read.specs.Reads.{and_then, read_name, with_value};
+ghost use Rattle.msvc_read.specs.Reads.{read_name, with_value};
+ghost use Rattle.msvc_read.specs.Rows.{ListsTypes};
 ghost use Rattle.msvc_read.specs.Rules.{function_parameters, parameter, parameters};
 ghost use Rattle.msvc_read.specs.Stack.{here, outer};
 ghost use Rattle.msvc_tree.specs.declared.kinds.BaseType.TheVariants as base_kind;
@@ -33,45 +34,55 @@ impl<'a, 'b, L: Limit> Parser<'a, 'b, L> {
     /// `FUNCTION_PARAMETERS = ("X" | PARAMETERS) "Z"`: an `X` is one void.
     #[cycle(readers)]
     #[tactic(auto, using(crate::proofs::FunctionSteps::function_parameters_step))]
-    pub fn function_parameters(&mut self) -> Result<List<'b, &'b Type<'a, 'b>>, Refused>
-        ensures value { ReadsAs types_at self.old self.new result (read_name function_parameters) }
-        ensures eats { Eats self.old self.new result }
+    #[inline(never)]
+    pub fn function_parameters(&mut self) -> Result<usize, Refused>
+        ensures value { ReadsAs (λ _. map type_at (here self.new.listed_types)) self.old self.new result
+            (read_name function_parameters) }
+        ensures shorter { IfOk result (λ _. length self.new.rest.now < length self.old.rest.now) }
+        ensures lists { ListsTypes self.old self.new result }
     {
         if self.eat(b"X") {
             self.expected(b"Z", Message::ZExpected)?;
             self.count_node()?;
             return self.no_parameters();
         }
-        let parameters = self.parameters()?;
+        let mark = self.parameters()?;
         self.expected(b"Z", Message::ZExpected)?;
-        Ok(parameters)
+        Ok(mark)
     }
 
-    /// One void, which is counted.
+    /// One void, which is counted, left on the list.
     #[tactic(auto, unfolding(msvc_tree::specs::NodeView::type_of))]
-    fn no_parameters(&mut self) -> Result<List<'b, &'b Type<'a, 'b>>, Refused>
-        ensures value { ReadsAs types_at self.old self.new result (with_value (Some (base base_kind.Void 0 ∷ []))) }
-        ensures stays { Stays self.old self.new result }
+    #[inline(never)]
+    fn no_parameters(&mut self) -> Result<usize, Refused>
+        ensures value { ReadsAs (λ _. map type_at (here self.new.listed_types)) self.old self.new result
+            (with_value (Some (base base_kind.Void 0 ∷ []))) }
+        ensures rest { IfOk result (λ _. self.new.rest.now ≡ self.old.rest.now) }
+        ensures lists { ListsTypes self.old self.new result }
     {
         let mark = self.listed_types.begin();
         let void = self.put_type(Type::Base(BaseType::Void, StorageClass::empty()))?;
         self.list_type(void)?;
-        self.listed_types(mark, Ellipsis::Absent)
+        Ok(mark)
     }
 
-    /// `PARAMETERS = {PARAMETER} ("@" | "Z" | end)`: a `Z` adds an ellipsis.
+    /// `PARAMETERS = {PARAMETER} ("@" | "Z" | end)`: a `Z` adds an ellipsis. The types are left on the list of the
+    /// parser, and what is given back ends their part of it.
     #[cycle(readers)]
     #[tactic(auto, using(crate::proofs::RowSteps::parameters_go_on))]
-    #[inline(always)]
-    pub fn parameters(&mut self) -> Result<List<'b, &'b Type<'a, 'b>>, Refused>
-        ensures value { ReadsAs types_at self.old self.new result (read_name parameters) }
-        ensures eats { MayEat self.old self.new result }
+    #[inline(never)]
+    pub fn parameters(&mut self) -> Result<usize, Refused>
+        ensures value { ReadsAs (λ _. map type_at (here self.new.listed_types)) self.old self.new result
+            (read_name parameters) }
+        ensures shorter { IfOk result (λ _. length self.new.rest.now ≤ length self.old.rest.now) }
+        ensures lists { ListsTypes self.old self.new result }
     {
         let mark = self.listed_types.begin();
         'parameters: loop {
             if let Some((ellipsis, rest)) = parameters_stop(self.rest) {
                 self.rest = rest;
-                return self.listed_types(mark, ellipsis);
+                self.list_ellipsis(ellipsis)?;
+                return Ok(mark);
             }
             let parameter = self.parameter()?;
             self.list_type(parameter)?;
@@ -113,23 +124,17 @@ impl<'a, 'b, L: Limit> Parser<'a, 'b, L> {
         Ok(())
     }
 
-    /// The types that were read, in the arena, and an ellipsis after them if there is one.
-    fn listed_types(
-        &mut self,
-        mark: usize,
-        ellipsis: Ellipsis,
-    ) -> Result<List<'b, &'b Type<'a, 'b>>, Refused>
+    /// The types that were read, in the arena.
+    pub fn listed_types(&mut self, mark: usize) -> Result<List<'b, &'b Type<'a, 'b>>, Refused>
         requires { mark ≤ length (outer self.old.listed_types) }
         ensures value { ReadsAs types_at self.old self.new result
-            (λ left s. and_then (counting_ellipsis ellipsis left s)
-            (λ _. with_value (Some (map type_at (here self.old.listed_types) ++ ellipsis_types ellipsis)))) }
+            (λ left s. with_value (Some (map type_at (here self.old.listed_types))) left s) }
         ensures rest { IfOk result (λ _. self.new.rest.now ≡ self.old.rest.now) }
         ensures kept { IfOk result (λ _. frame_of self.new ≡ record (frame_of self.old) {
           listed_types = drop mark (outer self.old.listed_types);
           types_before = take mark (outer self.old.listed_types);
         }) }
     {
-        self.list_ellipsis(ellipsis)?;
         match self.listed_types.end_in(self.arena, mark) {
             Some(types) => Ok(types),
             None => Err(self.no_memory()),
@@ -138,6 +143,7 @@ impl<'a, 'b, L: Limit> Parser<'a, 'b, L> {
 
     /// Puts an ellipsis after the types that are being read, if there is one. It counts as a node.
     #[tactic(auto, using(crate::proofs::Nodes::map_last), unfolding(msvc_tree::specs::NodeView::type_of))]
+    #[inline(never)]
     fn list_ellipsis(&mut self, ellipsis: Ellipsis) -> Result<(), Refused>
         ensures value { ReadsAs (λ _. tt) self.old self.new result (counting_ellipsis ellipsis) }
         ensures rest { IfOk result (λ _. self.new.rest.now ≡ self.old.rest.now) }

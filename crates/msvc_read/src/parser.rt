@@ -237,31 +237,37 @@ impl<'a, 'b, L: Limit> Parser<'a, 'b, L> {
         ensures state { state_of self.new ≡ state_of self.old }
         ensures kept { frame_of self.new ≡ frame_of self.old }
     {
-        match self.rest_after(literal) {
+        let [expected, others @ ..] = literal else {
+            return true;
+        };
+        match self.rest {
+            [first, rest @ ..] if *first == *expected => match others {
+                [] => {
+                    self.rest = rest;
+                    true
+                }
+                [_, ..] => self.eat_after(rest, others),
+            },
+            [_, ..] => false,
+            [] => false,
+        }
+    }
+
+    /// Eats what comes before these bytes and the rest of a literal, if they begin with it, and says whether they do.
+    #[inline(never)]
+    fn eat_after(&mut self, bytes: &'a [u8], literal: &[u8]) -> bool
+        ensures value { eaten result self.new.rest.now ≡ after literal.now bytes.now }
+        ensures shorter { IsTrue result → length literal.now + length self.new.rest.now ≡ length bytes.now }
+        ensures still { (IsTrue result → ⊥) → self.new.rest.now ≡ self.old.rest.now }
+        ensures state { state_of self.new ≡ state_of self.old }
+        ensures kept { frame_of self.new ≡ frame_of self.old }
+    {
+        match bytes_after(bytes, literal) {
             Some(rest) => {
                 self.rest = rest;
                 true
             }
             None => false,
-        }
-    }
-
-    /// What follows a literal, if the bytes left begin with it.
-    #[inline(always)]
-    fn rest_after(&self, literal: &[u8]) -> Option<&'a [u8]>
-        ensures value { option_map (λ rest. rest.now) result ≡ after literal.now self.now.rest.now }
-        ensures shorter { IfSome result (λ rest. length literal.now + length rest.now ≡ length self.now.rest.now) }
-    {
-        let [expected, others @ ..] = literal else {
-            return Some(self.rest);
-        };
-        match self.rest {
-            [first, rest @ ..] if *first == *expected => match others {
-                [] => Some(rest),
-                [_, ..] => bytes_after(rest, others),
-            },
-            [_, ..] => None,
-            [] => None,
         }
     }
 

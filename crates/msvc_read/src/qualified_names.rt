@@ -10,6 +10,7 @@ ghost use Rattle.msvc_read.specs.Grammar.{new_interface, new_source_name, templa
 ghost use Rattle.msvc_read.specs.Letters.{hexadecimal_codes};
 ghost use Rattle.msvc_read.specs.Parser.{is_own, Eats, ReadsAs, Stays, cut_at, frame_of, kept_name, name_length};
 ghost use Rattle.msvc_read.specs.Parser.{names_at, state_of};
+ghost use Rattle.msvc_read.specs.Rows.{ListsNames, named_at};
 ghost use Rattle.msvc_read.specs.Reads.{and_then, in_node, letter_here, read, read_name, with_value};
 ghost use Rattle.msvc_read.specs.Rules.{anonymous_namespace, hexadecimal_digits, marked_name, nested_name, number};
 ghost use Rattle.msvc_read.specs.Rules.{qualified_name, scope, unqualified_name};
@@ -59,7 +60,7 @@ impl<'a, 'b, L: Limit> Parser<'a, 'b, L> {
 
     /// A source name, which enters the table of names.
     #[tactic(auto, using(crate::proofs::NameSteps::new_source_name_is), unfolding(msvc_tree::specs::NodeView::name_of))]
-    #[inline(always)]
+    #[inline(never)]
     fn new_source_name(&mut self) -> Result<&'b Name<'a, 'b>, Refused>
         ensures value { ReadsAs name_at self.old self.new result (read new_source_name) }
         ensures eats { Eats self.old self.new result }
@@ -70,7 +71,7 @@ impl<'a, 'b, L: Limit> Parser<'a, 'b, L> {
     }
 
     /// A template's name of as many nodes, memorized if it is to be.
-    #[inline(always)]
+    #[inline(never)]
     fn kept_name(
         &mut self,
         name: &'b Name<'a, 'b>,
@@ -103,7 +104,7 @@ impl<'a, 'b, L: Limit> Parser<'a, 'b, L> {
     }
 
     /// The names of the scope that was read, in the arena.
-    fn listed_names(&mut self, mark: usize) -> Result<List<'b, &'b Name<'a, 'b>>, Refused>
+    pub fn listed_names(&mut self, mark: usize) -> Result<List<'b, &'b Name<'a, 'b>>, Refused>
         requires { mark ≤ length (outer self.old.listed_names) }
         ensures value { ReadsAs names_at self.old self.new result
             (λ left s. with_value (Some (map name_at (here self.old.listed_names))) left s) }
@@ -167,22 +168,28 @@ impl<'a, 'b, L: Limit> Parser<'a, 'b, L> {
     {
         self.count_node()?;
         let name = self.unqualified_name(TemplateNames::Memorized)?;
-        let arguments = self.parameters()?;
-        self.put_template(name, arguments)
+        let mark = self.parameters()?;
+        self.put_template(name, mark)
     }
 
-    /// A template of its parts, put apart from the readers as `put_tagged` is.
+    /// A template of its name and of the arguments that are listed, put apart from the readers as `put_tagged` is.
     #[tactic(auto, using(crate::proofs::Nodes::views))]
+    #[inline(never)]
     fn put_template(
         &mut self,
         name: &'b Name<'a, 'b>,
-        arguments: List<'b, &'b Type<'a, 'b>>,
+        mark: usize,
     ) -> Result<&'b Name<'a, 'b>, Refused>
+        requires { mark ≤ length (outer self.old.listed_types) }
         ensures value { ReadsAs name_at self.old self.new result
-            (with_value (Some (template (name_of name.now) (type_trees (map type_at arguments.entry.items.now))))) }
-        ensures stays { Stays self.old self.new result }
+            (with_value (Some (template (name_of name.now) (type_trees (map type_at (here self.old.listed_types)))))) }
+        ensures rest { IfOk result (λ _. self.new.rest.now ≡ self.old.rest.now) }
+        ensures kept { IfOk result (λ _. frame_of self.new ≡ record (frame_of self.old) {
+          listed_types = drop mark (outer self.old.listed_types);
+          types_before = take mark (outer self.old.listed_types);
+        }) }
     {
-        let arguments = arguments.items;
+        let arguments = self.listed_types(mark)?.items;
         let template = self.put(Template { name, arguments })?;
         self.put_name(Name::Template(template))
     }
@@ -230,6 +237,7 @@ impl<'a, 'b, L: Limit> Parser<'a, 'b, L> {
 
     /// A number that tells scopes apart.
     #[tactic(auto, unfolding(msvc_tree::specs::NodeView::name_of))]
+    #[inline(never)]
     fn discriminator(&mut self) -> Result<&'b Name<'a, 'b>, Refused>
         ensures value { ReadsAs name_at self.old self.new result
             (λ left s. in_node left s (λ left s. and_then (read_name number left s)
@@ -243,18 +251,19 @@ impl<'a, 'b, L: Limit> Parser<'a, 'b, L> {
 
     /// A whole symbol as a name.
     #[tactic(auto, using(crate::proofs::Nodes::views))]
-    fn put_nested(&mut self, symbol: Whole<'a, 'b>) -> Result<&'b Name<'a, 'b>, Refused>
+    #[inline(never)]
+    fn put_nested(&mut self, symbol: &'b Whole<'a, 'b>) -> Result<&'b Name<'a, 'b>, Refused>
         ensures value { ReadsAs name_at self.old self.new result
-            (with_value (Some (nested (whole_of symbol.entry).name (whole_of symbol.entry).scope
-            (whole_of symbol.entry).symbol_type))) }
+            (with_value (Some (nested (whole_of symbol.now).name (whole_of symbol.now).scope
+            (whole_of symbol.now).symbol_type))) }
         ensures stays { Stays self.old self.new result }
     {
-        let symbol = self.put(symbol)?;
         self.put_name(Name::Nested(symbol))
     }
 
     /// An interface, after its `?Q`.
     #[tactic(auto, using(crate::proofs::NameSteps::new_interface_step), unfolding(msvc_tree::specs::NodeView::name_of))]
+    #[inline(never)]
     fn interface(&mut self) -> Result<&'b Name<'a, 'b>, Refused>
         ensures value { ReadsAs name_at self.old self.new result (read new_interface) }
         ensures eats { Eats self.old self.new result }
@@ -267,6 +276,7 @@ impl<'a, 'b, L: Limit> Parser<'a, 'b, L> {
 
     /// `ANONYMOUS_NAMESPACE = ["0x" {hexadecimal digit}] "@"`, after its `?A`.
     #[tactic(auto, using(crate::proofs::NameSteps::anonymous_namespace_step), unfolding(msvc_tree::specs::NodeView::name_of))]
+    #[inline(never)]
     fn anonymous_namespace(&mut self) -> Result<&'b Name<'a, 'b>, Refused>
         ensures value { ReadsAs name_at self.old self.new result (read_name anonymous_namespace) }
         ensures eats { Eats self.old self.new result }
@@ -332,18 +342,21 @@ impl<'a, 'b, L: Limit> Parser<'a, 'b, L> {
         }
     }
 
-    /// `SCOPE = {NESTED_NAME} "@"`, the innermost name first.
+    /// `SCOPE = {NESTED_NAME} "@"`, the innermost name first. The names are left on the list of the parser, and what is
+    /// given back ends their part of it.
     #[cycle(readers)]
     #[tactic(auto, using(crate::proofs::RowSteps::scope_goes_on))]
-    #[inline(always)]
-    pub fn scope(&mut self) -> Result<List<'b, &'b Name<'a, 'b>>, Refused>
-        ensures value { ReadsAs names_at self.old self.new result (read_name scope) }
-        ensures eats { Eats self.old self.new result }
+    #[inline(never)]
+    pub fn scope(&mut self) -> Result<usize, Refused>
+        ensures value { ReadsAs (λ _. map name_at (here self.new.listed_names)) self.old self.new result
+            (read_name scope) }
+        ensures shorter { IfOk result (λ _. length self.new.rest.now < length self.old.rest.now) }
+        ensures lists { ListsNames self.old self.new result }
     {
         let mark = self.listed_names.begin();
         'names: loop {
             if self.eat(b"@") {
-                return self.listed_names(mark);
+                return Ok(mark);
             }
             let name = self.nested_name()?;
             self.list_name(name)?;
@@ -353,15 +366,37 @@ impl<'a, 'b, L: Limit> Parser<'a, 'b, L> {
     /// `QUALIFIED_NAME = UNQUALIFIED_NAME SCOPE`.
     #[cycle(readers)]
     #[tactic(auto, using(crate::proofs::NameSteps::qualified_name_is))]
-    #[inline(always)]
-    pub fn qualified_name(&mut self, templates: TemplateNames) -> Result<Symbol<'a, 'b>, Refused>
-        ensures value { ReadsAs (λ n. (name_of n.name.now, map name_at n.scope.now)) self.old self.new result
-            (read_name (qualified_name (is_own templates))) }
+    #[inline(never)]
+    pub fn qualified_name(
+        &mut self,
+        templates: TemplateNames,
+    ) -> Result<&'b Symbol<'a, 'b>, Refused>
+        ensures value { ReadsAs named_at self.old self.new result (read_name (qualified_name (is_own templates))) }
         ensures eats { Eats self.old self.new result }
     {
         let name = self.unqualified_name(templates)?;
-        let scope = self.scope()?.items;
-        Ok(Symbol { name, scope })
+        let mark = self.scope()?;
+        self.put_symbol(name, mark)
+    }
+
+    /// A name in the scope whose names are listed.
+    #[inline(never)]
+    pub fn put_symbol(
+        &mut self,
+        name: &'b Name<'a, 'b>,
+        mark: usize,
+    ) -> Result<&'b Symbol<'a, 'b>, Refused>
+        requires { mark ≤ length (outer self.old.listed_names) }
+        ensures value { ReadsAs named_at self.old self.new result
+            (with_value (Some (name_of name.now, map name_at (here self.old.listed_names)))) }
+        ensures rest { IfOk result (λ _. self.new.rest.now ≡ self.old.rest.now) }
+        ensures kept { IfOk result (λ _. frame_of self.new ≡ record (frame_of self.old) {
+          listed_names = drop mark (outer self.old.listed_names);
+          names_before = take mark (outer self.old.listed_names);
+        }) }
+    {
+        let scope = self.listed_names(mark)?.items;
+        self.put(Symbol { name, scope })
     }
 }
 

@@ -1,13 +1,13 @@
 //! Special names: the codes of what the compiler names by itself, as operators and tables.
 
 ghost use Rattle.std.specs.Option.{option_map};
-ghost use Rattle.std.specs.Prelude.{◌≡◌, ◌<◌, Some, length, IfSome};
+ghost use Rattle.std.specs.Prelude.{◌≡◌, ◌<◌, None, Some, length, IfSome};
 ghost use Rattle.msvc_tree.specs.NodeView.{name_at};
-ghost use Rattle.msvc_tree.specs.Trees.{base_class_descriptor};
+ghost use Rattle.msvc_tree.specs.Trees.{base_class_descriptor, guard, operator};
 ghost use Rattle.msvc_read.specs.Letters.{second_special_letters, special_letters, third_special_letters};
 ghost use Rattle.msvc_read.specs.Letters.{type_information_letters};
 ghost use Rattle.msvc_read.specs.Parser.{Eats, ReadsAs, Stays, at_rest, marked_at, special_at};
-ghost use Rattle.msvc_read.specs.Reads.{read_name, with_value};
+ghost use Rattle.msvc_read.specs.Reads.{in_node, read_name, with_value};
 ghost use Rattle.msvc_read.specs.Rules.{lookup, special_behind, special_name};
 ghost use Rattle.msvc_read.specs.State.{place};
 ghost use Rattle.msvc_read.specs.declared.special_names.SpecialForm.TheVariants as special;
@@ -207,26 +207,68 @@ impl<'a, 'b, L: Limit> Parser<'a, 'b, L> {
         ensures eats { Eats self.old self.new result }
     {
         let Some((form, rest)) = special_form(self.rest) else {
-            let (message, left) = unknown_code(self.rest);
-            return Err(self.refuse_at(message, left));
+            return self.no_special_name();
         };
         self.rest = rest;
         match form {
-            SpecialForm::Plain(operator) => self.new_name(Name::Plain(operator)),
-            SpecialForm::Guard(guard) => self.new_name(Name::Guard(guard, None)),
-            SpecialForm::TypeDescriptor => {
-                self.count_node()?;
-                self.expected(b"?", Message::QuestionMarkExpected)?;
-                let class = self.optional(OptionalLetters::StorageClasses);
-                let described = self.any_type(class)?;
-                self.put_name(Name::TypeDescriptor(class, described))
-            }
+            SpecialForm::Plain(operator) => self.new_operator(operator),
+            SpecialForm::Guard(guard) => self.new_guard(guard),
+            SpecialForm::TypeDescriptor => self.type_descriptor(),
             SpecialForm::BaseClass => self.base_class_descriptor(),
         }
     }
 
+    /// That the bytes left begin with no code. A call of its own, as what follows each code is, so that nothing of this
+    /// name stays on the stack while a type in it is read.
+    #[inline(never)]
+    fn no_special_name(&mut self) -> Result<&'b Name<'a, 'b>, Refused>
+        ensures value { ReadsAs name_at self.old self.new result (λ left s. None) }
+        ensures eats { Eats self.old self.new result }
+    {
+        let (message, left) = unknown_code(self.rest);
+        Err(self.refuse_at(message, left))
+    }
+
+    /// An operator with nothing in it. It counts as a node.
+    #[tactic(auto, unfolding(msvc_tree::specs::NodeView::name_of))]
+    #[inline(never)]
+    fn new_operator(&mut self, kind: PlainOperator) -> Result<&'b Name<'a, 'b>, Refused>
+        ensures value { ReadsAs name_at self.old self.new result
+            (λ left s. in_node left s (with_value (Some (operator kind)))) }
+        ensures stays { Stays self.old self.new result }
+    {
+        self.new_name(Name::Plain(kind))
+    }
+
+    /// A guard without an index. It counts as a node.
+    #[tactic(auto, unfolding(msvc_tree::specs::NodeView::name_of))]
+    #[inline(never)]
+    fn new_guard(&mut self, kind: Guard) -> Result<&'b Name<'a, 'b>, Refused>
+        ensures value { ReadsAs name_at self.old self.new result
+            (λ left s. in_node left s (with_value (Some (guard kind None)))) }
+        ensures stays { Stays self.old self.new result }
+    {
+        self.new_name(Name::Guard(kind, None))
+    }
+
+    /// The descriptor of a type, after its code: `"?" [storage class] TYPE`.
+    #[cycle(readers)]
+    #[tactic(auto, using(crate::proofs::SpecialSteps::type_descriptor_step), unfolding(msvc_tree::specs::NodeView::name_of))]
+    #[inline(never)]
+    fn type_descriptor(&mut self) -> Result<&'b Name<'a, 'b>, Refused>
+        ensures value { ReadsAs name_at self.old self.new result (read_name (special_behind special.TypeDescriptor)) }
+        ensures eats { Eats self.old self.new result }
+    {
+        self.count_node()?;
+        self.expected(b"?", Message::QuestionMarkExpected)?;
+        let class = self.optional(OptionalLetters::StorageClasses);
+        let described = self.any_type(class)?;
+        self.put_name(Name::TypeDescriptor(class, described))
+    }
+
     /// The place of a base class, after its code: four numbers.
     #[tactic(auto, using(crate::proofs::SpecialSteps::base_class_step))]
+    #[inline(never)]
     fn base_class_descriptor(&mut self) -> Result<&'b Name<'a, 'b>, Refused>
         ensures value { ReadsAs name_at self.old self.new result (read_name (special_behind special.BaseClass)) }
         ensures eats { Eats self.old self.new result }

@@ -1,15 +1,16 @@
 //! Types, and the table of types.
 
 ghost use Rattle.std.specs.Int.{int_wrapping_neg, w32};
-ghost use Rattle.std.specs.Prelude.{Some, map, slice_get, true};
+ghost use Rattle.std.specs.Prelude.{Some, codes, false, map, slice_get, true};
 ghost use Rattle.msvc_tree.specs.NodeView.{name_at, name_of, type_of, type_at};
-ghost use Rattle.msvc_tree.specs.Trees.{name_trees, numbered, pointing, tagged};
+ghost use Rattle.msvc_tree.specs.Trees.{base, name_trees, numbered, plain, pointing, tagged};
 ghost use Rattle.msvc_read.specs.Grammar.{array_class, arrays};
-ghost use Rattle.msvc_read.specs.Letters.{digits};
+ghost use Rattle.msvc_read.specs.Letters.{digits, qualifiers};
 ghost use Rattle.msvc_read.specs.Parser.{is_own, Eats, MayEat, ReadsAs, Stays};
 ghost use Rattle.msvc_read.specs.Reads.{read, read_name, and_then, in_node, with_value, type_known};
 ghost use Rattle.msvc_read.specs.Rules.{lookup, any_type, array, dimension, lengths, number, plain_type, pointee};
-ghost use Rattle.msvc_read.specs.Rules.{function_type, qualified_name, type_behind, type_form};
+ghost use Rattle.msvc_read.specs.Rules.{function_type, literal, member_pointer, optional, qualified_name, type_behind};
+ghost use Rattle.msvc_read.specs.Rules.{type_form};
 ghost use Rattle.msvc_read.specs.Sorts.{extended};
 ghost use Rattle.msvc_tree.specs.declared.kinds.NumberedType.TheVariants as number_kind;
 
@@ -62,21 +63,61 @@ impl<'a, 'b, L: Limit> Parser<'a, 'b, L> {
             TypeForm::RValueReference => self.pointing_type(Mark::RValueReference, q),
             TypeForm::Constant => self.numbered_type(NumberedType::Constant),
             TypeForm::TemplateParameter => self.numbered_type(NumberedType::TemplateParameter),
-            TypeForm::EmptyPack => self.new_type(Type::Plain(PlainType::EmptyPack)),
-            TypeForm::Nullptr => self.new_type(Type::Plain(PlainType::Nullptr)),
+            TypeForm::EmptyPack => self.new_plain(PlainType::EmptyPack),
+            TypeForm::Nullptr => self.new_plain(PlainType::Nullptr),
             TypeForm::Array => self.array(),
             TypeForm::Function => self.function_type(ObjectQualifiers::Absent),
             TypeForm::QualifiedFunction => self.function_type(ObjectQualifiers::Present),
-            TypeForm::Requalified => {
-                let own = self.optional(OptionalLetters::Qualifiers);
-                self.plain_type(own)
-            }
+            TypeForm::Requalified => self.requalified(),
             TypeForm::QualifiedMemberPointer => self.member_pointer(MemberPointerForm::Qualified),
-            TypeForm::MemberPointer => {
-                self.expected(b"?", Message::QuestionMarkExpected)?;
-                self.member_pointer(MemberPointerForm::OfClass)
-            }
+            TypeForm::MemberPointer => self.marked_member_pointer(),
         }
+    }
+
+    /// `[qualifier] PLAIN_TYPE`: the qualifiers replace those that were read before.
+    #[cycle(readers)]
+    #[inline(never)]
+    fn requalified(&mut self) -> Result<&'b Type<'a, 'b>, Refused>
+        ensures value { ReadsAs type_at self.old self.new result
+            (λ left s. and_then (read (optional qualifiers) left s) (λ q l t. read_name (plain_type q) l t)) }
+        ensures eats { Eats self.old self.new result }
+    {
+        let own = self.optional(OptionalLetters::Qualifiers);
+        self.plain_type(own)
+    }
+
+    /// `"?" MEMBER_POINTER`, with the class of the member function.
+    #[cycle(readers)]
+    #[inline(never)]
+    fn marked_member_pointer(&mut self) -> Result<&'b Type<'a, 'b>, Refused>
+        ensures value { ReadsAs type_at self.old self.new result
+            (λ left s. and_then (read (literal (codes "?")) left s) (λ _ l t. read_name (member_pointer false) l t)) }
+        ensures eats { Eats self.old self.new result }
+    {
+        self.expected(b"?", Message::QuestionMarkExpected)?;
+        self.member_pointer(MemberPointerForm::OfClass)
+    }
+
+    /// A type with nothing in it. It counts as a node.
+    #[tactic(auto, unfolding(msvc_tree::specs::NodeView::type_of))]
+    #[inline(never)]
+    pub fn new_plain(&mut self, kind: PlainType) -> Result<&'b Type<'a, 'b>, Refused>
+        ensures value { ReadsAs type_at self.old self.new result
+            (λ left s. in_node left s (with_value (Some (plain kind)))) }
+        ensures stays { Stays self.old self.new result }
+    {
+        self.new_type(Type::Plain(kind))
+    }
+
+    /// A base type. It counts as a node.
+    #[tactic(auto, unfolding(msvc_tree::specs::NodeView::type_of))]
+    #[inline(never)]
+    fn new_base(&mut self, kind: BaseType, q: StorageClass) -> Result<&'b Type<'a, 'b>, Refused>
+        ensures value { ReadsAs type_at self.old self.new result
+            (λ left s. in_node left s (with_value (Some (base kind q.0)))) }
+        ensures stays { Stays self.old self.new result }
+    {
+        self.new_type(Type::Base(kind, q))
     }
 
     /// A type by its name.
@@ -103,15 +144,14 @@ impl<'a, 'b, L: Limit> Parser<'a, 'b, L> {
     fn put_tagged(
         &mut self,
         tag: Tag,
-        symbol: Symbol<'a, 'b>,
+        symbol: &'b Symbol<'a, 'b>,
         q: StorageClass,
     ) -> Result<&'b Type<'a, 'b>, Refused>
         ensures value { ReadsAs type_at self.old self.new result
-            (with_value (Some (tagged tag (name_of symbol.entry.name.now)
-            (name_trees (map name_at symbol.entry.scope.now)) q.0))) }
+            (with_value (Some (tagged tag (name_of symbol.now.name.now)
+            (name_trees (map name_at symbol.now.scope.now)) q.0))) }
         ensures stays { Stays self.old self.new result }
     {
-        let symbol = self.put(symbol)?;
         self.put_type(Type::Tagged(tag, q, symbol))
     }
 
@@ -166,7 +206,7 @@ impl<'a, 'b, L: Limit> Parser<'a, 'b, L> {
     {
         let letter = self.byte()?;
         if let Some(base) = letters::base_type(letter) {
-            return self.new_type(Type::Base(base, q));
+            return self.new_base(base, q);
         }
         let both = StorageClass::CONST.union(StorageClass::VOLATILE);
         match letter {

@@ -7,13 +7,13 @@ use Rattle.std.specs.Option.{option_map}
 use Rattle.msvc_tree.specs.NodeView.{name_at, type_at}
 use Rattle.msvc_read.proofs.Counted.{template_made, type_made}
 use Rattle.msvc_read.proofs.NameSteps.{template_kept_step}
-use Rattle.msvc_read.proofs.Nodes.{frame_names, frame_types, map_last, names_in-is}
+use Rattle.msvc_read.proofs.Nodes.{frame_names, frame_types, map_last}
 use Rattle.msvc_read.proofs.RowSteps.{parameters_ends, parameters_more, scope_more, with_front}
 use Rattle.msvc_read.proofs.SymbolSteps.{encoding_first, member_letter, named_symbol_is, no_member_letter}
-use Rattle.msvc_read.proofs.SymbolSteps.{encoding_by}
+use Rattle.msvc_read.proofs.SymbolSteps.{encoding_by, symbol_of}
 use Rattle.msvc_read.proofs.TypeSteps.{plain_other, referred_step, type_by}
 use Rattle.msvc_read.specs.Counts.{name_count, type_count}
-use Rattle.msvc_read.specs.Grammar.{template_inside, template_kept}
+use Rattle.msvc_read.specs.Grammar.{named_symbol, template_inside, template_kept}
 use Rattle.msvc_read.specs.Letters.{compound_letters, digits, encoding_letters, function_classes, rows_of}
 use Rattle.msvc_read.specs.Parser.{Frame, byte_here, counting_ellipsis, ellipsis_types, frame_of, indexed, is_own}
 use Rattle.msvc_read.specs.Parser.{kept_name, known_name_of, memorized_of}
@@ -22,6 +22,7 @@ use Rattle.msvc_read.specs.Reads.{and_then, emptied, put_apart, put_back, read, 
 use Rattle.msvc_read.specs.Rules.{after, encoding, encoding_behind, lookup, nested_name, parameter, parameters}
 use Rattle.msvc_read.specs.Rules.{plain_type, qualified_name, scope}
 use Rattle.msvc_read.specs.Sorts.{member_of}
+use Rattle.msvc_read.specs.Rows.{named_at}
 use Rattle.msvc_read.specs.Stack.{here, outer}
 use Rattle.msvc_read.specs.State.{State}
 use Rattle.msvc_read.specs.declared.entries.MemorizedName.{MemorizedName}
@@ -158,44 +159,27 @@ parameters-parameters-preserved g t c =
           c.parameters.invariant.3 c.in_ok-parameter.ensures.eats.1 c.in_ok-list_type.ensures.kept,
     )
 
--- where parameters stop, all of them are those so far, and an ellipsis after them if there is one
-pub parameters-returns-in-Some-clause-value : goal.parameters-returns-in-Some-clause-value
-parameters-returns-in-Some-clause-value g t c =
-    let stop : parameters_stop c.parameters.self.rest.now ≡ Some (c.in-Some.ellipsis, c.in-Some.rest.now) =
-    sym c.in-Some.ensures.value in
-    let read : read_name parameters c.args.self.now.rest.now (state_of c.args.self.now)
-    ≡ and_then (counting_ellipsis c.in-Some.ellipsis c.in-Some.rest.now (state_of c.parameters.self))
-    (λ _ l u. Some (map type_at (here c.parameters.self.listed_types) ++ ellipsis_types c.in-Some.ellipsis, l, u)) =
-    sym c.parameters.invariant.0
-    ∙ parameters_ends (map type_at (here c.parameters.self.listed_types)) c.parameters.self.rest.now
-    c.in-Some.rest.now c.in-Some.ellipsis (state_of c.parameters.self) stop in
-    rw read c.listed_types.ensures.value
-
 -- a symbol of its name, its scope and its type
 pub named_symbol-returns-clause-value : goal.named_symbol-returns-clause-value
 named_symbol-returns-clause-value g t c =
-    let before : NameTree = name_at c.in_ok-named.named.name in
-    let outer : List NameTree = map name_at c.in_ok-named.named.scope.now in
-    let name : NameTree = name_at c.in_ok-symbol.symbol.name in
-    let scope : List NameTree = map name_at c.in_ok-symbol.symbol.scope.now in
+    let before : NameTree × List NameTree = named_at c.in_ok-named.named in
+    let symbol : NameTree × List NameTree = named_at c.in_ok-symbol.symbol in
     let type : TypeTree = type_at c.in_ok-symbol_type.symbol_type in
     let read_first : read_name (qualified_name true) c.args.self.now.rest.now (state_of c.args.self.now)
-    ≡ Some ((before, outer), c.qualified_name.new.self.rest.now, state_of c.qualified_name.new.self) = search rules in
-    let read_index : indexed before outer c.qualified_name.new.self.rest.now (state_of c.qualified_name.new.self)
-    ≡ Some ((name, scope), c.indexed_symbol.new.self.rest.now, state_of c.indexed_symbol.new.self) = search rules in
+    ≡ Some (before, c.qualified_name.new.self.rest.now, state_of c.qualified_name.new.self) = search rules in
+    let read_index : indexed before.0 before.1 c.qualified_name.new.self.rest.now
+    (state_of c.qualified_name.new.self)
+    ≡ Some (symbol, c.indexed_symbol.new.self.rest.now, state_of c.indexed_symbol.new.self) = search rules in
     let read_then : read_name encoding c.indexed_symbol.new.self.rest.now (state_of c.indexed_symbol.new.self)
     ≡ Some (type, c.encoding.new.self.rest.now, state_of c.encoding.new.self) = search rules in
+    let read_all : read named_symbol c.args.self.now.rest.now (state_of c.args.self.now)
+    ≡ with_value (Some (symbol_of symbol.0 symbol.1 type)) c.encoding.new.self.rest.now
+    (state_of c.encoding.new.self) =
     named_symbol_is c.args.self.now.rest.now c.qualified_name.new.self.rest.now c.indexed_symbol.new.self.rest.now
     c.encoding.new.self.rest.now (state_of c.args.self.now) (state_of c.qualified_name.new.self)
-    (state_of c.indexed_symbol.new.self) (state_of c.encoding.new.self) before name outer scope type
-    read_first read_index read_then
-    ∙ ap
-    (λ ns. Some (
-      record { name = name; scope = ns; symbol_type = type },
-      c.encoding.new.self.rest.now,
-      state_of c.encoding.new.self,
-    ))
-    (sym (names_in-is c.in_ok-symbol.symbol.scope.now))
+    (state_of c.indexed_symbol.new.self) (state_of c.encoding.new.self) before.0 symbol.0 before.1 symbol.1 type
+    read_first read_index read_then in
+    rw read_all c.put_whole.ensures.value
 
 -- the tables in use before are in use again after a template
 pub template_name-returns-clause-value : goal.template_name-returns-clause-value

@@ -97,6 +97,18 @@ decreases-special_name g l = level l.self.now.rest.now 8
 abbrev pub decreases-numbered_guard : goal.decreases-numbered_guard
 decreases-numbered_guard g l = level l.self.now.rest.now 8
 
+abbrev pub decreases-type_descriptor : goal.decreases-type_descriptor
+decreases-type_descriptor g l = level l.self.now.rest.now 8
+
+abbrev pub decreases-template_symbol : goal.decreases-template_symbol
+decreases-template_symbol g l = level l.self.now.rest.now 7
+
+abbrev pub decreases-requalified : goal.decreases-requalified
+decreases-requalified g l = level l.self.now.rest.now 5
+
+abbrev pub decreases-marked_member_pointer : goal.decreases-marked_member_pointer
+decreases-marked_member_pointer g l = level l.self.now.rest.now 5
+
 abbrev pub decreases-table : goal.decreases-table
 decreases-table g l = level l.self.now.rest.now 8
 
