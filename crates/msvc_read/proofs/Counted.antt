@@ -1,4 +1,4 @@
--- What is counted is the nodes of what is read: behind each rule of the grammar, as many more nodes were made as its
+-- What is counted is the nodes of what is read: after each rule of the grammar, as many more nodes were made as its
 -- value has.
 use Rattle.std.proofs.Common.{Option, ℕ, ℤ, zero, suc, pos, negsuc, List, [], ◌∷◌, length, Some, Bool, true, false}
 use Rattle.std.proofs.Common.{cond, nat_lt, ◌≡◌, ◌+◌, ◌-◌, ◌==◌, refl, sym, ap, ◌∙◌, subst, arith}
@@ -11,11 +11,11 @@ use Rattle.msvc_read.specs.Sorts.{Sort, integer, name_tree, type_tree, symbol_tr
 use Rattle.msvc_read.specs.Sorts.{extended}
 use Rattle.msvc_read.specs.Sorts.{named, points, arrayed, indexed, referred, variable_of, table_of, type_information}
 use Rattle.msvc_read.specs.Sorts.{untyped, encoded_string, virtual_call, plain_function, member_of}
-use Rattle.msvc_read.specs.Rules.{Production, symbol_body, guard_index, unsigned, encoding, encoding_behind}
+use Rattle.msvc_read.specs.Rules.{Production, symbol_body, guard_index, unsigned, encoding, encoding_after}
 use Rattle.msvc_read.specs.Rules.{characters, character, plain_type, function_parameters, parameters, signature}
-use Rattle.msvc_read.specs.Rules.{thunk_number, own_qualifiers, returned, special_name, special_behind, required}
+use Rattle.msvc_read.specs.Rules.{thunk_number, this_qualifiers, returned, special_name, special_after, required}
 use Rattle.msvc_read.specs.Rules.{text_and, call, qualified_name, scope, nested_name, marked_name, anonymous_namespace}
-use Rattle.msvc_read.specs.Rules.{any_type, type_behind, array, positive, lengths, template_name, unqualified_name}
+use Rattle.msvc_read.specs.Rules.{any_type, type_after, array, positive, lengths, template_name, unqualified_name}
 use Rattle.msvc_read.specs.Rules.{◌>>=◌, lookup, Rule, give, letter, node, optional}
 use Rattle.msvc_read.specs.Rules.{here, ◌or◌, entering, apart}
 use Rattle.msvc_read.specs.Rules.{type_form, function_type, member_pointer, class_part}
@@ -148,24 +148,24 @@ module _ (w : ℕ) where
   makes (unsigned (pos n)) = search depth 60
   makes (unsigned (negsuc n)) = search depth 60
   makes encoding = (omega arith, (no_nodes encoding_letters, λ _. refl))
-  makes (encoding_behind (variable_of kind)) =
+  makes (encoding_after (variable_of kind)) =
       (refl, λ t. (makes_optional storage_classes, λ _. omega arith))
-  makes (encoding_behind (table_of kind)) = (makes_optional qualifiers, λ _. (refl, λ ns. omega arith))
-  makes (encoding_behind type_information) = omega arith
-  makes (encoding_behind untyped) = omega arith
-  makes (encoding_behind encoded_string) =
+  makes (encoding_after (table_of kind)) = (makes_optional qualifiers, λ _. (refl, λ ns. omega arith))
+  makes (encoding_after type_information) = omega arith
+  makes (encoding_after untyped) = omega arith
+  makes (encoding_after encoded_string) =
       (no_nodes character_sizes, λ _. (refl, λ _. (refl, λ _. (refl, λ _. omega arith))))
-  makes (encoding_behind virtual_call) =
+  makes (encoding_after virtual_call) =
       (refl, λ _. (refl, λ _. (refl, λ _. (no_nodes conventions, λ _. omega arith))))
-  makes (encoding_behind plain_function) = (refl, λ f. omega arith)
-  makes (encoding_behind (member_of class)) = (refl, λ _. (refl, λ _. (refl, λ f. omega arith)))
+  makes (encoding_after plain_function) = (refl, λ f. omega arith)
+  makes (encoding_after (member_of class)) = (refl, λ _. (refl, λ _. (refl, λ f. omega arith)))
   makes (characters zero) = search depth 60
   makes (characters (suc n)) = search depth 60
   makes character = search no_nodes depth 60
   makes (thunk_number true) = search depth 60
   makes (thunk_number false) = search depth 60
-  makes (own_qualifiers true) = search depth 60
-  makes (own_qualifiers false) = search depth 60
+  makes (this_qualifiers true) = search depth 60
+  makes (this_qualifiers false) = search depth 60
   makes (signature member) = (no_nodes conventions, λ _. (refl, λ _. (refl, λ t. (refl, λ ts. omega arith))))
   makes (returned true q) = ((refl, λ _. omega arith), refl)
   makes (returned false q) = search depth 60
@@ -176,13 +176,13 @@ module _ (w : ℕ) where
   makes (any_type q) =
       (makes_texts type_texts (λ f. call (type_form q f)) (λ f. refl), ((refl, λ _. refl), refl))
   makes (plain_type q) = (no_nodes type_letters, λ _. refl)
-  makes (type_behind q (based b)) = omega arith
-  makes (type_behind q extended) = (no_nodes extended_types, λ _. omega arith)
-  makes (type_behind q (named tag)) = (refl, λ n. omega arith)
-  makes (type_behind q (points mark own)) = (refl, λ t. omega arith)
-  makes (type_behind q arrayed) = refl
-  makes (type_behind q indexed) = (refl, λ _. omega arith)
-  makes (type_behind q (referred i)) = refl
+  makes (type_after q (based b)) = omega arith
+  makes (type_after q extended) = (no_nodes extended_types, λ _. omega arith)
+  makes (type_after q (named tag)) = (refl, λ n. omega arith)
+  makes (type_after q (points mark own)) = (refl, λ t. omega arith)
+  makes (type_after q arrayed) = refl
+  makes (type_after q indexed) = (refl, λ _. omega arith)
+  makes (type_after q (referred i)) = refl
   makes (type_form q form.Enumeration) = (refl, λ n. omega arith)
   makes (type_form q form.ReferenceToFunction) = (refl, λ t. omega arith)
   makes (type_form q form.PointerToFunction) = (refl, λ t. omega arith)
@@ -222,12 +222,12 @@ module _ (w : ℕ) where
   makes (qualified_name own) = (refl, λ n. (refl, λ ns. omega arith))
   makes (unqualified_name own) =
       ((no_nodes digits, λ _. refl), ((refl, λ _. makes_kept own), ((refl, λ _. refl), makes_source)))
-  makes special_name = makes_texts special_texts (λ f. call (special_behind f)) (λ f. refl)
-  makes (special_behind (special.Plain o)) = omega arith
-  makes (special_behind (special.Guard kind)) = omega arith
-  makes (special_behind special.TypeDescriptor) =
+  makes special_name = makes_texts special_texts (λ f. call (special_after f)) (λ f. refl)
+  makes (special_after (special.Plain o)) = omega arith
+  makes (special_after (special.Guard kind)) = omega arith
+  makes (special_after special.TypeDescriptor) =
       (refl, λ _. (makes_optional storage_classes, λ _. (refl, λ t. omega arith)))
-  makes (special_behind special.BaseClass) = (refl, λ _. (refl, λ _. (refl, λ _. (refl, λ _. omega arith))))
+  makes (special_after special.BaseClass) = (refl, λ _. (refl, λ _. (refl, λ _. (refl, λ _. omega arith))))
   makes template_name = makes_template
   makes scope = ((refl, λ _. refl), (refl, λ n. (refl, λ ns. omega arith)))
   makes nested_name = ((no_nodes digits, λ _. refl), ((refl, λ _. refl), makes_source))
@@ -272,8 +272,8 @@ module _ (w : ℕ) where
   adds_entry : (g : ℕ) (nodes : ℕ → ℕ) (c : Count) → c.weight ≡ w → g ≡ 0 → Adds g (nodes w) c (more (nodes c.weight) c)
   adds_entry g nodes c same h = (nodes c.weight, refl, omega (arith, h, ap nodes same))
 
-  weight_behind : (g n : ℕ) (c d : Count) → Adds g n c d → c.weight ≡ w → d.weight ≡ w
-  weight_behind g n c d h same = ap (λ (e : Count). e.weight) h.1 ∙ same
+  weight_after : (g n : ℕ) (c d : Count) → Adds g n c d → c.weight ≡ w → d.weight ≡ w
+  weight_after g n c d h same = ap (λ (e : Count). e.weight) h.1 ∙ same
 
   in_letter : (a : Sort) (g : ℕ) (table : List (ℕ × Value a)) (b : ℕ) (v : Value a)
       → Each (λ row. size a row.1 ≡ g) table → lookup b table ≡ Some v → size a v ≡ g
@@ -298,8 +298,8 @@ module _ (w : ℕ) where
   counts (where_it_holds e d) same g h = counts d same g h
   counts (in_a_row {a = a} {b = b} {v = v} {w = x} {s = s} {t = t} {u = u} d e) same g h =
       let first = counts d same 0 h.0 in
-      let behind : t.count.weight ≡ w = weight_behind 0 (size a v) s.count t.count first same in
-      adds_both g (size a v) (size b x) s.count t.count u.count first (counts e behind (g + size a v) (h.1 v))
+      let remaining : t.count.weight ≡ w = weight_after 0 (size a v) s.count t.count first same in
+      adds_both g (size a v) (size b x) s.count t.count u.count first (counts e remaining (g + size a v) (h.1 v))
   counts (the_first d) same g h = counts d same g h.0
   counts (the_second d) same g h = counts d same g h.1
   counts (called {a = a} {n = n} {v = v} {s = s} {t = t} d) same g h =
@@ -316,7 +316,7 @@ module _ (w : ℕ) where
       (counts d same g h)
   counts (set_apart d) same g h = counts d same g h
 
--- behind a rule that counts all, as many more nodes were made as its value has
+-- after a rule that counts all, as many more nodes were made as its value has
 pub rule_counts : {a : Sort} {r : Rule a} {left : List ℕ} {s : State} {v : Value a} {rest : List ℕ} {t : State}
     → Reads a r left s v rest t → Makes s.count.weight 0 r → t.count ≡ more (size s.count.weight a v) s.count
 rule_counts {a = a} {s = s} {v = v} d h =

@@ -3,8 +3,7 @@
 use Rattle.std.proofs.Common.{ℕ, List, [], ◌∷◌, ◌++◌, Bool, true, false, cond, not, ◌≡◌, ◌==◌, length, refl, sym, ap}
 use Rattle.std.proofs.Common.{◌∙◌, subst}
 use Rattle.std.proofs.lemmas.Bool.{eqb-true}
-use Rattle.std.specs.Prelude.{is_some, ◌&&◌}
-use Rattle.std.specs.List.{list_all}
+use Rattle.std.specs.Prelude.{is_some}
 use Rattle.msvc_tree.specs.Trees.{SymbolTree}
 use Rattle.msvc_tree.specs.declared.error.ErrorRepr.{ErrorRepr}
 use Rattle.msvc_tree.specs.declared.error.ErrorRepr.TheVariants as error
@@ -19,15 +18,6 @@ use Rattle.msvc_read.specs.Refusals.{IsRefusedRightly}
 use Rattle.msvc_read.specs.Reads.{Derives, Reads, a_literal, a_node, a_part, called, given, in_a_row, the_first}
 use Rattle.msvc_read.proofs.Firsts.{both_if, if_both}
 use Rattle.msvc_read.proofs.Laws.{derived-only}
-
--- that all elements pass a test, as an iterator finds it
-pub all-every : (test : ℕ → Bool) (bs : List ℕ) → list_all test bs ≡ every test bs
-all-every test [] = refl
-all-every test (b ∷ bs) = go (test b) (all-every test bs)
-  where
-    go : (t : Bool) → list_all test bs ≡ every test bs → (t && list_all test bs) ≡ cond t (every test bs) false
-    go true e = e
-    go false e = refl
 
 -- no digit is an @
 no_end : (digits : List ℕ) → every (λ b. is_some (lookup b hexadecimal_codes)) digits ≡ true
@@ -49,7 +39,7 @@ unfolding grammar
 there true left s e = called given
 there false left s e = absurd (cc)
 
--- the state behind two nodes: that of the name, and that of its type
+-- the state after two nodes: that of the name, and that of its type
 abbrev two_counted : State → State
 two_counted s = counted s.count.weight (counted s.count.weight s)
 
@@ -59,8 +49,8 @@ unfolding grammar
 hash_read digits rest s h =
     let parts : ((length digits == 32) ≡ true) × (every (λ b. is_some (lookup b hexadecimal_codes)) digits ≡ true) =
     if_both _ _ h in
-    let behind = in_a_row (there (is_hash digits) rest (two_counted s) h) given in
-    a_node (a_node (in_a_row (called (a_part refl (no_end digits parts.1))) behind))
+    let remaining = in_a_row (there (is_hash digits) rest (two_counted s) h) given in
+    a_node (a_node (in_a_row (called (a_part refl (no_end digits parts.1))) remaining))
 
 pub hash_derived : (digits rest : List ℕ) → is_hash digits ≡ true
     → Derives (hashed_text digits rest) (md5_symbol digits) rest []
@@ -72,15 +62,17 @@ hash_derived digits rest h =
 
 -- whatever is derived of such a text is the name of the hash
 pub hash_only : (digits rest : List ℕ) → is_hash digits ≡ true
-    → (tree : SymbolTree) (behind : List ℕ) (notes : List Note) → Derives (hashed_text digits rest) tree behind notes
-    → (tree ≡ md5_symbol digits) × (behind ≡ rest) × (notes ≡ [])
-hash_only digits rest h tree behind notes d =
-    derived-only (hashed_text digits rest) tree (md5_symbol digits) behind rest notes [] d (hash_derived digits rest h)
+    → (tree : SymbolTree) (remaining : List ℕ) (notes : List Note) → Derives
+    (hashed_text digits rest) tree remaining notes
+    → (tree ≡ md5_symbol digits) × (remaining ≡ rest) × (notes ≡ [])
+hash_only digits rest h tree remaining notes d =
+    derived-only (hashed_text digits rest) tree (md5_symbol digits) remaining rest notes [] d
+    (hash_derived digits rest h)
 
 pub hashes-stand : (text : List ℕ) (tree : SymbolTree) (rest : List ℕ) (notes : List Note)
     → Derives text tree rest notes → HashesStand text tree
-hashes-stand text tree rest notes d digits behind h same =
-    (hash_only digits behind h tree rest notes (subst (λ z. Derives z tree rest notes) same d)).0
+hashes-stand text tree rest notes d digits remaining h same =
+    (hash_only digits remaining h tree rest notes (subst (λ z. Derives z tree rest notes) same d)).0
 
 -- a text that begins with a hash is refused for memory alone, if it is refused rightly
 pub hashes-read : (text : List ℕ) (e : ErrorRepr) → IsRefusedRightly text e → HashesAreRead text e

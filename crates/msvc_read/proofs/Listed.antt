@@ -38,7 +38,7 @@ read-noted text notes e =
       found.0,
       found.1,
       derived,
-      λ other behind others d. derived-only text other found.0 behind found.1 others notes d derived,
+      λ other remaining others d. derived-only text other found.0 remaining found.1 others notes d derived,
     )
 
 pub read-rising : (text : List ℕ) (notes : List Note) → notes_read text ≡ Some notes → AreRising notes

@@ -112,7 +112,7 @@ all-every test (b ∷ bs) = go (test b) (all-every test bs)
     go true e = e
     go false e = refl
 
--- an item more behind those of a list that is being gathered
+-- an item more after those of a list that is being gathered
 
 pub frame_names : {N E : Type 0} (a : List N) (b : List E) (d e : List (Bor «Type»)) (before after new : Frame N E)
     (x : Bor Name)

@@ -65,7 +65,7 @@ allowed_below c d h ok = go (nat_lt d.most d.made) refl ok
     go true e k = absurd (cc)
     go false e k = ap not (le-ltb c.most c.made (omega (arith, h.1, h.2, ltb-false d.most d.made e)))
 
--- where the count behind is allowed, so is the one before
+-- where the count after is allowed, so is the one before
 pub allowed_before : {a : Sort} {r : Rule a} {left : List ℕ} {s : State} {v : Value a} {rest : List ℕ} {t : State}
     → Reads a r left s v rest t → is_allowed t.count ≡ true → is_allowed s.count ≡ true
 allowed_before {s = s} {t = t} d ok = allowed_below s.count t.count (rises d) ok
@@ -115,7 +115,7 @@ no_type_counts : (t : TypeTree) (c : Count) → c ≡ uncounted → more (type_c
 no_type_counts t c none =
     ap (λ (d : Count). more (type_count d.weight t) d) none ∙ ap (λ k. more k uncounted) (type_nothing t)
 
--- a state without limit has none behind either
+-- a state without limit has none after either
 pub uncounted_stays : {a : Sort} {r : Rule a} {left : List ℕ} {s : State} {v : Value a} {rest : List ℕ} {t : State}
     → Reads a r left s v rest t → s.count ≡ uncounted → t.count ≡ uncounted
 uncounted_stays given none = none

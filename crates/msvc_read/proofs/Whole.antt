@@ -61,7 +61,7 @@ read-one text tree n e =
         found.0,
         found.1.notes,
         derived,
-        λ other behind others d. derived-only text other tree behind found.0 others found.1.notes d derived,
+        λ other remaining others d. derived-only text other tree remaining found.0 others found.1.notes d derived,
       ),
       found.3,
     )
@@ -188,7 +188,7 @@ within-one most text tree n e =
           found.0,
           found.1.notes,
           derived.0,
-          λ other behind others d. derived-only text other tree behind found.0 others found.1.notes d derived.0,
+          λ other remaining others d. derived-only text other tree remaining found.0 others found.1.notes d derived.0,
         ),
         found.3,
       ),

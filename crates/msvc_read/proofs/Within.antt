@@ -10,7 +10,7 @@ use Rattle.msvc_read.specs.Sorts.{Sort, Value}
 use Rattle.msvc_read.specs.State.{Entry, Note, State, at_most, beginning_with, counted, is_allowed, more, span_of}
 use Rattle.msvc_read.specs.State.{uncounted}
 use Rattle.msvc_read.specs.Reads.{Derives, Found, Reader, Reads, and_then, counting, emptied, entered_by, letter_here}
-use Rattle.msvc_read.specs.Reads.{behind_literal, name_known, nodes_of_name, nodes_of_type, note_digit, noted_by}
+use Rattle.msvc_read.specs.Reads.{after_literal, name_known, nodes_of_name, nodes_of_type, note_digit, noted_by}
 use Rattle.msvc_read.specs.Reads.{noted_here, only_if, part_here, put_apart, ranks, read, read_by, read_name}
 use Rattle.msvc_read.specs.Reads.{read_within, type_known, type_noted, with_byte, with_value}
 use Rattle.msvc_read.specs.Rules.{Production, Rule, after, apart, call, entering, give, here, holds, known_name}
@@ -37,7 +37,7 @@ letter_allowed : {A : Type 0} (table : List (ℕ × A)) (left : List ℕ) (s : S
 letter_allowed table [] s ok = tt
 letter_allowed table (b ∷ bs) s ok = value_allowed (lookup b table) bs s ok
 
-literal_allowed : (o : Option (List ℕ)) (s : State) → is_allowed s.count ≡ true → IfFound Allowed (behind_literal o s)
+literal_allowed : (o : Option (List ℕ)) (s : State) → is_allowed s.count ≡ true → IfFound Allowed (after_literal o s)
 literal_allowed None s ok = tt
 literal_allowed (Some rest) s ok = ok
 

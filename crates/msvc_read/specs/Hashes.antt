@@ -5,7 +5,7 @@ use Rattle.msvc_tree.specs.declared.error.ErrorRepr.{ErrorRepr}
 use Rattle.msvc_tree.specs.declared.error.ErrorRepr.TheVariants as error
 use Rattle.msvc_read.specs.Grammar.{is_hash}
 
--- the text of that symbol, and any bytes behind it
+-- the text of that symbol, and any bytes after it
 abbrev pub hashed_text : List ℕ → List ℕ → List ℕ
 hashed_text digits rest = codes "??@" ++ (digits ++ 64 ∷ rest)
 

@@ -45,9 +45,9 @@ rows_of f [] others = others
 rows_of f (row ∷ table) others = (row.0, f row.1) ∷ rows_of f table others
 
 -- a text and each letter of a table after it, then the texts of another table
-abbrev pub texts_behind : {A : Type 0} → List ℕ → List (ℕ × A) → List (List ℕ × A) → List (List ℕ × A)
-texts_behind text [] others = others
-texts_behind text (row ∷ table) others = (text ++ row.0 ∷ [], row.1) ∷ texts_behind text table others
+abbrev pub texts_after : {A : Type 0} → List ℕ → List (ℕ × A) → List (List ℕ × A) → List (List ℕ × A)
+texts_after text [] others = others
+texts_after text (row ∷ table) others = (text ++ row.0 ∷ [], row.1) ∷ texts_after text table others
 
 -- Letters that stand by themselves
 
@@ -63,7 +63,7 @@ dollar_sign = 36
 abbrev pub underscore : ℕ
 underscore = 95
 
--- the R that stands, behind a _, before those of type information
+-- the R that stands, after a _, before those of type information
 abbrev pub type_information_letter : ℕ
 type_information_letter = 82
 
@@ -434,10 +434,10 @@ third_special_letters = by_letter (
 -- none begins another
 abbrev pub special_texts : List (List ℕ × SpecialForm)
 special_texts =
-    texts_behind [] special_letters
-    (texts_behind (codes "_") second_special_letters
-    (texts_behind (codes "_R") type_information_letters
-    (texts_behind (codes "__") third_special_letters [])))
+    texts_after [] special_letters
+    (texts_after (codes "_") second_special_letters
+    (texts_after (codes "_R") type_information_letters
+    (texts_after (codes "__") third_special_letters [])))
 
 -- Strings
 

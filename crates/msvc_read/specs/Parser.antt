@@ -84,7 +84,7 @@ frame_of p =
       types_before = outer p.listed_types;
     }
 
--- a refusal that isn't for want of memory says that nothing is read
+-- a refusal, out of memory aside, says that nothing is read
 abbrev pub Refuses : {Y : Type 0} → Refusal → Option Y → Type 0
 Refuses refusal.Memory read = Unit {0}
 Refuses (refusal.Unread message left) read = read ≡ None
@@ -152,7 +152,7 @@ byte_here (b ∷ bs) s = Some (b, bs, s)
 abbrev pub kept_name : Bool → NameTree → state.State → state.State
 kept_name own n s = if own then s else state.remember_name n s
 
--- what a table has for the text that begins, and the bytes behind it
+-- what a table has for the text that begins, and the bytes after it
 abbrev pub this_or : {A : Type 0} → A → Option (List ℕ) → Option (A × List ℕ) → Option (A × List ℕ)
 this_or x None others = others
 this_or x (Some rest) others = Some (x, rest)
@@ -181,7 +181,7 @@ double_dollar_texts = one_less dollar_sign dollar_texts
 unfoldable pub name_length : List ℕ → Option ℕ
 name_length left = position (λ b. b == at_sign) left
 
--- the bytes before a place and those behind the byte there, if there is one
+-- the bytes before a place and those after the byte there, if there is one
 abbrev pub cut_at : Option ℕ → List ℕ → state.State → Found (List ℕ)
 cut_at None left s = None
 cut_at (Some i) left s = Some (take i left, drop (i + 1) left, s)
@@ -221,12 +221,12 @@ abbrev pub is_member : FunctionKind → Bool
 is_member function_kind.Free = false
 is_member function_kind.Member = true
 
--- what a code stands for, if it is one, and the bytes behind it
+-- what a code stands for, if it is one, and the bytes after it
 abbrev pub at_rest : {A : Type 0} → Option A → List ℕ → Option (A × List ℕ)
 at_rest None rest = None
 at_rest (Some x) rest = Some (x, rest)
 
--- what a table has for the first byte, and the bytes behind it
+-- what a table has for the first byte, and the bytes after it
 abbrev pub letter_at : {A : Type 0} → List (ℕ × A) → List ℕ → Option (A × List ℕ)
 letter_at table [] = None
 letter_at table (b ∷ bs) = at_rest (lookup b table) bs
@@ -254,7 +254,7 @@ abbrev pub indexed : NameTree → List NameTree → List ℕ → state.State →
 indexed n ns left s =
     and_then (read_name (guard_index (is_guard n)) left s) (λ index l t. Some ((with_index index n, ns), l, t))
 
--- the digits of a hash before a place, and the bytes behind the one there
+-- the digits of a hash before a place, and the bytes after the one there
 abbrev pub hash_at : Option ℕ → List ℕ → state.State → Found (List ℕ)
 hash_at None left s = None
 hash_at (Some i) left s = if is_hash (take i left) then Some (take i left, drop (i + 1) left, s) else None

@@ -14,7 +14,7 @@ use Rattle.msvc_read.specs.declared.refusal.Refusal.TheVariants as refusal
 abbrev pub begins_with : List ℕ → List ℕ → Type 0
 begins_with literal text = (rest : List ℕ) × (text ≡ literal ++ rest)
 
--- want of memory, or a refusal of the text at this offset; of an ASCII text it shows what stands there
+-- out of memory, or a refusal of the text at this offset; of an ASCII text it shows what stands there
 abbrev pub IsRefusalAt : List ℕ → ℕ → ErrorRepr → Type 0
 IsRefusalAt text offset (error.ParseError message context at) =
     (at ≡ offset) × (IsAscii text → string_bytes context ≡ context_of text offset)
@@ -30,7 +30,7 @@ IsErrorOf (refusal.Unread message left) text e = IsRefusalAt text (length text -
 abbrev pub IsNoSymbol : List ℕ → Type 0
 IsNoSymbol text = (tree : SymbolTree) (rest : List ℕ) (notes : List Note) → Derives text tree rest notes → ⊥
 
--- A text is refused for want of memory, or at a place in it, because no beginning of it is a symbol; of an ASCII text
+-- A text is refused out of memory, or at a place in it, because no beginning of it is a symbol; of an ASCII text
 -- the refusal shows what stands there.
 abbrev pub IsRefusedRightly : List ℕ → ErrorRepr → Type 0
 IsRefusedRightly text (error.ParseError message context at) =

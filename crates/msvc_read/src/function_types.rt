@@ -9,7 +9,7 @@ ghost use Rattle.msvc_read.specs.Parser.{is_bare, is_qualified, is_member, Eats,
 ghost use Rattle.msvc_read.specs.Parser.{state_of};
 ghost use Rattle.msvc_read.specs.Rows.{parts_at};
 ghost use Rattle.msvc_read.specs.Reads.{letter_here, read, read_name, with_value};
-ghost use Rattle.msvc_read.specs.Rules.{encoding_behind, function_qualifiers, own_qualifiers, return_qualifiers};
+ghost use Rattle.msvc_read.specs.Rules.{encoding_after, function_qualifiers, this_qualifiers, return_qualifiers};
 ghost use Rattle.msvc_read.specs.Rules.{class_part, function_type, member_pointer, returned, signature, thunk_number};
 ghost use Rattle.msvc_read.specs.Sorts.{member_of, plain_function};
 ghost use Rattle.msvc_read.specs.Stack.{here, outer};
@@ -54,7 +54,7 @@ impl<'a, 'b, L: Limit> Parser<'a, 'b, L> {
     #[cycle(readers)]
     #[tactic(auto, using(crate::proofs::SymbolSteps::function_step))]
     pub fn function(&mut self) -> Result<&'b Type<'a, 'b>, Refused>
-        ensures value { ReadsAs type_at self.old self.new result (read_name (encoding_behind plain_function)) }
+        ensures value { ReadsAs type_at self.old self.new result (read_name (encoding_after plain_function)) }
         ensures eats { MayEat self.old self.new result }
     {
         self.count_node()?;
@@ -66,21 +66,21 @@ impl<'a, 'b, L: Limit> Parser<'a, 'b, L> {
         self.put_function(f)
     }
 
-    /// `MEMBER = [THUNK_NUMBER] [OWN_QUALIFIERS] SIGNATURE`.
+    /// `MEMBER = [THUNK_NUMBER] [THIS_QUALIFIERS] SIGNATURE`.
     #[cycle(readers)]
     #[tactic(auto, using(crate::proofs::SymbolSteps::member_step))]
     pub fn member(&mut self, class: FuncClass) -> Result<&'b Type<'a, 'b>, Refused>
-        ensures value { ReadsAs type_at self.old self.new result (read_name (encoding_behind (member_of class.0))) }
+        ensures value { ReadsAs type_at self.old self.new result (read_name (encoding_after (member_of class.0))) }
         ensures eats { MayEat self.old self.new result }
     {
         self.count_node()?;
         self.thunk_number(class)?;
-        let own = self.own_qualifiers(object_qualifiers(class));
+        let own = self.this_qualifiers(object_qualifiers(class));
         let f = self.signature(FunctionKind::Member, class, own)?;
         self.put_member(f)
     }
 
-    /// `FUNCTION_TYPE = [OWN_QUALIFIERS] convention [class of what is returned] TYPE FUNCTION_PARAMETERS`.
+    /// `FUNCTION_TYPE = [THIS_QUALIFIERS] convention [class of what is returned] TYPE FUNCTION_PARAMETERS`.
     #[cycle(readers)]
     #[tactic(auto, using(crate::proofs::FunctionSteps::function_type_step))]
     pub fn function_type(
@@ -91,7 +91,7 @@ impl<'a, 'b, L: Limit> Parser<'a, 'b, L> {
         ensures eats { Eats self.old self.new result }
     {
         self.count_node()?;
-        let own = self.own_qualifiers(qualifiers);
+        let own = self.this_qualifiers(qualifiers);
         let convention = self.convention()?;
         let q = self.class_of_returned();
         let returned = self.any_type(q)?;
@@ -265,10 +265,10 @@ impl<'a, 'b, L: Limit> Parser<'a, 'b, L> {
         Ok(())
     }
 
-    /// `OWN_QUALIFIERS = FUNCTION_QUALIFIERS`: a bare function, as a static one, has no qualifiers of its own.
-    #[tactic(auto, using(crate::proofs::FunctionSteps::own_qualifiers_is))]
-    fn own_qualifiers(&mut self, qualifiers: ObjectQualifiers) -> StorageClass
-        ensures value { read_name (own_qualifiers (is_bare qualifiers)) self.old.rest.now (state_of self.old)
+    /// `THIS_QUALIFIERS = FUNCTION_QUALIFIERS`: a bare function, as a static one, has no qualifiers of its own.
+    #[tactic(auto, using(crate::proofs::FunctionSteps::this_qualifiers_is))]
+    fn this_qualifiers(&mut self, qualifiers: ObjectQualifiers) -> StorageClass
+        ensures value { read_name (this_qualifiers (is_bare qualifiers)) self.old.rest.now (state_of self.old)
             ≡ Some (result.0, self.new.rest.now, state_of self.new) }
         ensures shorter { length self.new.rest.now ≤ length self.old.rest.now }
         ensures kept { frame_of self.new ≡ frame_of self.old }

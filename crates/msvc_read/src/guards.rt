@@ -36,7 +36,7 @@ impl<'a, 'b, L: Limit> Parser<'a, 'b, L> {
             (indexed (name_of symbol.now.name.now) (map name_at symbol.now.scope.now)) }
         ensures eats { MayEat self.old self.new result }
     {
-        let Some(guard) = own_guard(symbol.name) else {
+        let Some(guard) = guard_of_name(symbol.name) else {
             return Ok(symbol);
         };
         let index = self.guard_index()?;
@@ -196,7 +196,7 @@ fn longer_number(value: u32, digit: u8) -> Option<u32>
 /// The guard that a name is, if it is one. Each other name is named, since for `_` the prover would have to be told
 /// which they are.
 #[tactic(auto, unfolding(msvc_tree::specs::NodeView::name_of))]
-fn own_guard<'a, 'b>(name: &'b Name<'a, 'b>) -> Option<Guard>
+fn guard_of_name<'a, 'b>(name: &'b Name<'a, 'b>) -> Option<Guard>
     ensures { result ≡ guard_of (name_of name.now) }
 {
     match name {

@@ -8,7 +8,7 @@ ghost use Rattle.msvc_read.specs.Letters.{second_special_letters, special_letter
 ghost use Rattle.msvc_read.specs.Letters.{type_information_letters};
 ghost use Rattle.msvc_read.specs.Parser.{Eats, ReadsAs, Stays, at_rest, marked_at, special_at};
 ghost use Rattle.msvc_read.specs.Reads.{in_node, read_name, with_value};
-ghost use Rattle.msvc_read.specs.Rules.{lookup, special_behind, special_name};
+ghost use Rattle.msvc_read.specs.Rules.{lookup, special_after, special_name};
 ghost use Rattle.msvc_read.specs.State.{place};
 ghost use Rattle.msvc_read.specs.declared.special_names.SpecialForm.TheVariants as special;
 
@@ -256,7 +256,7 @@ impl<'a, 'b, L: Limit> Parser<'a, 'b, L> {
     #[tactic(auto, using(crate::proofs::SpecialSteps::type_descriptor_step), unfolding(msvc_tree::specs::NodeView::name_of))]
     #[inline(never)]
     fn type_descriptor(&mut self) -> Result<&'b Name<'a, 'b>, Refused>
-        ensures value { ReadsAs name_at self.old self.new result (read_name (special_behind special.TypeDescriptor)) }
+        ensures value { ReadsAs name_at self.old self.new result (read_name (special_after special.TypeDescriptor)) }
         ensures eats { Eats self.old self.new result }
     {
         self.count_node()?;
@@ -270,7 +270,7 @@ impl<'a, 'b, L: Limit> Parser<'a, 'b, L> {
     #[tactic(auto, using(crate::proofs::SpecialSteps::base_class_step))]
     #[inline(never)]
     fn base_class_descriptor(&mut self) -> Result<&'b Name<'a, 'b>, Refused>
-        ensures value { ReadsAs name_at self.old self.new result (read_name (special_behind special.BaseClass)) }
+        ensures value { ReadsAs name_at self.old self.new result (read_name (special_after special.BaseClass)) }
         ensures eats { Eats self.old self.new result }
     {
         self.count_node()?;

@@ -6,7 +6,7 @@ ghost use Rattle.msvc_read.specs.Grammar.{escaped_character, halves, string_leng
 ghost use Rattle.msvc_read.specs.Letters.{character_sizes, hexadecimal};
 ghost use Rattle.msvc_read.specs.Parser.{Eats, MayEat, ReadsAs};
 ghost use Rattle.msvc_read.specs.Reads.{letter_here, read, read_name};
-ghost use Rattle.msvc_read.specs.Rules.{character, characters, encoding_behind};
+ghost use Rattle.msvc_read.specs.Rules.{character, characters, encoding_after};
 ghost use Rattle.msvc_read.specs.Sorts.{encoded_string};
 
 use crate::letters;
@@ -27,7 +27,7 @@ impl<'a, 'b, L: Limit> Parser<'a, 'b, L> {
     /// `ENCODED_STRING = character size NUMBER NUMBER CHARACTERS`: the second number is dropped.
     #[tactic(auto, using(crate::proofs::StringSteps::encoded_string_step), unfolding(msvc_tree::specs::NodeView::type_of))]
     pub fn encoded_string(&mut self) -> Result<&'b Type<'a, 'b>, Refused>
-        ensures value { ReadsAs type_at self.old self.new result (read_name (encoding_behind encoded_string)) }
+        ensures value { ReadsAs type_at self.old self.new result (read_name (encoding_after encoded_string)) }
         ensures eats { MayEat self.old self.new result }
     {
         self.count_node()?;

@@ -7,7 +7,7 @@ ghost use Rattle.msvc_read.specs.Grammar.{named_symbol, template_symbol};
 ghost use Rattle.msvc_read.specs.Parser.{Eats, MayEat, ReadsAs, Stays, frame_of};
 ghost use Rattle.msvc_read.specs.Reads.{read, read_name, with_value};
 ghost use Rattle.msvc_read.specs.Rows.{whole_at};
-ghost use Rattle.msvc_read.specs.Rules.{after, encoding, encoding_behind, symbol, symbol_body};
+ghost use Rattle.msvc_read.specs.Rules.{after, encoding, encoding_after, symbol, symbol_body};
 ghost use Rattle.msvc_read.specs.Sorts.{table_of, variable_of, virtual_call};
 ghost use Rattle.msvc_read.specs.Stack.{here, outer};
 ghost use Rattle.msvc_tree.specs.declared.kinds.PlainType.TheVariants as plain_kind;
@@ -162,7 +162,7 @@ impl<'a, 'b, L: Limit> Parser<'a, 'b, L> {
     #[cycle(readers)]
     #[tactic(auto, using(crate::proofs::SymbolSteps::variable_step), unfolding(msvc_tree::specs::NodeView::type_of))]
     fn variable(&mut self, kind: VarStorageKind) -> Result<&'b Type<'a, 'b>, Refused>
-        ensures value { ReadsAs type_at self.old self.new result (read_name (encoding_behind (variable_of kind))) }
+        ensures value { ReadsAs type_at self.old self.new result (read_name (encoding_after (variable_of kind))) }
         ensures eats { MayEat self.old self.new result }
     {
         self.count_node()?;
@@ -175,7 +175,7 @@ impl<'a, 'b, L: Limit> Parser<'a, 'b, L> {
     #[cycle(readers)]
     #[tactic(auto, using(crate::proofs::SymbolSteps::table_step))]
     fn table(&mut self, table: Table) -> Result<&'b Type<'a, 'b>, Refused>
-        ensures value { ReadsAs type_at self.old self.new result (read_name (encoding_behind (table_of table))) }
+        ensures value { ReadsAs type_at self.old self.new result (read_name (encoding_after (table_of table))) }
         ensures eats { MayEat self.old self.new result }
     {
         self.count_node()?;
@@ -209,7 +209,7 @@ impl<'a, 'b, L: Limit> Parser<'a, 'b, L> {
     /// `VIRTUAL_CALL = "B" NUMBER "A" convention`: a thunk that calls a virtual function.
     #[tactic(auto, using(crate::proofs::SymbolSteps::virtual_call_step), unfolding(msvc_tree::specs::NodeView::type_of))]
     fn virtual_call(&mut self) -> Result<&'b Type<'a, 'b>, Refused>
-        ensures value { ReadsAs type_at self.old self.new result (read_name (encoding_behind virtual_call)) }
+        ensures value { ReadsAs type_at self.old self.new result (read_name (encoding_after virtual_call)) }
         ensures eats { MayEat self.old self.new result }
     {
         self.count_node()?;

@@ -9,7 +9,7 @@ ghost use Rattle.msvc_read.specs.Letters.{digits, qualifiers};
 ghost use Rattle.msvc_read.specs.Parser.{is_own, Eats, MayEat, ReadsAs, Stays};
 ghost use Rattle.msvc_read.specs.Reads.{read, read_name, and_then, in_node, with_value, type_known};
 ghost use Rattle.msvc_read.specs.Rules.{lookup, any_type, array, dimension, lengths, number, plain_type, pointee};
-ghost use Rattle.msvc_read.specs.Rules.{function_type, literal, member_pointer, optional, qualified_name, type_behind};
+ghost use Rattle.msvc_read.specs.Rules.{function_type, literal, member_pointer, optional, qualified_name, type_after};
 ghost use Rattle.msvc_read.specs.Rules.{type_form};
 ghost use Rattle.msvc_read.specs.Sorts.{extended};
 ghost use Rattle.msvc_tree.specs.declared.kinds.NumberedType.TheVariants as number_kind;
@@ -238,8 +238,8 @@ impl<'a, 'b, L: Limit> Parser<'a, 'b, L> {
         self.any_type(size.union(class))
     }
 
-    /// `ARRAY = NUMBER {NUMBER} ["$$C" array qualifier] TYPE`: the first number says how many lengths follow. What reads
-    /// the parts before the elements has a frame of its own, so that arrays of arrays take little stack.
+    /// `ARRAY = NUMBER {NUMBER} ["$$C" array qualifier] TYPE`: the first number says how many lengths follow. What
+    /// reads the parts before the elements has a frame of its own, so that arrays of arrays take little stack.
     #[cycle(readers)]
     #[tactic(auto, using(crate::proofs::TypeSteps::array_is))]
     #[inline(never)]
@@ -330,7 +330,7 @@ impl<'a, 'b, L: Limit> Parser<'a, 'b, L> {
     #[tactic(auto, using(crate::proofs::TypeSteps::extended_is), unfolding(msvc_tree::specs::NodeView::type_of))]
     #[inline(never)]
     fn extended_type(&mut self, q: StorageClass) -> Result<&'b Type<'a, 'b>, Refused>
-        ensures value { ReadsAs type_at self.old self.new result (read_name (type_behind q.0 extended)) }
+        ensures value { ReadsAs type_at self.old self.new result (read_name (type_after q.0 extended)) }
         ensures eats { Eats self.old self.new result }
     {
         self.count_node()?;

@@ -19,7 +19,7 @@ use Rattle.msvc_read.specs.Parser.{Frame, byte_here, counting_ellipsis, ellipsis
 use Rattle.msvc_read.specs.Parser.{kept_name, known_name_of, memorized_of}
 use Rattle.msvc_read.specs.Parser.{parameters_stop, state_of}
 use Rattle.msvc_read.specs.Reads.{and_then, emptied, put_apart, put_back, read, read_name, type_known, with_value}
-use Rattle.msvc_read.specs.Rules.{after, encoding, encoding_behind, lookup, nested_name, parameter, parameters}
+use Rattle.msvc_read.specs.Rules.{after, encoding, encoding_after, lookup, nested_name, parameter, parameters}
 use Rattle.msvc_read.specs.Rules.{plain_type, qualified_name, scope}
 use Rattle.msvc_read.specs.Sorts.{member_of}
 use Rattle.msvc_read.specs.Rows.{named_at}
@@ -60,7 +60,7 @@ encoding-returns-in-Some-function_class-clause-value g t c =
     let class : lookup c.in-Some.letter function_classes ≡ Some c.in-Some-function_class.class.0 =
     sym c.in-Some-function_class.ensures in
     let read : read_name encoding c.args.self.now.rest.now (state_of c.args.self.now)
-    ≡ read_name (encoding_behind (member_of c.in-Some-function_class.class.0)) c.next_byte.new.self.rest.now
+    ≡ read_name (encoding_after (member_of c.in-Some-function_class.class.0)) c.next_byte.new.self.rest.now
     (state_of c.next_byte.new.self) =
     encoding_first c.in-Some.letter c.args.self.now.rest.now c.next_byte.new.self.rest.now (state_of c.args.self.now)
     (state_of c.next_byte.new.self) first

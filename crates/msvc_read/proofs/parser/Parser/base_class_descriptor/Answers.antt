@@ -4,7 +4,7 @@ use Rattle.msvc_read.specs.Parser.{state_of}
 use Rattle.msvc_read.proofs.SpecialSteps.{base_class_reads}
 use Rattle.msvc_read.proofs.parser.Parser.base_class_descriptor.Goals as goal
 
--- four numbers, one behind another
+-- four numbers, one after another
 pub returns-clause-value : goal.returns-clause-value
 returns-clause-value g c =
     let first_same : to_z w32 (of_z w32 c.in_ok-member.member) ≡ c.in_ok-member.member = search (rules, to_z-of_z) in

@@ -7,7 +7,7 @@ use Rattle.msvc_read.specs.Reads.{read_name}
 use Rattle.msvc_read.specs.Rules.{character, characters}
 use Rattle.msvc_read.proofs.parser.Parser.characters.Goals as goal
 
--- the new character goes behind those so far
+-- the new character goes after those so far
 pub loop-preserved : goal.loop-preserved
 loop-preserved g c =
     let items : c.push.new.self.items ≡ c.loop.text.items ++ c.in_ok-character.character ∷ [] =

@@ -5,7 +5,7 @@ use Rattle.msvc_read.specs.Reads.{and_then, letter_here, read_name}
 use Rattle.msvc_read.specs.Rules.{decimal}
 use Rattle.msvc_read.proofs.parser.Parser.guard_number.Given as goal
 
--- what is read of the rest, behind the value so far, is what is read of all
+-- what is read of the rest, after the value so far, is what is read of all
 abbrev pub invariant-digits : goal.invariant-digits
 invariant-digits g l =
     (read_name (decimal l.value) l.self.rest.now (state_of l.self)

@@ -6,7 +6,7 @@ use Rattle.msvc_read.specs.Reads.{counting, read_name}
 use Rattle.msvc_read.specs.Rules.{lengths, number}
 use Rattle.msvc_read.proofs.parser.Parser.lengths.Goals as goal
 
--- the new length goes behind those so far
+-- the new length goes after those so far
 pub loop-preserved : goal.loop-preserved
 loop-preserved g c =
     let items : c.push.new.self.items ≡ c.loop.lengths.items ++ c.in_ok-length.length ∷ [] =
