@@ -37,6 +37,7 @@ pub(crate) fn tree_text<'a, 'b>(
     let mut stack = Vec::new(alloc);
     push(&mut stack, Item::Text("\n"))?;
     push_whole(&mut stack, whole)?;
+    // A bound that no tree meets, so that the loop ends for sure.
     'items: for _ in 0..u64::MAX {
         let Some(item) = stack.pop() else {
             return Ok(text);
