@@ -1,5 +1,5 @@
 -- The number that the library gives of a symbol, with its tree.
-use Rattle.std.proofs.Common.{◌≡◌, ◌≤◌, ℕ, List, Result, Ok, Err, Some, None, IfOk}
+use Rattle.std.proofs.Common.{◌≤◌, ℕ, List, Result, Ok, Err, Some, None, IfOk}
 use Rattle.std.specs.Str.{IsCharBoundary}
 use Rattle.msvc_tree.specs.Trees.{SymbolTree}
 use Rattle.msvc_read.specs.Counts.{node_count}

@@ -14,7 +14,6 @@ use Rattle.msvc_tree.specs.declared.nodes.Whole.{Whole}
 use Rattle.msvc_tree.proofs.NodeViews.{name_of-Template, name_of-Nested, type_of-Tagged, type_of-Function}
 use Rattle.msvc_tree.proofs.NodeViews.{type_of-MemberFunction, type_of-MemberPointer, type_of-Table}
 use Rattle.msvc_read.proofs.SpecialSteps.{base_class_step, guard_step, plain_operator_step, special_name_here}
-use Rattle.msvc_read.proofs.SpecialSteps.{type_descriptor_step}
 use Rattle.std.proofs.Common.{cond, ◌∙◌}
 use Rattle.std.specs.Prelude.{◌&&◌}
 use Rattle.std.specs.List.{list_all}
@@ -85,7 +84,7 @@ pub ruleset views = (
 
 pub ruleset marked_split = (marked_name_step, nested_symbol_step)
 
-pub ruleset special_split = (special_name_here, plain_operator_step, guard_step, type_descriptor_step)
+pub ruleset special_split = (special_name_here, plain_operator_step, guard_step)
 
 pub ruleset returned_split = (returned_member, returned_other)
 

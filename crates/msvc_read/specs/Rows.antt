@@ -12,7 +12,7 @@ use Rattle.msvc_read.specs.Stack.{here, outer}
 use Rattle.msvc_read.specs.declared.parser.Parser.{Parser}
 use Rattle.msvc_read.specs.declared.refusal.Refused.{Refused}
 
--- a reader of names leaves them listed, after those that others list, and gives the place where their part is ended
+-- a reader of names leaves them listed, after those that others list, and gives what ends their part of the list
 abbrev pub ListsNames : {L : Type 0} {g : _} → Parser L g → Parser L g → Result ℕ Refused → Type 0
 ListsNames before after result =
     IfOk result (λ mark. (mark ≡ length (outer before.listed_names))

@@ -126,7 +126,7 @@ impl<'a, 'b, L: Limit> Parser<'a, 'b, L> {
         self.put_type(Type::Function(f))
     }
 
-    /// A function, that is part of a type, of its parts, likewise.
+    /// A function that is part of a type, of its parts, likewise. Its parameters are listed.
     #[inline(never)]
     fn put_function_type(
         &mut self,

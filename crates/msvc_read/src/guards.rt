@@ -121,7 +121,7 @@ impl<'a, 'b, L: Limit> Parser<'a, 'b, L> {
         self.put_guard(number, name, mark)
     }
 
-    /// The guard of this number of its parts.
+    /// Such a guard of its parts, put apart from the readers as `put_tagged` is.
     #[inline(never)]
     fn put_guard(
         &mut self,

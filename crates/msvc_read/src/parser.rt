@@ -1,4 +1,8 @@
 //! A text that is being read: the steps that read a byte or a few, that put a node into the arena, and that refuse.
+//!
+//! Each level of a nested symbol takes stack. So a reader gives a reference into the arena or a place in a list of the
+//! parser, and no value of many words; and what memorizes, refuses, or makes a node of several parts is never inlined.
+//! None of that is in the frame of a reader while what is inside is read.
 
 ghost use Rattle.std.specs.Option.{option_map};
 ghost use Rattle.std.specs.Prelude.{◌≡◌, ◌≤◌, ◌<◌, ◌+◌, ◌∷◌, [], Some, length, IfOk, IfErr, IfSome, MatchOption};
@@ -6,7 +10,7 @@ ghost use Rattle.std.specs.Prelude.{IsTrue};
 ghost use Rattle.msvc_tree.specs.NodeView.{name_of, type_of, name_at, type_at};
 ghost use Rattle.msvc_read.specs.Letters.{digits};
 ghost use Rattle.msvc_read.specs.Parser.{Eats, ReadsAs, Stays, byte_here, eaten, frame_of, optional_letters};
-ghost use Rattle.msvc_read.specs.Parser.{count_of, state_of};
+ghost use Rattle.msvc_read.specs.Parser.{state_of};
 ghost use Rattle.msvc_read.specs.Reads.{read, counting, in_node, letter_here, with_value};
 ghost use Rattle.msvc_read.specs.Rules.{after, literal, optional};
 ghost use Rattle.msvc_read.specs.State.{place, beginning_with};
@@ -253,7 +257,7 @@ impl<'a, 'b, L: Limit> Parser<'a, 'b, L> {
         }
     }
 
-    /// Eats what comes before these bytes and the rest of a literal, if they begin with it, and says whether they do.
+    /// Eats all before these bytes and the rest of a literal, if they begin with it, and says whether they do.
     #[inline(never)]
     fn eat_after(&mut self, bytes: &'a [u8], literal: &[u8]) -> bool
         ensures value { eaten result self.new.rest.now ≡ after literal.now bytes.now }

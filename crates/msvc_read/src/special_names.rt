@@ -199,7 +199,8 @@ fn unknown_code(left: &[u8]) -> (Message, usize) {
 }
 
 impl<'a, 'b, L: Limit> Parser<'a, 'b, L> {
-    /// `SPECIAL_NAME = code of special names, and what its row asks for`.
+    /// `SPECIAL_NAME = code of special names, and what its row asks for`. Each way is a call that ends it, so that its
+    /// frame is gone while the type of a descriptor is read.
     #[cycle(readers)]
     #[tactic(auto, using(crate::proofs::Nodes::special_split), unfolding(msvc_tree::specs::NodeView::name_of))]
     pub fn special_name(&mut self) -> Result<&'b Name<'a, 'b>, Refused>
@@ -218,8 +219,7 @@ impl<'a, 'b, L: Limit> Parser<'a, 'b, L> {
         }
     }
 
-    /// That the bytes left begin with no code. A call of its own, as what follows each code is, so that nothing of this
-    /// name stays on the stack while a type in it is read.
+    /// That the bytes left begin with no code.
     #[inline(never)]
     fn no_special_name(&mut self) -> Result<&'b Name<'a, 'b>, Refused>
         ensures value { ReadsAs name_at self.old self.new result (λ left s. None) }

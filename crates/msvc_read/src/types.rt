@@ -47,7 +47,8 @@ impl<'a, 'b, L: Limit> Parser<'a, 'b, L> {
         self.plain_type(q)
     }
 
-    /// What follows the text of a form.
+    /// What follows the text of a form. Each way is a call that ends it, so that its frame is gone while parts are
+    /// read.
     #[cycle(readers)]
     #[tactic(auto, using(crate::proofs::TypeSteps::type_form_is), unfolding(msvc_tree::specs::NodeView::type_of))]
     #[inline(never)]

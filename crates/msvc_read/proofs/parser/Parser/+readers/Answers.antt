@@ -8,14 +8,14 @@ use Rattle.msvc_tree.specs.NodeView.{name_at, type_at}
 use Rattle.msvc_read.proofs.Counted.{template_made, type_made}
 use Rattle.msvc_read.proofs.NameSteps.{template_kept_step}
 use Rattle.msvc_read.proofs.Nodes.{frame_names, frame_types, map_last}
-use Rattle.msvc_read.proofs.RowSteps.{parameters_ends, parameters_more, scope_more, with_front}
+use Rattle.msvc_read.proofs.RowSteps.{parameters_more, scope_more, with_front}
 use Rattle.msvc_read.proofs.SymbolSteps.{encoding_first, member_letter, named_symbol_is, no_member_letter}
 use Rattle.msvc_read.proofs.SymbolSteps.{encoding_by, symbol_of}
 use Rattle.msvc_read.proofs.TypeSteps.{plain_other, referred_step, type_by}
 use Rattle.msvc_read.specs.Counts.{name_count, type_count}
 use Rattle.msvc_read.specs.Grammar.{named_symbol, template_inside, template_kept}
 use Rattle.msvc_read.specs.Letters.{compound_letters, digits, encoding_letters, function_classes, rows_of}
-use Rattle.msvc_read.specs.Parser.{Frame, byte_here, counting_ellipsis, ellipsis_types, frame_of, indexed, is_own}
+use Rattle.msvc_read.specs.Parser.{Frame, byte_here, frame_of, indexed, is_own}
 use Rattle.msvc_read.specs.Parser.{kept_name, known_name_of, memorized_of}
 use Rattle.msvc_read.specs.Parser.{parameters_stop, state_of}
 use Rattle.msvc_read.specs.Reads.{and_then, emptied, put_apart, put_back, read, read_name, type_known, with_value}
