@@ -8,7 +8,7 @@ use Rattle.msvc_read.proofs.Rising.{derived_rising}
 use Rattle.msvc_read.proofs.Whole.{error-refused}
 use Rattle.msvc_read.proofs.Written.{all_written_out}
 use Rattle.msvc_read.specs.Parser.{Refuses, with_length}
-use Rattle.msvc_read.specs.Reads.{Derives, Found, read_name}
+use Rattle.msvc_read.specs.Reads.{Derives, Found, IsOnly, read_name}
 use Rattle.msvc_read.specs.Refusals.{IsErrorOf, IsRefusedRightly}
 use Rattle.msvc_read.specs.Rules.{symbol}
 use Rattle.msvc_read.specs.State.{State, Note, beginning}
