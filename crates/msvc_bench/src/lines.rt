@@ -247,7 +247,10 @@ mod tests {
         }
         let (out, err) = run(rt.alloc(), &["-v"], b"?x@@3PEAY1NKM@5HEA")?;
         assert_eq!(rt; out.as_slice(), b"int (*x)[3500][6]\n".as_slice());
-        assert_eq!(rt; err.as_slice(), b"x: Var(Global FAR Ptr(Array(3500 Array(6 Int))))\n".as_slice());
+        assert_eq!(rt;
+            err.as_slice(),
+            b"x: Var(Global FAR Ptr(Array(3500 Array(6 Int))))\n".as_slice()
+        );
         Ok(())
     }
 

@@ -22,8 +22,11 @@ visible-front left len within most seen end = go (nat_lt len most_bytes) refl
         prefix_len_is is_visible left len 0 within seen (λ more. end more below) in
         let long = length-take len left in
         ap (λ n. take n left) (sym all)
-        ∙ sym (take_all most_bytes (take_while is_visible left) (omega (arith, length-take
-        (prefix_len is_visible left) left)))
+        ∙ sym (take_all most_bytes (take_while is_visible left) (omega (
+          arith,
+          length-take
+              (prefix_len is_visible left) left,
+        )))
     go false e =
         let full : len ≡ most_bytes = omega (arith, ltb-false len most_bytes e) in
         let enough : most_bytes ≤ prefix_len is_visible left = at (nat_lt

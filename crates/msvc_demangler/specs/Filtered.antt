@@ -36,7 +36,7 @@ IsNoSymbol flags left = (bytes : ℕ) (text : List ℕ) → IsSymbol flags left 
 pub data IsTextOf (flags : ℕ) : (asked : Bool) (last : ℕ) → List ℕ → List ℕ → Type 0 where
   nothing : {asked : Bool} {last : ℕ} → IsTextOf flags asked last [] []
   stays : {asked : Bool} {last b : ℕ} {left text : List ℕ} → (is_start asked last b ≡ true
-  → IsNoSymbol flags (b ∷ left))
+      → IsNoSymbol flags (b ∷ left))
       → IsTextOf flags (is_asked asked b) b left text → IsTextOf flags asked last (b ∷ left) (b ∷ text)
   replaced : {asked : Bool} {last b bytes : ℕ} {left first text : List ℕ} → is_start asked last b ≡ true
       → IsSymbol flags (b ∷ left) bytes first

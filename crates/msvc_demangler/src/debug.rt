@@ -100,24 +100,14 @@ fn push_scope<'a, 'b>(
     stack: &mut Vec<Item<'a, 'b>>,
     names: &'b [&'b Name<'a, 'b>],
 ) -> Result<(), AllocError> {
-    push(
-        stack,
-        Item::Scope(Scope {
-            names,
-        }),
-    )
+    push(stack, Item::Scope(Scope { names }))
 }
 
 fn push_types<'a, 'b>(
     stack: &mut Vec<Item<'a, 'b>>,
     types: &'b [&'b Type<'a, 'b>],
 ) -> Result<(), AllocError> {
-    push(
-        stack,
-        Item::Types(Types {
-            types,
-        }),
-    )
+    push(stack, Item::Types(Types { types }))
 }
 
 /// A name in its scope, and its type.
@@ -235,7 +225,10 @@ fn show_type<'a, 'b>(
             push_scope(stack, scope.names)
         }
         Type::VcallThunk(offset, convention) => {
-            push_text(text, format!(in alloc; "VCallThunk({offset} {convention:?})"))
+            push_text(
+                text,
+                format!(in alloc; "VCallThunk({offset} {convention:?})"),
+            )
         }
     }
 }

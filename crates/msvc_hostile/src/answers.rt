@@ -30,8 +30,8 @@ pub enum Answer {
     Contradicted,
 }
 
-/// What `parse_prefix`, `parse`, `demangle`, `back_references`, `serialize`, `symbol_length` and those of them that have
-/// a limit answer for a text.
+/// What `parse_prefix`, `parse`, `demangle`, `back_references`, `serialize`, `symbol_length` and those of them that
+/// have a limit answer for a text.
 pub fn all_answers(alloc: Global, text: &str) -> Answer {
     let read = parse_prefix(alloc, text);
     let answer = match &read {

@@ -61,7 +61,7 @@ return_qualifier = A | B | C | D
 convention = A | B | C | E | G | I
 late_convention = E | G | I
 
-# A function's own qualifiers and its convention.
+# A function's qualifiers and its convention.
 own_convention = own_e own_i own_f own_reference qualifier convention | own_e own_i own_f reference late_convention \
     | own_e own_i F convention_after_f | own_e I convention_after_f | E E
 convention_after_f = E | I

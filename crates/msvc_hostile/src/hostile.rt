@@ -1,5 +1,5 @@
-//! Texts that are meant to break the calls: `msvc_bench hostile SEED COUNT`, with rows on standard input. All calls have
-//! to answer alike for
+//! Texts that are meant to break the calls: `msvc_bench hostile SEED COUNT`, with rows on standard input. All calls
+//! have to answer alike for
 //!
 //! - the symbol of each row, its beginnings, and the symbol with another character in the place of each of its own,
 //! - symbols whose digits multiply,

@@ -76,8 +76,8 @@ pub fn written_out(
 ) -> Result<String, AllocError> {
     let before = symbol.get(..reference.at).unwrap_or("");
     let bytes = symbol.get(reference.start..reference.end).unwrap_or("");
-    let behind = symbol.get(reference.at.saturating_add(1)..).unwrap_or("");
-    format!(in alloc; "{before}{bytes}{behind}")
+    let after = symbol.get(reference.at.saturating_add(1)..).unwrap_or("");
+    format!(in alloc; "{before}{bytes}{after}")
 }
 
 /// How many digits there are, and as many again as stand in the bytes that one of them stands for.

@@ -130,7 +130,8 @@ impl Draft {
         }
     }
 
-    /// How many rows of a table can be taken: of digits those that have an entry, and only the first where room is short.
+    /// How many rows of a table can be taken: of digits those that have an entry, and only the first where room is
+    /// short.
     fn choices(&self, table: &Table) -> usize {
         if self.text.len().saturating_add(self.words.len()) >= ROOM {
             return 1;

@@ -24,7 +24,7 @@ fn print_all<R: BufRead + Drop, W: Write>(alloc: Global, input: R, out: &mut W) 
     for line in input.lines(alloc) {
         let line = line?;
         match named(alloc, line.as_str())? {
-            Some(frame) => writeln!(out, "{}{}{}", frame.before, frame.name, frame.behind)?,
+            Some(frame) => writeln!(out, "{}{}{}", frame.before, frame.name, frame.after)?,
             None => writeln!(out, "{line}")?,
         }
     }
@@ -37,7 +37,7 @@ struct Frame<'a> {
     before: &'a str,
     /// The name of what the symbol declares, in its scope.
     name: String,
-    behind: &'a str,
+    after: &'a str,
 }
 
 /// The frame of a line, whose symbol begins with the first question mark. A line that has none, or in which what begins
@@ -54,7 +54,7 @@ fn named(alloc: Global, line: &str) -> Result<Option<Frame<'_>>, AllocError> {
         Err(refusal) if refusal.is_out_of_memory() => return Err(AllocError),
         Err(_) => return Ok(None),
     };
-    let Some((symbol, behind)) = symbol.split_at_checked(length) else {
+    let Some((symbol, after)) = symbol.split_at_checked(length) else {
         return Ok(None);
     };
     let flags = DemangleFlags::llvm().union(DemangleFlags::NAME_ONLY);
@@ -62,7 +62,7 @@ fn named(alloc: Global, line: &str) -> Result<Option<Frame<'_>>, AllocError> {
         Ok(name) => Ok(Some(Frame {
             before,
             name,
-            behind,
+            after,
         })),
         Err(refusal) if refusal.is_out_of_memory() => Err(AllocError),
         Err(_) => Ok(None),

@@ -17,8 +17,13 @@ overflow_add-at c =
     let line = c.args.line.now in
     let at = c.bytes.at in
     let e = rw (c.in-Some.is, to_end line at) at c.in_ok-bytes.ensures.some in
-    let inside : at + c.in-Some.bytes ≤ length line = omega (arith, c.bytes.invariant.inside, e.3, length-drop at
-    line) in
+    let inside : at + c.in-Some.bytes ≤ length line = omega (
+      arith,
+      c.bytes.invariant.inside,
+      e.3,
+      length-drop at
+          line,
+    ) in
     search rules
 
 pub overflow_sub-last : goal.overflow_sub-last
@@ -42,8 +47,11 @@ bytes-preserved-in-Some c =
     let at = c.bytes.at in
     let e = rw (c.in-Some.is, to_end line at) at c.in_ok-bytes.ensures.some in
     let first = first-of line at in
-    rw (c.in_ok-extend_from_slice-in-Some-2.ensures.items, c.in_ok-extend_from_slice-in-Some.ensures.items,
-    c.deref.ensures.value)
+    rw (
+      c.in_ok-extend_from_slice-in-Some-2.ensures.items,
+      c.in_ok-extend_from_slice-in-Some.ensures.items,
+      c.deref.ensures.value,
+    )
     (Within-replaced c.args.flags.0 line c.bytes.text.items c.bytes.kept at c.bytes.asked c.bytes.last c.in-Some.bytes _
     c.bytes.invariant c.bytes-test.true (subst (λ b. is_start c.bytes.asked c.bytes.last b ≡ true) first e.0) e.1 e.2
     e.3)

@@ -78,7 +78,7 @@ pieces-preserved g c =
           let whole = w.deref.ensures.value ∙ e.taken.1 ∙ ap (λ l. c.pieces.piece.items ++ l) cut.2 in
           rw (w.out-is, w.err-is, w.piece-is, w.clear.ensures.items) (
             Going-line answers-joined _ _ _ _ _ _ _ cut.0 c.pieces.invariant.0 (subst
-            (Consumes _ _) cut.2 e.taken.2) cut.1 text.0
+                (Consumes _ _) cut.2 e.taken.2) cut.1 text.0
                 text.1 (subst (λ l. IsText (line_of l ∷ []) text.0) whole text.2),
             e.marks.0 ∙ c.pieces.invariant.1,
             w.in_ok-filter_line-in-Line.ensures.marks.1 ∙ c.pieces.invariant.2,
