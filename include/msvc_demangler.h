@@ -72,7 +72,7 @@ struct msvc_demangler_answer {
 
    nodes bounds the tree of the symbol: each name and each type in it is a node, at every depth. Reading an
    untrusted symbol without a bound can run out of any stack, which ends the process. With 1000 nodes a call takes at
-   most 220 KB of stack. The length of the declaration is not bounded so: some symbols double it with 10 nodes more, and
+   most 92 KB of stack. The length of the declaration is not bounded so: some symbols double it with 10 nodes more, and
    where it is too long for memory the status is OUT_OF_MEMORY. */
 struct msvc_demangler_answer msvc_demangler_demangle(const char *symbol, size_t length, uint32_t flags, size_t nodes,
                                                      char *out, size_t size);
