@@ -2,7 +2,6 @@
 use Rattle.std.proofs.Common.{◌≡◌, List, refl, ap, ◌∙◌}
 use Rattle.std.specs.Borrow.{Bor}
 use Rattle.msvc_tree.specs.Trees as tree
-use Rattle.msvc_tree.specs.Trees.{NameTree, NameTrees, TypeTree, TypeTrees}
 use Rattle.msvc_tree.specs.NodeView.{name_of, type_of, names_of, types_of, names_in, types_in}
 use Rattle.msvc_tree.specs.declared.flags.StorageClass.{StorageClass}
 use Rattle.msvc_tree.specs.declared.kinds.Table.{Table}

@@ -107,11 +107,6 @@ fn context(alloc: Global, remaining: &[u8]) -> Result<String, AllocError>
     Ok(text)
 }
 
-/// Lets an error go. A crate that lets errors go here alone need not prove anew that each part of one may be.
-pub fn discard(error: Error) {
-    drop(error);
-}
-
 impl fmt::Display for Error {
     ghost output = { error_text };
 

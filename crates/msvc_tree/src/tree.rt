@@ -3,9 +3,6 @@
 mod clone;
 mod equality;
 
-ghost use Rattle.std.specs.Prelude.{◌≡◌, is_ok};
-
-use crate::error::Error;
 use crate::flags::{FuncClass, StorageClass};
 
 /// The name of a symbol, or one name of a scope. Bytes that it borrows are a part of the text that was read.
@@ -362,13 +359,4 @@ pub enum Type<'a> {
 /// Lets a tree go. A crate that lets trees go here alone need not prove anew that each part of one may be.
 pub fn discard(tree: ParseResult<'_>) {
     drop(tree);
-}
-
-/// Lets a tree go, or the error in place of one, and says whether it was a tree.
-pub fn discard_result(read: Result<ParseResult<'_>, Error>) -> bool
-    ensures { result ≡ is_ok read.entry }
-{
-    let is_tree = read.is_ok();
-    drop(read);
-    is_tree
 }
