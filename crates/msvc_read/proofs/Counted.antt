@@ -106,7 +106,7 @@ module _ (w : ℕ) where
   unfolding Makes
   makes_interface = ((refl, λ n. (refl, λ _. omega arith)), λ n. (refl, λ _. omega arith))
 
-  makes_kept : (own : Bool) → Makes 0 (template_kept own)
+  makes_kept : (of_symbol : Bool) → Makes 0 (template_kept of_symbol)
   unfolding Makes
   makes_kept true = refl
   makes_kept false = (refl, λ n. (refl, λ _. omega arith))
@@ -179,7 +179,7 @@ module _ (w : ℕ) where
   makes (type_after q (based b)) = omega arith
   makes (type_after q extended) = (no_nodes extended_types, λ _. omega arith)
   makes (type_after q (named tag)) = (refl, λ n. omega arith)
-  makes (type_after q (points mark own)) = (refl, λ t. omega arith)
+  makes (type_after q (points mark on_pointer)) = (refl, λ t. omega arith)
   makes (type_after q arrayed) = refl
   makes (type_after q indexed) = (refl, λ _. omega arith)
   makes (type_after q (referred i)) = refl
@@ -219,9 +219,9 @@ module _ (w : ℕ) where
   makes (positive (negsuc n)) = search depth 60
   makes (lengths zero) = refl
   makes (lengths (suc n)) = (refl, λ _. (refl, λ zs. omega arith))
-  makes (qualified_name own) = (refl, λ n. (refl, λ ns. omega arith))
-  makes (unqualified_name own) =
-      ((no_nodes digits, λ _. refl), ((refl, λ _. makes_kept own), ((refl, λ _. refl), makes_source)))
+  makes (qualified_name of_symbol) = (refl, λ n. (refl, λ ns. omega arith))
+  makes (unqualified_name of_symbol) =
+      ((no_nodes digits, λ _. refl), ((refl, λ _. makes_kept of_symbol), ((refl, λ _. refl), makes_source)))
   makes special_name = makes_texts special_texts (λ f. call (special_after f)) (λ f. refl)
   makes (special_after (special.Plain o)) = omega arith
   makes (special_after (special.Guard kind)) = omega arith

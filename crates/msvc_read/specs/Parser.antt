@@ -150,7 +150,7 @@ byte_here (b ∷ bs) s = Some (b, bs, s)
 
 -- a template's name enters the table if it is not a symbol's own
 abbrev pub kept_name : Bool → NameTree → state.State → state.State
-kept_name own n s = if own then s else state.remember_name n s
+kept_name of_symbol n s = if of_symbol then s else state.remember_name n s
 
 -- what a table has for the text that begins, and the bytes after it
 abbrev pub this_or : {A : Type 0} → A → Option (List ℕ) → Option (A × List ℕ) → Option (A × List ℕ)

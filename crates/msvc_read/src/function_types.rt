@@ -26,7 +26,7 @@ use msvc_tree::kinds::PlainType;
 use msvc_tree::nodes::{Function, Symbol, Type};
 use msvc_tree::tree::CallingConv;
 
-/// Whether a function has qualifiers of its own, which are those of the object that it is called on.
+/// Whether a function has qualifiers on `this`, the object that it is called on.
 #[derive(Clone, Copy)]
 pub enum ObjectQualifiers {
     Absent,
@@ -75,8 +75,8 @@ impl<'a, 'b, L: Limit> Parser<'a, 'b, L> {
     {
         self.count_node()?;
         self.thunk_number(class)?;
-        let own = self.this_qualifiers(object_qualifiers(class));
-        let f = self.signature(FunctionKind::Member, class, own)?;
+        let on_this = self.this_qualifiers(object_qualifiers(class));
+        let f = self.signature(FunctionKind::Member, class, on_this)?;
         self.put_member(f)
     }
 
@@ -91,12 +91,12 @@ impl<'a, 'b, L: Limit> Parser<'a, 'b, L> {
         ensures eats { Eats self.old self.new result }
     {
         self.count_node()?;
-        let own = self.this_qualifiers(qualifiers);
+        let on_this = self.this_qualifiers(qualifiers);
         let convention = self.convention()?;
         let q = self.class_of_returned();
         let returned = self.any_type(q)?;
         let mark = self.function_parameters()?;
-        self.put_function_type(convention, own, returned, mark)
+        self.put_function_type(convention, on_this, returned, mark)
     }
 
     /// `MEMBER_POINTER = QUALIFIED_NAME ["E"] CLASS_PART SIGNATURE`.
@@ -109,8 +109,8 @@ impl<'a, 'b, L: Limit> Parser<'a, 'b, L> {
         self.count_node()?;
         let symbol = self.qualified_name(TemplateNames::NotMemorized)?;
         let size = self.optional_mark(b'E', StorageClass::PTR64);
-        let (class, own) = self.class_part(form)?;
-        let f = self.signature(FunctionKind::Member, class, size.union(own))?;
+        let (class, on_this) = self.class_part(form)?;
+        let f = self.signature(FunctionKind::Member, class, size.union(on_this))?;
         self.put_member_pointer(symbol, f)
     }
 
@@ -131,21 +131,21 @@ impl<'a, 'b, L: Limit> Parser<'a, 'b, L> {
     fn put_function_type(
         &mut self,
         convention: CallingConv,
-        own: StorageClass,
+        on_this: StorageClass,
         returned: &'b Type<'a, 'b>,
         mark: usize,
     ) -> Result<&'b Type<'a, 'b>, Refused>
         requires { mark ≤ length (outer self.old.listed_types) }
         ensures value { ReadsAs type_at self.old self.new result
-            (with_value (Some (tree.function convention (type_trees (map type_at (here self.old.listed_types))) own.0
-            (type_of returned.now)))) }
+            (with_value (Some (tree.function convention (type_trees (map type_at (here self.old.listed_types)))
+            on_this.0 (type_of returned.now)))) }
         ensures rest { IfOk result (λ _. self.new.rest.now ≡ self.old.rest.now) }
         ensures kept { IfOk result (λ _. frame_of self.new ≡ record (frame_of self.old) {
           listed_types = drop mark (outer self.old.listed_types);
           types_before = take mark (outer self.old.listed_types);
         }) }
     {
-        let f = self.put_parts(convention, FuncClass::empty(), own, returned, mark)?;
+        let f = self.put_parts(convention, FuncClass::empty(), on_this, returned, mark)?;
         self.put_function(f)
     }
 
@@ -184,14 +184,14 @@ impl<'a, 'b, L: Limit> Parser<'a, 'b, L> {
         &mut self,
         convention: CallingConv,
         class: FuncClass,
-        own: StorageClass,
+        on_this: StorageClass,
         returned: &'b Type<'a, 'b>,
         mark: usize,
     ) -> Result<&'b Function<'a, 'b>, Refused>
         requires { mark ≤ length (outer self.old.listed_types) }
         ensures value { ReadsAs parts_at self.old self.new result
             (with_value (Some (convention, (type_of returned.now, map type_at (here self.old.listed_types))))) }
-        ensures given { IfOk result (λ f. (f.now.class.0 ≡ class.0) × (f.now.qualifiers.0 ≡ own.0)) }
+        ensures given { IfOk result (λ f. (f.now.class.0 ≡ class.0) × (f.now.qualifiers.0 ≡ on_this.0)) }
         ensures rest { IfOk result (λ _. self.new.rest.now ≡ self.old.rest.now) }
         ensures kept { IfOk result (λ _. frame_of self.new ≡ record (frame_of self.old) {
           listed_types = drop mark (outer self.old.listed_types);
@@ -202,7 +202,7 @@ impl<'a, 'b, L: Limit> Parser<'a, 'b, L> {
         self.put(Function {
             convention,
             class,
-            qualifiers: own,
+            qualifiers: on_this,
             parameters,
             returned,
         })
@@ -265,7 +265,7 @@ impl<'a, 'b, L: Limit> Parser<'a, 'b, L> {
         Ok(())
     }
 
-    /// `THIS_QUALIFIERS = FUNCTION_QUALIFIERS`: a bare function, as a static one, has no qualifiers of its own.
+    /// `THIS_QUALIFIERS = FUNCTION_QUALIFIERS`: a bare function, as a static one, has none.
     #[tactic(auto, using(crate::proofs::FunctionSteps::this_qualifiers_is))]
     fn this_qualifiers(&mut self, qualifiers: ObjectQualifiers) -> StorageClass
         ensures value { read_name (this_qualifiers (is_bare qualifiers)) self.old.rest.now (state_of self.old)
@@ -287,17 +287,17 @@ impl<'a, 'b, L: Limit> Parser<'a, 'b, L> {
         &mut self,
         kind: FunctionKind,
         class: FuncClass,
-        own: StorageClass,
+        on_this: StorageClass,
     ) -> Result<&'b Function<'a, 'b>, Refused>
         ensures value { ReadsAs parts_at self.old self.new result (read_name (signature (is_member kind))) }
-        ensures given { IfOk result (λ f. (f.now.class.0 ≡ class.0) × (f.now.qualifiers.0 ≡ own.0)) }
+        ensures given { IfOk result (λ f. (f.now.class.0 ≡ class.0) × (f.now.qualifiers.0 ≡ on_this.0)) }
         ensures eats { MayEat self.old self.new result }
     {
         let convention = self.convention()?;
         let q = self.return_qualifiers()?;
         let returned = self.returned(kind, q)?;
         let mark = self.function_parameters()?;
-        self.put_parts(convention, class, own, returned, mark)
+        self.put_parts(convention, class, on_this, returned, mark)
     }
 
     /// How a function is called.
@@ -373,7 +373,7 @@ impl<'a, 'b, L: Limit> Parser<'a, 'b, L> {
     }
 }
 
-/// Whether a member function of a class has qualifiers of its own: a static one has none.
+/// Whether a member function of a class has qualifiers on `this`: a static one has none.
 fn object_qualifiers(class: FuncClass) -> ObjectQualifiers
     ensures { is_bare result ≡ has class.0 16 }
 {

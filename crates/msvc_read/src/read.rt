@@ -203,8 +203,8 @@ pub fn symbol_length(alloc: Global, input: &str) -> Result<usize, Error>
     }
 }
 
-/// How many bytes of `input` the symbol takes that it begins with, as [`symbol_length`] says it, if its tree has at most
-/// so many nodes.
+/// How many bytes of `input` the symbol takes that it begins with, as [`symbol_length`] says it, if its tree has at
+/// most so many nodes.
 ///
 /// It refuses where [`parse_within`] does, with the same refusal.
 pub fn symbol_length_within(alloc: Global, input: &str, nodes: usize) -> Result<usize, Error>

@@ -30,7 +30,7 @@ pub enum TypeForm {
     Nullptr,
     /// A function.
     Function,
-    /// A function with qualifiers of its own.
+    /// A function with qualifiers on `this`.
     QualifiedFunction,
     /// A type by another name.
     Alias,

@@ -83,8 +83,8 @@ impl<'a, 'b, L: Limit> Parser<'a, 'b, L> {
             (λ left s. and_then (read (optional qualifiers) left s) (λ q l t. read_name (plain_type q) l t)) }
         ensures eats { Eats self.old self.new result }
     {
-        let own = self.optional(OptionalLetters::Qualifiers);
-        self.plain_type(own)
+        let qualifiers = self.optional(OptionalLetters::Qualifiers);
+        self.plain_type(qualifiers)
     }
 
     /// `"?" MEMBER_POINTER`, with the class of the member function.

@@ -6,7 +6,8 @@ use Rattle.msvc_read.proofs.Written.{all_written_out}
 use Rattle.msvc_read.proofs.read.parse_prefix.Goals as goal
 
 pub returns-in-Ok-clause-derived : goal.returns-in-Ok-clause-derived
-returns-in-Ok-clause-derived c = read-derived c.args.input.now (tree_of c.in-Ok.symbol.0) c.in-Ok.symbol.1 c.in-Ok.ensures.value
+returns-in-Ok-clause-derived c =
+    read-derived c.args.input.now (tree_of c.in-Ok.symbol.0) c.in-Ok.symbol.1 c.in-Ok.ensures.value
 
 pub returns-in-Ok-clause-prefix : goal.returns-in-Ok-clause-prefix
 returns-in-Ok-clause-prefix c =
@@ -17,13 +18,16 @@ returns-in-Ok-clause-boundary c =
     read-boundary c.args.input.now (tree_of c.in-Ok.symbol.0) c.in-Ok.symbol.1 c.utf8.input c.in-Ok.ensures.value
 
 pub returns-in-Ok-clause-parts : goal.returns-in-Ok-clause-parts
-returns-in-Ok-clause-parts c = read-parts c.args.input.now (tree_of c.in-Ok.symbol.0) c.in-Ok.symbol.1 c.in-Ok.ensures.value
+returns-in-Ok-clause-parts c =
+    read-parts c.args.input.now (tree_of c.in-Ok.symbol.0) c.in-Ok.symbol.1 c.in-Ok.ensures.value
 
 pub returns-in-Ok-clause-texts : goal.returns-in-Ok-clause-texts
-returns-in-Ok-clause-texts c = read-texts c.args.input.now (tree_of c.in-Ok.symbol.0) c.in-Ok.symbol.1 c.utf8.input c.in-Ok.ensures.value
+returns-in-Ok-clause-texts c =
+    read-texts c.args.input.now (tree_of c.in-Ok.symbol.0) c.in-Ok.symbol.1 c.utf8.input c.in-Ok.ensures.value
 
 pub returns-in-Ok-clause-hashes : goal.returns-in-Ok-clause-hashes
-returns-in-Ok-clause-hashes c = read-hashes c.args.input.now (tree_of c.in-Ok.symbol.0) c.in-Ok.symbol.1 c.in-Ok.ensures.value
+returns-in-Ok-clause-hashes c =
+    read-hashes c.args.input.now (tree_of c.in-Ok.symbol.0) c.in-Ok.symbol.1 c.in-Ok.ensures.value
 
 pub returns-in-Err-clause-refused : goal.returns-in-Err-clause-refused
 returns-in-Err-clause-refused c =
