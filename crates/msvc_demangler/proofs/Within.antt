@@ -3,9 +3,12 @@ use Rattle.std.proofs.Common.{◌≡◌, ◌≤◌, ◌<◌, ◌+◌, ◌-◌, �
 use Rattle.std.proofs.Common.{drop, get_or, refl, sym, ap, subst, append_assoc, append-nil, add-one, drop-cons}
 use Rattle.std.proofs.Common.{take_all}
 use Rattle.std.proofs.Common.{arith, length-drop}
+use Rattle.std.proofs.lemmas.Bool.{or_parts}
 use Rattle.std.proofs.lemmas.List.{drop-drop, get_or-drop, take_more}
+use Rattle.std.specs.List.{list_any}
+use Rattle.std.specs.Prelude.{◌==◌, ◌&&◌, ◌||◌, not}
 use Rattle.msvc_demangler.specs.Filtered.{IsNoSymbol, IsSymbol, IsTextOf, IsTextOfLine, nothing, replaced, stays}
-use Rattle.msvc_demangler.specs.Words.{is_asked, is_start}
+use Rattle.msvc_demangler.specs.Words.{hides, is_asked, is_of_word, is_start}
 
 -- What stands before a place of a line is looked at; what it becomes is written, but for the bytes from another place
 -- on, which stay. So whatever text the rest has, this is before it.
@@ -92,3 +95,14 @@ Within-end flags line out kept at asked last so end =
     empty : (l : List ℕ) → length l ≡ 0 → l ≡ []
     empty [] e = refl
     empty (x ∷ xs) e = absurd (omega arith)
+
+-- what has no `?` stays as it is, where none is asked
+pub unasked : (flags last : ℕ) (line : List ℕ) → list_any (λ b. b == 63) line ≡ false
+    → IsTextOf flags false last line line
+unasked flags last [] none = nothing
+unasked flags last (b ∷ bs) none =
+    let parts = or_parts (b == 63) (list_any (λ c. c == 63) bs) none in
+    let start = ap (λ is. is && not (false || hides last)) parts.0 in
+    let asked = ap (λ is. (false || is) && is_of_word b) parts.0 in
+    stays (λ starts. let never : true ≡ false = sym starts ∙ start in absurd (cc))
+    (subst (λ is. IsTextOf flags is b bs bs) (sym asked) (unasked flags b bs parts.1))

@@ -28,23 +28,24 @@ enum Item<'a, 'b> {
     Function(&'b Function<'a, 'b>),
 }
 
-/// The text of a symbol's tree, and a line feed.
-pub(crate) fn tree_text<'a, 'b>(
+/// A symbol's tree, and a line feed, take the place of what `text` held.
+pub(crate) fn write_tree<'a, 'b>(
     alloc: Global,
     whole: &'b Whole<'a, 'b>,
-) -> Result<String, AllocError> {
-    let mut text = String::new(alloc);
+    text: &mut String,
+) -> Result<(), AllocError> {
+    text.clear();
     let mut stack = Vec::new(alloc);
     push(&mut stack, Item::Text("\n"))?;
     push_whole(&mut stack, whole)?;
     // A bound that no tree meets, so that the loop ends for sure.
     'items: for _ in 0..u64::MAX {
         let Some(item) = stack.pop() else {
-            return Ok(text);
+            return Ok(());
         };
-        show(alloc, &mut stack, &mut text, item)?;
+        show(alloc, &mut stack, text, item)?;
     }
-    Ok(text)
+    Ok(())
 }
 
 /// Shows what an item begins with, and puts the rest of it onto the stack, the last first.
@@ -60,7 +61,7 @@ fn show<'a, 'b>(
         Item::Scope(scope) => show_scope(stack, scope.names),
         Item::Type(shown) => show_type(alloc, stack, text, shown),
         Item::Types(list) => show_types(stack, list.types),
-        Item::Function(function) => show_function(alloc, stack, text, function),
+        Item::Function(function) => show_function(stack, text, function),
     }
 }
 
@@ -143,24 +144,22 @@ fn show_name<'a, 'b>(
         Name::AnonymousDigits(digits) => {
             push_spelled(alloc, text, "AnonymousNamespace(", digits.as_bytes(), ")")
         }
-        Name::Plain(operator) => push_text(text, format!(in alloc; "{operator:?}")),
-        Name::Guard(guard, number) => push_guard(alloc, text, *guard, *number),
+        Name::Plain(operator) => write!(text, "{operator:?}"),
+        Name::Guard(guard, number) => push_guard(text, *guard, *number),
         Name::TypeDescriptor(set, described) => {
             text.push_str("RTTITypeDescriptor(")?;
             push_set(text, *set)?;
             push(stack, Item::Text(")"))?;
             push(stack, Item::Type(*described))
         }
-        Name::BaseClassDescriptor(place) => push_place(alloc, text, *place),
+        Name::BaseClassDescriptor(place) => push_place(text, *place),
         Name::Template(template) => {
             push(stack, Item::Text(">"))?;
             push_types(stack, template.arguments)?;
             push(stack, Item::Text("<"))?;
             push(stack, Item::Name(template.name))
         }
-        Name::Discriminator(number) => {
-            push_text(text, format!(in alloc; "Discriminator({number})"))
-        }
+        Name::Discriminator(number) => { write!(text, "Discriminator({number})") }
         Name::Nested(whole) => {
             push(stack, Item::Text(")"))?;
             push_whole(stack, *whole)?;
@@ -179,17 +178,17 @@ fn show_type<'a, 'b>(
         Type::Plain(plain) => text.push_str(plain_word(*plain)),
         Type::Base(base, set) => {
             push_set(text, *set)?;
-            push_text(text, format!(in alloc; "{base:?}"))
+            write!(text, "{base:?}")
         }
         Type::Tagged(tag, set, symbol) => {
-            push_text(text, format!(in alloc; "{tag:?}("))?;
+            write!(text, "{tag:?}(")?;
             push_set(text, *set)?;
             push(stack, Item::Text(")"))?;
             push_symbol(stack, *symbol)
         }
         Type::Numbered(kind, number) => {
             let word = numbered_word(*kind);
-            push_text(text, format!(in alloc; "{word}({number})"))
+            write!(text, "{word}({number})")
         }
         Type::ConstantString(bytes) => push_literal(alloc, text, *bytes),
         Type::Pointing(mark, set, inner) => {
@@ -197,7 +196,7 @@ fn show_type<'a, 'b>(
             push_inside(stack, text, *set, *inner)
         }
         Type::Array(length, set, inner) => {
-            push_text(text, format!(in alloc; "Array({length} "))?;
+            write!(text, "Array({length} ")?;
             push_inside(stack, text, *set, *inner)
         }
         Type::Function(function) => {
@@ -215,7 +214,7 @@ fn show_type<'a, 'b>(
             text.push_str("MemberFunctionPointer(")
         }
         Type::Variable(kind, set, inner) => {
-            push_text(text, format!(in alloc; "Var({kind:?} "))?;
+            write!(text, "Var({kind:?} ")?;
             push_inside(stack, text, *set, *inner)
         }
         Type::Table(table, set, scope) => {
@@ -225,10 +224,7 @@ fn show_type<'a, 'b>(
             push_scope(stack, scope.names)
         }
         Type::VcallThunk(offset, convention) => {
-            push_text(
-                text,
-                format!(in alloc; "VCallThunk({offset} {convention:?})"),
-            )
+            write!(text, "VCallThunk({offset} {convention:?})")
         }
     }
 }
@@ -248,14 +244,13 @@ fn push_inside<'a, 'b>(
 /// What a function has, after the bracket that opens it: its class, convention and qualifiers, its parameters in square
 /// brackets, and what it returns.
 fn show_function<'a, 'b>(
-    alloc: Global,
     stack: &mut Vec<Item<'a, 'b>>,
     text: &mut String,
     function: &Function<'a, 'b>,
 ) -> Result<(), AllocError> {
     let convention = function.convention;
     push_set(text, function.class)?;
-    push_text(text, format!(in alloc; "{convention:?} "))?;
+    write!(text, "{convention:?} ")?;
     push_set(text, function.qualifiers)?;
     text.push('[')?;
     push(stack, Item::Text(")"))?;
@@ -273,10 +268,6 @@ fn push_set<F: Flags>(text: &mut String, set: F) -> Result<(), AllocError> {
     Ok(())
 }
 
-fn push_text(text: &mut String, more: Result<String, AllocError>) -> Result<(), AllocError> {
-    text.push_str(more?.as_str())
-}
-
 /// Bytes of the symbol, between two words.
 fn push_spelled(
     alloc: Global,
@@ -286,39 +277,34 @@ fn push_spelled(
     after: &str,
 ) -> Result<(), AllocError> {
     text.push_str(before)?;
-    push_text(text, String::from_utf8_lossy(alloc, bytes))?;
+    text.push_str(String::from_utf8_lossy(alloc, bytes)?.as_str())?;
     text.push_str(after)
 }
 
 /// The bytes of a string literal, in quotes.
 fn push_literal(alloc: Global, text: &mut String, bytes: &[u8]) -> Result<(), AllocError> {
     let spelled = String::from_utf8_lossy(alloc, bytes)?;
-    push_text(text, format!(in alloc; "ConstantString({spelled:?})"))
+    write!(text, "ConstantString({spelled:?})")
 }
 
-fn push_guard(
-    alloc: Global,
-    text: &mut String,
-    guard: Guard,
-    number: Option<u32>,
-) -> Result<(), AllocError> {
+fn push_guard(text: &mut String, guard: Guard, number: Option<u32>) -> Result<(), AllocError> {
     let word = match guard {
         Guard::Static => "LocalStaticGuard",
         Guard::Thread => "LocalStaticThreadGuard",
     };
-    push_text(text, format!(in alloc; "{word}({number:?})"))
+    write!(text, "{word}({number:?})")
 }
 
-fn push_place(alloc: Global, text: &mut String, place: &BaseClass) -> Result<(), AllocError> {
+fn push_place(text: &mut String, place: &BaseClass) -> Result<(), AllocError> {
     let BaseClass {
         member,
         pointer,
         entry,
         attributes,
     } = *place;
-    push_text(
+    write!(
         text,
-        format!(in alloc; "RTTIBaseClassDescriptor({member} {pointer} {entry} {attributes})"),
+        "RTTIBaseClassDescriptor({member} {pointer} {entry} {attributes})"
     )
 }
 

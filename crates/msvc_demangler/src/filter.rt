@@ -76,6 +76,10 @@ fn put_filtered<W: Write>(
         × Writes result (IsTextOfLine flags.0 line.now) written }
     ensures marks { Marks result no_mark (mark out.old out.new) no_mark }
 {
+    // Most lines have no symbol, and stay as they are.
+    if !line.contains(&b'?') {
+        return put_all(out, line);
+    }
     match filter_line(room, line, text, flags) {
         Ok(()) => put_all(out, text),
         Err(_) => Err(Fault::Memory),

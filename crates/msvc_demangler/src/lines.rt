@@ -8,11 +8,8 @@ ghost use Rattle.msvc_demangler.specs.Lines.{line_of};
 ghost use Rattle.msvc_demangler.specs.Faults.{Marks, mark, no_mark};
 ghost use Rattle.msvc_demangler.specs.Runs.{Writes, WritesLines};
 
-use crate::debug::tree_text;
 use crate::room::Room;
 use crate::watched::{Fault, Taken, Watched};
-use bumpalo::Bump;
-use msvc_read::read_symbol;
 use msvc_tree::error::Error;
 use msvc_tree::flags::DemangleFlags;
 use std::alloc::Global;
@@ -57,9 +54,9 @@ fn undname_all<W: Write, E: Write>(
 ) -> Result<(), Fault>
     ensures marks { Marks result no_mark (mark out.old out.new) (mark err.old err.new) }
 {
-    let mut room = Room::new(alloc);
+    let mut room = Room::with_trees(alloc, verbose);
     for symbol in symbols {
-        undname_in(&mut room, symbol.as_str(), out, err, verbose)?;
+        undname_in(&mut room, symbol.as_str(), out, err)?;
     }
     Ok(())
 }
@@ -77,16 +74,16 @@ pub fn undname_one<W: Write, E: Write>(
         × Writes result (IsLineText symbol.now) text }
     ensures marks { Marks result no_mark (mark out.old out.new) (mark err.old err.new) }
 {
-    undname_in(&mut Room::new(alloc), symbol, out, err, verbose)
+    undname_in(&mut Room::with_trees(alloc, verbose), symbol, out, err)
 }
 
-/// Answers one symbol, as `undname_one` does, in a room that is kept for the next.
+/// Answers one symbol, as `undname_one` does, in a room that is kept for the next; the tree that the room may have of
+/// it goes to `err` before.
 fn undname_in<W: Write, E: Write>(
     room: &mut Room,
     symbol: &str,
     out: &mut Watched<W>,
     err: &mut Watched<E>,
-    verbose: bool,
 ) -> Result<(), Fault>
     ensures text { (text : List ℕ) × Appends (W.contents out.old.stream) (W.contents out.new.stream) text
         × Writes result (IsLineText symbol.now) text }
@@ -94,9 +91,7 @@ fn undname_in<W: Write, E: Write>(
 {
     match answer(room, symbol) {
         Ok(()) => {
-            if verbose {
-                show_tree(room.alloc, symbol, err)?;
-            }
+            put_all(err, room.tree.as_bytes())?;
             put_line(out, &room.text)
         }
         Err(refusal) => {
@@ -125,24 +120,6 @@ fn report<E: Write>(alloc: Global, refusal: &Error, err: &mut Watched<E>) -> Res
         Ok(text) => put_all(err, text.as_bytes()),
         Err(_) => Err(Fault::Memory),
     }
-}
-
-/// Writes a symbol's tree, where it has one.
-fn show_tree<E: Write>(alloc: Global, symbol: &str, err: &mut Watched<E>) -> Result<(), Fault>
-    ensures marks { Marks result no_mark no_mark (mark err.old err.new) }
-{
-    match shown(alloc, symbol) {
-        Ok(text) => put_all(err, text.as_bytes()),
-        Err(_) => Err(Fault::Memory),
-    }
-}
-
-/// The text of a symbol's tree, and a line feed.
-fn shown(alloc: Global, symbol: &str) -> Result<String, Error> {
-    let arena = Bump::new(alloc);
-    let whole = read_symbol(alloc, &arena, symbol)?;
-    let text = tree_text(alloc, &whole)?;
-    Ok(text)
 }
 
 /// Writes some bytes and a line feed.
@@ -182,20 +159,20 @@ pub fn undname_lines<R: BufRead, W: Write, E: Write>(
     ensures end { OnOk result (OnSome (R.remaining input.old.stream) (IsAtEnd (R.remaining input.new.stream))) }
     ensures marks { Marks result (mark input.old input.new) (mark out.old out.new) (mark err.old err.new) }
 {
-    let mut room = Room::new(alloc);
+    let mut room = Room::with_trees(alloc, verbose);
     let mut piece = Vec::new(alloc);
     'pieces: for asked in 0..u64::MAX {
         match input.take(asked, &mut piece)? {
             Taken::Part => {}
             Taken::Line => {
-                filter_line(&mut room, &piece, out, err, verbose)?;
+                filter_line(&mut room, &piece, out, err)?;
                 piece.clear();
             }
             Taken::End => {
                 if piece.is_empty() {
                     return Ok(());
                 }
-                return filter_line(&mut room, &piece, out, err, verbose);
+                return filter_line(&mut room, &piece, out, err);
             }
         }
     }
@@ -211,14 +188,13 @@ fn filter_line<W: Write, E: Write>(
     piece: &[u8],
     out: &mut Watched<W>,
     err: &mut Watched<E>,
-    verbose: bool,
 ) -> Result<(), Fault>
     ensures text { (text : List ℕ) × Appends (W.contents out.old.stream) (W.contents out.new.stream) text
         × Writes result (IsText (line_of piece.now ∷ [])) text }
     ensures marks { Marks result no_mark (mark out.old out.new) (mark err.old err.new) }
 {
     match from_utf8(without_end(piece)) {
-        Ok(line) => undname_in(room, line, out, err, verbose),
+        Ok(line) => undname_in(room, line, out, err),
         Err(_) => Ok(()),
     }
 }

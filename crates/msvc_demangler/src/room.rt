@@ -10,6 +10,7 @@ ghost use Rattle.msvc_read.specs.State.{Note};
 ghost use Rattle.msvc_write.specs.Declaration.{declaration};
 ghost use Rattle.msvc_demangler.specs.Hashes.{HashesAreShown};
 
+use crate::debug::write_tree;
 use bumpalo::Bump;
 use msvc_read::{read_symbol, read_symbol_within, room_for, room_within};
 use msvc_tree::error::Error;
@@ -33,16 +34,27 @@ pub(crate) struct Room {
     began: usize,
     /// The declaration of the last symbol, where it has one.
     pub(crate) text: Vec<u8>,
+    /// Whether `tree` is asked for.
+    verbose: bool,
+    /// The tree of the last symbol that was read whole, for a person, and a line feed; empty where it isn't asked for.
+    pub(crate) tree: String,
 }
 
 impl Room {
     /// A room that has asked for no memory yet.
     pub(crate) fn new(alloc: Global) -> Room {
+        Room::with_trees(alloc, false)
+    }
+
+    /// The same, where the text of each tree may be asked for.
+    pub(crate) fn with_trees(alloc: Global, verbose: bool) -> Room {
         Room {
             alloc,
             arena: Bump::new(alloc),
             began: 0,
             text: Vec::new(alloc),
+            verbose,
+            tree: String::new(alloc),
         }
     }
 
@@ -60,6 +72,9 @@ impl Room {
         self.clear_for(input, room_for(input))?;
         match read_symbol(self.alloc, &self.arena, input) {
             Ok(symbol) => {
+                if self.verbose {
+                    write_tree(self.alloc, &symbol, &mut self.tree)?;
+                }
                 print(&self.arena, &symbol, flags, &mut self.text)?;
                 Ok(())
             }

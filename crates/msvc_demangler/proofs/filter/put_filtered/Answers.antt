@@ -1,5 +1,6 @@
 use Rattle.std.proofs.Common.{◌≡◌, ◌∙◌, ℕ, List, subst, sym}
 use Rattle.msvc_demangler.specs.Filtered.{IsTextOfLine}
+use Rattle.msvc_demangler.proofs.Within.{unasked}
 use Rattle.msvc_demangler.proofs.Written.{Writes-map}
 use Rattle.msvc_demangler.proofs.filter.put_filtered.Goals as goal
 
