@@ -4,10 +4,10 @@ use Rattle.std.proofs.KnownBytes.{Appends-nil}
 use Rattle.msvc_demangler.proofs.Written.{WritesPart-nothing}
 use Rattle.msvc_demangler.proofs.lines.undname_in.Goals as goal
 
-pub returns-in_err-show_tree-in-Ok-clause-text : goal.returns-in_err-show_tree-in-Ok-clause-text
-returns-in_err-show_tree-in-Ok-clause-text g c =
+pub returns-in_err-put_all-in-Ok-clause-text : goal.returns-in_err-put_all-in-Ok-clause-text
+returns-in_err-put_all-in-Ok-clause-text g c =
     let p = err_from_is_err_and c.from_residual.result c.from_residual.ensures.1 in
-    let e = c.in_err-show_tree-in-Ok.ensures.marks in
+    let e = c.in_err-put_all-in-Ok.ensures.marks in
     rw (p.1, p.2) (
       [],
       Appends-nil _,
