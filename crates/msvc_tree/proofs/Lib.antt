@@ -1,5 +1,4 @@
 pub mod Contexts
-pub mod CopiedLists
 pub mod Decisions
 pub mod Kept
 pub mod Lists

@@ -1,7 +1,6 @@
 -- Lists of nodes and of trees whose elements are seen as the same are seen as the same.
 use Rattle.std.proofs.Common.{◌≡◌, ℕ, zero, suc, ◌<◌, List, [], ◌∷◌, length, get_or, map, refl, sym, ap, ◌∙◌, arith}
 use Rattle.std.specs.Borrow.{Bor}
-use Rattle.msvc_tree.proofs.CopiedLists.{names_in-map, types_in-map}
 use Rattle.msvc_tree.specs.NodeView.{name_at, type_at}
 use Rattle.msvc_tree.specs.NodeView.{names_in as node_names, types_in as node_types}
 use Rattle.msvc_tree.specs.Sizes.{name_size, names_size, type_size, types_size}
@@ -11,6 +10,14 @@ use Rattle.msvc_tree.specs.declared.nodes.Name.{Name as NodeName}
 use Rattle.msvc_tree.specs.declared.nodes.Type.{«Type» as NodeType}
 use Rattle.msvc_tree.specs.declared.tree.Name.{Name}
 use Rattle.msvc_tree.specs.declared.tree.Type.{«Type»}
+
+names_in-map : (xs : List Name) → names_in xs ≡ name_trees (map name_of xs)
+names_in-map [] = refl
+names_in-map (x ∷ xs) = ap (names (name_of x)) (names_in-map xs)
+
+types_in-map : (xs : List «Type») → types_in xs ≡ type_trees (map type_of xs)
+types_in-map [] = refl
+types_in-map (x ∷ xs) = ap (types (type_of x)) (types_in-map xs)
 
 node_names-map : (xs : List (Bor NodeName)) → node_names xs ≡ name_trees (map name_at xs)
 node_names-map [] = refl

@@ -21,7 +21,16 @@ use crate::variants::{
 use bitflags::Flags;
 use bumpalo::Bump;
 use bumpalo::collections::into_bump_slice;
-use std::alloc::AllocError;
+use std::alloc::{AllocError, Global};
+
+/// How many bytes the nodes of an owned tree have room for at first: more than those of most trees take, and what is
+/// printed of them. What is not written to costs nothing.
+const FIRST_ROOM: usize = 1 << 15;
+
+/// An arena that has room for the nodes of most trees.
+pub fn arena_for_nodes(alloc: Global) -> Result<Bump, AllocError> {
+    Bump::try_with_capacity(alloc, FIRST_ROOM)
+}
 
 /// The nodes of a whole symbol.
 #[cycle(lent)]
@@ -42,7 +51,7 @@ pub fn lent_whole<'a, 'b>(
 /// The nodes of a name in its scope.
 #[cycle(lent)]
 #[inline(always)]
-fn lent_symbol<'a, 'b>(
+pub(crate) fn lent_symbol<'a, 'b>(
     arena: &'b Bump,
     tree: &'b Symbol<'a>,
 ) -> Result<nodes::Symbol<'a, 'b>, AllocError>
@@ -59,7 +68,7 @@ fn lent_symbol<'a, 'b>(
 
 /// The node of a name.
 #[cycle(lent)]
-fn lent_name<'a, 'b>(
+pub(crate) fn lent_name<'a, 'b>(
     arena: &'b Bump,
     tree: &'b Name<'a>,
 ) -> Result<&'b nodes::Name<'a, 'b>, AllocError>
@@ -107,7 +116,7 @@ fn lent_operator<'a, 'b>(
 
 /// The node of a type.
 #[cycle(lent)]
-fn lent_type<'a, 'b>(
+pub(crate) fn lent_type<'a, 'b>(
     arena: &'b Bump,
     tree: &'b Type<'a>,
 ) -> Result<&'b nodes::Type<'a, 'b>, AllocError>
@@ -166,7 +175,7 @@ fn lent_type<'a, 'b>(
 /// The nodes of the names of a scope.
 #[cycle(lent)]
 #[inline(always)]
-fn lent_names<'a, 'b>(
+pub(crate) fn lent_names<'a, 'b>(
     arena: &'b Bump,
     tree: &'b NameSequence<'a>,
 ) -> Result<List<'b, &'b nodes::Name<'a, 'b>>, AllocError>
@@ -184,7 +193,7 @@ fn lent_names<'a, 'b>(
 /// The nodes of a list of types.
 #[cycle(lent)]
 #[inline(always)]
-fn lent_types<'a, 'b>(
+pub(crate) fn lent_types<'a, 'b>(
     arena: &'b Bump,
     tree: &'b Params<'a>,
 ) -> Result<List<'b, &'b nodes::Type<'a, 'b>>, AllocError>

@@ -37,7 +37,7 @@ pub fn owned_whole<'a, 'b>(
 /// The tree of a name in its scope.
 #[cycle(owned)]
 #[inline(always)]
-fn owned_symbol<'a, 'b>(
+pub(crate) fn owned_symbol<'a, 'b>(
     alloc: Global,
     symbol: &'b nodes::Symbol<'a, 'b>,
 ) -> Result<Symbol<'a>, AllocError>
@@ -53,7 +53,10 @@ fn owned_symbol<'a, 'b>(
 
 /// The tree of a name.
 #[cycle(owned)]
-fn owned_name<'a, 'b>(alloc: Global, name: &'b nodes::Name<'a, 'b>) -> Result<Name<'a>, AllocError>
+pub(crate) fn owned_name<'a, 'b>(
+    alloc: Global,
+    name: &'b nodes::Name<'a, 'b>,
+) -> Result<Name<'a>, AllocError>
     ensures { IfOk result (λ n. name_of n ≡ node_name name.now) }
 {
     match name {
@@ -79,7 +82,10 @@ fn owned_name<'a, 'b>(alloc: Global, name: &'b nodes::Name<'a, 'b>) -> Result<Na
 
 /// The tree of a type.
 #[cycle(owned)]
-fn owned_type<'a, 'b>(alloc: Global, node: &'b nodes::Type<'a, 'b>) -> Result<Type<'a>, AllocError>
+pub(crate) fn owned_type<'a, 'b>(
+    alloc: Global,
+    node: &'b nodes::Type<'a, 'b>,
+) -> Result<Type<'a>, AllocError>
     ensures { IfOk result (λ t. type_of t ≡ node_type node.now) }
 {
     match node {
@@ -142,7 +148,7 @@ fn owned_boxed<'a, 'b>(
 /// The names of a scope.
 #[cycle(owned)]
 #[inline(always)]
-fn owned_names<'a, 'b>(
+pub(crate) fn owned_names<'a, 'b>(
     alloc: Global,
     names: &'b [&'b nodes::Name<'a, 'b>],
 ) -> Result<NameSequence<'a>, AllocError>
@@ -158,7 +164,7 @@ fn owned_names<'a, 'b>(
 /// The types of a list.
 #[cycle(owned)]
 #[inline(always)]
-fn owned_types<'a, 'b>(
+pub(crate) fn owned_types<'a, 'b>(
     alloc: Global,
     types: &'b [&'b nodes::Type<'a, 'b>],
 ) -> Result<Params<'a>, AllocError>

@@ -1,5 +1,5 @@
 //! Which variant an owned name or type is, as a node with the trees in it borrowed; variants with the same fields are
-//! one. Equality, copies and the nodes in an arena go by it.
+//! one. Equality and the nodes in an arena go by it.
 
 #![tactic(auto, using(crate::proofs::Views::rows), unfolding(crate::specs::View::name_of, crate::specs::View::operator_of, crate::specs::View::type_of))]
 

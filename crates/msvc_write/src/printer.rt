@@ -20,7 +20,7 @@ use crate::types::{print_after, print_before, print_parameters, write_level};
 use bumpalo::Bump;
 use msvc_tree::error::Error;
 use msvc_tree::flags::DemangleFlags;
-use msvc_tree::lent::lent_whole;
+use msvc_tree::lent::{arena_for_nodes, lent_whole};
 use msvc_tree::nodes::Whole;
 use msvc_tree::tree::ParseResult;
 use std::alloc::{AllocError, Global};
@@ -30,10 +30,6 @@ const FIRST_BYTES: usize = 128;
 
 /// How many items the stack has room for before it grows: more than most symbols need.
 const FIRST_ITEMS: usize = 32;
-
-/// How many bytes the nodes of an owned tree, and the stack, have room for at first: more than those of most trees
-/// take. What is not written to costs nothing.
-const FIRST_ROOM: usize = 1 << 15;
 
 /// Prints one item of the stack.
 #[tactic(auto, using(crate::proofs::Stack::pushes))]
@@ -142,7 +138,7 @@ fn declared(
 ) -> Result<Vec<u8>, AllocError>
     ensures { IfOk result (λ out. out.items ≡ declaration (tree_of input.now) flags.0) }
 {
-    let arena = Bump::try_with_capacity(alloc, FIRST_ROOM)?;
+    let arena = arena_for_nodes(alloc)?;
     let symbol = lent_whole(&arena, input)?;
     let mut out = Vec::with_capacity(alloc, FIRST_BYTES)?;
     print(&arena, &symbol, flags, &mut out)?;
