@@ -2,8 +2,7 @@
 //! the text or `err` with the offset and the message, parted by tabs. A row that differs is printed; the last line
 //! counts. A line that begins with `#` and a space is a heading, which says what the rows below it show.
 
-use bitflags::Flags;
-use msvc_demangler::{DemangleFlags, demangle};
+use msvc_demangler::{DemangleFlags, Flags, demangle};
 use msvc_hostile::references;
 use std::alloc::{AllocError, Global};
 use std::io;

@@ -5,7 +5,7 @@ use Rattle.std.specs.declared.option.Option.{Option}
 use Rattle.std.specs.Io.KnownBytes.{Appends, Consumes}
 use Rattle.std.proofs.KnownBytes.{Appends-nil, Appends-trans, Consumes-nil, Consumes-trans}
 use Rattle.std.proofs.lemmas.List.Elements.{All-nil, All-append}
-use Rattle.msvc_demangler.specs.Faults.{IsSet, Mark, MarksAt, Stays, no_mark}
+use Rattle.msvc_demangler.specs.Faults.{IsSet, FailureFlag, SetsFlagOf, Stays, no_stream}
 use Rattle.msvc_demangler.specs.Runs.{IsLines, IsOfOneLine, LeavesOff, Writes, WritesPart, WritesText}
 use Rattle.msvc_demangler.specs.Taking.{IsWithoutEnd}
 use Rattle.msvc_demangler.specs.declared.watched.Fault.{Fault}
@@ -109,13 +109,13 @@ LeavesOff-line laws Memory finished part text more lines some one is h =
     (finished, part, refl, lines, one, the_text laws _ _ (rw (h, append-nil text) is))
 
 -- where there is no writer, none has failed
-no_writer : (IsSet no_mark × Stays no_mark) ⊎ (Stays no_mark × IsSet no_mark) → ⊥
+no_writer : (IsSet no_stream × Stays no_stream) ⊎ (Stays no_stream × IsSet no_stream) → ⊥
 no_writer (inl out) = let no : false ≡ true = out.0 in cc
 no_writer (inr err) = let no : false ≡ true = err.1 in cc
 
 -- a fault of the reader, or no memory for what it shows
-pub LeavesOff-part : {T P : List ℕ → List ℕ → Type 0} (laws : AreJoined T P) (e : Fault) (reader : Mark)
-    (finished part text : List ℕ) → MarksAt e reader no_mark no_mark
+pub LeavesOff-part : {T P : List ℕ → List ℕ → Type 0} (laws : AreJoined T P) (e : Fault) (reader : FailureFlag)
+    (finished part text : List ℕ) → SetsFlagOf e reader no_stream no_stream
     → IsLines finished → IsWithoutEnd part → T finished text → LeavesOff e (IsTheText T) (finished ++ part) text
 LeavesOff-part laws Read reader finished part text marks lines unended is =
     (finished, part, refl, lines, unended, the_text laws _ _ is)
@@ -150,17 +150,18 @@ Consumes-none : (reader reads later : Option (List ℕ)) (bytes more : List ℕ)
 Consumes-none reader reads later bytes more first second none =
     subst (Consumes reader later) (ap (λ l. bytes ++ l) none ∙ append-nil bytes) (Consumes-trans _ _ _ _ _ first second)
 
--- it ended where the reader was asked
-pub Going-asked : {T P : List ℕ → List ℕ → Type 0} (laws : AreJoined T P) (e : Fault) (mark : Mark)
+-- it ended where the reader was polled
+pub Going-polled : {T P : List ℕ → List ℕ → Type 0} (laws : AreJoined T P) (e : Fault) (flag : FailureFlag)
     (reader reads later writer writes : Option (List ℕ)) (part more : List ℕ)
-    → Going T reader reads writer writes part → Consumes reads later more → more ≡ [] → MarksAt e mark no_mark no_mark
+    → Going T reader reads writer writes part → Consumes reads later more → more ≡ []
+    → SetsFlagOf e flag no_stream no_stream
     → DidPart T e reader later writer writes
-Going-asked laws e mark reader reads later writer writes part more so taken none marks = (
+Going-polled laws e flag reader reads later writer writes part more so taken none marks = (
   so.finished ++ part,
   so.text,
   Consumes-none _ _ _ _ _ so.taken taken none,
   so.written,
-  LeavesOff-part laws e mark so.finished part so.text marks so.lines so.unended so.is,
+  LeavesOff-part laws e flag so.finished part so.text marks so.lines so.unended so.is,
 )
 
 -- it ended where a line was answered

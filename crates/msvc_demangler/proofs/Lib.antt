@@ -1,6 +1,6 @@
+pub mod Demangled
 pub mod Fronts
 pub mod Going
-pub mod Hashes
 pub mod Joined
 pub mod Pieces
 pub mod Replaced

@@ -9,8 +9,9 @@ use Rattle.msvc_demangler.proofs.Pieces.{pieces-line, pieces-nil}
 use Rattle.msvc_demangler.proofs.Symbols.{symbol-only}
 
 -- the bytes that are left of a line have one text
-IsTextOf-only : (flags : ℕ) (asked : Bool) (last : ℕ) (left first second : List ℕ)
-    → IsTextOf flags asked last left first → IsTextOf flags asked last left second → second ≡ first
+IsTextOf-only : (flags : ℕ) (seen_question_mark : Bool) (last : ℕ) (left first second : List ℕ)
+    → IsTextOf flags seen_question_mark last left first → IsTextOf flags seen_question_mark last left second
+    → second ≡ first
 IsTextOf-only flags _ _ _ _ _ nothing nothing = refl
 IsTextOf-only flags _ _ _ _ _ (stays {b = b} refused t) (stays again u) = ap (λ l. b ∷ l)
     (IsTextOf-only flags _ _ _ _ _ t u)

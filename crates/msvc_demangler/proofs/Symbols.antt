@@ -3,20 +3,22 @@ use Rattle.std.proofs.Common.{◌≡◌, ◌≢◌, ◌≤◌, ◌<◌, ◌+◌,
 use Rattle.std.proofs.Common.{arith, false, length-take, true}
 use Rattle.std.specs.List.{prefix_len, take_while}
 use Rattle.std.specs.Str.Lossy.{utf8_valid_len}
-use Rattle.msvc_tree.specs.Trees.{SymbolTree}
-use Rattle.msvc_tree.specs.declared.error.ErrorRepr.{ErrorRepr}
-use Rattle.msvc_tree.specs.declared.error.ErrorRepr.TheVariants.{FromUtf8, Utf8, ParseError, Other, Memory}
-use Rattle.msvc_read.specs.Counts.{node_count}
-use Rattle.msvc_read.specs.Reads.{Derives, ranks}
-use Rattle.msvc_read.specs.Refusals.{IsNoSymbolWithin, IsRefusedWithin}
-use Rattle.msvc_read.specs.Rules.{call, symbol}
-use Rattle.msvc_read.specs.State.{Note}
-use Rattle.msvc_read.proofs.Checks.{Fine, eater, eats, rank}
-use Rattle.msvc_read.proofs.Eats.{Less, shorter}
-use Rattle.msvc_read.proofs.Laws.{derived-only}
-use Rattle.msvc_write.specs.Declaration.{declaration}
+use Rattle.msvc_nodes.specs.Trees.{SymbolTree}
+use Rattle.msvc_nodes.specs.declared.error.ErrorRepr.{ErrorRepr}
+use Rattle.msvc_nodes.specs.declared.error.ErrorRepr.TheVariants.{FromUtf8, Utf8, ParseError, Other, Memory}
+use Rattle.msvc_grammar.specs.Counts.{node_count}
+use Rattle.msvc_grammar.specs.Parsed.{IsParsed, IsRejectedWithin, IsSymbolLength}
+use Rattle.msvc_grammar.specs.Reads.{Derives, ranks}
+use Rattle.msvc_grammar.specs.Refusals.{IsNoSymbolWithin, IsRefusedWithin}
+use Rattle.msvc_grammar.specs.Rules.{call, symbol}
+use Rattle.msvc_grammar.specs.State.{Note}
+use Rattle.msvc_grammar.proofs.Checks.{Fine, eater, eats, rank}
+use Rattle.msvc_grammar.proofs.Progress.{Less, shorter}
+use Rattle.msvc_grammar.proofs.Laws.{derived-only}
+use Rattle.msvc_print.specs.Declaration.{declaration}
+use Rattle.msvc_demangler.specs.Demangled.{IsDeclared}
 use Rattle.msvc_demangler.specs.Filtered.{IsNoSymbol, IsSymbol, most_declared, most_nodes}
-use Rattle.msvc_demangler.specs.Words.{candidate, goes_on, is_visible, most_bytes, taken}
+use Rattle.msvc_demangler.specs.Words.{candidate, continues, is_visible, most_bytes, symbol_extent}
 
 -- a candidate is no longer than what it begins
 within : (n : ℕ) (l : List ℕ) → length (take n l) ≤ length l
@@ -25,7 +27,7 @@ within n l = omega (arith, length-take n l)
 at_most : (a b c d : ℕ) → a ≤ b → b ≤ c → c ≤ d → a ≤ d
 at_most a b c d first second third = omega arith
 
-pub candidate-within : (left : List ℕ) → length (candidate left) ≤ length left
+candidate-within : (left : List ℕ) → length (candidate left) ≤ length left
 candidate-within left =
     let seen = take_while is_visible left in
     let first = take most_bytes seen in
@@ -33,7 +35,7 @@ candidate-within left =
     (within (prefix_len is_visible left) left)
 
 -- a symbol has bytes
-pub symbol-eats : (text : List ℕ) (tree : SymbolTree) (rest : List ℕ) (notes : List Note) → Derives text tree rest notes
+symbol-eats : (text : List ℕ) (tree : SymbolTree) (rest : List ℕ) (notes : List Note) → Derives text tree rest notes
     → length rest + 1 ≤ length text
 unfolding Fine eats eater rank
 symbol-eats text tree rest notes d =
@@ -42,60 +44,73 @@ symbol-eats text tree rest notes d =
 -- symbols at one start take as many bytes
 as-many : (left : List ℕ) (tree other : SymbolTree) (rest remaining : List ℕ) (notes others : List Note)
     → Derives (candidate left) tree rest notes → Derives (candidate left) other remaining others
-    → taken left (length (candidate left) - length rest) ≡ taken left (length (candidate left) - length remaining)
+    → symbol_extent left (length (candidate left) - length rest)
+    ≡ symbol_extent left (length (candidate left) - length remaining)
 as-many left tree other rest remaining notes others d e =
-    ap (λ l. taken left (length (candidate left) - length l))
+    ap (λ l. symbol_extent left (length (candidate left) - length l))
     (derived-only (candidate left) tree other rest remaining notes others d e).1
 
 -- a symbol that was read
 pub symbol-read : (flags read : ℕ) (left input text : List ℕ) → input ≡ candidate left → (tree : SymbolTree)
-    (rest : List ℕ) (notes : List Note) → Derives input tree rest notes → node_count tree ≤ most_nodes
-    → text ≡ declaration tree flags → read + length rest ≡ length input → length text ≤ most_declared
-    → goes_on (drop (taken left read) left) ≡ false → IsSymbol flags left (taken left read) text
-symbol-read flags read left input text same tree rest notes derived nodes declared to short ends =
-    let so_many : read ≡ length (candidate left) - length rest = omega (arith, ap length same) in
+    → IsDeclared input tree flags text → node_count tree ≤ most_nodes → IsSymbolLength read input
+    → length text ≤ most_declared → continues (drop (symbol_extent left read) left) ≡ false
+    → IsSymbol flags left (symbol_extent left read) text
+symbol-read flags read left input text same tree declared nodes read_length short ends =
+    let is = declared.parsed in
+    let to = (read_length.read_to tree is.rest is.notes is.derived).0 in
+    let so_many : read ≡ length (candidate left) - length is.rest = omega (arith, to, ap length same) in
     record {
       tree = tree;
-      rest = rest;
-      notes = notes;
-      derived = subst (λ l. Derives l tree rest notes) same derived;
+      rest = is.rest;
+      notes = is.notes;
+      derived = subst (λ l. Derives l tree is.rest is.notes) same is.derived;
       nodes = nodes;
-      declared = declared;
+      declared = declared.printed;
       short = short;
-      takes = ap (taken left) so_many;
+      takes = ap (symbol_extent left) so_many;
       ends = ends;
     }
 
--- no symbol where it goes on after what was read
-pub no_symbol-goes_on : (flags read : ℕ) (left input : List ℕ) → input ≡ candidate left → (tree : SymbolTree)
-    (rest : List ℕ) (notes : List Note) → Derives input tree rest notes → read + length rest ≡ length input
-    → goes_on (drop (taken left read) left) ≡ true → IsNoSymbol flags left
-no_symbol-goes_on flags read left input same tree rest notes derived to on bytes other s =
-    let here = subst (λ l. Derives l tree rest notes) same derived in
-    let so_many : read ≡ length (candidate left) - length rest = omega (arith, ap length same) in
-    let equal : bytes ≡ taken left read =
-    s.takes ∙ as-many left s.tree tree s.rest rest s.notes notes s.derived here ∙ sym (ap (taken left) so_many) in
-    let no : true ≡ false = sym on ∙ sym (ap (λ n. goes_on (drop n left)) equal) ∙ s.ends in cc
+-- no symbol where it continues after what was read
+pub no_symbol-continues : (flags read : ℕ) (left input : List ℕ) → input ≡ candidate left → (tree : SymbolTree)
+    → IsParsed input tree → IsSymbolLength read input
+    → continues (drop (symbol_extent left read) left) ≡ true → IsNoSymbol flags left
+no_symbol-continues flags read left input same tree is read_length on bytes other s =
+    let here = subst (λ l. Derives l tree is.rest is.notes) same is.derived in
+    let to = (read_length.read_to tree is.rest is.notes is.derived).0 in
+    let so_many : read ≡ length (candidate left) - length is.rest = omega (arith, to, ap length same) in
+    let equal : bytes ≡ symbol_extent left read =
+    s.takes ∙ as-many left s.tree tree s.rest is.rest s.notes is.notes s.derived here
+    ∙ sym (ap (symbol_extent left) so_many) in
+    let no : true ≡ false = sym on ∙ sym (ap (λ n. continues (drop n left)) equal) ∙ s.ends in cc
 
 -- no symbol where the declaration is too long
 pub no_symbol-long : (flags : ℕ) (left input : List ℕ) → input ≡ candidate left → (tree : SymbolTree)
-    (rest : List ℕ) (notes : List Note) → Derives input tree rest notes
-    → most_declared < length (declaration tree flags) → IsNoSymbol flags left
-no_symbol-long flags left input same tree rest notes derived long bytes other s =
-    let here = subst (λ l. Derives l tree rest notes) same derived in
-    let one = derived-only (candidate left) s.tree tree s.rest rest s.notes notes s.derived here in
+    → IsParsed input tree → most_declared < length (declaration tree flags) → IsNoSymbol flags left
+no_symbol-long flags left input same tree is long bytes other s =
+    let here = subst (λ l. Derives l tree is.rest is.notes) same is.derived in
+    let one = derived-only (candidate left) s.tree tree s.rest is.rest s.notes is.notes s.derived here in
     let equal : other ≡ declaration tree flags = s.declared ∙ ap (λ t. declaration t flags) one.0 in
     larger (length other) (length (declaration tree flags)) s.short long (ap length equal)
   where
     larger : (a b : ℕ) → a ≤ most_declared → most_declared < b → a ≡ b → ⊥
     larger a b short long equal = omega arith
 
--- and none where the candidate was refused
-pub no_symbol-refused : (flags : ℕ) (left input : List ℕ) → input ≡ candidate left → (e : ErrorRepr) → e ≢ Memory
-    → IsRefusedWithin most_nodes input e → IsNoSymbol flags left
-no_symbol-refused flags left input same e other refused bytes text s =
+-- the bytes that were read of a candidate
+pub read-within : (read : ℕ) (left input : List ℕ) → input ≡ candidate left → (tree : SymbolTree)
+    → IsParsed input tree → IsSymbolLength read input → (0 < read) × (read ≤ length left)
+read-within read left input same tree is read_length =
+    let to = (read_length.read_to tree is.rest is.notes is.derived).0 in (
+      omega (arith, to, symbol-eats input tree is.rest is.notes is.derived),
+      omega (arith, to, ap length same, candidate-within left),
+    )
+
+-- and none where the candidate was rejected
+pub no_symbol-rejected : (flags : ℕ) (left input : List ℕ) → input ≡ candidate left → (e : ErrorRepr) → e ≢ Memory
+    → IsRejectedWithin most_nodes input e → IsNoSymbol flags left
+no_symbol-rejected flags left input same e other rejected bytes text s =
     let here = subst (λ l. Derives l s.tree s.rest s.notes) (sym same) s.derived in
-    let many : most_nodes < node_count s.tree = within e other refused s.tree s.rest s.notes here in
+    let many : most_nodes < node_count s.tree = within e other rejected.refused s.tree s.rest s.notes here in
     omega (arith, many, s.nodes)
   where
     within : (e : ErrorRepr) → e ≢ Memory → IsRefusedWithin most_nodes input e → IsNoSymbolWithin most_nodes input

@@ -2,7 +2,7 @@
 use Rattle.std.proofs.Common.{◌≡◌, ◌++◌, ◌∷◌, [], ℕ, List, ap, sym, subst, refl, ◌∙◌, append_assoc, append-nil}
 use Rattle.std.proofs.Common.{inl, inr}
 use Rattle.std.specs.Str.{IsUtf8}
-use Rattle.msvc_write.specs.Declaration.{declaration}
+use Rattle.msvc_print.specs.Declaration.{declaration}
 use Rattle.msvc_demangler.specs.Lines.{line_of, lines_of}
 use Rattle.msvc_demangler.specs.Answers.{IsAnswer, IsLineText, IsText, line_flags, nothing, left_out}
 use Rattle.msvc_demangler.specs.Answers.{answered}

@@ -1,7 +1,7 @@
 -- What is written when one call follows another.
 use Rattle.std.proofs.Common.{◌≡◌, ◌++◌, [], ℕ, List, Result, Ok, Err, IfErr, true, false, ap, sym, refl}
 use Rattle.std.proofs.Common.{◌∙◌, append_assoc, take, drop, length, ◌-◌, length-drop, take_all, arith}
-use Rattle.msvc_demangler.specs.Faults.{Mark, MarksAt, no_mark}
+use Rattle.msvc_demangler.specs.Faults.{FailureFlag, SetsFlagOf, no_stream}
 use Rattle.msvc_demangler.specs.Runs.{Writes, WritesPart}
 use Rattle.msvc_demangler.specs.declared.watched.Fault.{Fault}
 use Rattle.msvc_demangler.specs.declared.watched.Fault.TheVariants.{Read, Write, Memory}
@@ -36,8 +36,8 @@ Writes-second (Err Write) bytes end text e h = (h.0, append_assoc bytes text h.0
 Writes-second (Err Memory) bytes end text e h = let no : Memory ≡ Write = e in cc
 
 -- nothing, where a fault came before the first byte
-pub WritesPart-nothing : (e : Fault) (out err : Mark) (P : List ℕ → Type 0) (whole : List ℕ) → P whole
-    → MarksAt e no_mark out err → WritesPart e P []
+pub WritesPart-nothing : (e : Fault) (out err : FailureFlag) (P : List ℕ → Type 0) (whole : List ℕ) → P whole
+    → SetsFlagOf e no_stream out err → WritesPart e P []
 WritesPart-nothing Read out err P whole h marks = let no : false ≡ true = marks.0 in cc
 WritesPart-nothing Write out err P whole h marks = (whole, h)
 WritesPart-nothing Memory out err P whole h marks = refl

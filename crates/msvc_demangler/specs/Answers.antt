@@ -1,11 +1,11 @@
 -- What is answered to symbols and to lines.
 use Rattle.std.specs.Prelude.{ℕ, List, [], ◌∷◌, ◌++◌, ◌≡◌, ◌⊎◌}
 use Rattle.std.specs.Str.{IsUtf8}
-use Rattle.msvc_tree.specs.Trees.{SymbolTree}
-use Rattle.msvc_read.specs.Reads.{Derives, IsOnly}
-use Rattle.msvc_read.specs.Refusals.{IsNoSymbol}
-use Rattle.msvc_read.specs.State.{Note}
-use Rattle.msvc_write.specs.Declaration.{declaration}
+use Rattle.msvc_nodes.specs.Trees.{SymbolTree}
+use Rattle.msvc_grammar.specs.Reads.{Derives, IsOnly}
+use Rattle.msvc_grammar.specs.Refusals.{IsNoSymbol}
+use Rattle.msvc_grammar.specs.State.{Note}
+use Rattle.msvc_print.specs.Declaration.{declaration}
 use Rattle.msvc_demangler.specs.Lines.{lines_of}
 
 -- the flags under which lines are printed, those of `DemangleFlags::llvm`

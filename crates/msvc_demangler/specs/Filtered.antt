@@ -1,12 +1,12 @@
 -- The filter's text: that of some bytes in which each symbol is replaced by its declaration.
 use Rattle.std.specs.Prelude.{ℕ, List, [], ◌∷◌, ◌++◌, ◌-◌, ◌≡◌, ◌≤◌, Bool, true, false, length, drop, slice_index}
-use Rattle.msvc_tree.specs.Trees.{SymbolTree}
-use Rattle.msvc_read.specs.Counts.{node_count}
-use Rattle.msvc_read.specs.Reads.{Derives}
-use Rattle.msvc_read.specs.State.{Note}
-use Rattle.msvc_write.specs.Declaration.{declaration}
+use Rattle.msvc_nodes.specs.Trees.{SymbolTree}
+use Rattle.msvc_grammar.specs.Counts.{node_count}
+use Rattle.msvc_grammar.specs.Reads.{Derives}
+use Rattle.msvc_grammar.specs.State.{Note}
+use Rattle.msvc_print.specs.Declaration.{declaration}
 use Rattle.msvc_demangler.specs.Lines.{pieces}
-use Rattle.msvc_demangler.specs.Words.{candidate, goes_on, is_asked, is_start, taken}
+use Rattle.msvc_demangler.specs.Words.{candidate, continues, sees_question_mark, is_start, symbol_extent}
 
 -- a symbol of a text has at most so many nodes, and its declaration so many bytes
 abbrev pub most_nodes : ℕ
@@ -25,23 +25,25 @@ pub record IsSymbol (flags : ℕ) (left : List ℕ) (bytes : ℕ) (text : List �
   pub nodes : node_count tree ≤ most_nodes
   pub declared : text ≡ declaration tree flags
   pub short : length text ≤ most_declared
-  pub takes : bytes ≡ taken left (length (candidate left) - length rest)
-  pub ends : goes_on (drop bytes left) ≡ false
+  pub takes : bytes ≡ symbol_extent left (length (candidate left) - length rest)
+  pub ends : continues (drop bytes left) ≡ false
 
 abbrev pub IsNoSymbol : (flags : ℕ) (left : List ℕ) → Type 0
 IsNoSymbol flags left = (bytes : ℕ) (text : List ℕ) → IsSymbol flags left bytes text → ⊥
 
 -- The text of the bytes that are left of a line. Each byte stays, unless a symbol begins at it: then the symbol's
 -- declaration takes the place of the bytes that it takes.
-pub data IsTextOf (flags : ℕ) : (asked : Bool) (last : ℕ) → List ℕ → List ℕ → Type 0 where
-  nothing : {asked : Bool} {last : ℕ} → IsTextOf flags asked last [] []
-  stays : {asked : Bool} {last b : ℕ} {left text : List ℕ} → (is_start asked last b ≡ true
+pub data IsTextOf (flags : ℕ) : (seen_question_mark : Bool) (last : ℕ) → List ℕ → List ℕ → Type 0 where
+  nothing : {seen_question_mark : Bool} {last : ℕ} → IsTextOf flags seen_question_mark last [] []
+  stays : {seen_question_mark : Bool} {last b : ℕ} {left text : List ℕ} → (is_start seen_question_mark last b ≡ true
       → IsNoSymbol flags (b ∷ left))
-      → IsTextOf flags (is_asked asked b) b left text → IsTextOf flags asked last (b ∷ left) (b ∷ text)
-  replaced : {asked : Bool} {last b bytes : ℕ} {left first text : List ℕ} → is_start asked last b ≡ true
+      → IsTextOf flags (sees_question_mark seen_question_mark b) b left text
+      → IsTextOf flags seen_question_mark last (b ∷ left) (b ∷ text)
+  replaced : {seen_question_mark : Bool} {last b bytes : ℕ} {left first text : List ℕ}
+      → is_start seen_question_mark last b ≡ true
       → IsSymbol flags (b ∷ left) bytes first
       → IsTextOf flags false (slice_index (b ∷ left) (bytes - 1)) (drop bytes (b ∷ left)) text
-      → IsTextOf flags asked last (b ∷ left) (first ++ text)
+      → IsTextOf flags seen_question_mark last (b ∷ left) (first ++ text)
 
 -- a line begins after a line feed, and no word goes on there
 abbrev pub IsTextOfLine : ℕ → List ℕ → List ℕ → Type 0

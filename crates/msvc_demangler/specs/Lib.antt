@@ -1,9 +1,30 @@
 pub mod Answers
+pub mod Demangled
 pub mod Faults
 pub mod Filtered
-pub mod Hashes
 pub mod Lines
 pub mod Runs
 pub mod Streams
 pub mod Taking
 pub mod Words
+-- what the clauses of the calls at the crate's root cite of the crates below
+pub use Rattle.msvc_grammar.specs.Counts
+pub use Rattle.msvc_grammar.specs.Grammar
+pub use Rattle.msvc_grammar.specs.Hashes
+pub use Rattle.msvc_grammar.specs.Laws
+pub use Rattle.msvc_grammar.specs.Parsed
+pub use Rattle.msvc_grammar.specs.Parts
+pub use Rattle.msvc_grammar.specs.Prefix
+pub use Rattle.msvc_grammar.specs.Reads
+pub use Rattle.msvc_grammar.specs.Refusals
+pub use Rattle.msvc_grammar.specs.State
+pub use Rattle.msvc_grammar.specs.Written
+pub use Rattle.msvc_nodes.specs.EachName
+pub use Rattle.msvc_nodes.specs.Errors
+pub use Rattle.msvc_nodes.specs.Trees
+pub use Rattle.msvc_nodes.specs.declared.error.ErrorRepr
+pub use Rattle.msvc_parser.specs.Parser
+pub use Rattle.msvc_print.specs.Declaration
+pub use Rattle.msvc_print.specs.Laws as PrintLaws
+pub use Rattle.msvc_tree.specs.View
+pub use Rattle.msvc_write.specs.Serialized

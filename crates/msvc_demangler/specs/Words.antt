@@ -10,17 +10,17 @@ abbrev pub is_of_word : ℕ → Bool
 is_of_word b = is_ascii_alphanumeric b || (b == 95 || (b == 36 || (b == 64 || b == 63)))
 
 -- after a letter, a digit or a full stop no symbol begins
-abbrev pub hides : ℕ → Bool
-hides b = is_ascii_alphanumeric b || b == 46
+abbrev pub blocks_start : ℕ → Bool
+blocks_start b = is_ascii_alphanumeric b || b == 46
 
--- A word starts at its first `?`, unless the byte before it hides it. So it matters of the bytes before: the last of
--- them, and whether the word that goes on after them has been asked, that is, has had a `?`.
-abbrev pub is_start : (asked : Bool) (last b : ℕ) → Bool
-is_start asked last b = b == 63 && not (asked || hides last)
+-- A symbol may start at the first `?` of a word, unless the byte before it blocks the start. So two things matter of
+-- the bytes before: the last of them, and whether the word that continues after them has had a `?`.
+abbrev pub is_start : (seen_question_mark : Bool) (last b : ℕ) → Bool
+is_start seen_question_mark last b = b == 63 && not (seen_question_mark || blocks_start last)
 
--- whether it has, after one byte more
-abbrev pub is_asked : (asked : Bool) (b : ℕ) → Bool
-is_asked asked b = (asked || b == 63) && is_of_word b
+-- whether the word that continues after one byte more has had a `?`
+abbrev pub sees_question_mark : (seen_question_mark : Bool) (b : ℕ) → Bool
+sees_question_mark seen_question_mark b = (seen_question_mark || b == 63) && is_of_word b
 
 -- neither a space nor a control character
 abbrev pub is_visible : ℕ → Bool
@@ -48,12 +48,12 @@ abbrev pub is_left_over : List ℕ → Bool
 is_left_over [] = false
 is_left_over (b ∷ bs) = (b == 64 || is_ascii_uppercase b) && ends_word bs
 
--- A letter, a digit, an `_` or an `@` is next: after a symbol, that it goes on in a way that the reader doesn't know.
-abbrev pub goes_on : List ℕ → Bool
-goes_on [] = false
-goes_on (b ∷ bs) = is_ascii_alphanumeric b || (b == 95 || b == 64)
+-- A letter, a digit, an `_` or an `@` is next: a symbol before it continues in a way that the reader doesn't know.
+abbrev pub continues : List ℕ → Bool
+continues [] = false
+continues (b ∷ bs) = is_ascii_alphanumeric b || (b == 95 || b == 64)
 
 -- How many bytes a symbol takes of which so many were read. Of real names the reader leaves at most one unread, which
 -- is then an `@` or a storage class.
-abbrev pub taken : List ℕ → ℕ → ℕ
-taken left read = if is_left_over (drop read left) then read + 1 else read
+abbrev pub symbol_extent : List ℕ → ℕ → ℕ
+symbol_extent left read = if is_left_over (drop read left) then read + 1 else read

@@ -3,10 +3,12 @@
 //!
 //! No function here calls itself: what stands inside a tree goes onto a stack, so a deep tree takes memory alone.
 
-use bitflags::Flags;
-use msvc_tree::flags::StorageClass;
-use msvc_tree::kinds::{Guard, Mark, NumberedType, PlainType, Table};
-use msvc_tree::nodes::{BaseClass, Function, Name, Scope, Symbol, Type, Whole};
+use crate::debug_words::{
+    mark_word, numbered_word, plain_word, push_guard, push_literal, push_place, push_set,
+    push_spelled, table_word,
+};
+use msvc_nodes::flags::StorageClass;
+use msvc_nodes::nodes::{Function, Name, Scope, Symbol, Type, TypedSymbol};
 use std::alloc::{AllocError, Global};
 
 /// Types of a list.
@@ -28,16 +30,16 @@ enum Item<'a, 'b> {
     Function(&'b Function<'a, 'b>),
 }
 
-/// A symbol's tree, and a line feed, take the place of what `text` held.
+/// Replaces the contents of `text` by a symbol's tree and a line feed.
 pub(crate) fn write_tree<'a, 'b>(
     alloc: Global,
-    whole: &'b Whole<'a, 'b>,
+    symbol: &'b TypedSymbol<'a, 'b>,
     text: &mut String,
 ) -> Result<(), AllocError> {
     text.clear();
     let mut stack = Vec::new(alloc);
     push(&mut stack, Item::Text("\n"))?;
-    push_whole(&mut stack, whole)?;
+    push_typed_symbol(&mut stack, symbol)?;
     // A bound that no tree meets, so that the loop ends for sure.
     'items: for _ in 0..u64::MAX {
         let Some(item) = stack.pop() else {
@@ -48,7 +50,7 @@ pub(crate) fn write_tree<'a, 'b>(
     Ok(())
 }
 
-/// Shows what an item begins with, and puts the rest of it onto the stack, the last first.
+/// Shows what an item begins with, and pushes the rest of it, the last part first.
 fn show<'a, 'b>(
     alloc: Global,
     stack: &mut Vec<Item<'a, 'b>>,
@@ -91,7 +93,7 @@ fn show_types<'a, 'b>(
     push(stack, Item::Type(*first))
 }
 
-/// Puts an item onto the stack.
+/// Pushes an item.
 fn push<'a, 'b>(stack: &mut Vec<Item<'a, 'b>>, item: Item<'a, 'b>) -> Result<(), AllocError> {
     stack.push(item)?;
     Ok(())
@@ -111,17 +113,17 @@ fn push_types<'a, 'b>(
     push(stack, Item::Types(Types { types }))
 }
 
-/// A name in its scope, and its type.
-fn push_whole<'a, 'b>(
+/// Pushes a name in its scope, and its type.
+fn push_typed_symbol<'a, 'b>(
     stack: &mut Vec<Item<'a, 'b>>,
-    whole: &Whole<'a, 'b>,
+    symbol: &TypedSymbol<'a, 'b>,
 ) -> Result<(), AllocError> {
-    push(stack, Item::Type(whole.symbol_type))?;
+    push(stack, Item::Type(symbol.symbol_type))?;
     push(stack, Item::Text(": "))?;
-    push_symbol(stack, &whole.symbol)
+    push_symbol(stack, &symbol.symbol)
 }
 
-/// A name in its scope.
+/// Pushes a name in its scope.
 fn push_symbol<'a, 'b>(
     stack: &mut Vec<Item<'a, 'b>>,
     symbol: &Symbol<'a, 'b>,
@@ -160,9 +162,9 @@ fn show_name<'a, 'b>(
             push(stack, Item::Name(template.name))
         }
         Name::Discriminator(number) => { write!(text, "Discriminator({number})") }
-        Name::Nested(whole) => {
+        Name::Nested(symbol) => {
             push(stack, Item::Text(")"))?;
-            push_whole(stack, *whole)?;
+            push_typed_symbol(stack, *symbol)?;
             text.push('(')
         }
     }
@@ -229,7 +231,7 @@ fn show_type<'a, 'b>(
     }
 }
 
-/// The qualifiers of a type, the type inside, and the bracket that closes it.
+/// Shows the qualifiers of a type, and pushes the type inside and the bracket that closes it.
 fn push_inside<'a, 'b>(
     stack: &mut Vec<Item<'a, 'b>>,
     text: &mut String,
@@ -241,8 +243,8 @@ fn push_inside<'a, 'b>(
     push(stack, Item::Type(inner))
 }
 
-/// What a function has, after the bracket that opens it: its class, convention and qualifiers, its parameters in square
-/// brackets, and what it returns.
+/// Shows what a function has after its opening bracket: its class, convention and qualifiers, its parameters in square
+/// brackets, and the type that it returns.
 fn show_function<'a, 'b>(
     stack: &mut Vec<Item<'a, 'b>>,
     text: &mut String,
@@ -257,86 +259,4 @@ fn show_function<'a, 'b>(
     push(stack, Item::Type(function.returned))?;
     push(stack, Item::Text("] "))?;
     push_types(stack, function.parameters)
-}
-
-/// The names of a set's bits, each with a space after it.
-fn push_set<F: Flags>(text: &mut String, set: F) -> Result<(), AllocError> {
-    for (name, _) in set.iter_names() {
-        text.push_str(name)?;
-        text.push(' ')?;
-    }
-    Ok(())
-}
-
-/// Bytes of the symbol, between two words.
-fn push_spelled(
-    alloc: Global,
-    text: &mut String,
-    before: &str,
-    bytes: &[u8],
-    after: &str,
-) -> Result<(), AllocError> {
-    text.push_str(before)?;
-    text.push_str(String::from_utf8_lossy(alloc, bytes)?.as_str())?;
-    text.push_str(after)
-}
-
-/// The bytes of a string literal, in quotes.
-fn push_literal(alloc: Global, text: &mut String, bytes: &[u8]) -> Result<(), AllocError> {
-    let spelled = String::from_utf8_lossy(alloc, bytes)?;
-    write!(text, "ConstantString({spelled:?})")
-}
-
-fn push_guard(text: &mut String, guard: Guard, number: Option<u32>) -> Result<(), AllocError> {
-    let word = match guard {
-        Guard::Static => "LocalStaticGuard",
-        Guard::Thread => "LocalStaticThreadGuard",
-    };
-    write!(text, "{word}({number:?})")
-}
-
-fn push_place(text: &mut String, place: &BaseClass) -> Result<(), AllocError> {
-    let BaseClass {
-        member,
-        pointer,
-        entry,
-        attributes,
-    } = *place;
-    write!(
-        text,
-        "RTTIBaseClassDescriptor({member} {pointer} {entry} {attributes})"
-    )
-}
-
-fn plain_word(plain: PlainType) -> &'static str {
-    match plain {
-        PlainType::None => "None",
-        PlainType::EmptyPack => "EmptyParameterPack",
-        PlainType::Rtti => "RTTIType",
-        PlainType::Variadic => "VarArgs",
-        PlainType::Nullptr => "Nullptr",
-    }
-}
-
-fn numbered_word(kind: NumberedType) -> &'static str {
-    match kind {
-        NumberedType::Constant => "Constant",
-        NumberedType::TemplateParameter => "TemplateParameterWithIndex",
-        NumberedType::ThreadSafeGuard => "ThreadSafeStaticGuard",
-    }
-}
-
-fn mark_word(mark: Mark) -> &'static str {
-    match mark {
-        Mark::Pointer => "Ptr(",
-        Mark::Reference => "Ref(",
-        Mark::RValueReference => "RValueRef(",
-    }
-}
-
-fn table_word(table: Table) -> &'static str {
-    match table {
-        Table::Functions => "CXXVFTable(",
-        Table::Bases => "CXXVBTable(",
-    }
 }

@@ -3,95 +3,99 @@
 //! [`parse`] reads a symbol into a tree, [`serialize`] prints a tree, and [`demangle`] does both.
 #![tactic(auto)]
 
-ghost use Rattle.std.specs.Prelude.{◌≡◌, ◌≤◌, codes, ℕ, List, IfOk, IfErr, string_bytes};
-ghost use Rattle.msvc_tree.specs.Trees.{SymbolTree};
-ghost use Rattle.msvc_read.specs.Counts.{node_count};
-ghost use Rattle.msvc_read.specs.Hashes.{HashesAreRead};
-ghost use Rattle.msvc_read.specs.Reads.{Derives, IsOnly};
-ghost use Rattle.msvc_read.specs.Refusals.{IsRefusedRightly, IsRefusedWithin, IsRefusalAt, begins_with};
-ghost use Rattle.msvc_read.specs.State.{Note};
-ghost use Rattle.msvc_read.specs.Written.{DigitsCanBeWrittenOut};
-ghost use Rattle.msvc_write.specs.Declaration.{declaration};
-ghost use Rattle.msvc_demangler.specs.Hashes.{HashesAreShown};
+ghost use Rattle.std.specs.Prelude.{◌≤◌, IfErr, IfOk, string_bytes};
+ghost use Rattle.msvc_nodes.specs.Trees.{SymbolTree};
+ghost use Rattle.msvc_grammar.specs.Counts.{node_count};
+ghost use Rattle.msvc_grammar.specs.Parsed.{GrammarLaws, IsRejected, IsRejectedWithin};
+ghost use Rattle.msvc_demangler.specs.Demangled.{HashesAreShown, IsDeclared};
 
 mod debug;
+mod debug_words;
 mod filter;
 mod lines;
+mod output;
 mod room;
+mod run;
 mod watched;
 mod words;
 
 pub use bitflags::Flags;
 pub use filter::filter_text;
-pub use lines::{undname_lines, undname_one, undname_run};
+pub use lines::{undname_lines, undname_one};
+pub use msvc_nodes::error::{Error, ErrorRepr};
+pub use msvc_nodes::flags::{DemangleFlags, FuncClass, StorageClass};
+use msvc_print::{print, text_of};
 pub use msvc_read::{
     BackReference, back_references, parse, parse_prefix, parse_within, symbol_length,
     symbol_length_within,
 };
-pub use msvc_tree::error::{Error, ErrorRepr};
-pub use msvc_tree::flags::{DemangleFlags, FuncClass, StorageClass};
+use msvc_read::{read_symbol, read_symbol_within};
 pub use msvc_tree::tree::{
     CallingConv, Name, NameSequence, Operator, Params, ParseResult, Symbol, Type, VarStorageKind,
 };
 pub use msvc_write::serialize;
-use msvc_write::text_of;
 use room::Room;
+pub use run::undname_run;
 use std::alloc::Global;
 pub use watched::{Fault, Watched};
 
-/// The declaration of the symbol that `input` begins with, under the flags of printing: what [`serialize`] prints of
-/// the tree that [`parse`] reads, without that tree.
+/// Prints the declaration of the symbol that `input` begins with, under `flags`: the text that [`serialize`] prints of
+/// the tree that [`parse`] reads. Bytes after a complete symbol are ignored.
 ///
-/// A refusal has an offset into `input`, in bytes; out of memory, there is none.
+/// # Errors
+///
+/// The error of [`parse`] if `input` begins with no symbol, with an offset into `input` in bytes; an error for memory
+/// if an allocation fails.
+#[tactic(auto, using(crate::proofs::Demangled::memory_rejected))]
 pub fn demangle(alloc: Global, input: &str, flags: DemangleFlags) -> Result<String, Error>
-    ensures declared { IfOk result (λ text. (tree : SymbolTree) × (rest : List ℕ) × (notes : List Note)
-        × Derives input.now tree rest notes × IsOnly input.now tree rest notes
-        × (string_bytes text ≡ declaration tree flags.0)) }
-    ensures written_out { DigitsCanBeWrittenOut input.now }
+    ensures declared { IfOk result (λ text. (tree : SymbolTree)
+        × IsDeclared input.now tree flags.0 (string_bytes text)) }
+    ensures rejected { IfErr result (λ e. IsRejected input.now e) }
+    ensures laws { GrammarLaws input.now }
     ensures hashes { IfOk result (λ text. HashesAreShown input.now (string_bytes text)) }
-    ensures hashes_read { IfErr result (λ e. HashesAreRead input.now e) }
-    ensures refused { IfErr result (λ e. IsRefusedRightly input.now e) }
-    ensures begins { (begins_with (codes "?") input.now → ⊥) → IfErr result (λ e. IsRefusalAt input.now 0 e) }
-    ensures begins_ok { IfOk result (λ text. begins_with (codes "?") input.now) }
 {
     let mut room = Room::new(alloc);
-    match room.demangle(input, flags) {
-        Ok(()) => {
+    room.clear_for(input)?;
+    match read_symbol(alloc, &room.arena, input) {
+        Ok(symbol) => {
+            print(&room.arena, &symbol, flags, &mut room.text)?;
             let text = text_of(alloc, room.text)?;
             Ok(text)
         }
-        Err(refusal) => Err(refusal),
+        Err(error) => Err(error),
     }
 }
 
-/// The declaration that [`demangle`] gives, where the tree of the symbol has at most so many nodes: each name and each
-/// type in it is one, at every depth.
+/// Prints the declaration of the symbol that `input` begins with, as [`demangle`] does, if its tree has at most `nodes`
+/// nodes. Each name and each type in a tree is a node, at every depth.
 ///
-/// Any other text is refused as [`parse_within`] refuses it. Nothing is read of a node that is not allowed, so whatever
-/// the length of `input`, the depth of the calls and the memory for nodes are bounded. The declaration is not: a
-/// constructor or destructor prints the name of its class once more, and a conversion its type, so where these stand in
-/// one another, each level of some ten nodes can double it.
+/// The limit bounds the depth of the calls and the memory for nodes, whatever the length of `input`. It doesn't bound
+/// the declaration: a constructor or destructor prints the name of its class once more, and a conversion its type, so
+/// where these stand in one another, each level of some ten nodes can double it.
+///
+/// # Errors
+///
+/// Those of [`parse_within`], for the same inputs.
+#[tactic(auto, using(crate::proofs::Demangled::memory_rejected_within))]
 pub fn demangle_within(
     alloc: Global,
     input: &str,
     flags: DemangleFlags,
     nodes: usize,
 ) -> Result<String, Error>
-    ensures declared { IfOk result (λ text. (tree : SymbolTree) × (rest : List ℕ) × (notes : List Note)
-        × Derives input.now tree rest notes × IsOnly input.now tree rest notes
-        × (node_count tree ≤ nodes)
-        × (string_bytes text ≡ declaration tree flags.0)) }
+    ensures declared { IfOk result (λ text. (tree : SymbolTree)
+        × IsDeclared input.now tree flags.0 (string_bytes text) × (node_count tree ≤ nodes)) }
+    ensures rejected { IfErr result (λ e. IsRejectedWithin nodes input.now e) }
     ensures hashes { IfOk result (λ text. HashesAreShown input.now (string_bytes text)) }
-    ensures refused { IfErr result (λ e. IsRefusedWithin nodes input.now e) }
-    ensures begins { (begins_with (codes "?") input.now → ⊥) → IfErr result (λ e. IsRefusalAt input.now 0 e) }
-    ensures begins_ok { IfOk result (λ text. begins_with (codes "?") input.now) }
 {
     let mut room = Room::new(alloc);
-    match room.demangle_within(input, flags, nodes) {
-        Ok(()) => {
+    room.clear_within(input, nodes)?;
+    match read_symbol_within(alloc, &room.arena, input, nodes) {
+        Ok((symbol, _)) => {
+            print(&room.arena, &symbol, flags, &mut room.text)?;
             let shown = text_of(alloc, room.text)?;
             Ok(shown)
         }
-        Err(refusal) => Err(refusal),
+        Err(error) => Err(error),
     }
 }

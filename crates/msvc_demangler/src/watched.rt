@@ -1,24 +1,24 @@
-//! Streams that are watched: whether a call on a reader or a writer has failed. The engine over lines moves bytes by
-//! `take` and `put` alone, and the mark of a stream turns true in these alone.
+//! Streams that are watched: whether a call on a reader or a writer has failed. `take` and `put` are the only calls
+//! that move bytes, and the only ones that set the failure flag of a stream.
 
 ghost use Rattle.std.specs.Prelude.{◌≡◌, ◌+◌, ◌≤◌, ◌<◌, ◌^◌, ◌-◌, ◌++◌, ℕ, List, [], Err, IfErr, IfOk, OnErr, OnSome};
 ghost use Rattle.std.specs.Prelude.{false, length, take};
 ghost use Rattle.std.specs.Io.KnownBytes.{Appends, Consumes, IsAtEnd, Keeps};
-ghost use Rattle.msvc_demangler.specs.Faults.{Marks, mark, no_mark};
+ghost use Rattle.msvc_demangler.specs.Faults.{SetsFailureFlag, failure_flag, no_stream};
 ghost use Rattle.msvc_demangler.specs.Streams.{Stream};
 ghost use Rattle.msvc_demangler.specs.Taking.{IsCut, TakenAs};
 
 use std::io::{BufRead, Write};
 use std::marker::Model;
 
-/// Why an engine ended before its work was done.
+/// Why a run ended before its work was done.
 #[derive(Clone, Copy, Debug, PartialEq, Eq)]
 pub enum Fault {
     /// The reader failed.
     Read,
     /// A writer failed.
     Write,
-    /// Memory was refused.
+    /// An allocation failed.
     Memory,
 }
 
@@ -47,7 +47,7 @@ impl<T> Model for Watched<T> {
 }
 
 impl<T> Watched<T> {
-    /// A stream that has not failed.
+    /// Watches a stream, which has not failed.
     pub fn new(inner: T) -> Watched<T>
         ensures stream { result.stream ≡ inner }
         ensures failed { result.failed ≡ false }
@@ -58,14 +58,14 @@ impl<T> Watched<T> {
         }
     }
 
-    /// Whether a call on the stream has failed.
+    /// Returns whether a call on the stream has failed.
     pub fn failed(&self) -> bool
         ensures { result ≡ self.now.failed }
     {
         self.failed
     }
 
-    /// The stream.
+    /// Returns the stream.
     pub fn into_inner(self) -> T
         ensures { result ≡ self.stream }
     {
@@ -75,20 +75,20 @@ impl<T> Watched<T> {
 }
 
 impl<R: BufRead> Watched<R> {
-    /// Asks the reader once, and appends what it takes to `bytes`: up to a line feed, or all that the reader shows. The
-    /// reader has been asked so many times before; it has failed where it was asked 2^64 - 1 times.
+    /// Polls the reader once, and appends the bytes that it takes to `bytes`: up to a line feed, or all that the reader
+    /// shows. The reader was polled `polls` times before; 2^64 - 1 times are too many, and count as a failure.
     ///
-    /// A failed call is answered at once, an interrupted one too, and nothing is taken then. That the reader is asked
-    /// no second time can't be said by a clause, since a reader's contract tells its bytes and counts no calls.
-    pub(crate) fn take(&mut self, asked: u64, bytes: &mut Vec<u8>) -> Result<Taken, Fault>
+    /// Returns the fault of a failed call at once, also of an interrupted one, and takes nothing then. No clause says
+    /// that the reader is polled no second time, since a reader's contract tells its bytes and counts no calls.
+    pub(crate) fn take(&mut self, polls: u64, bytes: &mut Vec<u8>) -> Result<Taken, Fault>
         ensures taken { (taken : List ℕ) × (bytes.new.items ≡ bytes.old.items ++ taken)
             × Consumes (R.remaining self.old.stream) (R.remaining self.new.stream) taken × TakenAs result taken }
         ensures end { IfOk result (λ t. t ≡ Taken.End →
             OnSome (R.remaining self.old.stream) (IsAtEnd (R.remaining self.new.stream))) }
-        ensures marks { Marks result (mark self.old self.new) no_mark no_mark }
-        ensures asked { asked ≡ 2 ^ 64 - 1 → result ≡ Err Fault.Read }
+        ensures marks { SetsFailureFlag result (failure_flag self.old self.new) no_stream no_stream }
+        ensures too_many { polls ≡ 2 ^ 64 - 1 → result ≡ Err Fault.Read }
     {
-        if asked == u64::MAX {
+        if polls == u64::MAX {
             self.failed = true;
             return Err(Fault::Read);
         }
@@ -105,7 +105,7 @@ impl<R: BufRead> Watched<R> {
     }
 }
 
-/// How many bytes of those shown are taken at once, and what they are.
+/// Finds how many of the bytes shown are taken at once, and what they are.
 fn cut(shown: &[u8]) -> (usize, Taken)
     ensures bound { result.0 ≤ length shown.now }
     ensures taken { IsCut result.1 (take result.0 shown.now) }
@@ -124,10 +124,10 @@ fn cut(shown: &[u8]) -> (usize, Taken)
 }
 
 impl<W: Write> Watched<W> {
-    /// Writes once, of some bytes, and says how many the writer took. A writer that takes none has failed.
+    /// Writes some bytes once, and returns how many of them the writer took. A writer that takes none has failed.
     ///
-    /// A failed call is answered at once, an interrupted one too. That nothing is written after it can't be said by a
-    /// clause, for the reason given at `take`.
+    /// Returns the fault of a failed call at once, also of an interrupted one. No clause says that nothing is written
+    /// after it, for the reason given at `take`.
     pub(crate) fn put(&mut self, bytes: &[u8]) -> Result<usize, Fault>
         ensures bound { IfOk result (λ n. n ≤ length bytes.now) }
         ensures moves { IfOk result (λ n. 0 < n) }
@@ -135,7 +135,7 @@ impl<W: Write> Watched<W> {
             Appends (W.contents self.old.stream) (W.contents self.new.stream) (take n bytes.now)) }
         ensures err { OnErr result (Keeps (W.contents self.old.stream) (W.contents self.new.stream)) }
         ensures fault { IfErr result (λ f. f ≡ Fault.Write) }
-        ensures marks { Marks result no_mark (mark self.old self.new) no_mark }
+        ensures marks { SetsFailureFlag result no_stream (failure_flag self.old self.new) no_stream }
     {
         match self.stream.write(bytes) {
             Ok(n) if n > 0 => Ok(n),

@@ -1,18 +1,16 @@
--- What the calls from C answer.
+-- What the calls from C return and write.
 use Rattle.std.specs.Prelude.{ℕ, List, ◌-◌, ◌≡◌, ◌≤◌, ◌^◌, ◌==◌, length, string_bytes, codes}
 use Rattle.std.specs.Prelude.{Option, Some, None, IfSome, Result, Ok, Err, String, if◌then◌else◌}
-use Rattle.std.specs.Str.{IsCharBoundary, IsUtf8, IsValidUpTo}
+use Rattle.std.specs.Str.{IsUtf8, IsValidUpTo}
 use Rattle.std.specs.declared.alloc.Global.{Global}
-use Rattle.msvc_tree.specs.Errors.{error_text}
-use Rattle.msvc_tree.specs.Errors as errors
-use Rattle.msvc_tree.specs.Trees.{SymbolTree}
-use Rattle.msvc_tree.specs.declared.error.ErrorRepr.{ErrorRepr}
-use Rattle.msvc_read.specs.Counts.{node_count}
-use Rattle.msvc_read.specs.Prefix.{IsReadTo}
-use Rattle.msvc_read.specs.Reads.{Derives, IsOnly}
-use Rattle.msvc_read.specs.Refusals.{IsRefusedRightly, IsRefusedWithin, begins_with}
-use Rattle.msvc_read.specs.State.{Note}
-use Rattle.msvc_write.specs.Declaration.{declaration}
+use Rattle.msvc_demangler.specs.Errors.{error_text}
+use Rattle.msvc_demangler.specs.Errors as errors
+use Rattle.msvc_demangler.specs.Trees.{SymbolTree}
+use Rattle.msvc_demangler.specs.ErrorRepr.{ErrorRepr}
+use Rattle.msvc_demangler.specs.Counts.{node_count}
+use Rattle.msvc_demangler.specs.Parsed.{IsParsed, IsRejected, IsRejectedWithin, IsSymbolLength}
+use Rattle.msvc_demangler.specs.Refusals.{begins_with}
+use Rattle.msvc_demangler.specs.Demangled.{IsDeclared}
 use Rattle.msvc_demangler_c.specs.Buffers.{IsWritten}
 use Rattle.msvc_demangler_c.specs.declared.Answer.{Answer}
 use Rattle.msvc_demangler_c.specs.declared.Refusal.{Refusal}
@@ -32,28 +30,22 @@ abbrev pub IsAllowed : Option ℕ → SymbolTree → Type 0
 IsAllowed None tree = Unit {0}
 IsAllowed (Some nodes) tree = node_count tree ≤ nodes
 
--- the tree that the grammar derives from a beginning of the symbol, the only one, and allowed
-abbrev pub IsTree : Option ℕ → List ℕ → SymbolTree → List ℕ → List Note → Type 0
-IsTree bound symbol tree rest notes = Derives symbol tree rest notes
-    × IsOnly symbol tree rest notes
-    × IsAllowed bound tree
-
--- the text is that tree's declaration
+-- the text is the declaration of the symbol's tree, which is allowed
 abbrev pub IsDeclaration : Option ℕ → List ℕ → ℕ → List ℕ → Type 0
-IsDeclaration bound symbol flags text = (tree : SymbolTree) × (rest : List ℕ) × (notes : List Note)
-    × IsTree bound symbol tree rest notes × (text ≡ declaration tree flags)
+IsDeclaration bound symbol flags text =
+    (tree : SymbolTree) × IsDeclared symbol tree flags text × IsAllowed bound tree
 
--- so many bytes were read for it, and cut after these, the symbol has the same tree
+-- so many bytes were read for the symbol's tree, which is allowed; cut after these, the symbol has the same tree
 abbrev pub IsLength : Option ℕ → List ℕ → ℕ → Type 0
-IsLength bound symbol bytes = (tree : SymbolTree) × (rest : List ℕ) × (notes : List Note)
-    × IsTree bound symbol tree rest notes × IsReadTo bytes symbol tree rest notes × IsCharBoundary symbol bytes
+IsLength bound symbol bytes =
+    (tree : SymbolTree) × IsParsed symbol tree × IsAllowed bound tree × IsSymbolLength bytes symbol
 
--- the library refuses the symbol rightly: memory aside, no allowed tree is derived
-abbrev pub IsRefusedBy : Option ℕ → List ℕ → ErrorRepr → Type 0
-IsRefusedBy None symbol e = IsRefusedRightly symbol e
-IsRefusedBy (Some nodes) symbol e = IsRefusedWithin nodes symbol e
+-- the library rejects the symbol with this error: memory aside, no allowed tree is derived
+abbrev pub IsRejectedBy : Option ℕ → List ℕ → ErrorRepr → Type 0
+IsRejectedBy None symbol e = IsRejected symbol e
+IsRejectedBy (Some nodes) symbol e = IsRejectedWithin nodes symbol e
 
--- a refusal at this place whose text is this: for the symbol's nodes exactly where the text begins so
+-- a refusal at this offset with this text: for the symbol's nodes exactly if the text begins so
 abbrev pub IsByReason : ℕ → List ℕ → Refusal → Type 0
 IsByReason offset text (refusal.Symbol at shown) =
     (at ≡ offset) × (string_bytes shown ≡ text) × (begins_with too_many_nodes text → ⊥)
@@ -61,18 +53,18 @@ IsByReason offset text (refusal.Nodes at shown) =
     (at ≡ offset) × (string_bytes shown ≡ text) × begins_with too_many_nodes text
 IsByReason offset text _ = ⊥
 
--- A refusal of the library, as the caller sees it: at its place, with the text that it prints, of which nothing is said
--- where its context is not ASCII; or else memory was refused.
+-- An error of the library, as the caller sees it: with its offset and the text that it prints, of which nothing is said
+-- if its context is not ASCII; or else out of memory.
 abbrev pub IsShown : ErrorRepr → Refusal → Type 0
 IsShown e refusal.Memory = Unit {0}
 IsShown e shown = (offset : ℕ) × (text : List ℕ) × (errors.offset_of e ≡ Some offset)
     × IfSome (error_text e) (λ printed. text ≡ printed) × IsByReason offset text shown
 
--- the symbol is refused rightly
+-- the symbol is rejected, and this is why
 abbrev pub IsRefused : Option ℕ → List ℕ → Refusal → Type 0
 IsRefused bound symbol (refusal.NotUtf8 offset) = IsValidUpTo symbol offset × ¬ (IsUtf8 symbol)
 IsRefused bound symbol refusal.Memory = Unit {0}
-IsRefused bound symbol other = (e : ErrorRepr) × IsRefusedBy bound symbol e × IsShown e other
+IsRefused bound symbol other = (e : ErrorRepr) × IsRejectedBy bound symbol e × IsShown e other
 
 -- what is found of a symbol: its declaration, or why it has none
 abbrev pub IsFound : Option ℕ → List ℕ → ℕ → Result (String Global) Refusal → Type 0

@@ -1,18 +1,17 @@
-//! The demangler for C: three calls that `include/msvc_demangler.h` declares. They take and answer bytes, keep no
+//! The demangler for C: three calls that `include/msvc_demangler.h` declares. They take and return bytes, keep no
 //! state, and can be called by any number of threads.
 #![tactic(auto)]
 
 ghost use Rattle.std.specs.Prelude.{◌≡◌, ℕ, Result, String, IfErr, IfOk, length, string_bytes};
 ghost use Rattle.std.specs.declared.alloc.Global.{Global};
 ghost use Rattle.msvc_demangler_c.specs.Buffers.{IsWritten};
-ghost use Rattle.msvc_demangler_c.specs.Calls.{IsDeclaration, IsFound, IsLength, IsMeasured, IsRefusedBy, IsShown};
+ghost use Rattle.msvc_demangler_c.specs.Calls.{IsDeclaration, IsFound, IsLength, IsMeasured, IsRejectedBy, IsShown};
 ghost use Rattle.msvc_demangler_c.specs.Calls.{IsByReason, IsGiven, IsTold, bound_of, offset_of, status_of, text_of};
 ghost use Rattle.msvc_demangler_c.specs.Calls.{version};
 ghost use Rattle.msvc_demangler_c.specs.declared.Refusal.{Refusal};
 
-use bitflags::Flags;
 use msvc_demangler::{
-    DemangleFlags, Error, demangle, demangle_within, symbol_length, symbol_length_within,
+    DemangleFlags, Error, Flags, demangle, demangle_within, symbol_length, symbol_length_within,
 };
 use std::alloc::Global;
 use std::str::from_utf8;
@@ -20,38 +19,36 @@ use std::str::from_utf8;
 /// The version of the library.
 const VERSION: &str = "0.11.0";
 
-/// How a refusal begins that has more nodes than allowed for its reason.
+/// The beginning of the error's text for a symbol of more nodes than allowed.
 const TOO_MANY_NODES: &str = "more nodes than allowed";
 
-/// What a call found.
+/// The result of a call.
 #[repr(C)]
 #[derive(Drop)]
 pub struct Answer {
-    /// 0: a symbol; 1: none, by the grammar; 2: no UTF-8; 3: memory was refused; 4: a symbol of more nodes than
-    /// allowed.
+    /// 0: a symbol; 1: none, by the grammar; 2: no UTF-8; 3: out of memory; 4: a symbol of more nodes than allowed.
     pub status: u32,
-    /// The place, in bytes, at which the symbol was refused, or up to which it is UTF-8; else 0.
+    /// The offset in bytes at which the symbol was rejected, or up to which it is UTF-8; else 0.
     pub offset: usize,
-    /// How many bytes the whole text has, without the NUL after it, whether it fitted or not; or how many bytes the
-    /// symbol takes.
+    /// The bytes of the whole text, without the NUL after it, whether it fitted or not; or the bytes of the symbol.
     pub length: usize,
 }
 
 /// Why a symbol has no declaration.
 #[derive(Drop)]
 enum Refusal {
-    /// It is refused at this place, in bytes, and what the refusal says.
+    /// It is rejected at this offset in bytes, with this text.
     Symbol(usize, String),
-    /// The same, for its nodes.
+    /// It has too many nodes: the offset and the text likewise.
     Nodes(usize, String),
-    /// It is UTF-8 up to this place, in bytes, and no further.
+    /// It is UTF-8 up to this offset in bytes, and no further.
     NotUtf8(usize),
     Memory,
 }
 
 /// Writes the declaration of the symbol that these bytes begin with, or why there is none, into `out` by the rules of
-/// `snprintf`: cut short where it does not fit, and a NUL after it. Of the symbol's tree at most so many nodes are
-/// allowed, or any number for 2^64 - 1.
+/// `snprintf`: cut short if it does not fit, and with a NUL after it. The symbol's tree may have at most `nodes` nodes,
+/// or any number for 2^64 - 1.
 #[unsafe(no_mangle)]
 pub extern "C" fn msvc_demangler_demangle(
     alloc: Global,
@@ -67,7 +64,7 @@ pub extern "C" fn msvc_demangler_demangle(
     give(&found, out)
 }
 
-/// How many bytes of a longer text the symbol takes that it begins with; nodes are allowed as above.
+/// Returns the length in bytes of the symbol that a longer text begins with, with the same limit on nodes.
 #[unsafe(no_mangle)]
 pub extern "C" fn msvc_demangler_prefix(alloc: Global, symbol: &[u8], nodes: usize) -> Answer
     ensures { (found : Result ℕ Refusal) × IsMeasured (bound_of nodes) symbol.now found × IsTold found result }
@@ -76,7 +73,7 @@ pub extern "C" fn msvc_demangler_prefix(alloc: Global, symbol: &[u8], nodes: usi
     tell(&found)
 }
 
-/// Writes the version into `out`, as above, and gives its length.
+/// Writes the version into `out`, by the same rules, and returns its length in bytes.
 #[unsafe(no_mangle)]
 pub extern "C" fn msvc_demangler_version(out: &mut [u8]) -> usize
     ensures written { IsWritten version out.old out.new }
@@ -85,7 +82,7 @@ pub extern "C" fn msvc_demangler_version(out: &mut [u8]) -> usize
     write(VERSION, out)
 }
 
-/// How many nodes are allowed, if that is limited.
+/// Returns how many nodes are allowed, if that is limited.
 fn bound(nodes: usize) -> Option<usize>
     ensures { result ≡ bound_of nodes }
 {
@@ -95,7 +92,7 @@ fn bound(nodes: usize) -> Option<usize>
     Some(nodes)
 }
 
-/// The declaration of a symbol, or why it has none.
+/// Returns the declaration of a symbol, or why it has none.
 fn find(alloc: Global, symbol: &[u8], flags: u32, bound: Option<usize>) -> Result<String, Refusal>
     ensures { IsFound bound symbol.now flags result }
 {
@@ -105,7 +102,7 @@ fn find(alloc: Global, symbol: &[u8], flags: u32, bound: Option<usize>) -> Resul
     }
 }
 
-/// The same of a symbol that is UTF-8.
+/// Does the same for a symbol that is UTF-8.
 fn declare(
     alloc: Global,
     symbol: &str,
@@ -116,11 +113,11 @@ fn declare(
 {
     match demangled(alloc, symbol, flags, bound) {
         Ok(declaration) => Ok(declaration),
-        Err(refusal) => Err(refused(alloc, &refusal)),
+        Err(error) => Err(refused(alloc, &error)),
     }
 }
 
-/// What the library answers, with the nodes limited or not.
+/// Calls the library, with the nodes limited or not.
 fn demangled(
     alloc: Global,
     symbol: &str,
@@ -128,7 +125,7 @@ fn demangled(
     bound: Option<usize>,
 ) -> Result<String, Error>
     ensures declared { IfOk result (λ text. IsDeclaration bound symbol.now flags.0 (string_bytes text)) }
-    ensures refused { IfErr result (λ e. IsRefusedBy bound symbol.now e) }
+    ensures rejected { IfErr result (λ e. IsRejectedBy bound symbol.now e) }
 {
     match bound {
         None => demangle(alloc, symbol, flags),
@@ -136,7 +133,7 @@ fn demangled(
     }
 }
 
-/// How many bytes a symbol takes, or why there is none.
+/// Returns how many bytes a symbol takes, or why there is none.
 fn measure(alloc: Global, symbol: &[u8], bound: Option<usize>) -> Result<usize, Refusal>
     ensures { IsMeasured bound symbol.now result }
 {
@@ -146,20 +143,20 @@ fn measure(alloc: Global, symbol: &[u8], bound: Option<usize>) -> Result<usize, 
     }
 }
 
-/// The same of a text that is UTF-8.
+/// Does the same for a text that is UTF-8.
 fn measure_text(alloc: Global, symbol: &str, bound: Option<usize>) -> Result<usize, Refusal>
     ensures { IsMeasured bound symbol.now result }
 {
     match measured(alloc, symbol, bound) {
         Ok(bytes) => Ok(bytes),
-        Err(refusal) => Err(refused(alloc, &refusal)),
+        Err(error) => Err(refused(alloc, &error)),
     }
 }
 
-/// What the library answers, with the nodes limited or not.
+/// Calls the library, with the nodes limited or not.
 fn measured(alloc: Global, symbol: &str, bound: Option<usize>) -> Result<usize, Error>
     ensures length { IfOk result (λ bytes. IsLength bound symbol.now bytes) }
-    ensures refused { IfErr result (λ e. IsRefusedBy bound symbol.now e) }
+    ensures rejected { IfErr result (λ e. IsRejectedBy bound symbol.now e) }
 {
     match bound {
         None => symbol_length(alloc, symbol),
@@ -167,17 +164,17 @@ fn measured(alloc: Global, symbol: &str, bound: Option<usize>) -> Result<usize, 
     }
 }
 
-/// Where a symbol was refused, and the text that says why.
-fn refused(alloc: Global, refusal: &Error) -> Refusal
-    ensures { IsShown refusal.now result }
+/// Returns where a symbol was rejected, and the text that says why.
+fn refused(alloc: Global, error: &Error) -> Refusal
+    ensures { IsShown error.now result }
 {
-    match (refusal.offset(), format!(in alloc; "{refusal}")) {
+    match (error.offset(), format!(in alloc; "{error}")) {
         (Some(offset), Ok(text)) => by_reason(offset, text),
         _ => Refusal::Memory,
     }
 }
 
-/// A refusal at this place, by what its text says.
+/// Parts the errors for too many nodes from all others, by the beginning of the text.
 fn by_reason(offset: usize, text: String) -> Refusal
     ensures { IsByReason offset (string_bytes text) result }
 {
@@ -206,7 +203,7 @@ fn give(found: &Result<String, Refusal>, out: &mut [u8]) -> Answer
     }
 }
 
-/// Tells what was measured.
+/// Returns what was measured.
 fn tell(found: &Result<usize, Refusal>) -> Answer
     ensures { IsTold found.now result }
 {
@@ -224,6 +221,7 @@ fn tell(found: &Result<usize, Refusal>) -> Answer
     }
 }
 
+/// Returns the status of a refusal.
 fn status(refusal: &Refusal) -> u32
     ensures { result ≡ status_of refusal.now }
 {
@@ -235,6 +233,7 @@ fn status(refusal: &Refusal) -> u32
     }
 }
 
+/// Returns the offset of a refusal in bytes, or 0.
 fn offset(refusal: &Refusal) -> usize
     ensures { result ≡ offset_of refusal.now }
 {
@@ -246,7 +245,7 @@ fn offset(refusal: &Refusal) -> usize
     }
 }
 
-/// What is written of a refusal.
+/// Returns the text that is written for a refusal.
 fn text(refusal: &Refusal) -> &str
     ensures { result.now ≡ text_of refusal.now }
 {
@@ -258,8 +257,8 @@ fn text(refusal: &Refusal) -> &str
     }
 }
 
-/// Writes a text and a NUL into a buffer, cut short before a character where they do not fit, and gives the length of
-/// the text.
+/// Writes a text and a NUL into a buffer, cut short before a character if they do not fit, and returns the length of
+/// the text in bytes.
 fn write(text: &str, out: &mut [u8]) -> usize
     ensures written { IsWritten text.now out.old out.new }
     ensures length { result ≡ length text.now }

@@ -2,9 +2,8 @@
 
 use crate::made::{is_made, is_refused_so, is_within, shown_as};
 use crate::{references, within};
-use bitflags::Flags;
 use msvc_demangler::{
-    BackReference, DemangleFlags, Error, ParseResult, back_references, demangle, parse,
+    BackReference, DemangleFlags, Error, Flags, ParseResult, back_references, demangle, parse,
     parse_prefix, serialize, symbol_length, symbol_length_within,
 };
 use std::alloc::Global;

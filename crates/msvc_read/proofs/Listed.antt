@@ -1,20 +1,18 @@
 -- The notes that are read of a whole text are those of the one tree that is derived, rise, and can be written out.
 use Rattle.std.proofs.Common.{ℕ, List, Option, Some, None, ◌≡◌, refl, subst}
 use Rattle.std.specs.Option.{option_map}
-use Rattle.msvc_tree.specs.Trees.{SymbolTree}
-use Rattle.msvc_tree.specs.declared.error.ErrorRepr.{ErrorRepr}
-use Rattle.msvc_read.proofs.Laws.{derived-only, symbol-derived}
-use Rattle.msvc_read.proofs.Rising.{derived_rising}
-use Rattle.msvc_read.proofs.Whole.{error-refused}
-use Rattle.msvc_read.proofs.Written.{all_written_out}
-use Rattle.msvc_read.specs.Parser.{Refuses, with_length}
-use Rattle.msvc_read.specs.Reads.{Derives, Found, IsOnly, read_name}
-use Rattle.msvc_read.specs.Refusals.{IsErrorOf, IsRefusedRightly}
-use Rattle.msvc_read.specs.Rules.{symbol}
-use Rattle.msvc_read.specs.State.{State, Note, beginning}
-use Rattle.msvc_read.specs.Written.{AreRising, CanBeWrittenOut}
-use Rattle.msvc_read.specs.declared.refusal.Refusal.{Refusal}
-use Rattle.msvc_read.specs.declared.refusal.Refusal.TheVariants as refusal
+use Rattle.msvc_nodes.specs.Trees.{SymbolTree}
+use Rattle.msvc_grammar.proofs.Laws.{derived-only, symbol-derived}
+use Rattle.msvc_grammar.proofs.NotesIncreasing.{derived_rising}
+use Rattle.msvc_grammar.proofs.WrittenOut.{all_written_out}
+use Rattle.msvc_grammar.specs.Parsed.{AreReferences}
+use Rattle.msvc_grammar.specs.Reads.{Derives, Found, read_name}
+use Rattle.msvc_grammar.specs.Rules.{symbol}
+use Rattle.msvc_grammar.specs.State.{State, Note, beginning}
+use Rattle.msvc_parser.specs.Parser.{Refuses, with_length}
+use Rattle.msvc_parser.specs.declared.refusal.Refusal.{Refusal}
+use Rattle.msvc_parser.specs.declared.refusal.Refusal.TheVariants as refusal
+use Rattle.msvc_read.proofs.WholeTexts.{begun, symbol_read}
 
 -- the notes that are taken of a text
 abbrev pub notes_read : List ℕ → Option (List Note)
@@ -25,36 +23,24 @@ noted : (r : Found SymbolTree) (notes : List Note) → option_map (λ x. x.2.not
 noted None notes e = absurd (cc)
 noted (Some x) notes e = let same : x.2.notes ≡ notes = cc in (x.0, x.1, x.2, refl, same)
 
--- what is derived, with these notes, and alone
-abbrev pub OneNoted : List ℕ → List Note → Type 0
-OneNoted text notes = (tree : SymbolTree) × (rest : List ℕ) × Derives text tree rest notes
-    × IsOnly text tree rest notes
-
-pub read-noted : (text : List ℕ) (notes : List Note) → notes_read text ≡ Some notes → OneNoted text notes
-read-noted text notes e =
+pub references : (text : List ℕ) (notes : List Note) → notes_read text ≡ Some notes → AreReferences text notes
+references text notes e =
     let found = noted (read_name symbol text (beginning text)) notes e in
     let derived : Derives text found.0 found.1 notes =
-    subst (Derives text found.0 found.1) found.4 (symbol-derived text found.0 found.1 found.2 found.3) in (
-      found.0,
-      found.1,
-      derived,
-      λ other remaining others d. derived-only text other found.0 remaining found.1 others notes d derived,
-    )
+    subst (Derives text found.0 found.1) found.4 (symbol-derived text found.0 found.1 found.2 found.3) in
+    record {
+      tree = found.0;
+      rest = found.1;
+      derived = derived;
+      only = λ other remaining others d. derived-only text other found.0 remaining found.1 others notes d derived;
+      begins = begun text found.0 found.1 notes derived;
+      rising = derived_rising text found.0 found.1 notes derived;
+      written_out = all_written_out text found.0 found.1 notes derived;
+    }
 
-pub read-rising : (text : List ℕ) (notes : List Note) → notes_read text ≡ Some notes → AreRising notes
-read-rising text notes e = let one = read-noted text notes e in derived_rising text one.0 one.1 notes one.2
-
-pub read-written : (text : List ℕ) (notes : List Note) → notes_read text ≡ Some notes
-    → (tree : SymbolTree) (rest : List ℕ) (others : List Note) → Derives text tree rest others
-    → CanBeWrittenOut text tree rest notes
-read-written text notes e tree rest others d =
-    let one = read-noted text notes e in
-    subst (CanBeWrittenOut text tree rest) (one.3 tree rest others d).2 (all_written_out text tree rest others d)
-
--- where a refusal says that no notes are read, it says that no tree is
-pub noted-refused : (text : List ℕ) (r : Refusal) (e : ErrorRepr) → Refuses r (notes_read text) → IsErrorOf r text e
-    → IsRefusedRightly text e
-noted-refused text r e h is = error-refused text r e (no_tree r (read_name symbol text (beginning text)) h) is
+-- where a refusal says that no notes are read, it says that no symbol is
+pub notes-refused : (text : List ℕ) (r : Refusal) → Refuses r (notes_read text) → Refuses r (symbol_read text)
+notes-refused text r h = no_tree r (read_name symbol text (beginning text)) h
   where
     no_tree : (r : Refusal) (found : Found SymbolTree) → Refuses r (option_map (λ x. x.2.notes) found)
         → Refuses r (with_length text found)

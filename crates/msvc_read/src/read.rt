@@ -1,257 +1,213 @@
-//! The reading of a whole text.
+//! Reads a whole text as a symbol.
 
 ghost use Rattle.std.specs.Option.{option_map};
-ghost use Rattle.std.specs.Prelude.{◌≡◌, ◌≤◌, ◌^◌, codes, ℕ, List, length, map, IfOk, IfErr, None, Err};
-ghost use Rattle.std.specs.Str.{IsCharBoundary, IsUtf8};
-ghost use Rattle.msvc_tree.specs.EachName.{EachName};
-ghost use Rattle.msvc_tree.specs.NodeView.{whole_of};
-ghost use Rattle.msvc_tree.specs.Trees.{SymbolTree};
+ghost use Rattle.std.specs.Prelude.{◌≡◌, ◌≤◌, ◌^◌, codes, length, map, IfOk, IfErr, None, Err};
+ghost use Rattle.msvc_nodes.specs.NodeView.{typed_symbol_of};
+ghost use Rattle.msvc_nodes.specs.Trees.{SymbolTree};
 ghost use Rattle.msvc_tree.specs.View.{tree_of};
-ghost use Rattle.msvc_read.specs.Counts.{node_count};
-ghost use Rattle.msvc_read.specs.Hashes.{HashesAreRead, HashesStand};
-ghost use Rattle.msvc_read.specs.Laws.{HasOneTree, TablesAreHandedBack, TypesAreLocal};
-ghost use Rattle.msvc_read.specs.Parser.{IsRead, note_of, with_length, Refuses};
-ghost use Rattle.msvc_read.specs.Parts.{NamesAreParts};
-ghost use Rattle.msvc_read.specs.Prefix.{IsReadTo};
-ghost use Rattle.msvc_read.specs.Reads.{Derives, IsOnly, read_name};
-ghost use Rattle.msvc_read.specs.Refusals.{IsRefusedRightly, IsRefusedWithin, IsRefusalAt, begins_with};
-ghost use Rattle.msvc_read.specs.Rules.{after, symbol};
-ghost use Rattle.msvc_read.specs.State.{Count, Note, beginning, beginning_with};
-ghost use Rattle.msvc_read.specs.Written.{AreRising, CanBeWrittenOut, DigitsCanBeWrittenOut};
+ghost use Rattle.msvc_grammar.specs.Counts.{node_count};
+ghost use Rattle.msvc_grammar.specs.Parsed as spec;
+ghost use Rattle.msvc_grammar.specs.Reads.{read_name};
+ghost use Rattle.msvc_grammar.specs.Rules.{after, symbol};
+ghost use Rattle.msvc_grammar.specs.State.{Count, beginning, beginning_with};
+ghost use Rattle.msvc_parser.specs.Parser.{IsRead, note_of, with_length, Refuses};
 
-use crate::limit::{Limit, Limited, Unlimited};
-use crate::memorized::BackReference;
-use crate::parser::Parser;
-use crate::refusal::{Message, Refusal};
 use bumpalo::Bump;
-use msvc_tree::error::Error;
-use msvc_tree::nodes::Whole;
-use msvc_tree::owned::owned_whole;
+use msvc_nodes::error::Error;
+use msvc_nodes::nodes::TypedSymbol;
+use msvc_parser::limit::{Limit, Limited, Unlimited};
+use msvc_parser::memorized::BackReference;
+use msvc_parser::parser::Parser;
+use msvc_parser::refusal::{Message, Refusal};
+use msvc_readers::symbols::symbol;
+use msvc_tree::to_tree::nodes_to_tree;
 use msvc_tree::tree::ParseResult;
 use std::alloc::Global;
 
-/// How many bytes of an arena a byte of a symbol takes at most. 96 are for a node, and its places in a list and in a
-/// table that have grown by doubling. 64 are for the stack of the printer, which has grown by doubling too, and has one
-/// item for two bytes of text at most.
-const ROOM_OF_A_BYTE: usize = 160;
+/// Bytes of an arena that a byte of a symbol takes at most: a node, and its places in a list and in a table that have
+/// grown by doubling.
+const ROOM_OF_A_BYTE: usize = 96;
 
-/// How many bytes of an arena a node takes at most, where nodes are counted: itself and its parts, its places in lists
-/// and tables that have grown by doubling, and the stack of the printer.
-const ROOM_OF_A_NODE: usize = 512;
+/// Bytes of an arena that a node takes at most, where nodes are counted: the node and its parts, and their places in
+/// lists and tables that have grown by doubling.
+const ROOM_OF_A_NODE: usize = 384;
 
-/// How many bytes the lists and tables of a parser take at first, and the stack of the printer.
-const ROOM_AT_FIRST: usize = 2048;
+/// Bytes that the lists and tables of a parser take at first.
+const ROOM_AT_FIRST: usize = 1024;
 
-/// How many bytes an arena begins with at most.
+/// The most bytes that an arena begins with.
 const MOST_ROOM: usize = 1 << 20;
 
-/// The tree of the symbol that `input` begins with. Its names are parts of `input`, which it borrows; bytes after a
-/// finished symbol stay unread.
+/// Reads the symbol that `input` begins with, and returns its tree. The names in the tree borrow from `input`. Bytes
+/// after a complete symbol are ignored.
 ///
-/// A refusal has an offset into `input`, in bytes; out of memory, there is none. It leaves nothing behind.
+/// # Errors
+///
+/// Fails if `input` begins with no symbol; the error then has an offset into `input`, in bytes. Fails out of memory if
+/// an allocation fails; that error has no offset.
 pub fn parse<'a>(alloc: Global, input: &'a str) -> Result<ParseResult<'a>, Error>
-    ensures derived { IfOk result (λ r. (rest : List ℕ) × (notes : List Note)
-        × Derives input.now (tree_of r) rest notes × IsOnly input.now (tree_of r) rest notes) }
-    ensures written_out { DigitsCanBeWrittenOut input.now }
-    ensures parts { IfOk result (λ r. NamesAreParts input.now (tree_of r)) }
-    ensures texts { IfOk result (λ r. EachName IsUtf8 (tree_of r)) }
-    ensures hashes { IfOk result (λ r. HashesStand input.now (tree_of r)) }
-    ensures unique { HasOneTree input.now }
-    ensures local { TypesAreLocal }
-    ensures tables { TablesAreHandedBack }
-    ensures hashes_read { IfErr result (λ e. HashesAreRead input.now e) }
-    ensures refused { IfErr result (λ e. IsRefusedRightly input.now e) }
-    ensures begins { (begins_with (codes "?") input.now → ⊥) → IfErr result (λ e. IsRefusalAt input.now 0 e) }
-    ensures begins_ok { IfOk result (λ r. begins_with (codes "?") input.now) }
+    ensures parsed { IfOk result (λ r. spec.IsParsed input.now (tree_of r)) }
+    ensures rejected { IfErr result (λ e. spec.IsRejected input.now e) }
+    ensures laws { spec.GrammarLaws input.now }
 {
     match parse_prefix(alloc, input) {
-        Ok((symbol, _)) => Ok(symbol),
-        Err(refusal) => Err(refusal),
+        Ok((parsed, _)) => Ok(parsed),
+        Err(error) => Err(error),
     }
 }
 
-/// The tree of the symbol that `input` begins with, as [`parse`] gives it, and how many bytes of `input` were read. The
-/// bytes that were read have the same tree when they stand alone, and all of them are read then.
+/// Reads the symbol that `input` begins with, and returns its tree, as [`parse`] does, and its length in bytes. These
+/// bytes alone have the same tree, with no bytes left.
 ///
-/// It refuses where [`parse`] does, with the same refusal.
+/// # Errors
+///
+/// Fails where [`parse`] does, with the same error.
 pub fn parse_prefix<'a>(alloc: Global, input: &'a str) -> Result<(ParseResult<'a>, usize), Error>
-    ensures derived { IfOk result (λ r. (rest : List ℕ) × (notes : List Note)
-        × Derives input.now (tree_of r.0) rest notes × IsOnly input.now (tree_of r.0) rest notes) }
-    ensures prefix { IfOk result (λ r. (tree : SymbolTree) (rest : List ℕ) (notes : List Note)
-        → Derives input.now tree rest notes → IsReadTo r.1 input.now tree rest notes) }
-    ensures boundary { IfOk result (λ r. IsCharBoundary input.now r.1) }
-    ensures written_out { DigitsCanBeWrittenOut input.now }
-    ensures parts { IfOk result (λ r. NamesAreParts input.now (tree_of r.0)) }
-    ensures texts { IfOk result (λ r. EachName IsUtf8 (tree_of r.0)) }
-    ensures hashes { IfOk result (λ r. HashesStand input.now (tree_of r.0)) }
-    ensures hashes_read { IfErr result (λ e. HashesAreRead input.now e) }
-    ensures refused { IfErr result (λ e. IsRefusedRightly input.now e) }
-    ensures begins { (begins_with (codes "?") input.now → ⊥) → IfErr result (λ e. IsRefusalAt input.now 0 e) }
-    ensures begins_ok { IfOk result (λ r. begins_with (codes "?") input.now) }
+    ensures parsed { IfOk result (λ r. spec.IsParsed input.now (tree_of r.0)) }
+    ensures length { IfOk result (λ r. spec.IsSymbolLength r.1 input.now) }
+    ensures rejected { IfErr result (λ e. spec.IsRejected input.now e) }
+    ensures laws { spec.GrammarLaws input.now }
 {
-    match read(alloc, input, Unlimited, room_for(input)) {
-        Ok(symbol) => Ok(symbol),
+    match read_tree(alloc, input, Unlimited, room_for(input)) {
+        Ok((tree, bytes)) => Ok((tree, bytes)),
         Err(refusal) => Err(refusal.error(alloc, input.as_bytes())),
     }
 }
 
-/// The tree of the symbol that `input` begins with, as [`parse`] gives it, if it has at most so many nodes: each name
-/// and each type in it is one, at every depth.
+/// Reads the symbol that `input` begins with, and returns its tree, as [`parse`] does, if the tree has at most `nodes`
+/// nodes. Each name and each type in a tree is a node, at every depth.
 ///
-/// Nothing is made of a larger tree than these nodes: where one more is met, the text is refused as "more nodes than
-/// allowed", at an offset that is at most its length. What [`parse`] refuses is refused, with the same refusal or this
-/// one.
+/// # Errors
+///
+/// Fails where [`parse`] does. Fails with "more nodes than allowed", and an offset into `input`, if the tree has more
+/// nodes: reading stops at the first node beyond the limit. Where both apply, either error may be returned.
 pub fn parse_within<'a>(
     alloc: Global,
     input: &'a str,
     nodes: usize,
 ) -> Result<ParseResult<'a>, Error>
-    ensures derived { IfOk result (λ r. (rest : List ℕ) × (notes : List Note)
-        × Derives input.now (tree_of r) rest notes × IsOnly input.now (tree_of r) rest notes) }
+    ensures parsed { IfOk result (λ r. spec.IsParsed input.now (tree_of r)) }
     ensures within { IfOk result (λ r. node_count (tree_of r) ≤ nodes) }
-    ensures parts { IfOk result (λ r. NamesAreParts input.now (tree_of r)) }
-    ensures texts { IfOk result (λ r. EachName IsUtf8 (tree_of r)) }
-    ensures hashes { IfOk result (λ r. HashesStand input.now (tree_of r)) }
-    ensures refused { IfErr result (λ e. IsRefusedWithin nodes input.now e) }
-    ensures begins { (begins_with (codes "?") input.now → ⊥) → IfErr result (λ e. IsRefusalAt input.now 0 e) }
-    ensures begins_ok { IfOk result (λ r. begins_with (codes "?") input.now) }
+    ensures rejected { IfErr result (λ e. spec.IsRejectedWithin nodes input.now e) }
 {
     let limit = Limited {
         made: 0,
         most: nodes,
     };
-    match read(alloc, input, limit, room_within(input, nodes)) {
+    match read_tree(alloc, input, limit, room_within(input, nodes)) {
         Ok((tree, _)) => Ok(tree),
         Err(refusal) => Err(refusal.error(alloc, input.as_bytes())),
     }
 }
 
-/// The symbol that `input` begins with, as nodes in the arena: what [`parse`] makes its tree of. Its names are parts of
-/// `input`; all else is in the arena, where nothing is copied that stands twice.
+/// Reads the symbol that `input` begins with, and returns it as nodes in `arena`: [`parse`] makes its tree of these.
+/// The names borrow from `input`. A part that stands twice in the symbol is shared.
 ///
-/// It refuses where [`parse`] does, with the same refusal.
+/// # Errors
+///
+/// Fails where [`parse`] does, with the same error.
 pub fn read_symbol<'a, 'b>(
     alloc: Global,
     arena: &'b Bump,
     input: &'a str,
-) -> Result<Whole<'a, 'b>, Error>
-    ensures derived { IfOk result (λ r. (rest : List ℕ) × (notes : List Note)
-        × Derives input.now (whole_of r) rest notes × IsOnly input.now (whole_of r) rest notes) }
-    ensures written_out { DigitsCanBeWrittenOut input.now }
-    ensures parts { IfOk result (λ r. NamesAreParts input.now (whole_of r)) }
-    ensures texts { IfOk result (λ r. EachName IsUtf8 (whole_of r)) }
-    ensures hashes { IfOk result (λ r. HashesStand input.now (whole_of r)) }
-    ensures refused { IfErr result (λ e. IsRefusedRightly input.now e) }
-    ensures begins { (begins_with (codes "?") input.now → ⊥) → IfErr result (λ e. IsRefusalAt input.now 0 e) }
-    ensures begins_ok { IfOk result (λ r. begins_with (codes "?") input.now) }
+) -> Result<TypedSymbol<'a, 'b>, Error>
+    ensures parsed { IfOk result (λ r. spec.IsParsed input.now (typed_symbol_of r)) }
+    ensures rejected { IfErr result (λ e. spec.IsRejected input.now e) }
+    ensures laws { spec.GrammarLaws input.now }
 {
     match read_nodes(arena, input, Unlimited) {
-        Ok((whole, _)) => Ok(whole),
+        Ok((symbol, _)) => Ok(symbol),
         Err(refusal) => Err(refusal.error(alloc, input.as_bytes())),
     }
 }
 
-/// The symbol that `input` begins with, as nodes in the arena, if it has at most so many: what [`parse_within`] makes
-/// its tree of. Beside it, how many bytes of `input` were read, as [`parse_prefix`] says it.
+/// Reads the symbol that `input` begins with, if its tree has at most `nodes` nodes. Returns it as nodes in `arena`,
+/// and its length in bytes. [`parse_within`] makes its tree of these nodes.
 ///
-/// It refuses where [`parse_within`] does, with the same refusal.
+/// # Errors
+///
+/// Fails where [`parse_within`] does, with the same error.
 pub fn read_symbol_within<'a, 'b>(
     alloc: Global,
     arena: &'b Bump,
     input: &'a str,
     nodes: usize,
-) -> Result<(Whole<'a, 'b>, usize), Error>
-    ensures derived { IfOk result (λ r. (rest : List ℕ) × (notes : List Note)
-        × Derives input.now (whole_of r.0) rest notes × IsOnly input.now (whole_of r.0) rest notes) }
-    ensures within { IfOk result (λ r. node_count (whole_of r.0) ≤ nodes) }
-    ensures prefix { IfOk result (λ r. (tree : SymbolTree) (rest : List ℕ) (notes : List Note)
-        → Derives input.now tree rest notes → IsReadTo r.1 input.now tree rest notes) }
-    ensures parts { IfOk result (λ r. NamesAreParts input.now (whole_of r.0)) }
-    ensures texts { IfOk result (λ r. EachName IsUtf8 (whole_of r.0)) }
-    ensures hashes { IfOk result (λ r. HashesStand input.now (whole_of r.0)) }
-    ensures refused { IfErr result (λ e. IsRefusedWithin nodes input.now e) }
-    ensures begins { (begins_with (codes "?") input.now → ⊥) → IfErr result (λ e. IsRefusalAt input.now 0 e) }
-    ensures begins_ok { IfOk result (λ r. begins_with (codes "?") input.now) }
+) -> Result<(TypedSymbol<'a, 'b>, usize), Error>
+    ensures parsed { IfOk result (λ r. spec.IsParsed input.now (typed_symbol_of r.0)) }
+    ensures within { IfOk result (λ r. node_count (typed_symbol_of r.0) ≤ nodes) }
+    ensures length { IfOk result (λ r. spec.IsSymbolLength r.1 input.now) }
+    ensures rejected { IfErr result (λ e. spec.IsRejectedWithin nodes input.now e) }
 {
     let limit = Limited {
         made: 0,
         most: nodes,
     };
     match read_nodes(arena, input, limit) {
-        Ok(found) => Ok(found),
+        Ok((symbol, bytes)) => Ok((symbol, bytes)),
         Err(refusal) => Err(refusal.error(alloc, input.as_bytes())),
     }
 }
 
-/// How many bytes of `input` the symbol takes that it begins with: the number that [`parse_prefix`] gives, without the
-/// tree.
+/// Returns the length in bytes of the symbol that `input` begins with, as [`parse_prefix`] does, and makes no tree.
 ///
-/// It refuses where [`parse`] does, with the same refusal.
+/// # Errors
+///
+/// Fails where [`parse`] does, with the same error.
 pub fn symbol_length(alloc: Global, input: &str) -> Result<usize, Error>
-    ensures derived { IfOk result (λ _. (tree : SymbolTree) × (rest : List ℕ) × (notes : List Note)
-        × Derives input.now tree rest notes × IsOnly input.now tree rest notes) }
-    ensures prefix { IfOk result (λ bytes. (tree : SymbolTree) (rest : List ℕ) (notes : List Note)
-        → Derives input.now tree rest notes → IsReadTo bytes input.now tree rest notes) }
-    ensures boundary { IfOk result (λ bytes. IsCharBoundary input.now bytes) }
-    ensures refused { IfErr result (λ e. IsRefusedRightly input.now e) }
-    ensures begins { (begins_with (codes "?") input.now → ⊥) → IfErr result (λ e. IsRefusalAt input.now 0 e) }
-    ensures begins_ok { IfOk result (λ _. begins_with (codes "?") input.now) }
+    ensures parsed { IfOk result (λ _. (tree : SymbolTree) × spec.IsParsed input.now tree) }
+    ensures length { IfOk result (λ bytes. spec.IsSymbolLength bytes input.now) }
+    ensures rejected { IfErr result (λ e. spec.IsRejected input.now e) }
+    ensures laws { spec.GrammarLaws input.now }
 {
-    match bytes_read(alloc, input, Unlimited, room_for(input)) {
+    match read_length(alloc, input, Unlimited, room_for(input)) {
         Ok(bytes) => Ok(bytes),
         Err(refusal) => Err(refusal.error(alloc, input.as_bytes())),
     }
 }
 
-/// How many bytes of `input` the symbol takes that it begins with, as [`symbol_length`] says it, if its tree has at
-/// most so many nodes.
+/// Returns the length in bytes of the symbol that `input` begins with, as [`symbol_length`] does, if its tree has at
+/// most `nodes` nodes.
 ///
-/// It refuses where [`parse_within`] does, with the same refusal.
+/// # Errors
+///
+/// Fails where [`parse_within`] does, with the same error.
 pub fn symbol_length_within(alloc: Global, input: &str, nodes: usize) -> Result<usize, Error>
-    ensures derived { IfOk result (λ _. (tree : SymbolTree) × (rest : List ℕ) × (notes : List Note)
-        × Derives input.now tree rest notes × IsOnly input.now tree rest notes
+    ensures parsed { IfOk result (λ _. (tree : SymbolTree) × spec.IsParsed input.now tree
         × (node_count tree ≤ nodes)) }
-    ensures prefix { IfOk result (λ bytes. (tree : SymbolTree) (rest : List ℕ) (notes : List Note)
-        → Derives input.now tree rest notes → IsReadTo bytes input.now tree rest notes) }
-    ensures boundary { IfOk result (λ bytes. IsCharBoundary input.now bytes) }
-    ensures refused { IfErr result (λ e. IsRefusedWithin nodes input.now e) }
-    ensures begins { (begins_with (codes "?") input.now → ⊥) → IfErr result (λ e. IsRefusalAt input.now 0 e) }
-    ensures begins_ok { IfOk result (λ _. begins_with (codes "?") input.now) }
+    ensures length { IfOk result (λ bytes. spec.IsSymbolLength bytes input.now) }
+    ensures rejected { IfErr result (λ e. spec.IsRejectedWithin nodes input.now e) }
 {
     let limit = Limited {
         made: 0,
         most: nodes,
     };
-    match bytes_read(alloc, input, limit, room_within(input, nodes)) {
-        Ok(taken) => Ok(taken),
+    match read_length(alloc, input, limit, room_within(input, nodes)) {
+        Ok(bytes) => Ok(bytes),
         Err(refusal) => Err(refusal.error(alloc, input.as_bytes())),
     }
 }
 
-/// The digits of the symbol that `input` begins with which were read as whole parameters, rising by place. With the
-/// bytes of one in place of its digit, the text has the same tree and leaves the same bytes unread.
+/// Lists the digits that were read as whole parameters in the symbol that `input` begins with, in rising order of their
+/// offsets. With the bytes of an earlier parameter in place of its digit, the text has the same tree and the same bytes
+/// after the symbol.
 ///
-/// It refuses where [`parse`] does, with the same refusal.
+/// # Errors
+///
+/// Fails where [`parse`] does, with the same error.
 pub fn back_references(alloc: Global, input: &str) -> Result<Vec<BackReference>, Error>
-    ensures listed { IfOk result (λ found. (tree : SymbolTree) × (rest : List ℕ)
-        × Derives input.now tree rest (map note_of found.items)
-        × IsOnly input.now tree rest (map note_of found.items)) }
-    ensures rising { IfOk result (λ found. AreRising (map note_of found.items)) }
-    ensures written_out { IfOk result (λ found. (tree : SymbolTree) (rest : List ℕ) (notes : List Note)
-        → Derives input.now tree rest notes → CanBeWrittenOut input.now tree rest (map note_of found.items)) }
-    ensures refused { IfErr result (λ e. IsRefusedRightly input.now e) }
-    ensures begins { (begins_with (codes "?") input.now → ⊥) → IfErr result (λ e. IsRefusalAt input.now 0 e) }
-    ensures begins_ok { IfOk result (λ found. begins_with (codes "?") input.now) }
+    ensures listed { IfOk result (λ found. spec.AreReferences input.now (map note_of found.items)) }
+    ensures rejected { IfErr result (λ e. spec.IsRejected input.now e) }
+    ensures laws { spec.GrammarLaws input.now }
 {
-    match notes(alloc, input) {
-        Ok(notes) => Ok(notes),
+    match read_references(alloc, input) {
+        Ok(references) => Ok(references),
         Err(refusal) => Err(refusal.error(alloc, input.as_bytes())),
     }
 }
 
-/// How many bytes an arena needs for the nodes of this text's symbol, for the lists of those who read it and for the
-/// printing of it: so that it makes one request for memory and not several. At most a megabyte: of a longer text the
-/// rest is asked for as it is read.
+/// Returns how many bytes an arena needs to read `input`: for the nodes of its symbol and for the parser's lists and
+/// tables. An arena of this size makes one request for memory. At most a megabyte: a longer text requests more as it is
+/// read.
 pub fn room_for(input: &str) -> usize
     ensures most { result ≤ 2 ^ 20 }
 {
@@ -262,7 +218,7 @@ pub fn room_for(input: &str) -> usize
         .min(MOST_ROOM)
 }
 
-/// How many bytes an arena needs of [`room_for`] where the symbol has at most so many nodes.
+/// Returns how many bytes of [`room_for`] an arena needs to read at most `nodes` nodes of `input`.
 pub fn room_within(input: &str, nodes: usize) -> usize
     ensures most { result ≤ 2 ^ 20 }
 {
@@ -272,9 +228,9 @@ pub fn room_within(input: &str, nodes: usize) -> usize
         .min(room_for(input))
 }
 
-/// An arena for the nodes of a text's symbol, where the text begins as one. Its first chunk has this much room, so that
-/// one request for memory is made and not several; of a long text, the rest is asked for as it is read.
-#[tactic(auto, using(crate::proofs::SymbolSteps::symbol_step))]
+/// Makes an arena whose first chunk has `room` bytes, for the nodes of a symbol. Fails before it requests memory if
+/// `input` doesn't begin with a question mark.
+#[tactic(auto, using(msvc_parser::proofs::SymbolSteps::symbol_step))]
 fn arena_for(alloc: Global, input: &str, room: usize) -> Result<Bump, Refusal>
     ensures value { IfErr result (λ e. (count : Count)
         → Refuses e (read_name symbol input.now (beginning_with count input.now))) }
@@ -290,8 +246,8 @@ fn arena_for(alloc: Global, input: &str, room: usize) -> Result<Bump, Refusal>
     }
 }
 
-/// The tree of the symbol at the beginning of a text, and how many bytes of the text were read.
-fn read<'a, L: Limit>(
+/// Reads the symbol that `input` begins with, and returns its tree and its length in bytes.
+fn read_tree<'a, L: Limit>(
     alloc: Global,
     input: &'a str,
     limit: L,
@@ -308,14 +264,19 @@ fn read<'a, L: Limit>(
 {
     let arena = arena_for(alloc, input, room)?;
     let (symbol, bytes) = read_nodes(&arena, input, limit)?;
-    match owned_whole(alloc, &symbol) {
+    match nodes_to_tree(alloc, &symbol) {
         Ok(tree) => Ok((tree, bytes)),
         Err(_) => Err(Refusal::Memory),
     }
 }
 
-/// How many bytes of a text were read for the symbol at its beginning.
-fn bytes_read<L: Limit>(alloc: Global, input: &str, limit: L, room: usize) -> Result<usize, Refusal>
+/// Returns the length in bytes of the symbol that `input` begins with.
+fn read_length<L: Limit>(
+    alloc: Global,
+    input: &str,
+    limit: L,
+    room: usize,
+) -> Result<usize, Refusal>
     ensures value { IsRead (λ bytes. bytes) result
         (option_map (λ r. r.1) (with_length input.now (read_name symbol input.now (beginning_with (record {
           weight = L.weight;
@@ -332,14 +293,14 @@ fn bytes_read<L: Limit>(alloc: Global, input: &str, limit: L, room: usize) -> Re
     }
 }
 
-/// The symbol at the beginning of a text as nodes of the arena, and how many bytes of the text were read.
+/// Reads the symbol that `input` begins with, and returns it as nodes in `arena`, and its length in bytes.
 #[inline(always)]
 fn read_nodes<'a, 'b, L: Limit>(
     arena: &'b Bump,
     input: &'a str,
     limit: L,
-) -> Result<(Whole<'a, 'b>, usize), Refusal>
-    ensures value { IsRead (λ r. (whole_of r.0, r.1)) result
+) -> Result<(TypedSymbol<'a, 'b>, usize), Refusal>
+    ensures value { IsRead (λ r. (typed_symbol_of r.0, r.1)) result
         (with_length input.now (read_name symbol input.now (beginning_with (record {
           weight = L.weight;
           made = L.made limit;
@@ -349,14 +310,14 @@ fn read_nodes<'a, 'b, L: Limit>(
         → result ≡ Err (Refusal.Unread Message.NoQuestionMark (length input.now)) }
 {
     let mut parser = Parser::new(arena, input.as_bytes(), limit);
-    match parser.symbol() {
+    match symbol(&mut parser) {
         Ok(symbol) => Ok((symbol, input.len().saturating_sub(parser.rest.len()))),
         Err(_) => Err(parser.why),
     }
 }
 
-/// The notes that were taken while the symbol at the beginning of a text was read.
-fn notes(alloc: Global, input: &str) -> Result<Vec<BackReference>, Refusal>
+/// Lists the digits that were read as whole parameters in the symbol that `input` begins with.
+fn read_references(alloc: Global, input: &str) -> Result<Vec<BackReference>, Refusal>
     ensures value { IsRead (λ found. map note_of found.items) result
         (option_map (λ r. r.2.notes) (read_name symbol input.now (beginning input.now))) }
     ensures start { after (codes "?") input.now ≡ None
@@ -364,11 +325,11 @@ fn notes(alloc: Global, input: &str) -> Result<Vec<BackReference>, Refusal>
 {
     let arena = arena_for(alloc, input, room_for(input))?;
     let mut parser = Parser::new(&arena, input.as_bytes(), Unlimited);
-    if parser.symbol().is_err() {
+    if symbol(&mut parser).is_err() {
         return Err(parser.why);
     }
     match Vec::from_slice(alloc, &parser.notes) {
-        Ok(noted) => Ok(noted),
+        Ok(notes) => Ok(notes),
         Err(_) => Err(Refusal::Memory),
     }
 }

@@ -1,12 +1,7 @@
 -- What holds of what was made holds where it was put.
 use Rattle.std.proofs.Common.{◌≡◌, List, [], ◌∷◌, ◌++◌, map, Result, Ok, Err, IfOk, ap, ◌∙◌}
 use Rattle.std.proofs.lemmas.List.{map-append}
-use Rattle.msvc_tree.specs.Made.{IsBoxed, IsPushed}
-
-pub boxed-seen : {A B E F V : Type 0} (refused : F → E → Type 0) (value : B → A) (f : A → V) (made : Result A E) (b : B)
-    (v : V) → IsBoxed refused value made (Ok b) → IfOk made (λ x. f x ≡ v) → f (value b) ≡ v
-boxed-seen refused value f (Ok x) b v e h = ap f e ∙ h
-boxed-seen refused value f (Err x) b v e h = absurd (cc)
+use Rattle.msvc_tree.specs.Made.{IsPushed}
 
 pub pushed-seen : {A B E F V : Type 0} (refused : F → E → Type 0) (f : A → V) (items new : List A) (made : Result A E)
     (u : B) (v : V) → IsPushed {B = B} refused items made new (Ok u) → IfOk made (λ x. f x ≡ v)

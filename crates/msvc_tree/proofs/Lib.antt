@@ -1,10 +1,7 @@
-pub mod Contexts
-pub mod Decisions
 pub mod Kept
 pub mod Lists
 pub mod NodeLaws
 pub mod NodeLists
-pub mod NodeViews
 pub mod Seen
 pub mod Tests
 pub mod Views

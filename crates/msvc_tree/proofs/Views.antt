@@ -1,18 +1,18 @@
--- What the view of a node is, by the views of its parts: a list stands in it as a row.
+-- The view of a tree by the views of its parts: in the view, a list is a row.
 use Rattle.std.proofs.Common.{◌≡◌, ℤ, Box, Global, refl}
 use Rattle.std.proofs.Common.{ap, ◌∙◌}
-use Rattle.msvc_tree.specs.Trees as tree
-use Rattle.msvc_tree.specs.declared.kinds.BaseType.TheVariants as base_kind
-use Rattle.msvc_tree.specs.declared.kinds.Mark.TheVariants as mark_kind
-use Rattle.msvc_tree.specs.declared.kinds.NumberedType.TheVariants as number_kind
-use Rattle.msvc_tree.specs.declared.kinds.PlainType.TheVariants as plain_kind
-use Rattle.msvc_tree.specs.declared.kinds.Tag.TheVariants as tag_kind
+use Rattle.msvc_nodes.specs.Trees as tree
+use Rattle.msvc_nodes.specs.declared.kinds.BaseType.TheVariants as base_kind
+use Rattle.msvc_nodes.specs.declared.kinds.Mark.TheVariants as mark_kind
+use Rattle.msvc_nodes.specs.declared.kinds.NumberedType.TheVariants as number_kind
+use Rattle.msvc_nodes.specs.declared.kinds.PlainType.TheVariants as plain_kind
+use Rattle.msvc_nodes.specs.declared.kinds.Tag.TheVariants as tag_kind
 use Rattle.msvc_tree.specs.View.{name_of, operator_of, type_of, names_of, types_of, names_in, types_in, params_of}
 use Rattle.msvc_tree.specs.View.{scope_of}
-use Rattle.msvc_tree.specs.declared.flags.FuncClass.{FuncClass}
-use Rattle.msvc_tree.specs.declared.flags.StorageClass.{StorageClass}
-use Rattle.msvc_tree.specs.declared.tree.CallingConv.{CallingConv}
-use Rattle.msvc_tree.specs.declared.tree.VarStorageKind.{VarStorageKind}
+use Rattle.msvc_nodes.specs.declared.flags.FuncClass.{FuncClass}
+use Rattle.msvc_nodes.specs.declared.flags.StorageClass.{StorageClass}
+use Rattle.msvc_nodes.specs.declared.kinds.CallingConv.{CallingConv}
+use Rattle.msvc_nodes.specs.declared.kinds.VarStorageKind.{VarStorageKind}
 use Rattle.msvc_tree.specs.declared.tree.Name as code
 use Rattle.msvc_tree.specs.declared.tree.Name.{Name, Row_of-Type, end_of-Type, more_of-Type, Row_of-Name, end_of-Name}
 use Rattle.msvc_tree.specs.declared.tree.Name.{more_of-Name, items-the_row-Type, items-the_row-Name}

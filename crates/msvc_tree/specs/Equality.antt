@@ -2,9 +2,10 @@
 -- same tree, with the laws that `PartialEq` and `Eq` ask for.
 use Rattle.std.specs.Prelude.{◌≡◌, ◌↔◌, IsTrue, Bool}
 use Rattle.std.specs.Cmp.{IsEquivalence, IsPartialEquivalence, partial_equiv_from_equiv}
-use Rattle.msvc_tree.specs.Decided.{name_discrete, names_discrete, type_discrete, types_discrete, symbol_discrete}
-use Rattle.msvc_tree.specs.Decided.{whole_discrete, is_yes, is_yes-is, equivalence}
-use Rattle.msvc_tree.specs.Trees.{NameTree, NameTrees, TypeTree}
+use Rattle.msvc_nodes.specs.Decided.{names_discrete, types_discrete, symbol_discrete}
+use Rattle.msvc_nodes.specs.Decided.{typed_symbol_discrete, is_yes, is_yes-is, equivalence}
+use Rattle.msvc_nodes.specs.Equality.{same_name, same_name-is, same_type, same_type-is}
+use Rattle.msvc_nodes.specs.Trees.{NameTree, NameTrees}
 use Rattle.msvc_tree.specs.View.{name_of, operator_of, type_of, scope_of, params_of, tree_of}
 use Rattle.msvc_tree.specs.declared.tree.Name.{Name}
 use Rattle.msvc_tree.specs.declared.tree.NameSequence.{NameSequence}
@@ -13,22 +14,6 @@ use Rattle.msvc_tree.specs.declared.tree.Params.{Params}
 use Rattle.msvc_tree.specs.declared.tree.ParseResult.{ParseResult}
 use Rattle.msvc_tree.specs.declared.tree.Symbol.{Symbol}
 use Rattle.msvc_tree.specs.declared.tree.Type.{«Type»}
-
--- two names are the same
-pub same_name : NameTree → NameTree → Bool
-same_name a b = is_yes (name_discrete a b)
-
-pub same_name-is : (a b : NameTree) → IsTrue (same_name a b) ↔ (a ≡ b)
-unfolding same_name
-same_name-is a b = is_yes-is (name_discrete a b)
-
--- two types are the same
-pub same_type : TypeTree → TypeTree → Bool
-same_type a b = is_yes (type_discrete a b)
-
-pub same_type-is : (a b : TypeTree) → IsTrue (same_type a b) ↔ (a ≡ b)
-unfolding same_type
-same_type-is a b = is_yes-is (type_discrete a b)
 
 -- a symbol's name and its scope
 abbrev pub symbol_of : Symbol → NameTree × NameTrees
@@ -118,13 +103,13 @@ symbol_eq-laws = equivalence symbol_of symbol_eq symbol_eq-is
 pub symbol_eq-partial_laws : IsPartialEquivalence symbol_eq
 symbol_eq-partial_laws = partial_equiv_from_equiv symbol_eq-laws
 
--- two whole symbols
+-- two symbols with their types
 pub result_eq : ParseResult → ParseResult → Bool
-result_eq s t = is_yes (whole_discrete (tree_of s) (tree_of t))
+result_eq s t = is_yes (typed_symbol_discrete (tree_of s) (tree_of t))
 
 pub result_eq-is : (s t : ParseResult) → IsTrue (result_eq s t) ↔ (tree_of s ≡ tree_of t)
 unfolding result_eq
-result_eq-is s t = is_yes-is (whole_discrete (tree_of s) (tree_of t))
+result_eq-is s t = is_yes-is (typed_symbol_discrete (tree_of s) (tree_of t))
 
 pub result_eq-laws : IsEquivalence result_eq
 result_eq-laws = equivalence tree_of result_eq result_eq-is

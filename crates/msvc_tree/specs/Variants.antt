@@ -1,19 +1,19 @@
--- Variants of owned names and types, as nodes, seen as trees.
+-- Variants of borrowed names, operators and types, seen as trees.
 use Rattle.std.specs.Prelude.{Option, Some, None, option_map, string_bytes}
-use Rattle.msvc_tree.specs.Trees.{NameTree, NameTrees, TypeTree, spelled, operator, guard, type_descriptor}
-use Rattle.msvc_tree.specs.Trees.{base_class_descriptor, template, discriminator, nested, anonymous, no_names, plain}
-use Rattle.msvc_tree.specs.Trees.{base, tagged, numbered, constant_string, pointing, array, function, member_function}
-use Rattle.msvc_tree.specs.Trees.{member_pointer, variable, table, vcall_thunk}
+use Rattle.msvc_nodes.specs.Trees.{NameTree, NameTrees, TypeTree, spelled, operator, guard, type_descriptor}
+use Rattle.msvc_nodes.specs.Trees.{base_class_descriptor, template, discriminator, nested, anonymous, no_names, plain}
+use Rattle.msvc_nodes.specs.Trees.{base, tagged, numbered, constant_string, pointing, array, function, member_function}
+use Rattle.msvc_nodes.specs.Trees.{member_pointer, variable, table, vcall_thunk}
 use Rattle.msvc_tree.specs.View.{name_of, operator_of, type_of, scope_of, params_of}
-use Rattle.msvc_tree.specs.declared.variants.NameNode.{NameNode}
-use Rattle.msvc_tree.specs.declared.variants.NameNode.TheVariants as name
-use Rattle.msvc_tree.specs.declared.variants.OperatorNode.{OperatorNode}
-use Rattle.msvc_tree.specs.declared.variants.OperatorNode.TheVariants as operator_node
-use Rattle.msvc_tree.specs.declared.variants.TypeNode.{TypeNode}
-use Rattle.msvc_tree.specs.declared.variants.TypeNode.TheVariants as node
+use Rattle.msvc_tree.specs.declared.variants.NameRef.{NameRef}
+use Rattle.msvc_tree.specs.declared.variants.NameRef.TheVariants as name
+use Rattle.msvc_tree.specs.declared.variants.OperatorRef.{OperatorRef}
+use Rattle.msvc_tree.specs.declared.variants.OperatorRef.TheVariants as operator_ref
+use Rattle.msvc_tree.specs.declared.variants.TypeRef.{TypeRef}
+use Rattle.msvc_tree.specs.declared.variants.TypeRef.TheVariants as node
 
--- the name that a node is of
-abbrev pub name_in : NameNode → NameTree
+-- the name of a variant
+abbrev pub name_in : NameRef → NameTree
 name_in (name.Spelled how x) = spelled how x.now
 name_in (name.Operator o) = operator_of o.now
 name_in (name.Template n p) = template (name_of n.now) (params_of p.now)
@@ -22,12 +22,12 @@ name_in (name.Nested s) =
     nested (name_of s.now.symbol.name) (scope_of s.now.symbol.scope) (type_of s.now.symbol_type)
 name_in (name.Anonymous x) = anonymous (option_map string_bytes x.now)
 
--- the name of the operator that a node is of
-abbrev pub operator_in : OperatorNode → NameTree
-operator_in (operator_node.Plain o) = operator o
-operator_in (operator_node.Guard g n) = guard g n
-operator_in (operator_node.TypeDescriptor q t) = type_descriptor q.0 (type_of t.now)
-operator_in (operator_node.BaseClassDescriptor a b c d) = base_class_descriptor a b c d
+-- the name of an operator's variant
+abbrev pub operator_in : OperatorRef → NameTree
+operator_in (operator_ref.Plain o) = operator o
+operator_in (operator_ref.Guard g n) = guard g n
+operator_in (operator_ref.TypeDescriptor q t) = type_descriptor q.0 (type_of t.now)
+operator_in (operator_ref.BaseClassDescriptor a b c d) = base_class_descriptor a b c d
 
 -- the class whose member function is pointed to, a name in its scope
 abbrev pub pointed_class : TypeTree → Option (NameTree × NameTrees)
@@ -40,8 +40,8 @@ without_class (member_pointer n ns class convention ts q t) =
     member_pointer (anonymous None) no_names class convention ts q t
 without_class t = t
 
--- the type that a node is of, without the class
-abbrev pub type_in : TypeNode → TypeTree
+-- the type of a variant, without that class
+abbrev pub type_in : TypeRef → TypeTree
 type_in (node.Plain p) = plain p
 type_in (node.Base b q) = base b q.0
 type_in (node.Tagged tag s q) = tagged tag (name_of s.now.name) (scope_of s.now.scope) q.0

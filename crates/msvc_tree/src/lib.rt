@@ -1,16 +1,16 @@
-//! What the reader and the printer of Microsoft's C++ symbols share: refusals, sets of bits, and trees.
-//! Nothing here knows how a symbol is read or how a declaration is printed.
+//! Trees of symbols that own their parts: the types of `tree`, with equality and copies, and the conversions to and from
+//! nodes. `error` and `flags` are those of `msvc_nodes`, re-exported so that a user of trees names one crate.
+//!
+//! Nothing here reads a symbol or prints a declaration. What readers and printers share without owning it, as nodes and
+//! the enumerations of `kinds`, lives in `msvc_nodes`.
 #![tactic(auto)]
 
-pub mod error;
-pub mod flags;
-pub mod kinds;
-pub mod lent;
-pub mod list;
+mod kinds;
 mod made;
-pub mod nodes;
-pub mod owned;
 mod parts;
-pub mod same;
+pub mod to_nodes;
+pub mod to_tree;
 pub mod tree;
-pub mod variants;
+mod variants;
+
+pub use msvc_nodes::{error, flags};

@@ -1,23 +1,55 @@
-//! A type or a name of parts that were made, if they were. What was made is opened here, and not where the arms of a
-//! `match` make it: there each arm would have to let go what it holds, and the whole would mean twice as much to the
-//! prover.
+//! Makes a type or a name of parts that steps returned; returns the first error if one failed. The results are opened
+//! here, and not in the arms of the `match` that calls the steps: there each arm would have to drop what it holds, and
+//! the proof would take twice as long.
 
 #![tactic(auto, using(crate::proofs::Views::rows), unfolding(crate::specs::View::name_of, crate::specs::View::operator_of, crate::specs::View::type_of))]
 
 ghost use Rattle.std.specs.Prelude.{◌≡◌, IfOk};
 ghost use Rattle.std.specs.Result.{IsOkAnd};
-ghost use Rattle.msvc_tree.specs.Trees.{array, constant_string, function, member_function, member_pointer, pointing};
-ghost use Rattle.msvc_tree.specs.Trees.{nested, table, tagged, template, type_descriptor, variable};
+ghost use Rattle.msvc_nodes.specs.Trees.{array, constant_string, function, member_function, member_pointer, pointing};
+ghost use Rattle.msvc_nodes.specs.Trees.{nested, table, tagged, template, type_descriptor, variable};
 ghost use Rattle.msvc_tree.specs.View.{name_of, params_of, scope_of, tree_of, type_of};
 
-use crate::flags::{FuncClass, StorageClass};
-use crate::kinds::{Mark, Table, Tag};
+use crate::kinds::{pointing_type, table_type, tagged_type};
+use crate::made::pair_made;
 use crate::tree::{
     CallingConv, Name, NameSequence, Operator, Params, ParseResult, Symbol, Type, VarStorageKind,
 };
+use msvc_nodes::flags::{FuncClass, StorageClass};
+use msvc_nodes::kinds::{Mark, Table, Tag};
 use std::alloc::AllocError;
 
-/// A class, struct, union, enumeration or alias, of its name in its scope.
+/// Makes a symbol with its type.
+#[inline(always)]
+pub fn typed_symbol_made<'a>(
+    symbol: Result<Symbol<'a>, AllocError>,
+    symbol_type: Result<Type<'a>, AllocError>,
+) -> Result<ParseResult<'a>, AllocError>
+    ensures { IfOk result (λ r. IsOkAnd symbol.entry (λ s. IsOkAnd symbol_type.entry (λ t.
+        (name_of r.symbol.name ≡ name_of s.name) × (scope_of r.symbol.scope ≡ scope_of s.scope)
+        × (type_of r.symbol_type ≡ type_of t)))) }
+{
+    let (symbol, symbol_type) = pair_made(symbol, symbol_type)?;
+    Ok(ParseResult {
+        symbol,
+        symbol_type,
+    })
+}
+
+/// Makes a name in its scope.
+#[inline(always)]
+pub fn symbol_made<'a>(
+    name: Result<Name<'a>, AllocError>,
+    scope: Result<NameSequence<'a>, AllocError>,
+) -> Result<Symbol<'a>, AllocError>
+    ensures { IfOk result (λ s. IsOkAnd name.entry (λ n. IsOkAnd scope.entry (λ ns.
+        (name_of s.name ≡ name_of n) × (scope_of s.scope ≡ scope_of ns)))) }
+{
+    let (name, scope) = pair_made(name, scope)?;
+    Ok(Symbol { name, scope })
+}
+
+/// Makes a class, struct, union, enumeration or alias of its name in its scope.
 #[inline(always)]
 pub fn tagged_made<'a>(
     tag: Tag,
@@ -27,10 +59,10 @@ pub fn tagged_made<'a>(
     ensures { IfOk result (λ t. IsOkAnd symbol.entry (λ s. type_of t
         ≡ tagged tag (name_of s.name) (scope_of s.scope) set.0)) }
 {
-    Ok(tag.tagged_type(symbol?, set))
+    Ok(tagged_type(tag, symbol?, set))
 }
 
-/// A string literal, of its bytes.
+/// Makes a string literal of its bytes.
 #[inline(always)]
 pub fn constant_string_made<'a>(text: Result<Vec<u8>, AllocError>) -> Result<Type<'a>, AllocError>
     ensures { IfOk result (λ t. IsOkAnd text (λ v. type_of t ≡ constant_string v.items)) }
@@ -38,7 +70,7 @@ pub fn constant_string_made<'a>(text: Result<Vec<u8>, AllocError>) -> Result<Typ
     Ok(Type::ConstantString(text?))
 }
 
-/// A pointer or a reference, of what it points to.
+/// Makes a pointer or a reference of the type that it points to.
 #[inline(always)]
 pub fn pointing_made<'a>(
     mark: Mark,
@@ -47,10 +79,10 @@ pub fn pointing_made<'a>(
 ) -> Result<Type<'a>, AllocError>
     ensures { IfOk result (λ t. IsOkAnd inner.entry (λ b. type_of t ≡ pointing mark (type_of b.value) set.0)) }
 {
-    Ok(mark.pointing_type(inner?, set))
+    Ok(pointing_type(mark, inner?, set))
 }
 
-/// An array of this length, of its elements.
+/// Makes an array of its length and its elements.
 #[inline(always)]
 pub fn array_made<'a>(
     length: i32,
@@ -62,7 +94,7 @@ pub fn array_made<'a>(
     Ok(Type::Array(length, inner?, set))
 }
 
-/// A plain function, of its parameters and what it returns.
+/// Makes a plain function of its parameters and the type that it returns.
 #[inline(always)]
 pub fn function_made<'a>(
     convention: CallingConv,
@@ -73,10 +105,11 @@ pub fn function_made<'a>(
     ensures { IfOk result (λ t. IsOkAnd parameters.entry (λ p. IsOkAnd returned.entry (λ b. type_of t
         ≡ function convention (params_of p) set.0 (type_of b.value)))) }
 {
-    Ok(Type::NonMemberFunction(convention, parameters?, set, returned?))
+    let (parameters, returned) = pair_made(parameters, returned)?;
+    Ok(Type::NonMemberFunction(convention, parameters, set, returned))
 }
 
-/// A member function, of its parameters and what it returns.
+/// Makes a member function of its parameters and the type that it returns.
 #[inline(always)]
 pub fn member_function_made<'a>(
     class: FuncClass,
@@ -88,10 +121,11 @@ pub fn member_function_made<'a>(
     ensures { IfOk result (λ t. IsOkAnd parameters.entry (λ p. IsOkAnd returned.entry (λ b. type_of t
         ≡ member_function class.0 convention (params_of p) set.0 (type_of b.value)))) }
 {
-    Ok(Type::MemberFunction(class, convention, parameters?, set, returned?))
+    let (parameters, returned) = pair_made(parameters, returned)?;
+    Ok(Type::MemberFunction(class, convention, parameters, set, returned))
 }
 
-/// A pointer to a member function, of the class that is pointed into, the parameters and what is returned.
+/// Makes a pointer to a member function of its class, its parameters and the type that it returns.
 #[inline(always)]
 pub fn member_pointer_made<'a>(
     pointed: Result<Symbol<'a>, AllocError>,
@@ -105,10 +139,11 @@ pub fn member_pointer_made<'a>(
         type_of t ≡ member_pointer (name_of s.name) (scope_of s.scope) class.0 convention (params_of p) set.0
         (type_of b.value))))) }
 {
-    Ok(Type::MemberFunctionPointer(pointed?, class, convention, parameters?, set, returned?))
+    let (pointed, (parameters, returned)) = pair_made(pointed, pair_made(parameters, returned))?;
+    Ok(Type::MemberFunctionPointer(pointed, class, convention, parameters, set, returned))
 }
 
-/// A variable, of its type.
+/// Makes a variable of its type.
 #[inline(always)]
 pub fn variable_made<'a>(
     inner: Result<Box<Type<'a>>, AllocError>,
@@ -120,7 +155,7 @@ pub fn variable_made<'a>(
     Ok(Type::Var(inner?, kind, set))
 }
 
-/// A table of virtual functions or bases, of the scope of the base that it is for.
+/// Makes a table of virtual functions or bases of the scope of the base that it is for.
 #[inline(always)]
 pub fn table_made<'a>(
     which: Table,
@@ -129,10 +164,10 @@ pub fn table_made<'a>(
 ) -> Result<Type<'a>, AllocError>
     ensures { IfOk result (λ t. IsOkAnd scope.entry (λ s. type_of t ≡ table which (scope_of s) set.0)) }
 {
-    Ok(which.table_type(scope?, set))
+    Ok(table_type(which, scope?, set))
 }
 
-/// A template, of its name and its arguments.
+/// Makes a template of its name and its arguments.
 #[inline(always)]
 pub fn template_made<'a>(
     name: Result<Box<Name<'a>>, AllocError>,
@@ -141,10 +176,11 @@ pub fn template_made<'a>(
     ensures { IfOk result (λ n. IsOkAnd name.entry (λ b. IsOkAnd arguments.entry (λ p. name_of n
         ≡ template (name_of b.value) (params_of p)))) }
 {
-    Ok(Name::Template(name?, arguments?))
+    let (name, arguments) = pair_made(name, arguments)?;
+    Ok(Name::Template(name, arguments))
 }
 
-/// A whole symbol as a scope.
+/// Makes a scope of a symbol with its type.
 #[inline(always)]
 pub fn nested_made<'a>(
     symbol: Result<Box<ParseResult<'a>>, AllocError>,
@@ -155,7 +191,7 @@ pub fn nested_made<'a>(
     Ok(Name::ParsedName(symbol?))
 }
 
-/// The descriptor of a type, of that type.
+/// Makes the descriptor of a type.
 #[inline(always)]
 pub fn type_descriptor_made<'a>(
     set: StorageClass,

@@ -1,9 +1,11 @@
-//! The tree of a symbol: its name with its scope, and its type. Names borrow the text that was read.
+//! The tree of a symbol: its name with its scope, and its type. A tree owns its parts, but names borrow the text that
+//! was read.
 
 mod clone;
 mod equality;
 
-use crate::flags::{FuncClass, StorageClass};
+use msvc_nodes::flags::{FuncClass, StorageClass};
+pub use msvc_nodes::kinds::{CallingConv, VarStorageKind};
 
 /// The name of a symbol, or one name of a scope. Bytes that it borrows are a part of the text that was read.
 #[derive(Debug, Drop)]
@@ -229,38 +231,6 @@ pub struct ParseResult<'a> {
     pub symbol_type: Type<'a>,
 }
 
-/// How a function is called.
-#[derive(Clone, Copy, PartialEq, Eq, Debug)]
-pub enum CallingConv {
-    /// `__cdecl`, by the letters `A` and `B`.
-    Cdecl,
-    /// `__pascal`, by `C`.
-    Pascal,
-    /// `__thiscall`, by `E`.
-    Thiscall,
-    /// `__stdcall`, by `G`.
-    Stdcall,
-    /// `__fastcall`, by `I`.
-    Fastcall,
-    /// `__regcall`. No letter gives it.
-    _Regcall,
-}
-
-/// Where a variable lives, and who may name it.
-#[derive(Clone, Copy, PartialEq, Eq, Debug)]
-pub enum VarStorageKind {
-    /// `private: static `, by the letter `0`.
-    PrivateStatic,
-    /// `protected: static `, by `1`.
-    ProtectedStatic,
-    /// `public: static `, by `2`.
-    PublicStatic,
-    /// Outside all classes, by `3`; nothing is printed for it.
-    Global,
-    /// A static variable of a function, by `4`; nothing is printed for it.
-    FunctionLocalStatic,
-}
-
 /// A type, or what stands in the place of one. A `StorageClass` is the last field but where a comment says otherwise,
 /// and holds the qualifiers of the type itself: those of a pointer are the pointer's, not those of what it points to.
 /// Trees inside are owned; of the text only names are borrowed.
@@ -354,9 +324,4 @@ pub enum Type<'a> {
     CXXVBTable(NameSequence<'a>, StorageClass),
     /// The offset in the table of virtual functions, in bytes, and the convention.
     VCallThunk(i32, CallingConv),
-}
-
-/// Lets a tree go. A crate that lets trees go here alone need not prove anew that each part of one may be.
-pub fn discard(tree: ParseResult<'_>) {
-    drop(tree);
 }

@@ -1,5 +1,5 @@
-//! Which variant an owned name or type is, as a node with the trees in it borrowed; variants with the same fields are
-//! one. Equality and the nodes in an arena go by it.
+//! Which variant a name, an operator or a type of a tree is, with its parts borrowed. Variants with the same fields are
+//! one, with an enumeration of `msvc_nodes::kinds` to tell them apart. Equality and the conversion to nodes match on it.
 
 #![tactic(auto, using(crate::proofs::Views::rows), unfolding(crate::specs::View::name_of, crate::specs::View::operator_of, crate::specs::View::type_of))]
 
@@ -7,29 +7,31 @@ ghost use Rattle.std.specs.Prelude.{◌≡◌, option_map};
 ghost use Rattle.msvc_tree.specs.View.{name_of, operator_of, scope_of, type_of};
 ghost use Rattle.msvc_tree.specs.Variants.{name_in, operator_in, pointed_class, type_in, without_class};
 
-use crate::flags::{FuncClass, StorageClass};
-use crate::kinds::{
-    BaseType, Guard, Mark, NumberedType, PlainOperator, PlainType, Spelling, Table, Tag,
-};
 use crate::tree::{
     CallingConv, Name, NameSequence, Operator, Params, ParseResult, Symbol, Type, VarStorageKind,
 };
+use msvc_nodes::flags::{FuncClass, StorageClass};
+use msvc_nodes::kinds::{
+    BaseType, Guard, Mark, NumberedType, PlainOperator, PlainType, Spelling, Table, Tag,
+};
+use msvc_nodes::plain_operators;
 
-/// What a name is.
+/// The variant of a borrowed name, with its parts.
 #[derive(Clone, Copy)]
-pub enum NameNode<'t, 'a> {
+pub enum NameRef<'t, 'a> {
     Spelled(Spelling, &'a [u8]),
     Operator(&'t Operator<'a>),
     Template(&'t Name<'a>, &'t Params<'a>),
     Discriminator(i32),
-    /// A whole symbol.
+    /// A symbol with its type, as a scope.
     Nested(&'t ParseResult<'a>),
+    /// An anonymous namespace, with its digits if it has them.
     Anonymous(&'t Option<String>),
 }
 
-/// What an operator is.
+/// The variant of a borrowed operator, with its parts.
 #[derive(Clone, Copy)]
-pub enum OperatorNode<'t, 'a> {
+pub enum OperatorRef<'t, 'a> {
     Plain(PlainOperator),
     Guard(Guard, Option<u32>),
     /// The qualifiers that were read for the type, and the type.
@@ -37,184 +39,118 @@ pub enum OperatorNode<'t, 'a> {
     BaseClassDescriptor(i32, i32, i32, i32),
 }
 
-/// What a type is. Of a pointer to a member function, the class is told by `pointed_class`.
+/// The variant of a borrowed type, with its parts. The class of a pointer to a member function is not among them:
+/// `pointed_class` returns it.
 #[derive(Clone, Copy)]
-pub enum TypeNode<'t, 'a> {
+pub enum TypeRef<'t, 'a> {
     Plain(PlainType),
     Base(BaseType, StorageClass),
     Tagged(Tag, &'t Symbol<'a>, StorageClass),
     Numbered(NumberedType, i32),
     ConstantString(&'t [u8]),
     Pointing(Mark, &'t Type<'a>, StorageClass),
-    /// The length of the outermost level, the elements, the qualifiers of the level.
+    /// The length of the outermost level, the elements, the qualifiers.
     Array(i32, &'t Type<'a>, StorageClass),
-    /// Convention, parameters, the function's qualifiers, what it returns.
+    /// The convention, the parameters, the function's qualifiers, the type that it returns.
     Function(CallingConv, &'t Params<'a>, StorageClass, &'t Type<'a>),
-    /// The class of the member function first.
+    /// The function class, and the fields of `Function`.
     MemberFunction(FuncClass, CallingConv, &'t Params<'a>, StorageClass, &'t Type<'a>),
-    /// Likewise of the member function that is pointed to.
+    /// The same of the member function that is pointed to.
     MemberPointer(FuncClass, CallingConv, &'t Params<'a>, StorageClass, &'t Type<'a>),
     Variable(&'t Type<'a>, VarStorageKind, StorageClass),
     Table(Table, &'t NameSequence<'a>, StorageClass),
     VcallThunk(i32, CallingConv),
 }
 
-/// The node of a name.
+/// Returns which variant a name is.
 #[inline(always)]
-pub fn name_node<'t, 'a>(tree: &'t Name<'a>) -> NameNode<'t, 'a>
+pub fn name_ref<'t, 'a>(tree: &'t Name<'a>) -> NameRef<'t, 'a>
     ensures { name_in result ≡ name_of tree.now }
 {
     match tree {
-        Name::Operator(operator) => NameNode::Operator(operator),
-        Name::NonTemplate(text) => NameNode::Spelled(Spelling::Source, text),
-        Name::Template(name, arguments) => NameNode::Template(name, arguments),
-        Name::Discriminator(number) => NameNode::Discriminator(*number),
-        Name::ParsedName(symbol) => NameNode::Nested(symbol),
-        Name::AnonymousNamespace(digits) => NameNode::Anonymous(digits),
-        Name::AsInterface(text) => NameNode::Spelled(Spelling::Interface, text),
-        Name::Md5(digits) => NameNode::Spelled(Spelling::Md5, digits),
+        Name::Operator(operator) => NameRef::Operator(operator),
+        Name::NonTemplate(text) => NameRef::Spelled(Spelling::Source, text),
+        Name::Template(name, arguments) => NameRef::Template(name, arguments),
+        Name::Discriminator(number) => NameRef::Discriminator(*number),
+        Name::ParsedName(symbol) => NameRef::Nested(symbol),
+        Name::AnonymousNamespace(digits) => NameRef::Anonymous(digits),
+        Name::AsInterface(text) => NameRef::Spelled(Spelling::Interface, text),
+        Name::Md5(digits) => NameRef::Spelled(Spelling::Md5, digits),
     }
 }
 
-/// The node of an operator.
+/// Matches the operator of an owned tree with the arms that are given and with the plain operators.
+macro_rules! kind_of_operator {
+    (($tree:ident { $($arms:tt)* }) $({ $($code:literal $name:ident $word:literal,)* })*) => {
+        match $tree {
+            $($arms)*
+            $($(Operator::$name => PlainOperator::$name,)*)*
+        }
+    };
+}
+
+/// Returns which variant an operator is.
 #[inline(always)]
-pub fn operator_node<'t, 'a>(tree: &'t Operator<'a>) -> OperatorNode<'t, 'a>
+pub fn operator_ref<'t, 'a>(tree: &'t Operator<'a>) -> OperatorRef<'t, 'a>
     ensures { operator_in result ≡ operator_of tree.now }
 {
-    let plain = match tree {
-        Operator::LocalStaticGuard(number) => return OperatorNode::Guard(Guard::Static, *number),
-        Operator::LocalStaticThreadGuard(number) => return OperatorNode::Guard(
+    let plain = plain_operators!(kind_of_operator (tree {
+        Operator::LocalStaticGuard(number) => return OperatorRef::Guard(Guard::Static, *number),
+        Operator::LocalStaticThreadGuard(number) => return OperatorRef::Guard(
             Guard::Thread,
             *number,
         ),
         Operator::RTTITypeDescriptor(set, described) => {
-            return OperatorNode::TypeDescriptor(*set, described);
+            return OperatorRef::TypeDescriptor(*set, described);
         }
         Operator::RTTIBaseClassDescriptor(a, b, c, d) => {
-            return OperatorNode::BaseClassDescriptor(*a, *b, *c, *d);
+            return OperatorRef::BaseClassDescriptor(*a, *b, *c, *d);
         }
-        Operator::Ctor => PlainOperator::Ctor,
-        Operator::Dtor => PlainOperator::Dtor,
-        Operator::New => PlainOperator::New,
-        Operator::Delete => PlainOperator::Delete,
-        Operator::Equal => PlainOperator::Equal,
-        Operator::RShift => PlainOperator::RShift,
-        Operator::LShift => PlainOperator::LShift,
-        Operator::Bang => PlainOperator::Bang,
-        Operator::EqualEqual => PlainOperator::EqualEqual,
-        Operator::BangEqual => PlainOperator::BangEqual,
-        Operator::Subscript => PlainOperator::Subscript,
-        Operator::Conversion => PlainOperator::Conversion,
-        Operator::Arrow => PlainOperator::Arrow,
-        Operator::Star => PlainOperator::Star,
-        Operator::PlusPlus => PlainOperator::PlusPlus,
-        Operator::MinusMinus => PlainOperator::MinusMinus,
-        Operator::Minus => PlainOperator::Minus,
-        Operator::Plus => PlainOperator::Plus,
-        Operator::Amp => PlainOperator::Amp,
-        Operator::ArrowStar => PlainOperator::ArrowStar,
-        Operator::Slash => PlainOperator::Slash,
-        Operator::Percent => PlainOperator::Percent,
-        Operator::Less => PlainOperator::Less,
-        Operator::LessEqual => PlainOperator::LessEqual,
-        Operator::Greater => PlainOperator::Greater,
-        Operator::GreaterEqual => PlainOperator::GreaterEqual,
-        Operator::Comma => PlainOperator::Comma,
-        Operator::Call => PlainOperator::Call,
-        Operator::Tilde => PlainOperator::Tilde,
-        Operator::Caret => PlainOperator::Caret,
-        Operator::Pipe => PlainOperator::Pipe,
-        Operator::AmpAmp => PlainOperator::AmpAmp,
-        Operator::PipePipe => PlainOperator::PipePipe,
-        Operator::StarEqual => PlainOperator::StarEqual,
-        Operator::PlusEqual => PlainOperator::PlusEqual,
-        Operator::MinusEqual => PlainOperator::MinusEqual,
-        Operator::SlashEqual => PlainOperator::SlashEqual,
-        Operator::PercentEqual => PlainOperator::PercentEqual,
-        Operator::GreaterGreaterEqual => PlainOperator::GreaterGreaterEqual,
-        Operator::LessLessEqual => PlainOperator::LessLessEqual,
-        Operator::AmpEqual => PlainOperator::AmpEqual,
-        Operator::PipeEqual => PlainOperator::PipeEqual,
-        Operator::CaretEqual => PlainOperator::CaretEqual,
-        Operator::VFTable => PlainOperator::VFTable,
-        Operator::VBTable => PlainOperator::VBTable,
-        Operator::VCall => PlainOperator::VCall,
-        Operator::Typeof => PlainOperator::Typeof,
-        Operator::String => PlainOperator::String,
-        Operator::VBaseDtor => PlainOperator::VBaseDtor,
-        Operator::VectorDeletingDtor => PlainOperator::VectorDeletingDtor,
-        Operator::DefaultCtorClosure => PlainOperator::DefaultCtorClosure,
-        Operator::ScalarDeletingDtor => PlainOperator::ScalarDeletingDtor,
-        Operator::VectorCtorIterator => PlainOperator::VectorCtorIterator,
-        Operator::VectorDtorIterator => PlainOperator::VectorDtorIterator,
-        Operator::VectorVBaseCtorIterator => PlainOperator::VectorVBaseCtorIterator,
-        Operator::VirtualDisplacementMap => PlainOperator::VirtualDisplacementMap,
-        Operator::EHVectorCtorIterator => PlainOperator::EHVectorCtorIterator,
-        Operator::EHVectorDtorIterator => PlainOperator::EHVectorDtorIterator,
-        Operator::EHVectorVBaseCtorIterator => PlainOperator::EHVectorVBaseCtorIterator,
-        Operator::CopyCtorClosure => PlainOperator::CopyCtorClosure,
-        Operator::LocalVFTable => PlainOperator::LocalVFTable,
-        Operator::LocalVFTableCtorClosure => PlainOperator::LocalVFTableCtorClosure,
-        Operator::ArrayNew => PlainOperator::ArrayNew,
-        Operator::ArrayDelete => PlainOperator::ArrayDelete,
-        Operator::PlacementDeleteClosure => PlainOperator::PlacementDeleteClosure,
-        Operator::PlacementArrayDeleteClosure => PlainOperator::PlacementArrayDeleteClosure,
-        Operator::RTTIBaseClassArray => PlainOperator::RTTIBaseClassArray,
-        Operator::RTTIClassHierarchyDescriptor => PlainOperator::RTTIClassHierarchyDescriptor,
-        Operator::RTTIClassCompleteObjectLocator => PlainOperator::RTTIClassCompleteObjectLocator,
-        Operator::DynamicInitializer => PlainOperator::DynamicInitializer,
-        Operator::DynamicAtexitDtor => PlainOperator::DynamicAtexitDtor,
-        Operator::LiteralOperatorName => PlainOperator::LiteralOperatorName,
-        Operator::CoroutineAwait => PlainOperator::CoroutineAwait,
-    };
-    OperatorNode::Plain(plain)
+    }));
+    OperatorRef::Plain(plain)
 }
 
-/// The node of a type.
+/// Returns which variant a type is.
 #[inline(always)]
-pub fn type_node<'t, 'a>(tree: &'t Type<'a>) -> TypeNode<'t, 'a>
+pub fn type_ref<'t, 'a>(tree: &'t Type<'a>) -> TypeRef<'t, 'a>
     ensures { type_in result ≡ without_class (type_of tree.now) }
 {
     let (base, set) = match tree {
-        Type::None => return TypeNode::Plain(PlainType::None),
-        Type::ConstantString(text) => return TypeNode::ConstantString(text),
-        Type::EmptyParameterPack => return TypeNode::Plain(PlainType::EmptyPack),
-        Type::RTTIType => return TypeNode::Plain(PlainType::Rtti),
-        Type::Class(symbol, set) => return TypeNode::Tagged(Tag::Class, symbol, *set),
-        Type::Struct(symbol, set) => return TypeNode::Tagged(Tag::Struct, symbol, *set),
-        Type::Union(symbol, set) => return TypeNode::Tagged(Tag::Union, symbol, *set),
-        Type::Enum(symbol, set) => return TypeNode::Tagged(Tag::Enum, symbol, *set),
-        Type::Alias(symbol, set) => return TypeNode::Tagged(Tag::Alias, symbol, *set),
-        Type::Constant(number) => return TypeNode::Numbered(NumberedType::Constant, *number),
+        Type::None => return TypeRef::Plain(PlainType::None),
+        Type::ConstantString(text) => return TypeRef::ConstantString(text),
+        Type::EmptyParameterPack => return TypeRef::Plain(PlainType::EmptyPack),
+        Type::RTTIType => return TypeRef::Plain(PlainType::Rtti),
+        Type::Class(symbol, set) => return TypeRef::Tagged(Tag::Class, symbol, *set),
+        Type::Struct(symbol, set) => return TypeRef::Tagged(Tag::Struct, symbol, *set),
+        Type::Union(symbol, set) => return TypeRef::Tagged(Tag::Union, symbol, *set),
+        Type::Enum(symbol, set) => return TypeRef::Tagged(Tag::Enum, symbol, *set),
+        Type::Alias(symbol, set) => return TypeRef::Tagged(Tag::Alias, symbol, *set),
+        Type::Constant(number) => return TypeRef::Numbered(NumberedType::Constant, *number),
         Type::TemplateParameterWithIndex(number) => {
-            return TypeNode::Numbered(NumberedType::TemplateParameter, *number);
+            return TypeRef::Numbered(NumberedType::TemplateParameter, *number);
         }
         Type::ThreadSafeStaticGuard(number) => {
-            return TypeNode::Numbered(NumberedType::ThreadSafeGuard, *number);
+            return TypeRef::Numbered(NumberedType::ThreadSafeGuard, *number);
         }
-        Type::VarArgs => return TypeNode::Plain(PlainType::Variadic),
-        Type::Nullptr => return TypeNode::Plain(PlainType::Nullptr),
-        Type::Ptr(inner, set) => return TypeNode::Pointing(Mark::Pointer, inner, *set),
-        Type::Ref(inner, set) => return TypeNode::Pointing(Mark::Reference, inner, *set),
-        Type::RValueRef(inner, set) => return TypeNode::Pointing(
-            Mark::RValueReference,
-            inner,
-            *set,
-        ),
-        Type::Array(length, inner, set) => return TypeNode::Array(*length, inner, *set),
+        Type::VarArgs => return TypeRef::Plain(PlainType::Variadic),
+        Type::Nullptr => return TypeRef::Plain(PlainType::Nullptr),
+        Type::Ptr(inner, set) => return TypeRef::Pointing(Mark::Pointer, inner, *set),
+        Type::Ref(inner, set) => return TypeRef::Pointing(Mark::Reference, inner, *set),
+        Type::RValueRef(inner, set) => return TypeRef::Pointing(Mark::RValueReference, inner, *set),
+        Type::Array(length, inner, set) => return TypeRef::Array(*length, inner, *set),
         Type::NonMemberFunction(convention, parameters, set, returned) => {
-            return TypeNode::Function(*convention, parameters, *set, returned);
+            return TypeRef::Function(*convention, parameters, *set, returned);
         }
         Type::MemberFunction(class, convention, parameters, set, returned) => {
-            return TypeNode::MemberFunction(*class, *convention, parameters, *set, returned);
+            return TypeRef::MemberFunction(*class, *convention, parameters, *set, returned);
         }
         Type::MemberFunctionPointer(_, class, convention, parameters, set, returned) => {
-            return TypeNode::MemberPointer(*class, *convention, parameters, *set, returned);
+            return TypeRef::MemberPointer(*class, *convention, parameters, *set, returned);
         }
-        Type::Var(inner, kind, set) => return TypeNode::Variable(inner, *kind, *set),
-        Type::CXXVFTable(scope, set) => return TypeNode::Table(Table::Functions, scope, *set),
-        Type::CXXVBTable(scope, set) => return TypeNode::Table(Table::Bases, scope, *set),
-        Type::VCallThunk(number, convention) => return TypeNode::VcallThunk(*number, *convention),
+        Type::Var(inner, kind, set) => return TypeRef::Variable(inner, *kind, *set),
+        Type::CXXVFTable(scope, set) => return TypeRef::Table(Table::Functions, scope, *set),
+        Type::CXXVBTable(scope, set) => return TypeRef::Table(Table::Bases, scope, *set),
+        Type::VCallThunk(number, convention) => return TypeRef::VcallThunk(*number, *convention),
         Type::Void(set) => (BaseType::Void, *set),
         Type::Char(set) => (BaseType::Char, *set),
         Type::Schar(set) => (BaseType::Schar, *set),
@@ -238,10 +174,10 @@ pub fn type_node<'t, 'a>(tree: &'t Type<'a>) -> TypeNode<'t, 'a>
         Type::Int128(set) => (BaseType::Int128, *set),
         Type::Uint128(set) => (BaseType::Uint128, *set),
     };
-    TypeNode::Base(base, set)
+    TypeRef::Base(base, set)
 }
 
-/// The class whose member function is pointed to.
+/// Returns the class of a pointer to a member function, or `None` for any other type.
 pub fn pointed_class<'t, 'a>(tree: &'t Type<'a>) -> Option<&'t Symbol<'a>>
     ensures { option_map (λ s. (name_of s.now.name, scope_of s.now.scope)) result ≡ pointed_class (type_of tree.now) }
 {

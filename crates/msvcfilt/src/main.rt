@@ -1,9 +1,9 @@
-//! `msvcfilt [-n] [FILE..]` writes each file, or standard input where none is given, with each symbol in it replaced by
-//! its declaration, as `llvm-undname` spells it: of `foo!?crash@@YAXXZ+0x12`, `foo!void __cdecl crash(void)+0x12`.
-//! With `-n` types are left away.
+//! `msvcfilt [-n] [FILE..]` writes each file, or standard input if there is none, with each symbol in it replaced by
+//! its declaration, as `llvm-undname` spells it: `foo!void __cdecl crash(void)+0x12` for `foo!?crash@@YAXXZ+0x12`.
+//! With `-n` it prints names without types.
 //!
-//! The status is 0, and 1 where a file or standard input can't be read, the text can't be written, or memory is
-//! refused. Then standard error says which. After a file that can't be read the rest is filtered.
+//! The exit status is 0, or 1 if a file or standard input can't be read, the text can't be written, or an allocation
+//! fails. Then standard error says which. After a file that can't be read the others are still filtered.
 #![tactic(auto)]
 
 use clap::{Arg, ArgAction, Command};
@@ -14,7 +14,7 @@ use std::io::{BufReader, BufWriter, IsTerminal, Read, Write};
 use std::process::ExitCode;
 use std::{env, io};
 
-/// How many bytes are read, or written, at once.
+/// Bytes that are read, or written, at once.
 const BUFFER_LENGTH: usize = 64 * 1024;
 
 fn main(rt: HostRuntime) -> io::Result<ExitCode> {
@@ -46,7 +46,7 @@ fn main(rt: HostRuntime) -> io::Result<ExitCode> {
     }
 }
 
-/// What the words of the command line can be.
+/// Declares the options and arguments of the command line.
 fn command<'a>(alloc: Global) -> Result<Command<'a>, AllocError> {
     let name_only = Arg::new(alloc, "name-only")
         .short('n')
@@ -64,7 +64,8 @@ fn command<'a>(alloc: Global) -> Result<Command<'a>, AllocError> {
         .arg(file)
 }
 
-/// Filters each file in its order. One that can't be opened, or read to its end, is told, and makes the status.
+/// Filters each file, in order. Reports one that can't be opened or read to its end, and returns a status of failure
+/// then.
 fn filter_files<W: Write>(
     rt: &HostRuntime,
     names: &[&str],
@@ -91,7 +92,7 @@ fn filter_files<W: Write>(
     Ok(status)
 }
 
-/// Filters all that a stream has.
+/// Filters a stream to its end.
 fn filter<R: Read + Drop, W: Write>(
     alloc: Global,
     stream: R,
@@ -104,7 +105,8 @@ fn filter<R: Read + Drop, W: Write>(
     }
 }
 
-/// How many bytes of text are held back: none where lines are typed or looked at, so that one is seen before the next.
+/// Returns how many bytes of text are held back: none if lines are typed or looked at, so that each is seen before the
+/// next.
 fn text_length(rt: &HostRuntime) -> usize {
     if rt.stdin().is_terminal() || rt.stdout().is_terminal() {
         0
@@ -113,7 +115,7 @@ fn text_length(rt: &HostRuntime) -> usize {
     }
 }
 
-/// Says why the run ended.
+/// Reports why the run ended.
 fn tell(rt: &HostRuntime, fault: Fault) {
     let _ = match fault {
         Fault::Read => eprintln!(rt; "msvcfilt: read failed"),

@@ -1,9 +1,9 @@
-//! `undname [-v] [symbols]` prints the declaration of each symbol on a line, as `llvm-undname` spells it: of
-//! `?x@ns@@3HA`, `int ns::x`. Without symbols it does so for each line of standard input. A symbol that is refused is
-//! printed as it came, and why on standard error; `-v`, as the first argument, prints each tree there.
+//! `undname [-v] [symbols]` prints the declaration of each symbol on a line, as `llvm-undname` spells it: `int ns::x`
+//! for `?x@ns@@3HA`. Without symbols it reads them from the lines of standard input. A rejected symbol is printed
+//! unchanged, and the error goes to standard error; `-v`, as the first argument, also prints each tree there.
 //!
-//! The status is 0, and 1 where standard input can't be read, a line can't be written, or memory is refused. Then
-//! standard error says which, and what was finished before is printed.
+//! The exit status is 0, or 1 if standard input can't be read, a line can't be written, or an allocation fails. Then
+//! standard error says which, and the lines before are printed.
 #![tactic(auto)]
 
 mod outputs;
@@ -15,7 +15,7 @@ use std::env;
 use std::io::{BufReader, BufWriter, IsTerminal, Read, Write};
 use std::process::ExitCode;
 
-/// How many bytes are read, or written, at once.
+/// Bytes that are read, or written, at once.
 const BUFFER_LENGTH: usize = 64 * 1024;
 
 fn main(rt: HostRuntime) -> ExitCode {
@@ -30,7 +30,7 @@ fn main(rt: HostRuntime) -> ExitCode {
     ExitCode::FAILURE
 }
 
-/// The whole run, over the standard streams. What was written is flushed, after a fault too.
+/// Runs over the standard streams, and flushes the output, also after a fault.
 fn run(rt: &HostRuntime) -> Result<(), Fault> {
     let words = words(rt)?;
     let mut input = reader(rt, rt.stdin())?;
@@ -47,7 +47,7 @@ fn run(rt: &HostRuntime) -> Result<(), Fault> {
     done.and(explained).and(printed)
 }
 
-/// The arguments after the program's name.
+/// Returns the arguments after the program's name.
 fn words(rt: &HostRuntime) -> Result<Vec<String>, Fault> {
     let mut words = Vec::new(rt.alloc());
     for word in env::args(rt).map_err(|_| Fault::Memory)?.skip(1) {
@@ -56,7 +56,7 @@ fn words(rt: &HostRuntime) -> Result<Vec<String>, Fault> {
     Ok(words)
 }
 
-/// A stream that is read in large pieces.
+/// Watches a stream that is read in large pieces.
 fn reader<R: Read + Drop>(rt: &HostRuntime, stream: R) -> Result<Watched<BufReader<R>>, Fault> {
     match BufReader::with_capacity(rt.alloc(), BUFFER_LENGTH, stream) {
         Ok(stream) => Ok(Watched::new(stream)),
@@ -64,7 +64,7 @@ fn reader<R: Read + Drop>(rt: &HostRuntime, stream: R) -> Result<Watched<BufRead
     }
 }
 
-/// A stream that is written in pieces of so many bytes.
+/// Buffers a stream that is written in pieces of `length` bytes.
 fn writer<W: Write + Drop>(
     rt: &HostRuntime,
     stream: W,
@@ -73,7 +73,8 @@ fn writer<W: Write + Drop>(
     BufWriter::with_capacity(rt.alloc(), length, stream).map_err(|_| Fault::Memory)
 }
 
-/// How many bytes of answers are held back: none where lines are typed, so that an answer is seen before the next one.
+/// Returns how many bytes of answers are held back: none if lines are typed, so that each answer is seen before the
+/// next line.
 fn answers_length(rt: &HostRuntime) -> usize {
     if rt.stdin().is_terminal() {
         0
@@ -82,7 +83,7 @@ fn answers_length(rt: &HostRuntime) -> usize {
     }
 }
 
-/// Writes what a stream holds back.
+/// Writes the bytes that a stream holds back.
 fn flush<W: Write + Drop>(stream: Watched<W>) -> Result<(), Fault> {
     stream.into_inner().flush().map_err(|_| Fault::Write)
 }

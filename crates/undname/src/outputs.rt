@@ -1,16 +1,16 @@
-//! The two outputs, each with a buffer. What is said of a symbol on standard error is never seen later than its answer
-//! on standard output: before answers go out, the remarks do.
+//! The two outputs, each with a buffer. The remarks on a symbol, on standard error, are never written later than its
+//! answer on standard output: the remarks are flushed before answers.
 
 use std::cell::RefCell;
 use std::io::{BufWriter, Result, Stderr, Stdout, Write};
 
-/// Standard error, whose buffer the answers reach too.
+/// Standard error, whose buffer the answers share.
 #[derive(Drop)]
 pub(crate) struct Remarks<'a> {
     pub(crate) held: &'a RefCell<BufWriter<Stderr>>,
 }
 
-/// Standard output, of which nothing goes out before what standard error holds.
+/// Standard output, which writes nothing before the bytes that standard error holds back.
 #[derive(Drop)]
 pub(crate) struct Answers<'a> {
     pub(crate) held: BufWriter<Stdout>,
@@ -39,7 +39,7 @@ impl Write for Answers<'_> {
         self.held.write(bytes)
     }
 
-    /// Where remarks can't be written, the answers still are: the program flushes the remarks before.
+    /// Writes the answers even if the remarks can't be written: the program flushes the remarks before.
     fn flush(&mut self) -> Result<()> {
         self.held.flush()
     }

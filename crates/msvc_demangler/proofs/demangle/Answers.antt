@@ -1,15 +1,21 @@
-use Rattle.msvc_read.proofs.Hashes.{hashes-read}
-use Rattle.msvc_read.proofs.Written.{all_written_out}
+use Rattle.msvc_nodes.specs.NodeView.{typed_symbol_of}
+use Rattle.msvc_read.proofs.WholeTexts.{laws}
+use Rattle.msvc_demangler.proofs.Demangled.{declared_of, hashes_shown}
 use Rattle.msvc_demangler.proofs.demangle.Goals as goal
 
-pub returns-in_err-text-in-Ok-clause-written_out : goal.returns-in_err-text-in-Ok-clause-written_out
-returns-in_err-text-in-Ok-clause-written_out c = all_written_out c.args.input.now
+pub returns-in_ok-text-in-Ok-clause-declared : goal.returns-in_ok-text-in-Ok-clause-declared
+returns-in_ok-text-in-Ok-clause-declared c = (
+  typed_symbol_of c.in-Ok.symbol,
+  declared_of c.args.input.now _ _ (typed_symbol_of c.in-Ok.symbol) c.args.flags.0 c.in-Ok.ensures.parsed
+      c.in_ok-print-in-Ok.ensures c.in_ok-text-in-Ok.ensures.whole,
+)
 
-pub returns-in_ok-text-in-Ok-clause-written_out : goal.returns-in_ok-text-in-Ok-clause-written_out
-returns-in_ok-text-in-Ok-clause-written_out c = all_written_out c.args.input.now
+pub returns-in_ok-text-in-Ok-clause-hashes : goal.returns-in_ok-text-in-Ok-clause-hashes
+returns-in_ok-text-in-Ok-clause-hashes c =
+    let tree = typed_symbol_of c.in-Ok.symbol in
+    hashes_shown c.args.input.now _ tree c.args.flags.0
+    (declared_of c.args.input.now _ _ tree c.args.flags.0 c.in-Ok.ensures.parsed c.in_ok-print-in-Ok.ensures
+    c.in_ok-text-in-Ok.ensures.whole)
 
-pub returns-in-Err-clause-written_out : goal.returns-in-Err-clause-written_out
-returns-in-Err-clause-written_out c = all_written_out c.args.input.now
-
-pub returns-in-Err-clause-hashes_read : goal.returns-in-Err-clause-hashes_read
-returns-in-Err-clause-hashes_read c = hashes-read c.args.input.now c.in-Err.refusal c.in-Err.ensures.refused
+pub returns-in_err-clear_for-clause-laws : goal.returns-in_err-clear_for-clause-laws
+returns-in_err-clear_for-clause-laws c = laws c.args.input.now

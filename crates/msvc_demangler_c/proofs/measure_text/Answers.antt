@@ -6,5 +6,5 @@ returns-in-Ok c = c.in-Ok.ensures.length
 
 pub returns-in-Err : goal.returns-in-Err
 returns-in-Err c =
-    refused-of c.args.bound c.args.symbol.now c.in-Err.refusal c.refused.result c.in-Err.ensures.refused
+    refused-of c.args.bound c.args.symbol.now c.in-Err.error c.refused.result c.in-Err.ensures.rejected
     c.refused.ensures

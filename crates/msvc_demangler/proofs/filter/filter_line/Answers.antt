@@ -52,9 +52,9 @@ bytes-preserved-in-Some c =
       c.in_ok-extend_from_slice-in-Some.ensures.items,
       c.deref.ensures.value,
     )
-    (Within-replaced c.args.flags.0 line c.bytes.text.items c.bytes.kept at c.bytes.asked c.bytes.last c.in-Some.bytes _
-    c.bytes.invariant c.bytes-test.true (subst (λ b. is_start c.bytes.asked c.bytes.last b ≡ true) first e.0) e.1 e.2
-    e.3)
+    (Within-replaced c.args.flags.0 line c.bytes.text.items c.bytes.kept at c.bytes.seen_question_mark c.bytes.last
+    c.in-Some.bytes _ c.bytes.invariant c.bytes-test.true
+    (subst (λ b. is_start c.bytes.seen_question_mark c.bytes.last b ≡ true) first e.0) e.1 e.2 e.3)
 
 pub bytes-preserved : goal.bytes-preserved
 bytes-preserved c =
@@ -62,10 +62,10 @@ bytes-preserved c =
     let at = c.bytes.at in
     let e = rw (c.in-None.is, to_end line at) at c.in_ok-bytes.ensures.none in
     let first = first-of line at in
-    rw c.is_asked-asked.ensures
-    (Within-stays c.args.flags.0 line c.bytes.text.items c.bytes.kept at c.bytes.asked c.bytes.last (get_or line at 0)
-    c.bytes.invariant c.bytes-test.true refl
-    (λ start. e (subst (λ b. is_start c.bytes.asked c.bytes.last b ≡ true) (sym first) start)))
+    rw c.sees_question_mark-seen_question_mark.ensures
+    (Within-stays c.args.flags.0 line c.bytes.text.items c.bytes.kept at c.bytes.seen_question_mark c.bytes.last
+    (get_or line at 0) c.bytes.invariant c.bytes-test.true refl
+    (λ start. e (subst (λ b. is_start c.bytes.seen_question_mark c.bytes.last b ≡ true) (sym first) start)))
 
 -- what is appended at last
 appended : (r : Result (Unit {0}) AllocError) (P : List ℕ → Type 0) (text before more : List ℕ)
@@ -79,5 +79,6 @@ returns c =
     let kept = c.bytes.kept in
     appended c.extend_from_slice-2.result (IsTextOfLine c.args.flags.0 line) _ c.bytes.text.items
     (take (length line - kept) (drop kept line)) c.extend_from_slice-2.ensures.items
-    (rw (to_end line kept) (Within-end c.args.flags.0 line c.bytes.text.items kept c.bytes.at c.bytes.asked c.bytes.last
+    (rw (to_end line kept)
+    (Within-end c.args.flags.0 line c.bytes.text.items kept c.bytes.at c.bytes.seen_question_mark c.bytes.last
     c.bytes.invariant c.bytes-test.false))

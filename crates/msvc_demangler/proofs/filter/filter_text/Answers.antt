@@ -6,7 +6,7 @@ use Rattle.msvc_demangler.specs.Filtered.{IsTextOfLine}
 use Rattle.msvc_demangler.specs.Runs.{Writes, WritesPart}
 use Rattle.msvc_demangler.specs.Taking.{IsCut, IsWithEnd}
 use Rattle.msvc_demangler.specs.declared.watched.Taken.TheVariants.{Part}
-use Rattle.msvc_demangler.proofs.Going.{empty-of_length, Going-asked, Going-end, Going-fault, Going-line}
+use Rattle.msvc_demangler.proofs.Going.{empty-of_length, Going-polled, Going-end, Going-fault, Going-line}
 use Rattle.msvc_demangler.proofs.Going.{Going-part, Going-rest, Going-start}
 use Rattle.msvc_demangler.proofs.Replaced.{replaced-joined}
 use Rattle.msvc_demangler.proofs.filter.filter_text.Goals.{in-Part, in-Line+in_ok-put_filtered-in-Line}
@@ -19,7 +19,7 @@ pub returns-in_err-take-clause-text : goal.returns-in_err-take-clause-text
 returns-in_err-take-clause-text g c =
     let p = err_from_is_err_and c.from_residual.result c.from_residual.ensures.1 in
     let e = c.in_err-take.ensures in
-    rw (p.1, p.2) (Going-asked (replaced-joined c.args.flags.0) _ _ _ _ _ _ _ _ e.taken.0 c.pieces.invariant.0
+    rw (p.1, p.2) (Going-polled (replaced-joined c.args.flags.0) _ _ _ _ _ _ _ _ e.taken.0 c.pieces.invariant.0
     e.taken.2 e.taken.3 e.marks)
 
 pub returns-in_err-put_filtered-in-Line-clause-text : goal.returns-in_err-put_filtered-in-Line-clause-text
@@ -87,5 +87,5 @@ pieces-preserved g c =
 pub returns-clause-text : goal.returns-clause-text
 returns-clause-text g c =
     let e = c.in-Err.ensures in
-    Going-asked (replaced-joined c.args.flags.0) _ _ _ _ _ _ _ _ e.taken.0 c.pieces.invariant.0 e.taken.2 e.taken.3
+    Going-polled (replaced-joined c.args.flags.0) _ _ _ _ _ _ _ _ e.taken.0 c.pieces.invariant.0 e.taken.2 e.taken.3
     e.marks

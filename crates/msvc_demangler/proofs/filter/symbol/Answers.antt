@@ -1,40 +1,40 @@
-use Rattle.std.proofs.Common.{length, ap, arith, false, sym, ◌∙◌}
+use Rattle.std.proofs.Common.{arith, false, sym, ◌∙◌}
 use Rattle.std.specs.Prelude.{IsTrue}
-use Rattle.msvc_demangler.proofs.Symbols.{candidate-within, no_symbol-goes_on, no_symbol-long, no_symbol-refused}
-use Rattle.msvc_demangler.proofs.Symbols.{symbol-eats, symbol-read}
+use Rattle.msvc_demangler.proofs.Symbols.{no_symbol-continues, no_symbol-long, no_symbol-rejected, read-within}
+use Rattle.msvc_demangler.proofs.Symbols.{symbol-read}
 use Rattle.msvc_demangler.proofs.filter.symbol.Goals as goal
 
-pub taken-bytes-requires : goal.taken-bytes-requires
-taken-bytes-requires c =
+pub symbol_extent-bytes-requires : goal.symbol_extent-bytes-requires
+symbol_extent-bytes-requires c =
     let d = rw c.in-Some.is at c.in-Ok.ensures.declared in
-    omega (arith, d.5, ap length c.candidate.ensures, candidate-within c.args.left.now)
+    (read-within c.in-Some.read c.args.left.now c.candidate.result.now c.candidate.ensures d.0 d.1.parsed d.3).1
 
-pub returns-else-goes_on-clause-some : goal.returns-else-goes_on-clause-some
-returns-else-goes_on-clause-some c =
+pub returns-else-continues-clause-some : goal.returns-else-continues-clause-some
+returns-else-continues-clause-some c =
     let d = rw c.in-Some.is at c.in-Ok.ensures.declared in
-    let ends = sym (rw c.taken-bytes.ensures.taken at c.goes_on.ensures) ∙ c.if-goes_on.false in
-    let is = symbol-read c.args.flags.0 c.in-Some.read c.args.left.now c.candidate.result.now _ c.candidate.ensures
-    d.0 d.1
-    d.2 d.3 d.4 d.6 d.5 d.7 ends in (
-      rw c.taken-bytes.ensures.taken is,
-      omega (arith, d.5, symbol-eats _ d.0 d.1 d.2 d.3, c.taken-bytes.ensures.least),
-      c.taken-bytes.ensures.bound,
+    let left = c.args.left.now in
+    let ends = sym (rw c.symbol_extent-bytes.ensures.extent at c.continues.ensures) ∙ c.if-continues.false in
+    let read = read-within c.in-Some.read left c.candidate.result.now c.candidate.ensures d.0 d.1.parsed d.3 in
+    let is = symbol-read c.args.flags.0 c.in-Some.read left c.candidate.result.now _ c.candidate.ensures d.0 d.1 d.2 d.3
+    d.4 ends in (
+      rw c.symbol_extent-bytes.ensures.extent is,
+      omega (arith, read.0, c.symbol_extent-bytes.ensures.least),
+      c.symbol_extent-bytes.ensures.bound,
     )
 
-pub returns-then-goes_on-clause-none : goal.returns-then-goes_on-clause-none
-returns-then-goes_on-clause-none c =
+pub returns-then-continues-clause-none : goal.returns-then-continues-clause-none
+returns-then-continues-clause-none c =
     let d = rw c.in-Some.is at c.in-Ok.ensures.declared in
-    let on = sym (rw c.taken-bytes.ensures.taken at c.goes_on.ensures) ∙ c.if-goes_on.true in
-    no_symbol-goes_on c.args.flags.0 c.in-Some.read c.args.left.now c.candidate.result.now c.candidate.ensures d.0 d.1
-    d.2
-    d.3 d.5 on
+    let on = sym (rw c.symbol_extent-bytes.ensures.extent at c.continues.ensures) ∙ c.if-continues.true in
+    no_symbol-continues c.args.flags.0 c.in-Some.read c.args.left.now c.candidate.result.now c.candidate.ensures d.0
+    d.1.parsed d.3 on
 
 pub returns-in-None-clause-none : goal.returns-in-None-clause-none
 returns-in-None-clause-none c =
     let d = rw c.in-None.is at c.in-Ok.ensures.longer in
-    no_symbol-long c.args.flags.0 c.args.left.now c.candidate.result.now c.candidate.ensures d.0 d.1 d.2 d.3 d.4
+    no_symbol-long c.args.flags.0 c.args.left.now c.candidate.result.now c.candidate.ensures d.0 d.1 d.2
 
 pub returns-in-Err-2-clause-none : goal.returns-in-Err-2-clause-none
 returns-in-Err-2-clause-none c =
-    no_symbol-refused c.args.flags.0 c.args.left.now c.candidate.result.now c.candidate.ensures c.in-Err.refusal
-    (λ m. let no : IsTrue false = c.if-is_out_of_memory.ensures.1 m in cc) c.in-Err.ensures.refused
+    no_symbol-rejected c.args.flags.0 c.args.left.now c.candidate.result.now c.candidate.ensures c.in-Err.error
+    (λ m. let no : IsTrue false = c.if-is_out_of_memory.ensures.1 m in cc) c.in-Err.ensures.rejected

@@ -1,9 +1,9 @@
 use Rattle.std.proofs.Common.{inl}
-use Rattle.std.proofs.lemmas.Result.{IfOk-weaker}
+use Rattle.msvc_nodes.specs.NodeView.{typed_symbol_of}
 use Rattle.msvc_demangler.proofs.lines.answer.Goals as goal
 
-pub returns-clause-declared : goal.returns-clause-declared
-returns-clause-declared c =
-    let declared = rw c.llvm.ensures at c.demangle.ensures.declared in
-    IfOk-weaker _ _ _
-    (λ text h. inl (h.0, (h.1, h.2, h.3, h.4), h.5)) declared
+pub returns-in_ok-print-in-Ok-clause-declared : goal.returns-in_ok-print-in-Ok-clause-declared
+returns-in_ok-print-in-Ok-clause-declared c =
+    let is = c.in-Ok.ensures.parsed in
+    let printed = rw c.llvm.ensures at c.in_ok-print-in-Ok.ensures in
+    inl (typed_symbol_of c.in-Ok.read, (is.rest, is.notes, is.derived, is.only), printed)

@@ -24,5 +24,5 @@ returns-in_err-report-in-Err-clause-text g c =
       [],
       Appends-nil _,
       WritesPart-nothing _ _ _ _ (c.args.symbol.now ++ 10 ∷ [])
-          (c.args.symbol.now, c.in-Err.ensures.refused (search rules), refl) e,
+          (c.args.symbol.now, c.in-Err.ensures.rejected (search rules), refl) e,
     )

@@ -7,10 +7,10 @@ use Rattle.msvc_demangler.specs.Lines.{line_of}
 use Rattle.msvc_demangler.specs.Runs.{Writes, WritesPart}
 use Rattle.msvc_demangler.specs.Taking.{IsCut, IsWithEnd}
 use Rattle.msvc_demangler.specs.declared.watched.Taken.TheVariants.{Part}
-use Rattle.msvc_demangler.proofs.Going.{empty-of_length, Going-asked, Going-end, Going-fault, Going-line}
+use Rattle.msvc_demangler.proofs.Going.{empty-of_length, Going-polled, Going-end, Going-fault, Going-line}
 use Rattle.msvc_demangler.proofs.Going.{Going-part, Going-rest, Going-start}
 use Rattle.msvc_demangler.proofs.Texts.{answers-joined}
-use Rattle.msvc_demangler.proofs.lines.undname_lines.Goals.{in-Part, in-Line+in_ok-filter_line-in-Line}
+use Rattle.msvc_demangler.proofs.lines.undname_lines.Goals.{in-Part, in-Line+in_ok-undname_line-in-Line}
 use Rattle.msvc_demangler.proofs.lines.undname_lines.Goals as goal
 
 pub pieces-init : goal.pieces-init
@@ -20,21 +20,21 @@ pub returns-in_err-take-clause-text : goal.returns-in_err-take-clause-text
 returns-in_err-take-clause-text g c =
     let p = err_from_is_err_and c.from_residual.result c.from_residual.ensures.1 in
     let e = c.in_err-take.ensures in
-    rw (p.1, p.2) (Going-asked answers-joined _ _ _ _ _ _ _ _ e.taken.0 c.pieces.invariant.0 e.taken.2 e.taken.3
+    rw (p.1, p.2) (Going-polled answers-joined _ _ _ _ _ _ _ _ e.taken.0 c.pieces.invariant.0 e.taken.2 e.taken.3
     e.marks)
 
-pub returns-in_err-filter_line-in-Line-clause-text : goal.returns-in_err-filter_line-in-Line-clause-text
-returns-in_err-filter_line-in-Line-clause-text g c =
-    let at = c.from_residual-in_err-filter_line-in-Line in
+pub returns-in_err-undname_line-in-Line-clause-text : goal.returns-in_err-undname_line-in-Line-clause-text
+returns-in_err-undname_line-in-Line-clause-text g c =
+    let at = c.from_residual-in_err-undname_line-in-Line in
     let p = err_from_is_err_and at.result at.ensures.1 in
     let e = c.in_ok-take.ensures in
     let cut : IsWithEnd e.taken.0 = subst (λ t. IsCut t e.taken.0) c.in-Line.is e.taken.3 in
-    let text = c.in_err-filter_line-in-Line.ensures.text in
+    let text = c.in_err-undname_line-in-Line.ensures.text in
     let line = c.deref.ensures.value ∙ e.taken.1 ∙ ap (λ l. c.pieces.piece.items ++ l) cut.2 in
     rw (p.1, p.2)
     (Going-fault answers-joined _ _ _ _ _ _ _ _ cut.0 c.pieces.invariant.0 (subst
     (Consumes _ _) cut.2 e.taken.2) cut.1 text.0 text.1
-    (subst (λ l. WritesPart c.in_err-filter_line-in-Line.field-0.0 (IsText (line_of l ∷ [])) text.0) line text.2))
+    (subst (λ l. WritesPart c.in_err-undname_line-in-Line.field-0.0 (IsText (line_of l ∷ [])) text.0) line text.2))
 
 pub returns-then-is_empty-clause-text : goal.returns-then-is_empty-clause-text
 returns-then-is_empty-clause-text g c =
@@ -50,11 +50,11 @@ pub returns-in-End-clause-text : goal.returns-in-End-clause-text
 returns-in-End-clause-text g c =
     let e = c.in_ok-take.ensures in
     let cut : e.taken.0 ≡ [] = subst (λ t. IsCut t e.taken.0) c.in-End.is e.taken.3 in
-    let text = c.filter_line-in-End.ensures.text in
+    let text = c.undname_line-in-End.ensures.text in
     let part : c.take.new.bytes.items ≡ c.pieces.piece.items =
     e.taken.1 ∙ ap (λ l. c.pieces.piece.items ++ l) cut ∙ append-nil _ in
     let some : c.take.new.bytes.items ≢ [] = search rules in
-    let r = c.filter_line-in-End.result in
+    let r = c.undname_line-in-End.result in
     let whole = c.deref-in-End.ensures.value ∙ part in
     Going-rest answers-joined r _ _ _ _ _ _ _ e.taken.0 c.pieces.invariant.0 e.taken.2 cut (subst
     (λ l. l ≢ []) part some)
@@ -72,21 +72,21 @@ pieces-preserved g c =
             c.pieces.invariant.2,
             c.pieces.invariant.3,
           )
-      | in-Line+in_ok-filter_line-in-Line w ↦
+      | in-Line+in_ok-undname_line-in-Line w ↦
           let cut : IsWithEnd e.taken.0 = subst (λ t. IsCut t e.taken.0) w.in-Line.is e.taken.3 in
-          let text = w.in_ok-filter_line-in-Line.ensures.text in
+          let text = w.in_ok-undname_line-in-Line.ensures.text in
           let whole = w.deref.ensures.value ∙ e.taken.1 ∙ ap (λ l. c.pieces.piece.items ++ l) cut.2 in
           rw (w.out-is, w.err-is, w.piece-is, w.clear.ensures.items) (
             Going-line answers-joined _ _ _ _ _ _ _ cut.0 c.pieces.invariant.0 (subst
                 (Consumes _ _) cut.2 e.taken.2) cut.1 text.0
                 text.1 (subst (λ l. IsText (line_of l ∷ []) text.0) whole text.2),
             e.marks.0 ∙ c.pieces.invariant.1,
-            w.in_ok-filter_line-in-Line.ensures.marks.1 ∙ c.pieces.invariant.2,
-            w.in_ok-filter_line-in-Line.ensures.marks.2 ∙ c.pieces.invariant.3,
+            w.in_ok-undname_line-in-Line.ensures.marks.1 ∙ c.pieces.invariant.2,
+            w.in_ok-undname_line-in-Line.ensures.marks.2 ∙ c.pieces.invariant.3,
           )
     ]
 
 pub returns-clause-text : goal.returns-clause-text
 returns-clause-text g c =
     let e = c.in-Err.ensures in
-    Going-asked answers-joined _ _ _ _ _ _ _ _ e.taken.0 c.pieces.invariant.0 e.taken.2 e.taken.3 e.marks
+    Going-polled answers-joined _ _ _ _ _ _ _ _ e.taken.0 c.pieces.invariant.0 e.taken.2 e.taken.3 e.marks

@@ -1,31 +1,18 @@
-use Rattle.msvc_tree.specs.NodeView.{whole_of}
-use Rattle.msvc_read.proofs.Whole.{error-refused, read-derived, read-hashes, read-parts, read-texts}
-use Rattle.msvc_read.proofs.Written.{all_written_out}
+use Rattle.msvc_nodes.specs.NodeView.{typed_symbol_of}
+use Rattle.msvc_read.proofs.WholeTexts.{laws, read-parsed, rejected}
 use Rattle.msvc_read.proofs.read.read_symbol.Goals as goal
 
-pub returns-in-Ok-clause-derived : goal.returns-in-Ok-clause-derived
-returns-in-Ok-clause-derived c =
-    read-derived c.args.input.now (whole_of c.in-Ok.whole) _ c.in-Ok.ensures.value
+pub returns-in-Ok-clause-parsed : goal.returns-in-Ok-clause-parsed
+returns-in-Ok-clause-parsed c =
+    read-parsed c.args.input.now (typed_symbol_of c.in-Ok.symbol) _ c.utf8.input c.in-Ok.ensures.value
 
-pub returns-in-Ok-clause-parts : goal.returns-in-Ok-clause-parts
-returns-in-Ok-clause-parts c =
-    read-parts c.args.input.now (whole_of c.in-Ok.whole) _ c.in-Ok.ensures.value
+pub returns-in-Ok-clause-laws : goal.returns-in-Ok-clause-laws
+returns-in-Ok-clause-laws c = laws c.args.input.now
 
-pub returns-in-Ok-clause-texts : goal.returns-in-Ok-clause-texts
-returns-in-Ok-clause-texts c =
-    read-texts c.args.input.now (whole_of c.in-Ok.whole) _ c.utf8.input c.in-Ok.ensures.value
-
-pub returns-in-Ok-clause-hashes : goal.returns-in-Ok-clause-hashes
-returns-in-Ok-clause-hashes c =
-    read-hashes c.args.input.now (whole_of c.in-Ok.whole) _ c.in-Ok.ensures.value
-
-pub returns-in-Err-clause-refused : goal.returns-in-Err-clause-refused
-returns-in-Err-clause-refused c =
-    error-refused c.args.input.now c.in-Err.refusal c.error.result c.in-Err.ensures.value
+pub returns-in-Err-clause-rejected : goal.returns-in-Err-clause-rejected
+returns-in-Err-clause-rejected c =
+    rejected c.args.input.now c.in-Err.refusal c.error.result c.in-Err.ensures.value c.in-Err.ensures.start
     (rw c.as_bytes.ensures.value at c.error.ensures)
 
-pub returns-in-Ok-clause-written_out : goal.returns-in-Ok-clause-written_out
-returns-in-Ok-clause-written_out c = all_written_out c.args.input.now
-
-pub returns-in-Err-clause-written_out : goal.returns-in-Err-clause-written_out
-returns-in-Err-clause-written_out c = all_written_out c.args.input.now
+pub returns-in-Err-clause-laws : goal.returns-in-Err-clause-laws
+returns-in-Err-clause-laws c = laws c.args.input.now

@@ -1,0 +1,98 @@
+//! The words and numbers that stand in the text of a tree: what a node without parts is shown as.
+
+use bitflags::Flags;
+use msvc_nodes::kinds::{Guard, Mark, NumberedType, PlainType, Table};
+use msvc_nodes::nodes::BaseClass;
+use std::alloc::{AllocError, Global};
+
+/// Appends the names of a set's bits, each with a space after it.
+pub(crate) fn push_set<F: Flags>(text: &mut String, set: F) -> Result<(), AllocError> {
+    for (name, _) in set.iter_names() {
+        text.push_str(name)?;
+        text.push(' ')?;
+    }
+    Ok(())
+}
+
+/// Appends bytes of the symbol, between two words.
+pub(crate) fn push_spelled(
+    alloc: Global,
+    text: &mut String,
+    before: &str,
+    bytes: &[u8],
+    after: &str,
+) -> Result<(), AllocError> {
+    text.push_str(before)?;
+    text.push_str(String::from_utf8_lossy(alloc, bytes)?.as_str())?;
+    text.push_str(after)
+}
+
+/// Appends the bytes of a string literal, in quotes.
+pub(crate) fn push_literal(
+    alloc: Global,
+    text: &mut String,
+    bytes: &[u8],
+) -> Result<(), AllocError> {
+    let spelled = String::from_utf8_lossy(alloc, bytes)?;
+    write!(text, "ConstantString({spelled:?})")
+}
+
+/// Appends a guard and its number.
+pub(crate) fn push_guard(
+    text: &mut String,
+    guard: Guard,
+    number: Option<u32>,
+) -> Result<(), AllocError> {
+    let word = match guard {
+        Guard::Static => "LocalStaticGuard",
+        Guard::Thread => "LocalStaticThreadGuard",
+    };
+    write!(text, "{word}({number:?})")
+}
+
+/// Appends the numbers of a base class.
+pub(crate) fn push_place(text: &mut String, place: &BaseClass) -> Result<(), AllocError> {
+    let BaseClass {
+        member,
+        pointer,
+        entry,
+        attributes,
+    } = *place;
+    write!(
+        text,
+        "RTTIBaseClassDescriptor({member} {pointer} {entry} {attributes})"
+    )
+}
+
+pub(crate) fn plain_word(plain: PlainType) -> &'static str {
+    match plain {
+        PlainType::None => "None",
+        PlainType::EmptyPack => "EmptyParameterPack",
+        PlainType::Rtti => "RTTIType",
+        PlainType::Variadic => "VarArgs",
+        PlainType::Nullptr => "Nullptr",
+    }
+}
+
+pub(crate) fn numbered_word(kind: NumberedType) -> &'static str {
+    match kind {
+        NumberedType::Constant => "Constant",
+        NumberedType::TemplateParameter => "TemplateParameterWithIndex",
+        NumberedType::ThreadSafeGuard => "ThreadSafeStaticGuard",
+    }
+}
+
+pub(crate) fn mark_word(mark: Mark) -> &'static str {
+    match mark {
+        Mark::Pointer => "Ptr(",
+        Mark::Reference => "Ref(",
+        Mark::RValueReference => "RValueRef(",
+    }
+}
+
+pub(crate) fn table_word(table: Table) -> &'static str {
+    match table {
+        Table::Functions => "CXXVFTable(",
+        Table::Bases => "CXXVBTable(",
+    }
+}

@@ -1,0 +1,90 @@
+-- A bound on calls that is large enough reads what any other does, so a production is read as its rule.
+use Rattle.std.proofs.Common.{ℕ, zero, suc, List, length, Some, None, Bool, true, false, cond, nat_lt, ◌≡◌, ◌<◌, ◌≤◌}
+use Rattle.std.proofs.Common.{◌+◌, ◌*◌, refl, ap, ◌∙◌, arith}
+use Rattle.std.proofs.lemmas.Bool.{ltb-true}
+use Rattle.msvc_grammar.specs.Sorts.{Sort}
+use Rattle.msvc_grammar.specs.State.{State, counted, is_allowed, more}
+use Rattle.msvc_grammar.specs.Reads.{counting, only_if, emptied, Found, Reader, and_then, or_else, entered_by, put_apart}
+use Rattle.msvc_grammar.specs.Reads.{read_by}
+use Rattle.msvc_grammar.specs.Reads.{read_within, ranks, read_name, read}
+use Rattle.msvc_grammar.specs.Rules.{Production, holds, Rule, here, ◌>>=◌, ◌or◌, call, node, entering, apart}
+use Rattle.msvc_grammar.specs.Grammar.{grammar}
+use Rattle.msvc_grammar.proofs.Soundness.{IfFound, Derived, Sound, sound_by, within-sound, name-sound}
+use Rattle.msvc_grammar.proofs.Progress.{Less, shorter}
+use Rattle.msvc_grammar.proofs.Checks.{rank, depth, Fine, fine, eats, rank_small}
+
+then_same : {A B : Type 0} (P : A × List ℕ × State → Type 0) (o p : Found A) (f g : A → List ℕ → State → Found B)
+    → o ≡ p → IfFound P p
+    → ((x : A × List ℕ × State) → P x → f x.0 x.1 x.2 ≡ g x.0 x.1 x.2) → and_then o f ≡ and_then p g
+then_same P o None f g e h go = ap (λ z. and_then z f) e
+then_same P o (Some x) f g e h go = ap (λ z. and_then z f) e ∙ go x h
+
+floor_after : (e floor bound : ℕ) (left rest : List ℕ) → ranks * length left + floor ≤ bound → Less left e rest
+    → ranks * length rest + cond (nat_lt 0 e) ranks floor ≤ bound
+floor_after e floor bound left rest h less = go (nat_lt 0 e) refl
+  where
+    go : (t : Bool) → nat_lt 0 e ≡ t → ranks * length rest + cond t ranks floor ≤ bound
+    go true k = omega (arith, ltb-true 0 e k)
+    go false k = omega arith
+
+-- what goes on once nodes were counted
+counted_same : {A : Type 0} (n : ℕ) (left : List ℕ) (s : State) (f g : List ℕ → State → Found A)
+    → f left (counted n s) ≡ g left (counted n s)
+    → and_then (counting n left s) (λ _. f) ≡ and_then (counting n left s) (λ _. g)
+unfolding counting
+counted_same n left s f g e = go (is_allowed (more n s.count))
+  where
+    go : (t : Bool) → and_then (only_if t left (counted n s)) (λ _. f)
+        ≡ and_then (only_if t left (counted n s)) (λ _. g)
+    go true = e
+    go false = refl
+
+module _ (calls others : (b : Sort) → Production b → Reader b) (bound : ℕ) (sound : Sound others)
+    (agree : (b : Sort) (n : Production b) (left : List ℕ) (s : State) → depth n left < bound
+    → calls b n left s ≡ others b n left s) where
+  pub stable_by : {a : Sort} (floor : ℕ) (r : Rule a) (left : List ℕ) (s : State) → Fine floor r
+      → ranks * length left + floor ≤ bound
+      → read_by calls r left s ≡ read_by others r left s
+  unfolding read_by Fine depth
+  stable_by floor (here c r) left s f h = ap (λ z. cond (holds c left) z None) (stable_by floor r left s f h)
+  stable_by floor (r >>= g) left s f h =
+      then_same (Derived r left s) (read_by calls r left s) (read_by others r left s) _ _
+      (stable_by floor r left s f.0 h) (sound_by others sound r left s)
+      (λ x d. stable_by (cond (nat_lt 0 (eats r)) ranks floor) (g x.0) x.1 x.2 (f.1 x.0)
+      (floor_after (eats r) floor bound left x.1 h (shorter d floor f.0)))
+  stable_by floor (r or q) left s f h =
+      ap (λ z. or_else z (read_by calls q left s)) (stable_by floor r left s f.1 h)
+      ∙ ap (λ z. or_else (read_by others r left s) z) (stable_by floor q left s f.2 h)
+  stable_by floor (call n) left s f h =
+      agree _ n left s (let below : rank n < floor = ltb-true (rank n) floor f in omega arith)
+  stable_by floor (node r) left s f h =
+      counted_same s.count.weight left s (read_by calls r) (read_by others r)
+      (stable_by floor r left (counted s.count.weight s) f h)
+  stable_by floor (entering r) left s f h = ap (entered_by left) (stable_by floor r left s f h)
+  stable_by floor (apart r) left s f h = ap (put_apart s) (stable_by floor r left (emptied s) f h)
+  stable_by floor _ left s f h = refl
+
+pub within-stable : (k j : ℕ) (b : Sort) (n : Production b) (left : List ℕ) (s : State) → depth n left < k
+    → depth n left < j
+    → read_within k n left s ≡ read_within j n left s
+unfolding read_within depth
+within-stable zero j b n left s h g = absurd (omega arith)
+within-stable (suc k) zero b n left s h g = absurd (omega arith)
+within-stable (suc k) (suc j) b n left s h g =
+    stable_by (λ b m. read_within k m) (λ b m. read_within j m) (depth n left) (within-sound j)
+    (λ c m l t less. within-stable k j c m l t (omega arith) (omega arith))
+    (rank n) (grammar n) left s (fine n) (omega arith)
+
+enough : {a : Sort} (n : Production a) (left : List ℕ) → depth n left < ranks * suc (length left)
+unfolding depth
+enough n left = omega (arith, ltb-true (rank n) ranks (rank_small n))
+
+-- a production is read as its rule
+pub read_name-is : {a : Sort} (n : Production a) (left : List ℕ) (s : State)
+    → read_name n left s ≡ read (grammar n) left s
+unfolding read_name read_within read depth
+read_name-is n left s =
+    within-stable (ranks * suc (length left)) (suc (depth n left)) _ n left s (enough n left) (omega arith)
+    ∙ stable_by (λ b m. read_within (depth n left) m) (λ b m. read_name m) (depth n left) name-sound
+    (λ c m l t less. within-stable (depth n left) (ranks * suc (length l)) c m l t less (enough m l))
+    (rank n) (grammar n) left s (fine n) (omega arith)

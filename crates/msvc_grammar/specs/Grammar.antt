@@ -1,0 +1,465 @@
+-- The grammar of symbols. Most productions have the name that docs/grammar.md gives them, and that of the function
+-- that reads them; the others are parts of one. Texts stand in it as such; what letters stand for is in the tables of
+-- Letters.
+use Rattle.std.specs.Prelude.{ℕ, ℤ, pos, List, [], ◌∷◌, ◌++◌, ◌==◌, ◌+◌, ◌*◌, ◌%◌, ◌^◌, Bool, true, false, Some, None}
+use Rattle.std.specs.Prelude.{negsuc, Option, bit_and, bit_or, suc, zero, codes, is_some, length, nat_lt, not, min}
+use Rattle.std.specs.Prelude.{if◌then◌else◌, unwrap_or}
+use Rattle.std.specs.Int.{cast_signed, int_wrapping_neg, w32}
+use Rattle.msvc_nodes.specs.Trees as tree
+use Rattle.msvc_nodes.specs.declared.kinds.Tag.TheVariants as tag_kind
+use Rattle.msvc_nodes.specs.declared.kinds.BaseType.TheVariants as base_kind
+use Rattle.msvc_nodes.specs.declared.kinds.Mark.TheVariants as mark_kind
+use Rattle.msvc_nodes.specs.declared.kinds.NumberedType.TheVariants as number_kind
+use Rattle.msvc_nodes.specs.declared.kinds.PlainType.TheVariants as plain_kind
+use Rattle.msvc_nodes.specs.declared.kinds.Spelling.TheVariants as spelling_kind
+use Rattle.msvc_nodes.specs.Trees.{NameTree, TypeTree, spelled, template, discriminator, nested, anonymous, no_names}
+use Rattle.msvc_nodes.specs.Trees.{plain}
+use Rattle.msvc_nodes.specs.Trees.{operator, guard, type_descriptor, base_class_descriptor, base, tagged, numbered}
+use Rattle.msvc_nodes.specs.Trees.{pointing, constant_string, vcall_thunk, function}
+use Rattle.msvc_nodes.specs.Trees.{member_function, variable, name_trees, type_trees}
+use Rattle.msvc_grammar.specs.declared.forms.TypeForm.TheVariants as form
+use Rattle.msvc_grammar.specs.declared.forms.SpecialForm.TheVariants as special
+use Rattle.msvc_grammar.specs.Sorts.{based, extended, named, points, arrayed, indexed, referred}
+use Rattle.msvc_grammar.specs.Sorts.{variable_of, table_of, type_information, untyped, encoded_string}
+use Rattle.msvc_grammar.specs.Sorts.{virtual_call, plain_function, member_of, Sort, nothing, bits, integer}
+use Rattle.msvc_grammar.specs.Sorts.{name_tree, base_type, type_letter, encoding_letter, convention, symbol_tree}
+use Rattle.msvc_grammar.specs.Rules.{Production, symbol, symbol_body, guard_index, unsigned, decimal, encoding}
+use Rattle.msvc_grammar.specs.Rules.{encoding_after, characters, character, thunk_number, this_qualifiers}
+use Rattle.msvc_grammar.specs.Rules.{function_qualifiers, signature, return_qualifiers, returned, function_parameters}
+use Rattle.msvc_grammar.specs.Rules.{parameters, parameter, any_type, plain_type, type_after, pointee, array, dimension}
+use Rattle.msvc_grammar.specs.Rules.{positive, lengths, qualified_name, unqualified_name, template_name, scope}
+use Rattle.msvc_grammar.specs.Rules.{nested_name}
+use Rattle.msvc_grammar.specs.Rules.{marked_name, anonymous_namespace, hexadecimal_digits, source_name, number, magnitude}
+use Rattle.msvc_grammar.specs.Rules.{letters, required, none_of, at_end, Rule, give, letter, literal, up_to, here, ◌>>=◌}
+use Rattle.msvc_grammar.specs.Rules.{◌>>◌, ◌or◌, lookup, every}
+use Rattle.msvc_grammar.specs.Rules.{call, known_name, remember, known_type, noted, entering, apart, begins_of, letter_or}
+use Rattle.msvc_grammar.specs.Rules.{literal_or, node, text_and, text_or, optional, never}
+use Rattle.msvc_grammar.specs.Rules.{type_form, function_type, member_pointer, class_part, special_name, special_after}
+use Rattle.msvc_grammar.specs.Letters.{digits, hexadecimal, hexadecimal_codes, qualifiers, storage_classes}
+use Rattle.msvc_grammar.specs.Letters.{qualifiers_of_returns, qualifiers_of_arrays, pointer_sizes, restricts, alignments}
+use Rattle.msvc_grammar.specs.Letters.{reference_qualifiers, extended_types, type_letters, type_texts, conventions, static}
+use Rattle.msvc_grammar.specs.Letters.{thunk, function_classes, encoding_letters, special_texts, character_sizes}
+use Rattle.msvc_grammar.specs.Letters.{plain_characters, escaped_characters, at_sign, decimal_base, hexadecimal_base}
+
+-- What values are made of
+
+-- whether a class has a bit
+abbrev pub has : ℕ → ℕ → Bool
+has class bit = bit_and class bit == bit
+
+-- a value modulo 2 ^ 32, signed
+abbrev pub signed : ℕ → ℤ
+signed value = cast_signed w32 (value % 2 ^ 32)
+
+-- an array of these lengths, the outermost first, with the same qualifiers at each level
+unfoldable pub arrays : List ℤ → TypeTree → ℕ → TypeTree
+arrays [] t q = t
+arrays (n ∷ ns) t q = tree.array n (arrays ns t q) q
+
+-- how many characters of a string are kept at most, if they are of one byte
+abbrev pub most_characters : ℕ
+most_characters = 32
+
+-- how many characters of a string are kept, where each has so many bytes
+abbrev pub string_length : ℕ → ℤ → ℕ
+string_length size (pos n) = min n (most_characters * size)
+string_length size (negsuc n) = 0
+
+-- how many digits to base 16 a hash has
+abbrev pub hash_length : ℕ
+hash_length = 32
+
+-- whether a hash is so many digits to base 16
+abbrev pub is_hash : List ℕ → Bool
+is_hash digits =
+    if length digits == hash_length then every (λ b. is_some (lookup b hexadecimal_codes)) digits else false
+
+-- the greatest number of 32 bits with a sign
+abbrev pub greatest_number : ℕ
+greatest_number = 2147483647
+
+-- whether a number is at most the greatest
+abbrev pub is_in_range : ℕ → Bool
+is_in_range value = not (nat_lt greatest_number value)
+
+-- whether a name is that of a guard
+abbrev pub is_guard : NameTree → Bool
+is_guard (guard kind index) = true
+is_guard _ = false
+
+-- the name of a guard with an index, and any other as it stands
+abbrev pub with_index : Option ℕ → NameTree → NameTree
+with_index index (guard kind before) = guard kind index
+with_index index n = n
+
+-- Parts of productions
+
+-- a name that enters the table
+abbrev pub entering_name : Rule name_tree → Rule name_tree
+entering_name r = do
+  n ← r
+  remember n
+  give n
+
+-- a source name, which enters the table
+abbrev pub new_source_name : Rule name_tree
+new_source_name = entering_name (node (do n ← call source_name; give (spelled spelling_kind.Source n)))
+
+-- a whole symbol inside a scope, after its own ?
+abbrev pub nested_symbol : Rule name_tree
+nested_symbol = node (do
+  s ← call symbol_body
+  give (nested s.name s.scope s.symbol_type))
+
+-- an interface, after its ?Q
+abbrev pub new_interface : Rule name_tree
+new_interface = entering_name (node (do
+  n ← call source_name
+  literal (codes "@")
+  give (spelled spelling_kind.Interface n)))
+
+-- a name and arguments
+abbrev pub template_inside : Rule name_tree
+template_inside = node (do
+  n ← call (unqualified_name false)
+  ts ← call parameters
+  give (template n (type_trees ts)))
+
+-- a template, which enters the table if it is not a symbol's own name
+abbrev pub template_kept : Bool → Rule name_tree
+template_kept true = call template_name
+template_kept false = entering_name (call template_name)
+
+-- letters to base 16, as a number of 32 bits
+abbrev pub signed_letters : Rule integer
+signed_letters = do
+  v ← call (letters 0)
+  give (signed v)
+
+-- the qualifiers of what a function returns that is part of a type
+abbrev pub class_of_returned : Rule bits
+class_of_returned = literal_or (codes "?") (optional storage_classes) (give 0)
+
+-- the qualifiers of each level of an array
+abbrev pub array_class : Rule bits
+array_class = literal_or (codes "$$C") (letter bits qualifiers_of_arrays) (give 0)
+
+-- what follows the ?$ of a symbol that is a template and nothing else
+abbrev pub template_symbol : Rule symbol_tree
+template_symbol = do
+  n ← call template_name
+  node (give (record { name = n; scope = no_names; symbol_type = plain plain_kind.None }))
+
+-- what follows the ? of a symbol that has a scope
+abbrev pub named_symbol : Rule symbol_tree
+named_symbol = do
+  n ← call (qualified_name true)
+  index ← call (guard_index (is_guard n.0))
+  t ← call encoding
+  give (record { name = with_index index n.0; scope = name_trees n.1; symbol_type = t })
+
+-- what follows the ??@ of a symbol of which there is a hash alone
+abbrev pub hashed_symbol : Rule symbol_tree
+hashed_symbol = node (node (do
+  n ← call source_name
+  call (required (is_hash n))
+  give (record { name = spelled spelling_kind.Md5 n; scope = no_names; symbol_type = plain plain_kind.None })))
+
+-- one decimal digit or more, up to an @
+abbrev pub guard_number : Rule bits
+guard_number = do
+  d ← letter bits digits
+  call (decimal d)
+
+-- what follows the ?$TSS of the guard of a thread-safe static variable
+abbrev pub numbered_guard : Rule symbol_tree
+numbered_guard = do
+  z ← guard_number
+  n ← call nested_name
+  ns ← call scope
+  literal (codes "4HA")
+  node (give (record { name = n; scope = name_trees ns; symbol_type = numbered number_kind.ThreadSafeGuard (pos z) }))
+
+-- what stands after the name of a guard, as the type of a variable does after another name
+abbrev pub guard_marker : Rule nothing
+guard_marker = literal (codes "4IA") or literal (codes "5")
+
+-- the two halves of a byte
+abbrev pub halves : Rule bits
+halves = do
+  high ← letter bits hexadecimal
+  low ← letter bits hexadecimal
+  give (high * hexadecimal_base + low)
+
+-- what stands for a byte after a ?
+abbrev pub escaped_character : Rule bits
+escaped_character = literal_or (codes "$") halves (letter bits escaped_characters)
+
+-- The productions
+
+unfoldable pub grammar : {a : Sort} → Production a → Rule a
+-- A ?, and what follows it.
+grammar symbol = do
+  literal (codes "?")
+  call symbol_body
+grammar symbol_body =
+    literal_or (codes "?@") hashed_symbol
+    (literal_or (codes "$TSS") numbered_guard
+    (literal_or (codes "$") template_symbol named_symbol))
+-- at the end of the text a guard has no index
+grammar (guard_index true) = do
+  guard_marker
+  here at_end (give None) or (do z ← call number; index ← call (unsigned z); give (Some index))
+grammar (guard_index false) = give None
+grammar (unsigned (pos n)) = give n
+grammar (unsigned (negsuc n)) = never
+-- decimal digits after a value that others had, and an @ ends them
+grammar (decimal value) = do
+  call (required (is_in_range value))
+  letter_or digits (λ d. call (decimal (value * decimal_base + d))) (do literal (codes "@"); give value)
+-- the type of a symbol, by its first byte; at the end of the text none
+grammar encoding =
+    here at_end (node (give (plain plain_kind.None)))
+    or (do l ← letter encoding_letter encoding_letters; call (encoding_after l))
+grammar (encoding_after (variable_of kind)) = node (do
+  t ← call (any_type 0)
+  class ← optional storage_classes
+  give (variable t kind class))
+grammar (encoding_after (table_of kind)) = node (do
+  q ← optional qualifiers
+  ns ← call scope
+  give (tree.table kind (name_trees ns) q))
+grammar (encoding_after type_information) = node (give (plain plain_kind.Rtti))
+grammar (encoding_after untyped) = node (give (plain plain_kind.None))
+-- the size of a character, the length of the string, a number, which is dropped, and the first characters
+grammar (encoding_after encoded_string) = node (do
+  size ← letter bits character_sizes
+  z ← call number
+  _ ← call number
+  cs ← call (characters (string_length size z))
+  give (constant_string cs))
+grammar (encoding_after virtual_call) = node (do
+  literal (codes "B")
+  z ← call number
+  literal (codes "A")
+  c ← letter convention conventions
+  give (vcall_thunk z c))
+grammar (encoding_after plain_function) = node (do
+  f ← call (signature false)
+  give (function f.0 (type_trees f.1.1) 0 f.1.0))
+grammar (encoding_after (member_of class)) = node (do
+  call (thunk_number (has class thunk))
+  on_this ← call (this_qualifiers (has class static))
+  f ← call (signature true)
+  give (member_function class f.0 (type_trees f.1.1) on_this f.1.0))
+-- as many characters
+grammar (characters zero) = give []
+grammar (characters (suc n)) = do
+  c ← call character
+  cs ← call (characters n)
+  give (c ∷ cs)
+-- a byte as it stands, or what stands for one after a ?
+grammar character = literal_or (codes "?") escaped_character (letter bits plain_characters)
+-- a thunk has a number, which is dropped
+grammar (thunk_number true) = do
+  z ← call number
+  give tt
+grammar (thunk_number false) = give tt
+-- a static function has no qualifiers on this
+grammar (this_qualifiers true) = give 0
+grammar (this_qualifiers false) = call function_qualifiers
+grammar function_qualifiers = do
+  size ← optional pointer_sizes
+  restrict ← optional restricts
+  alignment ← optional alignments
+  reference ← optional reference_qualifiers
+  qualifier ← optional qualifiers
+  give (bit_or size (bit_or restrict (bit_or alignment (bit_or reference qualifier))))
+-- a convention, what is returned and the parameters; of a member function, or of another
+grammar (signature member) = do
+  c ← letter convention conventions
+  q ← call return_qualifiers
+  t ← call (returned member q)
+  ts ← call function_parameters
+  give (c, (t, ts))
+grammar return_qualifiers = literal_or (codes "?") (letter bits qualifiers_of_returns) (give 0)
+-- an @ for no type, as a constructor has none, or a type
+grammar (returned true q) = literal_or (codes "@") (node (give (plain plain_kind.None))) (call (any_type q))
+grammar (returned false q) = call (any_type q)
+-- X for one void, or parameters; and a Z
+grammar function_parameters =
+    literal_or (codes "X")
+    (do literal (codes "Z"); node (give (base base_kind.Void 0 ∷ [])))
+    (do ts ← call parameters; literal (codes "Z"); give ts)
+-- parameters up to an @, a Z, which adds an ellipsis, or the end of the text
+grammar parameters =
+    here at_end (give [])
+    or (do literal (codes "@"); give [])
+    or (do literal (codes "Z"); node (give (plain plain_kind.Variadic ∷ [])))
+    or here (none_of (codes "@" ∷ codes "Z" ∷ [])) (do t ← call parameter; ts ← call parameters; give (t ∷ ts))
+-- a digit is the type of an entry, and is noted; a type that was read enters the table
+grammar parameter =
+    noted digits
+    or here (none_of (begins_of digits)) (entering (call (any_type 0)))
+-- A type with qualifiers: by its text, or a plain type, before which a $ is dropped.
+grammar (any_type q) =
+    text_or type_texts (λ f. call (type_form q f)) (literal_or (codes "$") (call (plain_type q)) (call (plain_type q)))
+grammar (plain_type q) = do
+  l ← letter type_letter type_letters
+  call (type_after q l)
+grammar (type_after q (based b)) = node (give (base b q))
+grammar (type_after q extended) = node (do
+  b ← letter base_type extended_types
+  give (base b q))
+grammar (type_after q (named tag)) = node (do
+  n ← call (qualified_name false)
+  give (tagged tag n.0 (name_trees n.1) q))
+grammar (type_after q (points mark on_pointer)) = node (do
+  t ← call pointee
+  give (pointing mark t (unwrap_or on_pointer q)))
+grammar (type_after q arrayed) = call array
+grammar (type_after q indexed) = node (do
+  z ← call number
+  give (numbered number_kind.TemplateParameter (int_wrapping_neg w32 z)))
+-- whatever the qualifiers are
+grammar (type_after q (referred i)) = known_type i
+grammar (type_form q form.Enumeration) = node (do
+  n ← call (qualified_name false)
+  give (tagged tag_kind.Enum n.0 (name_trees n.1) q))
+grammar (type_form q form.ReferenceToFunction) = node (do
+  t ← call (function_type true)
+  give (pointing mark_kind.Reference t q))
+grammar (type_form q form.PointerToFunction) = node (do
+  t ← call (function_type true)
+  give (pointing mark_kind.Pointer t q))
+grammar (type_form q form.QualifiedMemberPointer) = call (member_pointer true)
+grammar (type_form q form.Constant) = node (do
+  z ← call number
+  give (numbered number_kind.Constant z))
+grammar (type_form q form.TemplateParameter) = node (do
+  z ← call number
+  give (numbered number_kind.TemplateParameter z))
+grammar (type_form q form.Array) = call array
+grammar (type_form q form.RValueReference) = node (do
+  t ← call pointee
+  give (pointing mark_kind.RValueReference t q))
+grammar (type_form q form.EmptyPack) = node (give (plain plain_kind.EmptyPack))
+grammar (type_form q form.Nullptr) = node (give (plain plain_kind.Nullptr))
+grammar (type_form q form.Function) = call (function_type true)
+grammar (type_form q form.QualifiedFunction) = call (function_type false)
+grammar (type_form q form.Alias) = node (do
+  n ← call (qualified_name true)
+  give (tagged tag_kind.Alias n.0 (name_trees n.1) q))
+-- whatever the qualifiers before it are
+grammar (type_form q form.Requalified) = do
+  q ← optional qualifiers
+  call (plain_type q)
+grammar (type_form q form.MemberPointer) = do
+  literal (codes "?")
+  call (member_pointer false)
+-- what is returned has other qualifiers than those of a symbol's function
+grammar (function_type bare) = node (do
+  on_this ← call (this_qualifiers bare)
+  c ← letter convention conventions
+  q ← class_of_returned
+  t ← call (any_type q)
+  ts ← call function_parameters
+  give (function c (type_trees ts) on_this t))
+grammar (member_pointer qualified) = node (do
+  n ← call (qualified_name true)
+  size ← optional pointer_sizes
+  part ← call (class_part qualified)
+  f ← call (signature true)
+  give (tree.member_pointer n.0 (name_trees n.1) part.0 f.0 (type_trees f.1.1) (bit_or size part.1) f.1.0))
+-- a class, and qualifiers; there is one of the two
+grammar (class_part true) = do
+  q ← optional qualifiers
+  give (0, q)
+grammar (class_part false) = do
+  class ← letter bits function_classes
+  call (thunk_number (has class thunk))
+  give (class, 0)
+-- an optional E, an optional storage class, and a type with both
+grammar pointee = do
+  size ← optional pointer_sizes
+  class ← optional storage_classes
+  call (any_type (bit_or size class))
+-- A number above 0, as many lengths, the qualifiers of each level after $$C, and the type of the elements. The type
+-- stands in both alternatives, since it is its bytes that tell where $$C does not begin.
+grammar array = do
+  n ← call dimension
+  zs ← call (lengths n)
+  literal_or (codes "$$C")
+      (do q ← letter bits qualifiers_of_arrays; t ← call (any_type 0); give (arrays zs t q))
+      (do t ← call (any_type 0); give (arrays zs t 0))
+grammar dimension = do
+  z ← call number
+  call (positive z)
+grammar (positive (pos (suc n))) = give (suc n)
+grammar (positive _) = never
+-- as many numbers, each the length of an array, which is a node
+grammar (lengths zero) = give []
+grammar (lengths (suc n)) = node (do
+  z ← call number
+  zs ← call (lengths n)
+  give (z ∷ zs))
+grammar (qualified_name of_symbol) = do
+  n ← call (unqualified_name of_symbol)
+  ns ← call scope
+  give (n, ns)
+-- A digit is an entry of the table. A template enters the table if it is not a symbol's own name, a source name always.
+-- A special name enters no table.
+grammar (unqualified_name of_symbol) =
+    letter_or digits
+    (λ i. known_name i)
+    (literal_or (codes "?$") (template_kept of_symbol) (literal_or (codes "?") (call special_name) new_source_name))
+grammar special_name = text_and special_texts (λ f. call (special_after f))
+grammar (special_after (special.Plain o)) = node (give (operator o))
+-- an index follows after the scope, where a guard is a symbol's own name
+grammar (special_after (special.Guard kind)) = node (give (guard kind None))
+-- the type keeps its qualifiers, and the descriptor has them too
+grammar (special_after special.TypeDescriptor) = node (do
+  literal (codes "?")
+  q ← optional storage_classes
+  t ← call (any_type q)
+  give (type_descriptor q t))
+grammar (special_after special.BaseClass) = node (do
+  a ← call number
+  b ← call number
+  c ← call number
+  d ← call number
+  give (base_class_descriptor a b c d))
+-- a name and arguments, which have tables of their own
+grammar template_name = apart template_inside
+-- names up to an @
+grammar scope = literal_or (codes "@") (give []) (do n ← call nested_name; ns ← call scope; give (n ∷ ns))
+grammar nested_name = letter_or digits (λ i. known_name i) (literal_or (codes "?") (call marked_name) new_source_name)
+-- What follows a ?: a whole symbol from a second ? on, a template, an anonymous namespace, an interface, or a number,
+-- which tells apart what one function declares.
+grammar marked_name =
+    literal_or (codes "?") nested_symbol
+    (literal_or (codes "$") (entering_name (call template_name))
+    (literal_or (codes "A") (call anonymous_namespace)
+    (literal_or (codes "Q") new_interface
+    (node (do z ← call number; give (discriminator z))))))
+-- 0x, any digits, and an @, of which there may be the @ alone; with the 0x the name enters the table
+grammar anonymous_namespace =
+    literal_or (codes "0x")
+    (entering_name (node (do ds ← call hexadecimal_digits; give (anonymous (Some (codes "0x" ++ ds))))))
+    (node (do literal (codes "@"); give (anonymous None)))
+-- digits up to an @
+grammar hexadecimal_digits =
+    literal_or (codes "@") (give []) (do d ← letter bits hexadecimal_codes; ds ← call hexadecimal_digits; give (d ∷ ds))
+-- the bytes up to the first @
+grammar source_name = up_to at_sign
+-- a ? negates
+grammar number = literal_or (codes "?") (do z ← call magnitude; give (int_wrapping_neg w32 z)) (call magnitude)
+-- one digit stands for one more than itself
+grammar magnitude = letter_or digits (λ d. give (cast_signed w32 (d + 1))) signed_letters
+-- letters are the digits to base 16 after a value that others had, and an @ ends them
+grammar (letters value) =
+    (do literal (codes "@"); give value)
+    or (do d ← letter bits hexadecimal; call (letters (value * hexadecimal_base + d)))
+-- what was read may stand there, or nothing is read
+grammar (required true) = give tt
+grammar (required false) = never

@@ -1,0 +1,427 @@
+-- What the letters of a symbol stand for, and the texts that types and special names begin with: the tables that the
+-- productions of Grammar go by. In a row a letter, or each of some letters, stands beside what it stands for.
+use Rattle.std.specs.Prelude.{ℕ, List, [], ◌∷◌, ◌++◌, ◌+◌, Some, None, codes}
+use Prim.Native.Char.{code}
+use Rattle.msvc_nodes.specs.declared.kinds.CallingConv.{CallingConv}
+use Rattle.msvc_nodes.specs.declared.kinds.CallingConv.TheVariants.{Cdecl, Pascal, Thiscall, Stdcall, Fastcall}
+use Rattle.msvc_nodes.specs.declared.kinds.VarStorageKind.TheVariants.{PrivateStatic, ProtectedStatic, PublicStatic}
+use Rattle.msvc_nodes.specs.declared.kinds.VarStorageKind.TheVariants.{Global, FunctionLocalStatic}
+use Rattle.msvc_nodes.specs.declared.kinds.Tag.TheVariants as tag_kind
+use Rattle.msvc_nodes.specs.declared.kinds.BaseType.{BaseType}
+use Rattle.msvc_nodes.specs.declared.kinds.BaseType.TheVariants as base_kind
+use Rattle.msvc_nodes.specs.declared.kinds.Guard.TheVariants as guard_kind
+use Rattle.msvc_nodes.specs.declared.kinds.Mark.TheVariants as mark_kind
+use Rattle.msvc_nodes.specs.declared.kinds.Table.TheVariants as table_kind
+use Rattle.msvc_nodes.specs.PlainOperators.{OperatorRow, first_operators, second_operators, third_operators}
+use Rattle.msvc_nodes.specs.PlainOperators.{type_information_operators}
+use Rattle.msvc_grammar.specs.declared.forms.TypeForm.{TypeForm}
+use Rattle.msvc_grammar.specs.declared.forms.TypeForm.TheVariants as form
+use Rattle.msvc_grammar.specs.declared.forms.SpecialForm.{SpecialForm}
+use Rattle.msvc_grammar.specs.declared.forms.SpecialForm.TheVariants as special
+use Rattle.msvc_grammar.specs.Sorts.{TypeLetter, based, extended, named, points, arrayed, indexed, referred}
+use Rattle.msvc_grammar.specs.Sorts.{EncodingLetter, variable_of, table_of, type_information, untyped, encoded_string}
+use Rattle.msvc_grammar.specs.Sorts.{virtual_call, plain_function, member_of}
+
+-- How tables are written
+
+-- letters, and what each stands for in its turn
+abbrev pub rows : {A : Type 0} → List ℕ → List A → List (ℕ × A)
+rows [] values = []
+rows (b ∷ bs) [] = []
+rows (b ∷ bs) (v ∷ values) = (b, v) ∷ rows bs values
+
+-- each of some letters for the same, and another table after them
+abbrev pub each_for : {A : Type 0} → List ℕ → A → List (ℕ × A) → List (ℕ × A)
+each_for [] value others = others
+each_for (b ∷ bs) value others = (b, value) ∷ each_for bs value others
+
+-- rows of some letters and what each of them stands for
+abbrev pub by_letter : {A : Type 0} → List (List ℕ × A) → List (ℕ × A)
+by_letter [] = []
+by_letter (row ∷ table) = each_for row.0 row.1 (by_letter table)
+
+-- the rows of a table, each for what f makes of its value, and those of another table after them
+abbrev pub rows_of : {A B : Type 0} → (A → B) → List (ℕ × A) → List (ℕ × B) → List (ℕ × B)
+rows_of f [] others = others
+rows_of f (row ∷ table) others = (row.0, f row.1) ∷ rows_of f table others
+
+-- a text and each letter of a table after it, then the texts of another table
+abbrev pub texts_after : {A : Type 0} → List ℕ → List (ℕ × A) → List (List ℕ × A) → List (List ℕ × A)
+texts_after text [] others = others
+texts_after text (row ∷ table) others = (text ++ row.0 ∷ [], row.1) ∷ texts_after text table others
+
+-- Letters that stand by themselves
+
+-- the @ that ends a name, a list or a number
+abbrev pub at_sign : ℕ
+at_sign = 64
+
+-- the $ that begins the texts of many types
+abbrev pub dollar_sign : ℕ
+dollar_sign = 36
+
+-- the _ that stands before the last letters of special names
+abbrev pub underscore : ℕ
+underscore = 95
+
+-- the R that stands, after a _, before those of type information
+abbrev pub type_information_letter : ℕ
+type_information_letter = 82
+
+-- the Z that ends parameters with an ellipsis
+abbrev pub ellipsis_letter : ℕ
+ellipsis_letter = 90
+
+-- Digits
+
+-- what decimal digits count to
+abbrev pub decimal_base : ℕ
+decimal_base = 10
+
+-- what hexadecimal digits count to
+abbrev pub hexadecimal_base : ℕ
+hexadecimal_base = 16
+
+-- the digits, which stand for entries of tables
+abbrev pub digits : List (ℕ × ℕ)
+digits = rows (codes "0123456789") (0 ∷ 1 ∷ 2 ∷ 3 ∷ 4 ∷ 5 ∷ 6 ∷ 7 ∷ 8 ∷ 9 ∷ [])
+
+-- the digits to base 16
+abbrev pub hexadecimal : List (ℕ × ℕ)
+hexadecimal = rows (codes "ABCDEFGHIJKLMNOP")
+    (0 ∷ 1 ∷ 2 ∷ 3 ∷ 4 ∷ 5 ∷ 6 ∷ 7 ∷ 8 ∷ 9 ∷ 10 ∷ 11 ∷ 12 ∷ 13 ∷ 14 ∷ 15 ∷ [])
+
+-- the digits of a hash and of the number of an anonymous namespace, each for itself
+abbrev pub hexadecimal_codes : List (ℕ × ℕ)
+hexadecimal_codes = rows (codes "0123456789abcdefABCDEF") (codes "0123456789abcdefABCDEF")
+
+-- Qualifiers, by their bits: a sum has those of its parts
+
+abbrev pub unqualified : ℕ
+unqualified = 0
+
+abbrev pub const : ℕ
+const = 1
+
+abbrev pub volatile : ℕ
+volatile = 2
+
+abbrev pub far : ℕ
+far = 4
+
+abbrev pub unaligned : ℕ
+unaligned = 16
+
+abbrev pub restrict : ℕ
+restrict = 32
+
+abbrev pub ptr64 : ℕ
+ptr64 = 64
+
+abbrev pub lvalue : ℕ
+lvalue = 128
+
+abbrev pub rvalue : ℕ
+rvalue = 256
+
+-- of the object of a member function
+abbrev pub qualifiers : List (ℕ × ℕ)
+qualifiers = by_letter (
+    (codes "AQ", unqualified)
+    ∷ (codes "BR", const)
+    ∷ (codes "CS", volatile)
+    ∷ (codes "DT", const + volatile) ∷ [])
+
+-- of a variable, and of what is pointed to
+abbrev pub storage_classes : List (ℕ × ℕ)
+storage_classes = by_letter (
+    (codes "AQ", unqualified)
+    ∷ (codes "BR", const)
+    ∷ (codes "CS", volatile)
+    ∷ (codes "DT", const + volatile)
+    ∷ (codes "E", far)
+    ∷ (codes "F", const + far)
+    ∷ (codes "G", volatile + far)
+    ∷ (codes "H", const + volatile + far) ∷ [])
+
+-- of what a function returns
+abbrev pub qualifiers_of_returns : List (ℕ × ℕ)
+qualifiers_of_returns = by_letter (
+    (codes "A", unqualified)
+    ∷ (codes "B", const)
+    ∷ (codes "C", volatile)
+    ∷ (codes "D", const + volatile) ∷ [])
+
+-- of the elements of an array: none is volatile alone
+abbrev pub qualifiers_of_arrays : List (ℕ × ℕ)
+qualifiers_of_arrays = by_letter (
+    (codes "A", unqualified)
+    ∷ (codes "B", const)
+    ∷ (codes "CD", const + volatile) ∷ [])
+
+abbrev pub pointer_sizes : List (ℕ × ℕ)
+pointer_sizes = by_letter ((codes "E", ptr64) ∷ [])
+
+abbrev pub restricts : List (ℕ × ℕ)
+restricts = by_letter ((codes "I", restrict) ∷ [])
+
+abbrev pub alignments : List (ℕ × ℕ)
+alignments = by_letter ((codes "F", unaligned) ∷ [])
+
+abbrev pub reference_qualifiers : List (ℕ × ℕ)
+reference_qualifiers = by_letter ((codes "G", lvalue) ∷ (codes "H", rvalue) ∷ [])
+
+-- Types
+
+abbrev pub base_types : List (ℕ × BaseType)
+base_types = by_letter (
+    (codes "X", base_kind.Void)
+    ∷ (codes "C", base_kind.Schar)
+    ∷ (codes "D", base_kind.Char)
+    ∷ (codes "E", base_kind.Uchar)
+    ∷ (codes "F", base_kind.Short)
+    ∷ (codes "G", base_kind.Ushort)
+    ∷ (codes "H", base_kind.Int)
+    ∷ (codes "I", base_kind.Uint)
+    ∷ (codes "J", base_kind.Long)
+    ∷ (codes "K", base_kind.Ulong)
+    ∷ (codes "M", base_kind.Float)
+    ∷ (codes "N", base_kind.Double)
+    ∷ (codes "O", base_kind.Ldouble)
+    ∷ [])
+
+-- the base types of a second letter, after _
+abbrev pub extended_types : List (ℕ × BaseType)
+extended_types = by_letter (
+    (codes "N", base_kind.Bool)
+    ∷ (codes "W", base_kind.Wchar)
+    ∷ (codes "Q", base_kind.Char8)
+    ∷ (codes "S", base_kind.Char16)
+    ∷ (codes "U", base_kind.Char32)
+    ∷ (codes "J", base_kind.Int64)
+    ∷ (codes "K", base_kind.Uint64)
+    ∷ (codes "L", base_kind.Int128)
+    ∷ (codes "M", base_kind.Uint128)
+    ∷ [])
+
+-- what is no base type of one letter
+abbrev pub compound_letters : List (ℕ × TypeLetter)
+compound_letters = by_letter (
+    (codes "_", extended)
+    ∷ (codes "T", named tag_kind.Union)
+    ∷ (codes "U", named tag_kind.Struct)
+    ∷ (codes "V", named tag_kind.Class)
+    ∷ (codes "A", points mark_kind.Reference None)
+    ∷ (codes "B", points mark_kind.Reference (Some volatile))
+    ∷ (codes "P", points mark_kind.Pointer None)
+    ∷ (codes "Q", points mark_kind.Pointer (Some const))
+    ∷ (codes "R", points mark_kind.Pointer (Some volatile))
+    ∷ (codes "S", points mark_kind.Pointer (Some (const + volatile)))
+    ∷ (codes "Y", arrayed)
+    ∷ (codes "?", indexed)
+    ∷ [])
+    ++ rows_of referred digits []
+
+abbrev pub type_letters : List (ℕ × TypeLetter)
+type_letters = rows_of based base_types compound_letters
+
+-- The texts that are tried before a plain type, and the form that each stands for. None begins another.
+abbrev pub type_texts : List (List ℕ × TypeForm)
+type_texts =
+    (codes "W4", form.Enumeration)
+    ∷ (codes "A6", form.ReferenceToFunction)
+    ∷ (codes "P6", form.PointerToFunction)
+    ∷ (codes "P8", form.QualifiedMemberPointer)
+    ∷ (codes "$0", form.Constant)
+    ∷ (codes "$D", form.TemplateParameter)
+    ∷ (codes "$$BY", form.Array)
+    ∷ (codes "$$Q", form.RValueReference)
+    ∷ (codes "$S", form.EmptyPack)
+    ∷ (codes "$$V", form.EmptyPack)
+    ∷ (codes "$$Z", form.EmptyPack)
+    ∷ (codes "$$$V", form.EmptyPack)
+    ∷ (codes "$$T", form.Nullptr)
+    ∷ (codes "$$A6", form.Function)
+    ∷ (codes "$$A8@@", form.QualifiedFunction)
+    ∷ (codes "$$Y", form.Alias)
+    ∷ (codes "$$C", form.Requalified)
+    ∷ (codes "$1", form.MemberPointer)
+    ∷ (codes "$H", form.MemberPointer)
+    ∷ (codes "$I", form.MemberPointer)
+    ∷ (codes "$J", form.MemberPointer)
+    ∷ []
+
+-- Functions and symbols
+
+abbrev pub conventions : List (ℕ × CallingConv)
+conventions = by_letter (
+    (codes "AB", Cdecl)
+    ∷ (codes "C", Pascal)
+    ∷ (codes "E", Thiscall)
+    ∷ (codes "G", Stdcall)
+    ∷ (codes "I", Fastcall) ∷ [])
+
+-- the classes of member functions, by their bits
+
+abbrev pub public : ℕ
+public = 1
+
+abbrev pub protected : ℕ
+protected = 2
+
+abbrev pub private : ℕ
+private = 4
+
+abbrev pub global : ℕ
+global = 8
+
+abbrev pub static : ℕ
+static = 16
+
+abbrev pub virtual : ℕ
+virtual = 32
+
+abbrev pub far_function : ℕ
+far_function = 64
+
+abbrev pub thunk : ℕ
+thunk = 128
+
+-- Y is read in a pointer to a member function alone: as the first byte of a symbol's type it stands for a plain
+-- function. D and F are not far, as the second letter of any other pair is.
+abbrev pub function_classes : List (ℕ × ℕ)
+function_classes = by_letter (
+    (codes "A", private)
+    ∷ (codes "B", private + far_function)
+    ∷ (codes "CD", private + static)
+    ∷ (codes "EF", private + virtual)
+    ∷ (codes "G", private + virtual + thunk)
+    ∷ (codes "H", private + virtual + far_function + thunk)
+    ∷ (codes "I", protected)
+    ∷ (codes "J", protected + far_function)
+    ∷ (codes "K", protected + static)
+    ∷ (codes "L", protected + static + far_function)
+    ∷ (codes "M", protected + virtual)
+    ∷ (codes "N", protected + virtual + far_function)
+    ∷ (codes "O", protected + virtual + thunk)
+    ∷ (codes "P", protected + virtual + far_function + thunk)
+    ∷ (codes "Q", public)
+    ∷ (codes "R", public + far_function)
+    ∷ (codes "S", public + static)
+    ∷ (codes "T", public + static + far_function)
+    ∷ (codes "U", public + virtual)
+    ∷ (codes "V", public + virtual + far_function)
+    ∷ (codes "W", public + virtual + thunk)
+    ∷ (codes "X", public + virtual + far_function + thunk)
+    ∷ (codes "Y", global)
+    ∷ (codes "Z", global + far_function)
+    ∷ [])
+
+abbrev pub encoding_letters : List (ℕ × EncodingLetter)
+encoding_letters = by_letter (
+    (codes "0", variable_of PrivateStatic)
+    ∷ (codes "1", variable_of ProtectedStatic)
+    ∷ (codes "2", variable_of PublicStatic)
+    ∷ (codes "3", variable_of Global)
+    ∷ (codes "4", variable_of FunctionLocalStatic)
+    ∷ (codes "6", table_of table_kind.Functions)
+    ∷ (codes "7", table_of table_kind.Bases)
+    ∷ (codes "8", type_information)
+    ∷ (codes "9", untyped)
+    ∷ (codes "Y", plain_function)
+    ∷ (codes "_", encoded_string)
+    ∷ (codes "$", virtual_call)
+    ∷ [])
+    ++ rows_of member_of function_classes []
+
+-- Special names, by their codes: a letter, alone or after _, _R or __
+
+-- the operators of a table, by their letters, and the rows of another table after them
+abbrev pub operators_of : List OperatorRow → List (ℕ × SpecialForm) → List (ℕ × SpecialForm)
+operators_of [] others = others
+operators_of (row ∷ table) others = (row.0, special.Plain row.1) ∷ operators_of table others
+
+abbrev pub special_letters : List (ℕ × SpecialForm)
+special_letters = operators_of first_operators []
+
+-- after _
+abbrev pub second_special_letters : List (ℕ × SpecialForm)
+second_special_letters = operators_of second_operators (by_letter ((codes "B", special.Guard guard_kind.Static) ∷ []))
+
+-- of run-time type information, after _R
+abbrev pub type_information_letters : List (ℕ × SpecialForm)
+type_information_letters = operators_of type_information_operators
+    (by_letter ((codes "0", special.TypeDescriptor) ∷ (codes "1", special.BaseClass) ∷ []))
+
+-- after __
+abbrev pub third_special_letters : List (ℕ × SpecialForm)
+third_special_letters = operators_of third_operators (by_letter ((codes "J", special.Guard guard_kind.Thread) ∷ []))
+
+-- none begins another
+abbrev pub special_texts : List (List ℕ × SpecialForm)
+special_texts =
+    texts_after [] special_letters
+    (texts_after (codes "_") second_special_letters
+    (texts_after (codes "_R") type_information_letters
+    (texts_after (codes "__") third_special_letters [])))
+
+-- Strings
+
+-- how many bytes a character has
+abbrev pub character_sizes : List (ℕ × ℕ)
+character_sizes = by_letter ((codes "0", 1) ∷ (codes "1", 2) ∷ [])
+
+-- what stands for itself in a string
+abbrev pub plain_characters : List (ℕ × ℕ)
+plain_characters = rows (codes "0123456789abcdefghijklmnopqrstuvwxyzABCDEFGHIJKLMNOPQRSTUVWXYZ_$")
+    (codes "0123456789abcdefghijklmnopqrstuvwxyzABCDEFGHIJKLMNOPQRSTUVWXYZ_$")
+
+-- the bytes past ASCII that letters stand for after ?, a capital and a small one for the same
+abbrev pub escaped_letters : List (ℕ × ℕ)
+escaped_letters = by_letter (
+    (codes "aA", 0xE1)
+    ∷ (codes "bB", 0xE2)
+    ∷ (codes "cC", 0xE3)
+    ∷ (codes "dD", 0xE4)
+    ∷ (codes "eE", 0xE5)
+    ∷ (codes "fF", 0xE6)
+    ∷ (codes "gG", 0xE7)
+    ∷ (codes "hH", 0xE8)
+    ∷ (codes "iI", 0xE9)
+    ∷ (codes "jJ", 0xEA)
+    ∷ (codes "kK", 0xEB)
+    ∷ (codes "lL", 0xEC)
+    ∷ (codes "mM", 0xED)
+    ∷ (codes "nN", 0xEE)
+    ∷ (codes "oO", 0xEF)
+    ∷ (codes "pP", 0xF0)
+    ∷ (codes "qQ", 0xF1)
+    ∷ (codes "rR", 0xF2)
+    ∷ (codes "sS", 0xF3)
+    ∷ (codes "tT", 0xF4)
+    ∷ (codes "uU", 0xF5)
+    ∷ (codes "vV", 0xF6)
+    ∷ (codes "wW", 0xF7)
+    ∷ (codes "xX", 0xF8)
+    ∷ (codes "yY", 0xF9)
+    ∷ (codes "zZ", 0xFA)
+    ∷ [])
+
+-- the signs that digits stand for after ?
+abbrev pub escaped_signs : List (ℕ × ℕ)
+escaped_signs = by_letter (
+    (codes "0", code ",")
+    ∷ (codes "1", code "/")
+    ∷ (codes "2", code "\\")
+    ∷ (codes "3", code ":")
+    ∷ (codes "4", code ".")
+    ∷ (codes "5", code " ")
+    ∷ (codes "6", code "\n")
+    ∷ (codes "7", code "\t")
+    ∷ (codes "8", code "'")
+    ∷ (codes "9", code "-")
+    ∷ [])
+
+-- what stands for another byte after ?
+abbrev pub escaped_characters : List (ℕ × ℕ)
+escaped_characters = escaped_letters ++ escaped_signs

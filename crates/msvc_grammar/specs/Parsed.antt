@@ -1,0 +1,86 @@
+-- The contract of the calls that read a whole text: what holds of a tree that was read, of the grammar whatever a call
+-- returns, and of an error.
+use Rattle.std.specs.Prelude.{ℕ, List, codes}
+use Rattle.std.specs.Str.{IsCharBoundary, IsUtf8}
+use Rattle.msvc_nodes.specs.EachName.{EachName}
+use Rattle.msvc_nodes.specs.Trees.{SymbolTree}
+use Rattle.msvc_nodes.specs.declared.error.ErrorRepr.{ErrorRepr}
+use Rattle.msvc_grammar.specs.Hashes.{HashesAreRead, HashesStand}
+use Rattle.msvc_grammar.specs.Laws.{HasOneTree, TablesAreHandedBack, TypesAreLocal}
+use Rattle.msvc_grammar.specs.Parts.{NamesAreParts}
+use Rattle.msvc_grammar.specs.Prefix.{IsReadTo}
+use Rattle.msvc_grammar.specs.Reads.{Derives, IsOnly}
+use Rattle.msvc_grammar.specs.Refusals.{IsRefusalAt, IsRefusedRightly, IsRefusedWithin, begins_with}
+use Rattle.msvc_grammar.specs.State.{Note}
+use Rattle.msvc_grammar.specs.Written.{AreRising, CanBeWrittenOut, DigitsCanBeWrittenOut}
+
+-- The text begins with a symbol, and this is its tree.
+pub record IsParsed (text : List ℕ) (tree : SymbolTree) : Type 0 where
+  -- the bytes after the symbol
+  pub rest : List ℕ
+  -- the digits that were read as whole parameters
+  pub notes : List Note
+  -- the grammar derives the tree from the text, with these bytes left
+  pub derived : Derives text tree rest notes
+  -- it derives nothing else from the text
+  pub only : IsOnly text tree rest notes
+  -- each name in the tree is a part of the text
+  pub parts : NamesAreParts text tree
+  -- each name in the tree is UTF-8
+  pub texts : EachName IsUtf8 tree
+  -- if the text begins with a hash, the tree is that hash
+  pub hashes : HashesStand text tree
+  -- the text begins with a question mark
+  pub begins : begins_with (codes "?") text
+
+-- What holds of the grammar at this text, whatever a call returns.
+pub record GrammarLaws (text : List ℕ) : Type 0 where
+  -- the text has one tree at most
+  pub unique : HasOneTree text
+  -- a type that was read with some tables is read again with later ones, whatever follows it
+  pub local : TypesAreLocal
+  -- a template leaves the tables as they were before it
+  pub tables : TablesAreHandedBack
+  -- each digit that was read as a whole parameter can be written out
+  pub written_out : DigitsCanBeWrittenOut text
+
+-- Reading the text fails with this error.
+pub record IsRejected (text : List ℕ) (e : ErrorRepr) : Type 0 where
+  -- out of memory, or the text begins with no symbol: then the error has an offset in the text
+  pub refused : IsRefusedRightly text e
+  -- a text without a question mark at its beginning is rejected at offset 0
+  pub begins : (begins_with (codes "?") text → ⊥) → IsRefusalAt text 0 e
+  -- a text that begins with a hash is rejected only out of memory
+  pub hashes : HashesAreRead text e
+
+-- Reading the text fails with this error, where at most so many nodes are allowed.
+pub record IsRejectedWithin (nodes : ℕ) (text : List ℕ) (e : ErrorRepr) : Type 0 where
+  -- out of memory, or the text begins with no symbol of so few nodes: then the error has an offset in the text
+  pub refused : IsRefusedWithin nodes text e
+  -- a text without a question mark at its beginning is rejected at offset 0
+  pub begins : (begins_with (codes "?") text → ⊥) → IsRefusalAt text 0 e
+
+-- The symbol at the beginning of the text takes this many bytes.
+pub record IsSymbolLength (bytes : ℕ) (text : List ℕ) : Type 0 where
+  -- the rest of the text stands after these bytes, and they derive the same tree when they stand alone
+  pub read_to : (tree : SymbolTree) (rest : List ℕ) (notes : List Note) → Derives text tree rest notes
+      → IsReadTo bytes text tree rest notes
+  -- they end at a character's boundary
+  pub boundary : IsCharBoundary text bytes
+
+-- These are the digits of the symbol at the beginning of the text that were read as whole parameters.
+pub record AreReferences (text : List ℕ) (notes : List Note) : Type 0 where
+  -- the tree of the symbol
+  pub tree : SymbolTree
+  -- the bytes after the symbol
+  pub rest : List ℕ
+  -- the grammar derives the tree from the text, with these digits
+  pub derived : Derives text tree rest notes
+  -- it derives nothing else from the text
+  pub only : IsOnly text tree rest notes
+  -- the text begins with a question mark
+  pub begins : begins_with (codes "?") text
+  -- each digit stands after the one before it
+  pub rising : AreRising notes
+  -- with any of the digits written out, the text has the same tree and the same bytes left
+  pub written_out : CanBeWrittenOut text tree rest notes

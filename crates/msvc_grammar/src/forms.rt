@@ -1,0 +1,51 @@
+//! What the tables of texts and of codes stand for.
+
+use msvc_nodes::kinds::{Guard, PlainOperator};
+
+/// What a type begins with, where it begins with one of the texts that are tried before a plain type.
+#[derive(Clone, Copy)]
+pub enum TypeForm {
+    /// An enumeration, and its name follows.
+    Enumeration,
+    /// A reference to a function.
+    ReferenceToFunction,
+    /// A pointer to a function.
+    PointerToFunction,
+    /// A pointer to a member function, with qualifiers.
+    QualifiedMemberPointer,
+    /// A number as an argument of a template.
+    Constant,
+    /// A parameter of a template.
+    TemplateParameter,
+    /// An array.
+    Array,
+    /// A reference to a value that is going away.
+    RValueReference,
+    /// No arguments for a parameter pack.
+    EmptyPack,
+    /// The type of the null pointer.
+    Nullptr,
+    /// A function.
+    Function,
+    /// A function with qualifiers on `this`.
+    QualifiedFunction,
+    /// A type by another name.
+    Alias,
+    /// A plain type with qualifiers of its own.
+    Requalified,
+    /// A pointer to a member function as an argument of a template.
+    MemberPointer,
+}
+
+/// What the code of a special name stands for.
+#[derive(Clone, Copy)]
+pub enum SpecialForm {
+    /// An operator with nothing in it.
+    Plain(PlainOperator),
+    /// The guard of a static variable in a function, without an index.
+    Guard(Guard),
+    /// The descriptor of a type, which follows.
+    TypeDescriptor,
+    /// The place of a base class in an object, and four numbers follow.
+    BaseClass,
+}

@@ -1,0 +1,27 @@
+-- The context of a refusal of an ASCII input needs no decoding.
+use Rattle.std.proofs.Common.{◌≡◌, ℕ, ◌∙◌, List, subst, take, drop}
+use Rattle.std.proofs.lemmas.Str.{IsAscii-take, IsAscii-drop, IsUtf8-from_ascii, utf8_lossy-IsUtf8}
+use Rattle.std.specs.Str.{IsAscii}
+use Rattle.bstr.proofs.lemmas.LossyLemmas.{lossy_chars-utf8_lossy}
+use Rattle.msvc_nodes.specs.declared.error.ErrorRepr.{ErrorRepr}
+use Rattle.msvc_nodes.specs.Errors.{IsRefusalOrMemory, context_of, context_text_of, shortened, shortened_text, text_of}
+
+text_of-IsAscii : (bytes : List ℕ) → IsAscii bytes → text_of bytes ≡ bytes
+text_of-IsAscii bytes ascii =
+    lossy_chars-utf8_lossy bytes ∙ utf8_lossy-IsUtf8 bytes (IsUtf8-from_ascii bytes ascii)
+
+shortened_text-IsAscii : (bytes : List ℕ) → IsAscii bytes → shortened_text bytes ≡ shortened bytes
+shortened_text-IsAscii bytes ascii =
+    let whole : text_of bytes ≡ bytes = text_of-IsAscii bytes ascii in
+    let beginning : text_of (take 20 bytes) ≡ take 20 bytes =
+    text_of-IsAscii (take 20 bytes) (IsAscii-take bytes 20 ascii) in
+    cc
+
+-- a refusal whose context was decoded has the bytes themselves as its context where they are ASCII
+pub IsRefusalOrMemory-IsAscii : (message input : List ℕ) (offset : ℕ) (error : ErrorRepr)
+    → IsAscii input
+    → IsRefusalOrMemory message (context_text_of input offset) offset error
+    → IsRefusalOrMemory message (context_of input offset) offset error
+IsRefusalOrMemory-IsAscii message input offset error ascii refusal =
+    let P : List ℕ → Type 0 = λ context. IsRefusalOrMemory message context offset error in
+    subst P (shortened_text-IsAscii (drop offset input) (IsAscii-drop input offset ascii)) refusal

@@ -1,0 +1,4 @@
+pub mod Contexts
+pub mod Decisions
+pub mod NodeLists
+pub mod NodeViews

@@ -1,0 +1,158 @@
+-- Trees can be told apart: of any two, either they are the same or they are not.
+use Rattle.std.specs.Prelude.{is_some, unwrap_or, ◌≡◌, ◌↔◌, IsTrue, Bool, true, false, ℕ, List, Option, Some, None}
+use Rattle.std.specs.Prelude.{refl}
+use Rattle.std.proofs.Common.{true≢false, sym, ap, ◌∙◌}
+use Rattle.std.specs.Cmp.{IsEquivalence}
+use denote.Enum.Bare.{Bare, tag_one}
+use denote.Enum.Declared.{Declared, tag_of}
+use lib.IntN.{ℤ_discrete}
+use mathlib.Core.List.{List-discrete}
+use native.Mathlib.Decide.{ℕ_discrete}
+use Rattle.msvc_nodes.specs.Trees.{NameTree, NameTrees, TypeTree, TypeTrees, SymbolTree, NameTree-discrete}
+use Rattle.msvc_nodes.specs.Trees.{NameTrees-discrete, TypeTree-discrete, TypeTrees-discrete}
+use Rattle.msvc_nodes.specs.contracts.kinds.BaseType.{the_type as bases}
+use Rattle.msvc_nodes.specs.contracts.kinds.Guard.{the_type as guards}
+use Rattle.msvc_nodes.specs.contracts.kinds.Mark.{the_type as marks}
+use Rattle.msvc_nodes.specs.contracts.kinds.NumberedType.{the_type as numbers}
+use Rattle.msvc_nodes.specs.contracts.kinds.PlainOperator.{the_type as operators}
+use Rattle.msvc_nodes.specs.contracts.kinds.PlainType.{the_type as plains}
+use Rattle.msvc_nodes.specs.contracts.kinds.Spelling.{the_type as spellings}
+use Rattle.msvc_nodes.specs.contracts.kinds.Table.{the_type as tables}
+use Rattle.msvc_nodes.specs.contracts.kinds.Tag.{the_type as tags}
+use Rattle.msvc_nodes.specs.contracts.kinds.CallingConv.{the_type as conventions}
+use Rattle.msvc_nodes.specs.contracts.kinds.VarStorageKind.{the_type as kinds}
+use Rattle.msvc_nodes.specs.declared.kinds.BaseType.{BaseType}
+use Rattle.msvc_nodes.specs.declared.kinds.Guard.{Guard}
+use Rattle.msvc_nodes.specs.declared.kinds.Mark.{Mark}
+use Rattle.msvc_nodes.specs.declared.kinds.NumberedType.{NumberedType}
+use Rattle.msvc_nodes.specs.declared.kinds.PlainOperator.{PlainOperator}
+use Rattle.msvc_nodes.specs.declared.kinds.PlainType.{PlainType}
+use Rattle.msvc_nodes.specs.declared.kinds.Spelling.{Spelling}
+use Rattle.msvc_nodes.specs.declared.kinds.Table.{Table}
+use Rattle.msvc_nodes.specs.declared.kinds.Tag.{Tag}
+use Rattle.msvc_nodes.specs.declared.kinds.CallingConv.{CallingConv}
+use Rattle.msvc_nodes.specs.declared.kinds.VarStorageKind.{VarStorageKind}
+
+-- the values of an enumeration with nothing in its variants are told apart by their tags
+by_tags : (D : Declared) → Bare D.parts → (a b : D.D) → Dec (tag_of D a ≡ tag_of D b) → Dec (a ≡ b)
+by_tags D bare a b (yes e) = yes (tag_one D bare a b e)
+by_tags D bare a b (no n) = no (λ e. n (ap (tag_of D) e))
+
+bare_discrete : (D : Declared) → Bare D.parts → Discrete D.D
+bare_discrete D bare a b = by_tags D bare a b (ℕ_discrete (tag_of D a) (tag_of D b))
+
+base_discrete : Discrete BaseType
+base_discrete = bare_discrete bases tt
+
+guard_discrete : Discrete Guard
+guard_discrete = bare_discrete guards tt
+
+mark_discrete : Discrete Mark
+mark_discrete = bare_discrete marks tt
+
+number_discrete : Discrete NumberedType
+number_discrete = bare_discrete numbers tt
+
+operator_discrete : Discrete PlainOperator
+operator_discrete = bare_discrete operators tt
+
+plain_discrete : Discrete PlainType
+plain_discrete = bare_discrete plains tt
+
+spelling_discrete : Discrete Spelling
+spelling_discrete = bare_discrete spellings tt
+
+table_discrete : Discrete Table
+table_discrete = bare_discrete tables tt
+
+tag_discrete : Discrete Tag
+tag_discrete = bare_discrete tags tt
+
+convention_discrete : Discrete CallingConv
+convention_discrete = bare_discrete conventions tt
+
+kind_discrete : Discrete VarStorageKind
+kind_discrete = bare_discrete kinds tt
+
+some_discrete : {A : Type 0} (a b : A) → Dec (a ≡ b) → Dec (Path (Option A) (Some a) (Some b))
+some_discrete a b (yes e) = yes (ap Some e)
+some_discrete a b (no n) = no (λ e. n (ap (λ o. unwrap_or o a) e))
+
+option_discrete : {A : Type 0} → Discrete A → Discrete (Option A)
+option_discrete d None None = yes refl
+option_discrete d None (Some b) = no (λ e. true≢false (sym (ap is_some e)))
+option_discrete d (Some a) None = no (λ e. true≢false (ap is_some e))
+option_discrete d (Some a) (Some b) = some_discrete a b (d a b)
+
+text_discrete : Discrete (List ℕ)
+text_discrete = List-discrete ℕ_discrete
+
+pub name_discrete : Discrete NameTree
+name_discrete =
+    NameTree-discrete spelling_discrete text_discrete operator_discrete guard_discrete (option_discrete ℕ_discrete)
+    ℕ_discrete ℤ_discrete (option_discrete text_discrete) plain_discrete base_discrete tag_discrete number_discrete
+    mark_discrete convention_discrete kind_discrete table_discrete
+
+pub names_discrete : Discrete NameTrees
+names_discrete =
+    NameTrees-discrete spelling_discrete text_discrete operator_discrete guard_discrete (option_discrete ℕ_discrete)
+    ℕ_discrete ℤ_discrete (option_discrete text_discrete) plain_discrete base_discrete tag_discrete number_discrete
+    mark_discrete convention_discrete kind_discrete table_discrete
+
+pub type_discrete : Discrete TypeTree
+type_discrete =
+    TypeTree-discrete spelling_discrete text_discrete operator_discrete guard_discrete (option_discrete ℕ_discrete)
+    ℕ_discrete ℤ_discrete (option_discrete text_discrete) plain_discrete base_discrete tag_discrete number_discrete
+    mark_discrete convention_discrete kind_discrete table_discrete
+
+pub types_discrete : Discrete TypeTrees
+types_discrete =
+    TypeTrees-discrete spelling_discrete text_discrete operator_discrete guard_discrete (option_discrete ℕ_discrete)
+    ℕ_discrete ℤ_discrete (option_discrete text_discrete) plain_discrete base_discrete tag_discrete number_discrete
+    mark_discrete convention_discrete kind_discrete table_discrete
+
+both_of : {A B : Type 0} (a c : A) (b d : B) → Dec (a ≡ c) → Dec (b ≡ d) → Dec (Path (A × B) (a, b) (c, d))
+both_of a c b d (yes p) (yes q) = yes (λ i. (p i, q i))
+both_of a c b d (yes p) (no n) = no (λ e. n (ap (λ x. x.1) e))
+both_of a c b d (no n) q = no (λ e. n (ap (λ x. x.0) e))
+
+pub symbol_discrete : Discrete (NameTree × NameTrees)
+symbol_discrete s t = both_of s.0 t.0 s.1 t.1 (name_discrete s.0 t.0) (names_discrete s.1 t.1)
+
+typed_symbol_of : (s t : SymbolTree) → Dec (s.name ≡ t.name) → Dec (s.scope ≡ t.scope) → Dec (s.symbol_type ≡ t.symbol_type)
+    → Dec (s ≡ t)
+typed_symbol_of s t (yes p) (yes q) (yes r) = yes (λ i. record { name = p i; scope = q i; symbol_type = r i })
+typed_symbol_of s t (yes p) (yes q) (no n) = no (λ e. n (ap (λ x. x.symbol_type) e))
+typed_symbol_of s t (yes p) (no n) r = no (λ e. n (ap (λ x. x.scope) e))
+typed_symbol_of s t (no n) q r = no (λ e. n (ap (λ x. x.name) e))
+
+pub typed_symbol_discrete : Discrete SymbolTree
+typed_symbol_discrete s t =
+    typed_symbol_of s t (name_discrete s.name t.name) (names_discrete s.scope t.scope)
+    (type_discrete s.symbol_type t.symbol_type)
+
+-- the answer of a decision
+pub is_yes : {A : Type 0} → Dec A → Bool
+is_yes (yes a) = true
+is_yes (no n) = false
+
+pub is_yes-is : {A : Type 0} (d : Dec A) → IsTrue (is_yes d) ↔ A
+unfolding is_yes
+is_yes-is (yes a) = (λ e. a, λ b. refl)
+is_yes-is (no n) = (λ e. absurd (true≢false (sym e)), λ a. absurd (n a))
+
+one_answer : (s t : Bool) → (s ≡ true → t ≡ true) → (t ≡ true → s ≡ true) → s ≡ t
+one_answer true t f g = sym (f refl)
+one_answer false true f g = g refl
+one_answer false false f g = refl
+
+-- a test whether two views are one is an equivalence
+pub equivalence : {K A : Type 0} (f : K → A) (E : K → K → Bool) → ((x y : K) → IsTrue (E x y) ↔ (f x ≡ f y))
+    → IsEquivalence E
+equivalence f E d = record {
+  refl = λ x. (d x x).1 refl;
+  symm = λ x y. one_answer (E x y) (E y x) (λ e. (d y x).1 (sym ((d x y).0 e))) (λ e. (d x y).1 (sym ((d y x).0 e)));
+  congr =
+      λ x y z e. one_answer (E x z) (E y z) (λ h. (d y z).1 (sym ((d x y).0 e) ∙ (d x z).0 h))
+      (λ h. (d x z).1 ((d x y).0 e ∙ (d y z).0 h));
+}

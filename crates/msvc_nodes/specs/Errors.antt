@@ -1,0 +1,57 @@
+-- What an error says, and the part of an input that a refusal shows.
+use Rattle.std.specs.Prelude.{◌≡◌, ℕ, List, ◌++◌, Option, Some, None, length, take, drop, nat_le, if◌then◌else◌}
+use Rattle.std.specs.Prelude.{codes, string_bytes}
+use Rattle.std.specs.Cow.{cow_str_bytes}
+use Rattle.std.specs.Fmt.{◌++?◌, debug_str, decimal}
+use Rattle.std.specs.Str.{encode_utf8_all}
+use Rattle.bstr.specs.Utf8.{lossy_chars}
+use Rattle.msvc_nodes.specs.declared.error.ErrorRepr.{ErrorRepr}
+use Rattle.msvc_nodes.specs.declared.error.ErrorRepr.TheVariants.{ParseError, Other, Memory}
+
+-- what a refusal shows of the bytes that remain at its offset: the first 20 and three dots where there are more
+abbrev pub shortened : List ℕ → List ℕ
+shortened bytes = if nat_le (length bytes) 20 then bytes else take 20 bytes ++ codes "..."
+
+-- the context of a refusal of an ASCII input at this offset
+abbrev pub context_of : List ℕ → ℕ → List ℕ
+context_of input offset = shortened (drop offset input)
+
+-- some bytes as text, with U+FFFD for what is no character
+abbrev pub text_of : List ℕ → List ℕ
+text_of bytes = encode_utf8_all (lossy_chars bytes)
+
+-- `shortened` as text, where the cut may split a character
+abbrev pub shortened_text : List ℕ → List ℕ
+shortened_text bytes =
+    if nat_le (length bytes) 20 then text_of bytes else text_of (take 20 bytes) ++ codes "..."
+
+-- the context of a refusal of any input at this offset
+abbrev pub context_text_of : List ℕ → ℕ → List ℕ
+context_text_of input offset = shortened_text (drop offset input)
+
+-- the offset of a refusal
+abbrev pub offset_of : ErrorRepr → Option ℕ
+offset_of (ParseError message context offset) = Some offset
+offset_of _ = None
+
+-- out of memory, or else a refusal with this message, this context and this offset
+abbrev pub IsRefusalOrMemory : List ℕ → List ℕ → ℕ → ErrorRepr → Type 0
+IsRefusalOrMemory message context offset (ParseError m c o) =
+    (cow_str_bytes m ≡ message) × (string_bytes c ≡ context) × (o ≡ offset)
+IsRefusalOrMemory message context offset Memory = Unit {0}
+IsRefusalOrMemory message context offset _ = ⊥
+
+-- out of memory, or else an error of this message alone
+abbrev pub IsMessageOrMemory : List ℕ → ErrorRepr → Type 0
+IsMessageOrMemory message (Other m) = string_bytes m ≡ message
+IsMessageOrMemory message Memory = Unit {0}
+IsMessageOrMemory message _ = ⊥
+
+-- the text of an error; nothing is said of a cause, nor of a refusal whose context is not ASCII
+abbrev pub error_text : ErrorRepr → Option (List ℕ)
+error_text (ParseError message context offset) =
+    Some (cow_str_bytes message) ++? Some (codes " (offset: ") ++? Some (decimal offset)
+    ++? Some (codes ", remaining: ") ++? debug_str (string_bytes context) ++? Some (codes ")")
+error_text (Other message) = Some (string_bytes message)
+error_text Memory = Some (codes "out of memory")
+error_text _ = None

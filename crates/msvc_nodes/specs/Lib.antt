@@ -1,0 +1,8 @@
+pub mod Decided
+pub mod EachName
+pub mod Equality
+pub mod Errors
+pub mod NodeView
+pub mod PlainOperators
+pub mod Sizes
+pub mod Trees

@@ -1,0 +1,167 @@
+//! Errors: why a text was rejected, or that memory ran out, and what an error prints. Which message a text is rejected
+//! with is up to the parser.
+
+ghost use Rattle.std.specs.Prelude.{◌≡◌, ◌≤◌, ◌↔◌, length, IfOk, IsTrue, string_bytes};
+ghost use Rattle.std.specs.Cow.{cow_str_bytes};
+ghost use Rattle.std.specs.Str.{IsAscii};
+ghost use Rattle.msvc_nodes.specs.declared.error.ErrorRepr.{ErrorRepr};
+ghost use Rattle.msvc_nodes.specs.declared.error.ErrorRepr.TheVariants.{FromUtf8, Memory, Utf8};
+ghost use Rattle.msvc_nodes.specs.Errors.{IsMessageOrMemory, IsRefusalOrMemory, context_of, context_text_of};
+ghost use Rattle.msvc_nodes.specs.Errors.{error_text, offset_of, shortened_text};
+
+use bstr::ByteSlice;
+use std::alloc::{AllocError, AllocFailed, Global};
+use std::borrow::CowStr;
+use std::fmt;
+use std::marker::Model;
+use std::str::Utf8Error;
+use std::string::FromUtf8Error;
+
+/// How many bytes of the input an error shows at most.
+const CONTEXT_LENGTH: usize = 20;
+
+/// Why a call failed. It borrows nothing from the input. Contracts see it as its `ErrorRepr`.
+#[derive(Debug, Drop)]
+pub struct Error {
+    repr: ErrorRepr,
+}
+
+/// What an `Error` holds.
+#[derive(Debug, Drop)]
+pub enum ErrorRepr {
+    /// Owned bytes are not UTF-8, and why.
+    FromUtf8(FromUtf8Error),
+    /// Borrowed bytes are not UTF-8, and why.
+    Utf8(Utf8Error),
+    /// A text is no symbol: the message, the input at the offset, cut short, and the offset in bytes.
+    ParseError(CowStr<'static>, String, usize),
+    /// A message alone.
+    Other(String),
+    /// Out of memory.
+    Memory,
+}
+
+impl Model for Error {
+    ghost Value = { ErrorRepr };
+
+    ghost view = { λ e. e.repr };
+}
+
+impl Error {
+    /// Makes an error of the message `s`, which is copied, or an error out of memory if the copy fails.
+    pub fn new(alloc: Global, s: &str) -> Error
+        ensures { IsMessageOrMemory s.now result }
+    {
+        let repr = match String::from_str(alloc, s) {
+            Ok(message) => ErrorRepr::Other(message),
+            Err(_) => ErrorRepr::Memory,
+        };
+        Error { repr }
+    }
+
+    /// Returns the offset in the input, in bytes, at which it was rejected; `None` for any other error.
+    pub fn offset(&self) -> Option<usize>
+        ensures { result ≡ offset_of self.now }
+    {
+        match &self.repr {
+            ErrorRepr::ParseError(_, _, offset) => Some(*offset),
+            _ => None,
+        }
+    }
+
+    /// Tests whether memory ran out.
+    pub fn is_out_of_memory(&self) -> bool
+        ensures { IsTrue result ↔ (self.now ≡ Memory) }
+    {
+        matches!(&self.repr, ErrorRepr::Memory)
+    }
+}
+
+/// Makes the error that rejects `input` at `offset`, in bytes, with a message that is borrowed or was made for it. Its
+/// context is the input from there on, or 20 bytes of it and three dots, copied. If the copy fails, the error is out of
+/// memory.
+pub fn parse_error(alloc: Global, message: CowStr<'static>, input: &[u8], offset: usize) -> Error
+    requires { offset ≤ length input.now }
+    ensures refusal { IsRefusalOrMemory (cow_str_bytes message.entry) (context_text_of input.now offset) offset result }
+    ensures ascii { IsAscii input.now →
+        IsRefusalOrMemory (cow_str_bytes message.entry) (context_of input.now offset) offset result }
+{
+    let repr = match context(alloc, &input[offset..]) {
+        Ok(context) => ErrorRepr::ParseError(message, context, offset),
+        Err(_) => ErrorRepr::Memory,
+    };
+    Error { repr }
+}
+
+/// Copies what an error shows of the bytes that remain at its offset.
+fn context(alloc: Global, remaining: &[u8]) -> Result<String, AllocError>
+    ensures { IfOk result (λ text. string_bytes text ≡ shortened_text remaining.now) }
+{
+    let mut text = String::new(alloc);
+    if remaining.len() <= CONTEXT_LENGTH {
+        remaining.to_str_lossy_into(&mut text)?;
+    } else {
+        let beginning = &remaining[..CONTEXT_LENGTH];
+        beginning.to_str_lossy_into(&mut text)?;
+        text.push_str("...")?;
+    }
+    Ok(text)
+}
+
+impl fmt::Display for Error {
+    ghost output = { error_text };
+
+    fn fmt<W: fmt::Write>(&self, f: &mut fmt::Formatter<W>) -> fmt::Result {
+        match &self.repr {
+            ErrorRepr::FromUtf8(cause) => write!(f, "{cause}"),
+            ErrorRepr::Utf8(cause) => write!(f, "{cause}"),
+            ErrorRepr::ParseError(message, context, offset) => {
+                write!(f, "{message} (offset: {offset}, remaining: {context:?})")
+            }
+            ErrorRepr::Other(message) => write!(f, "{message}"),
+            ErrorRepr::Memory => write!(f, "out of memory"),
+        }
+    }
+}
+
+impl std::error::Error for Error {}
+
+impl From<Utf8Error> for Error {
+    ghost from_gives = { λ cause e. e ≡ Utf8 cause };
+
+    fn from(cause: Utf8Error) -> Error {
+        Error {
+            repr: ErrorRepr::Utf8(cause),
+        }
+    }
+}
+
+impl From<FromUtf8Error> for Error {
+    ghost from_gives = { λ cause e. e ≡ FromUtf8 cause };
+
+    fn from(cause: FromUtf8Error) -> Error {
+        Error {
+            repr: ErrorRepr::FromUtf8(cause),
+        }
+    }
+}
+
+impl From<AllocError> for Error {
+    ghost from_gives = { λ _ e. e ≡ Memory };
+
+    fn from(_refused: AllocError) -> Error {
+        Error {
+            repr: ErrorRepr::Memory,
+        }
+    }
+}
+
+impl<T: Drop> From<AllocFailed<T>> for Error {
+    ghost from_gives = { λ _ e. e ≡ Memory };
+
+    fn from(_refused: AllocFailed<T>) -> Error {
+        Error {
+            repr: ErrorRepr::Memory,
+        }
+    }
+}

@@ -1,0 +1,11 @@
+pub mod Choices
+pub mod FunctionSteps
+pub mod GuardSteps
+pub mod NameSteps
+pub mod Nodes
+pub mod NumberSteps
+pub mod RowSteps
+pub mod SpecialSteps
+pub mod StringSteps
+pub mod SymbolSteps
+pub mod TypeSteps

@@ -1,0 +1,16 @@
+//! The parser's state and the leaf readers: letters, numbers, strings, memorized names and types, lists, the limit on
+//! nodes, and refusals. A reader of a production that calls other productions belongs in `msvc_readers`.
+#![tactic(auto)]
+
+pub mod entries;
+pub mod forms;
+pub mod letters;
+pub mod limit;
+pub mod memorized;
+pub mod numbers;
+pub mod parser;
+pub mod refusal;
+pub mod special_codes;
+pub mod stack;
+pub mod strings;
+pub mod type_forms;

@@ -1,0 +1,15 @@
+//! A list whose last part is in use. The items before it belong to callers that are still filling theirs.
+
+ghost use Rattle.std.specs.Prelude.{◌≤◌, length};
+
+use bumpalo::Bump;
+
+mod steps;
+
+/// A list of which the items from `from` on are in use.
+#[derive(Drop)]
+pub struct Stack<'b, T: Copy> {
+    items: Vec<T, &'b Bump>,
+    from: usize,
+    ghost inside: { from ≤ length items.items },
+}

@@ -1,0 +1,99 @@
+//! Operations on a `Stack`. The struct stands in another file, since a ghost field may not cite definitions about its
+//! own struct.
+
+ghost use Rattle.std.specs.Prelude.{◌≡◌, ◌≤◌, ◌++◌, ◌∷◌, [], drop, IfOk, IfSome, length, slice_get, take};
+ghost use Rattle.msvc_parser.specs.Stack.{here, outer};
+
+use crate::stack::Stack;
+use bumpalo::Bump;
+use msvc_nodes::list::List;
+use std::alloc::AllocError;
+
+/// Capacity that the first item allocates.
+const FIRST_ITEMS: usize = 16;
+
+impl<'b, T: Copy> Stack<'b, T> {
+    /// Creates an empty list.
+    pub fn new(arena: &'b Bump) -> Stack<'b, T>
+        ensures here { here result ≡ [] }
+        ensures outer { outer result ≡ [] }
+    {
+        Stack {
+            items: Vec::new(arena),
+            from: 0,
+        }
+    }
+
+    /// Returns the items in use.
+    pub fn items(&self) -> &[T]
+        ensures { result.now ≡ here self.now }
+    {
+        &self.items[self.from..]
+    }
+
+    /// Returns how many items are in use.
+    pub fn len(&self) -> usize
+        ensures { result ≡ length (here self.now) }
+    {
+        self.items.len() - self.from
+    }
+
+    /// Returns the item at an index, counted from the first in use.
+    pub fn get(&self, index: usize) -> Option<T>
+        ensures { result ≡ slice_get (here self.now) index }
+    {
+        match self.items().get(index) {
+            Some(item) => Some(*item),
+            None => None,
+        }
+    }
+
+    /// Appends an item.
+    pub fn push(&mut self, item: T) -> Result<(), AllocError>
+        ensures here { IfOk result (λ _. here self.new ≡ here self.old ++ item ∷ []) }
+        ensures outer { IfOk result (λ _. outer self.new ≡ outer self.old) }
+    {
+        if self.items.capacity() == 0 {
+            self.items.try_reserve(FIRST_ITEMS)?;
+        }
+        self.items.push(item)?;
+        Ok(())
+    }
+
+    /// Begins a new, empty part. The result ends it.
+    pub fn begin(&mut self) -> usize
+        ensures place { result ≡ length (outer self.old) }
+        ensures here { here self.new ≡ [] }
+        ensures outer { outer self.new ≡ outer self.old ++ here self.old }
+    {
+        let from = self.from;
+        self.from = self.items.len();
+        from
+    }
+
+    /// Drops the part in use. The items before it, from index `from` on, are in use again.
+    pub fn end(&mut self, from: usize)
+        requires { from ≤ length (outer self.old) }
+        ensures here { here self.new ≡ drop from (outer self.old) }
+        ensures outer { outer self.new ≡ take from (outer self.old) }
+    {
+        self.items.truncate(self.from);
+        self.from = from;
+    }
+
+    /// Copies the part in use into the arena and drops it, or returns nothing if memory runs out.
+    pub fn end_in(&mut self, arena: &'b Bump, from: usize) -> Option<List<'b, T>>
+        requires { from ≤ length (outer self.old) }
+        ensures items { IfSome result (λ list. list.items.now ≡ here self.old) }
+        ensures here { IfSome result (λ _. here self.new ≡ drop from (outer self.old)) }
+        ensures outer { IfSome result (λ _. outer self.new ≡ take from (outer self.old)) }
+    {
+        match arena.try_alloc_slice_copy(self.items()) {
+            Ok(list) => {
+                self.end(from);
+                Some(List { items: list })
+            }
+            Err(_) => None,
+        }
+    }
+}

@@ -1,0 +1,125 @@
+-- A type puts on the left and on the right of a name what the printer prints before and after it.
+use Rattle.std.proofs.Common.{◌≡◌, ℕ, List, [], ◌∷◌, ◌++◌, Bool, true, false, refl, ap, sym, ◌∙◌, codes}
+use Rattle.std.proofs.lemmas.List.{append-nil, append_assoc}
+use Rattle.msvc_nodes.specs.Trees.{NameTree, NameTrees, TypeTree, plain, base, tagged, numbered, pointing, array}
+use Rattle.msvc_nodes.specs.Trees.{function, member_function, member_pointer, variable, table, vcall_thunk}
+use Rattle.msvc_nodes.specs.declared.kinds.NumberedType.TheVariants as number_kind
+use Rattle.msvc_nodes.specs.declared.kinds.PlainType.TheVariants as plain_kind
+use Rattle.msvc_print.specs.Declaration.{conversion, grown, length_pieces, parameters, symbol_name, symbol_pieces}
+use Rattle.msvc_print.specs.Functions.{calling, member_start, function_qualifier, function_qualifiers, parameter_list}
+use Rattle.msvc_print.specs.Halves.{after, before, function_end, member_pointer_end, pointed_name}
+use Rattle.msvc_print.specs.Pieces.{Piece, text}
+use Rattle.msvc_print.specs.Sides.{Sides, alone, around, between, kept_left, kept_right}
+use Rattle.msvc_print.specs.Words.{closing, mark_word, marked, opening, qualifiers, variable_word}
+use Rattle.msvc_print.proofs.Stack.{pushes}
+
+-- pieces around pieces
+between-twice : (a b c d : List Piece) (s : Sides) → between a (between b s c) d ≡ between (a ++ b) s (c ++ d)
+between-twice a b c d s =
+    ap (λ x. record { left = x; right = (s.right ++ c) ++ d }) (sym (append_assoc a b s.left))
+    ∙ ap (λ x. record { left = (a ++ b) ++ s.left; right = x }) (append_assoc s.right c d)
+
+between-nothing : (s : Sides) → s ≡ between [] s []
+between-nothing s = ap (λ x. record { left = s.left; right = x }) (sym (append-nil s.right))
+
+function_end-parts : (pointed : Bool) (ps : List Piece) (set flags : ℕ) (returned : List Piece) →
+    parameter_list pointed ps set flags ++ returned ≡ function_end pointed ps set flags returned
+function_end-parts pointed ps set flags returned =
+    let end : List Piece = text (codes ")") ∷ function_qualifiers set flags in
+    append_assoc (closing pointed) (text (codes "(") ∷ (ps ++ end)) returned
+    ∙ ap (λ x. closing pointed ++ (text (codes "(") ∷ x)) (append_assoc ps end returned)
+
+member_pointer_end-parts : (ps : List Piece) (set : ℕ) (returned : List Piece) →
+    ((text (codes ")(") ∷ (ps ++ text (codes ")") ∷ [])) ++ returned) ++ function_qualifier 1 (codes "const") set
+    ≡ member_pointer_end ps set returned
+unfolding member_pointer_end
+member_pointer_end-parts ps set returned =
+    let const : List Piece = function_qualifier 1 (codes "const") set in
+    ap (λ x. text (codes ")(") ∷ x) (ap (λ x. x ++ const) (append_assoc ps (text (codes ")") ∷ []) returned)
+    ∙ append_assoc ps (text (codes ")") ∷ returned) const)
+
+pub grown-halves : (t : TypeTree) (pointed : Bool) (inside : Sides) (flags : ℕ) →
+    grown t pointed inside flags ≡ between (before t pointed flags) inside (after t pointed flags)
+unfolding grown conversion before after
+grown-halves (base b set) pointed inside flags = refl
+grown-halves (tagged tag n scope set) pointed inside flags = refl
+grown-halves (pointing m t set) pointed inside flags =
+    let more = marked (mark_word m) set flags in
+    grown-halves t true (between more inside []) flags
+    ∙ between-twice (before t true flags) more [] (after t true flags) inside
+grown-halves (array n t set) pointed inside flags =
+    let more = qualifiers set flags ++ opening pointed in
+    let end = closing pointed ++ length_pieces n in
+    grown-halves t false (between more inside end) flags
+    ∙ between-twice (before t false flags) more end (after t false flags) inside
+    ∙ ap (λ x. between (before t false flags ++ more) inside x)
+    (append_assoc (closing pointed) (length_pieces n) (after t false flags))
+grown-halves (function convention ts set t) pointed inside flags =
+    let more = calling pointed convention flags in
+    let ps = parameters ts true flags in
+    let end = parameter_list pointed ps set flags in
+    grown-halves t false (between more inside end) flags
+    ∙ between-twice (before t false flags) more end (after t false flags) inside
+    ∙ ap (λ x. between (before t false flags ++ more) inside x)
+    (function_end-parts pointed ps set flags (after t false flags))
+grown-halves (member_function class convention ts set t) pointed inside flags =
+    let words = member_start pointed class flags in
+    let more = calling pointed convention flags in
+    let ps = parameters ts true flags in
+    let end = parameter_list pointed ps set flags in
+    let both = function_end pointed ps set flags (after t false flags) in
+    ap (λ s. between words s []) (grown-halves t false (between more inside end) flags
+    ∙ between-twice (before t false flags) more end (after t false flags) inside
+    ∙ ap (λ x. between (before t false flags ++ more) inside x)
+    (function_end-parts pointed ps set flags (after t false flags)))
+    ∙ between-twice words (before t false flags ++ more) both [] inside
+    ∙ ap (λ x. between (words ++ (before t false flags ++ more)) inside x) (append-nil both)
+grown-halves (member_pointer n scope class convention ts set t) pointed inside flags =
+    let more = calling true convention flags ++ pointed_name n scope flags in
+    let ps = parameters ts true flags in
+    let end = text (codes ")(") ∷ (ps ++ text (codes ")") ∷ []) in
+    let const = function_qualifier 1 (codes "const") set in
+    ap (λ s. between [] s const) (grown-halves t false (between more inside end) flags
+    ∙ between-twice (before t false flags) more end (after t false flags) inside)
+    ∙ between-twice [] (before t false flags ++ more) (end ++ after t false flags) const inside
+    ∙ ap (λ x. between (before t false flags ++ more) inside x)
+    (member_pointer_end-parts ps set (after t false flags))
+grown-halves (variable t kind set) pointed inside flags =
+    let word = text (variable_word kind) ∷ [] in
+    let more = qualifiers set flags in
+    ap (λ s. between word s []) (grown-halves t false (between more inside []) flags
+    ∙ between-twice (before t false flags) more [] (after t false flags) inside)
+    ∙ between-twice word (before t false flags ++ more) (after t false flags) [] inside
+    ∙ ap (λ x. between (word ++ (before t false flags ++ more)) inside x) (append-nil (after t false flags))
+grown-halves (table k scope set) pointed inside flags = refl
+grown-halves (vcall_thunk n convention) pointed inside flags = refl
+grown-halves (numbered number_kind.Constant n) pointed inside flags = refl
+grown-halves (numbered number_kind.TemplateParameter n) pointed inside flags = refl
+grown-halves (numbered number_kind.ThreadSafeGuard n) pointed inside flags = refl
+grown-halves (plain plain_kind.Variadic) pointed inside flags = refl
+grown-halves (plain plain_kind.Nullptr) pointed inside flags = refl
+grown-halves _ pointed inside flags = between-nothing inside
+
+-- the two sides of a name
+pub left-before : (t : TypeTree) (flags : ℕ) → (grown t false alone flags).left ≡ before t false flags
+left-before t flags = ap (λ s. s.left) (grown-halves t false alone flags) ∙ append-nil (before t false flags)
+
+pub right-after : (t : TypeTree) (flags : ℕ) → (grown t false alone flags).right ≡ after t false flags
+right-after t flags = ap (λ s. s.right) (grown-halves t false alone flags)
+
+pub around-halves : (t : TypeTree) (inside : List Piece) (flags : ℕ) →
+    around (grown t false alone flags) inside ≡ before t false flags ++ (inside ++ after t false flags)
+around-halves t inside flags =
+    ap (λ x. x ++ (inside ++ (grown t false alone flags).right)) (left-before t flags)
+    ∙ ap (λ x. before t false flags ++ (inside ++ x)) (right-after t flags)
+
+pub symbol_pieces-halves : (n : NameTree) (scope : NameTrees) (t : TypeTree) (flags : ℕ) →
+    symbol_pieces n scope t flags ≡ kept_left (before t false flags) flags
+    ++ (symbol_name n scope t flags ++ kept_right (after t false flags) flags)
+symbol_pieces-halves n scope t flags =
+    ap (λ x. kept_left x flags ++ (symbol_name n scope t flags ++ kept_right (grown t false alone flags).right flags))
+    (left-before t flags)
+    ∙ ap (λ x. kept_left (before t false flags) flags ++ (symbol_name n scope t flags ++ kept_right x flags))
+    (right-after t flags)
+
+pub ruleset pushed_left = (pushes, left-before)

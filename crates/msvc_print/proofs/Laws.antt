@@ -1,0 +1,388 @@
+-- What flags do not change: bits that no definition asks for, and under NAME_ONLY the type of a symbol.
+use Rattle.std.proofs.Common.{◌≡◌, ℕ, ℤ, List, [], ◌∷◌, ◌++◌, Bool, true, false, cond, refl, ap, sym, ◌∙◌, bit_and}
+use Rattle.std.proofs.Common.{◌==◌, append_assoc, codes}
+use Rattle.std.proofs.lemmas.Nat.{and_assoc}
+use Rattle.std.specs.Fmt.{signed_decimal}
+use Rattle.msvc_nodes.specs.Trees.{NameTree, NameTrees, TypeTree, TypeTrees, spelled, operator, guard}
+use Rattle.msvc_nodes.specs.Trees.{type_descriptor, base_class_descriptor, template, discriminator, nested, anonymous}
+use Rattle.msvc_nodes.specs.Trees.{no_names, names, no_types, types, base, tagged, pointing, array, function}
+use Rattle.msvc_nodes.specs.Trees.{member_function, member_pointer, plain, numbered, variable, table, vcall_thunk}
+use Rattle.msvc_nodes.specs.declared.kinds.BaseType.{BaseType}
+use Rattle.msvc_nodes.specs.declared.kinds.BaseType.TheVariants as base_kind
+use Rattle.msvc_nodes.specs.declared.kinds.NumberedType.TheVariants as number_kind
+use Rattle.msvc_nodes.specs.declared.kinds.PlainType.TheVariants as plain_kind
+use Rattle.msvc_nodes.specs.declared.kinds.PlainOperator.TheVariants as plain_operator
+use Rattle.msvc_nodes.specs.declared.kinds.Spelling.TheVariants as spelling_kind
+use Rattle.msvc_nodes.specs.declared.kinds.Tag.{Tag}
+use Rattle.msvc_nodes.specs.declared.kinds.CallingConv.{CallingConv}
+use Rattle.msvc_print.proofs.Dropped.{kept_left-name_only, kept_right-dropped}
+use Rattle.msvc_print.specs.Declaration.{ScopePieces, angled, conversion, declaration, grown, is_empty_pack}
+use Rattle.msvc_print.specs.Declaration.{length_pieces, name_pieces, named, parameters, pointed_class, quoted_unless}
+use Rattle.msvc_print.specs.Declaration.{scope_path, scope_pieces, scope_prefix, symbol_name, symbol_pieces, table_end}
+use Rattle.msvc_print.specs.Declaration.{with_inner}
+use Rattle.msvc_print.specs.Flags.{has, hug_type, ms_type_names, name_only, no_access_specifiers, no_class_type}
+use Rattle.msvc_print.specs.Flags.{no_function_returns, no_member_type, no_ms_keywords, no_this_type}
+use Rattle.msvc_print.specs.Flags.{space_after_comma, space_before_pointer, with_ptr64}
+use Rattle.msvc_print.specs.Functions.{access_words, calling, convention_pieces, convention_word}
+use Rattle.msvc_print.specs.Functions.{each_function_qualifier, kind_words, member_start, member_word, member_words}
+use Rattle.msvc_print.specs.Functions.{parameter_list}
+use Rattle.msvc_print.specs.Functions.{function_qualifier, function_qualifiers, separator, wide_qualifier}
+use Rattle.msvc_print.specs.Laws.{Agree, DecodingChangesNothing, HashIsItsText, NameOnlyAsksNoType}
+use Rattle.msvc_print.specs.Laws.{OtherBitsChangeNothing}
+use Rattle.msvc_print.specs.Laws.{all_but_decoding, obeyed_flags}
+use Rattle.msvc_print.specs.Operators.{base_class_pieces, name_kind, unqualified_name, scoped}
+use Rattle.msvc_print.specs.Pieces.{Piece, resolve, settle_all, space, text}
+use Rattle.msvc_print.specs.Sides.{Sides, alone, around, between, kept, kept_left, kept_right}
+use Rattle.msvc_print.specs.Words.{base_word, closing, kind_word, mark_space, mark_word, marked}
+use Rattle.msvc_print.specs.Words.{name_space, opening, qualifier, qualifier_space, qualifiers, tag_word, variable_word}
+use Rattle.msvc_print.specs.declared.operators.NameKind.{NameKind}
+use Rattle.msvc_print.specs.declared.operators.NameKind.TheVariants as name_kinds
+use Rattle.msvc_print.specs.declared.text.Space.TheVariants.{AfterPointer, AfterReference, AfterWord, UnlessOpen}
+
+-- two words give the same answer to each question that a definition asks
+record Same (a b : ℕ) : Type 0 where
+  keywords : has a no_ms_keywords ≡ has b no_ms_keywords
+  returns : has a no_function_returns ≡ has b no_function_returns
+  this_type : has a no_this_type ≡ has b no_this_type
+  access : has a no_access_specifiers ≡ has b no_access_specifiers
+  member : has a no_member_type ≡ has b no_member_type
+  type_names : has a ms_type_names ≡ has b ms_type_names
+  only : has a name_only ≡ has b name_only
+  class_type : has a no_class_type ≡ has b no_class_type
+  comma : has a space_after_comma ≡ has b space_after_comma
+  hug : has a hug_type ≡ has b hug_type
+  pointer : has a space_before_pointer ≡ has b space_before_pointer
+  wide : has a with_ptr64 ≡ has b with_ptr64
+
+-- words that agree on some bits agree on fewer
+fewer : (a b many few : ℕ) → bit_and many few ≡ few → Agree many a b → Agree few a b
+fewer a b many few within e =
+    ap (bit_and a) (sym within) ∙ sym (and_assoc few a many) ∙ ap (λ x. bit_and x few) e ∙ and_assoc few b many
+    ∙ ap (bit_and b) within
+
+has-same : (a b bits : ℕ) → bit_and obeyed_flags bits ≡ bits → Agree obeyed_flags a b → has a bits ≡ has b bits
+has-same a b bits within e = ap (λ x. x == bits) (fewer a b obeyed_flags bits within e)
+
+all-same : (a b : ℕ) → Agree obeyed_flags a b → Same a b
+all-same a b e = record {
+  keywords = has-same a b no_ms_keywords refl e;
+  returns = has-same a b no_function_returns refl e;
+  this_type = has-same a b no_this_type refl e;
+  access = has-same a b no_access_specifiers refl e;
+  member = has-same a b no_member_type refl e;
+  type_names = has-same a b ms_type_names refl e;
+  only = has-same a b name_only refl e;
+  class_type = has-same a b no_class_type refl e;
+  comma = has-same a b space_after_comma refl e;
+  hug = has-same a b hug_type refl e;
+  pointer = has-same a b space_before_pointer refl e;
+  wide = has-same a b with_ptr64 refl e;
+}
+
+-- lists of the same parts are the same
+same-append : (xs xs' ys ys' : List Piece) → xs ≡ xs' → ys ≡ ys' → xs ++ ys ≡ xs' ++ ys'
+same-append xs xs' ys ys' e e' = ap (λ x. x ++ ys) e ∙ ap (λ y. xs' ++ y) e'
+
+same-choice : (c : Bool) (xs xs' ys ys' : List Piece) → xs ≡ xs' → ys ≡ ys' → cond c xs ys ≡ cond c xs' ys'
+same-choice c xs xs' ys ys' e e' = ap (λ x. cond c x ys) e ∙ ap (λ y. cond c xs' y) e'
+
+-- pieces that one question decides about
+same-unless : (c c' : Bool) (xs xs' : List Piece) → c ≡ c' → xs ≡ xs' → cond c [] xs ≡ cond c' [] xs'
+same-unless c c' xs xs' e e' = ap (λ x. cond x [] xs) e ∙ ap (λ x. cond c' [] x) e'
+
+-- words and spaces
+base_word-same : (w : BaseType) (a b : ℕ) → Same a b → base_word w a ≡ base_word w b
+base_word-same base_kind.Int64 a b e = ap (λ c. cond c (codes "__int64") (codes "int64_t")) e.type_names
+base_word-same base_kind.Uint64 a b e = ap (λ c. cond c (codes "unsigned __int64") (codes "uint64_t")) e.type_names
+base_word-same base_kind.Int128 a b e = ap (λ c. cond c (codes "__int128") (codes "int128_t")) e.type_names
+base_word-same base_kind.Uint128 a b e = ap (λ c. cond c (codes "unsigned __int128") (codes "uint128_t")) e.type_names
+base_word-same _ a b e = refl
+
+tag_word-same : (tag : Tag) (a b : ℕ) → Same a b → tag_word tag a ≡ tag_word tag b
+tag_word-same tag a b e = ap (λ c. cond c [] (kind_word tag)) e.class_type
+
+name_space-same : (a b : ℕ) → Same a b → name_space a ≡ name_space b
+name_space-same a b e = ap (λ c. cond c AfterWord AfterReference) e.pointer
+
+qualifier_space-same : (a b : ℕ) → Same a b → qualifier_space a ≡ qualifier_space b
+qualifier_space-same a b e = ap (λ c. cond c AfterWord AfterPointer) e.pointer
+
+qualifiers-same : (set a b : ℕ) → Same a b → qualifiers set a ≡ qualifiers set b
+unfolding qualifiers
+qualifiers-same set a b e = ap (λ s. qualifier s 1 (codes "const") set ++ qualifier s 2 (codes "volatile") set)
+    (qualifier_space-same a b e)
+
+mark_space-same : (a b : ℕ) → Same a b → mark_space a ≡ mark_space b
+mark_space-same a b e =
+    ap (λ c. cond c (cond (has a space_before_pointer) (space AfterWord ∷ []) []) (space AfterPointer ∷ [])) e.hug
+    ∙ ap (λ c. cond (has b hug_type) (cond c (space AfterWord ∷ []) []) (space AfterPointer ∷ [])) e.pointer
+
+marked-same : (word : List ℕ) (set a b : ℕ) → Same a b → marked word set a ≡ marked word set b
+unfolding marked
+marked-same word set a b e = same-append (mark_space a) (mark_space b) (text word ∷ qualifiers set a)
+    (text word ∷ qualifiers set b) (mark_space-same a b e) (ap (λ x. text word ∷ x) (qualifiers-same set a b e))
+
+separator-same : (first : Bool) (a b : ℕ) → Same a b → separator first a ≡ separator first b
+unfolding separator
+separator-same first a b e =
+    ap (λ c. cond first [] (text (cond c (codes ", ") (codes ",")) ∷ [])) e.comma
+
+kept_left-same : (xs ys : List Piece) (a b : ℕ) → xs ≡ ys → Same a b → kept_left xs a ≡ kept_left ys b
+unfolding kept_left
+kept_left-same xs ys a b h e = same-unless (has a name_only) (has b name_only) _ _ e.only
+    (same-unless (has a no_function_returns) (has b no_function_returns) xs ys e.returns h)
+
+kept_right-same : (xs ys : List Piece) (a b : ℕ) → xs ≡ ys → Same a b → kept_right xs a ≡ kept_right ys b
+unfolding kept_right
+kept_right-same xs ys a b h e = same-unless (has a name_only) (has b name_only) xs ys e.only h
+
+-- functions
+access_words-same : (class a b : ℕ) → Same a b → access_words class a ≡ access_words class b
+unfolding access_words
+access_words-same class a b e =
+    same-unless (has a no_access_specifiers) (has b no_access_specifiers) _ _ e.access refl
+
+kind_words-same : (class a b : ℕ) → Same a b → kind_words class a ≡ kind_words class b
+unfolding kind_words
+kind_words-same class a b e = same-unless (has a no_member_type) (has b no_member_type) _ _ e.member refl
+
+member_start-same : (pointed : Bool) (class a b : ℕ) → Same a b →
+    member_start pointed class a ≡ member_start pointed class b
+unfolding member_start member_words
+member_start-same pointed class a b e =
+    ap (λ x. cond pointed [] (member_word 128 (codes "[thunk]: ") class ++ x))
+    (same-append (access_words class a) (access_words class b) (kind_words class a) (kind_words class b)
+    (access_words-same class a b e) (kind_words-same class a b e))
+
+wide_qualifier-same : (set a b : ℕ) → Same a b → wide_qualifier set a ≡ wide_qualifier set b
+unfolding wide_qualifier
+wide_qualifier-same set a b e = ap (λ c. cond c (function_qualifier 64 (codes "__ptr64") set) []) e.wide
+
+function_qualifiers-same : (set a b : ℕ) → Same a b → function_qualifiers set a ≡ function_qualifiers set b
+unfolding function_qualifiers each_function_qualifier
+function_qualifiers-same set a b e = same-unless (has a no_this_type) (has b no_this_type)
+    (each_function_qualifier set a) (each_function_qualifier set b) e.this_type
+    (ap (λ x. function_qualifier 1 (codes "const") set ++ (function_qualifier 2 (codes "volatile") set
+    ++ (x ++ (function_qualifier 32 (codes "__restrict") set
+    ++ (function_qualifier 128 (codes "&") set ++ function_qualifier 256 (codes "&&") set)))))
+    (wide_qualifier-same set a b e))
+
+calling-same : (pointed : Bool) (convention : CallingConv) (a b : ℕ) → Same a b →
+    calling pointed convention a ≡ calling pointed convention b
+unfolding calling convention_pieces
+calling-same pointed convention a b e =
+    ap (λ c. opening pointed ++ (space UnlessOpen ∷ cond c [] (text (convention_word convention) ∷ []))) e.keywords
+
+parameter_list-same : (pointed : Bool) (xs ys : List Piece) (set a b : ℕ) → xs ≡ ys → Same a b →
+    parameter_list pointed xs set a ≡ parameter_list pointed ys set b
+parameter_list-same pointed xs ys set a b h e = ap (λ x. closing pointed ++ (text (codes "(") ∷ x))
+    (same-append xs ys (text (codes ")") ∷ function_qualifiers set a) (text (codes ")") ∷ function_qualifiers set b) h
+    (ap (λ x. text (codes ")") ∷ x) (function_qualifiers-same set a b e)))
+
+-- names
+base_class-same : (k l m n : ℤ) (a b : ℕ) → Same a b → base_class_pieces k l m n a ≡ base_class_pieces k l m n b
+unfolding base_class_pieces
+base_class-same k l m n a b e = ap (λ s. space AfterPointer ∷ text (codes "`RTTI Base Class Descriptor at (")
+    ∷ text (signed_decimal k) ∷ ((s ++ text (signed_decimal l) ∷ []) ++ ((s ++ text (signed_decimal m) ∷ [])
+    ++ ((s ++ text (signed_decimal n) ∷ []) ++ text (codes ")'") ∷ [])))) (separator-same false a b e)
+
+scoped-flags : (kind : NameKind) (prefix path name : List Piece) (a b : ℕ) → Same a b →
+    scoped kind prefix path name a ≡ scoped kind prefix path name b
+unfolding scoped
+scoped-flags name_kinds.Literal prefix path name a b e =
+    ap (λ s. space s ∷ space AfterPointer ∷ text (codes "operator \"\"") ∷ path) (name_space-same a b e)
+scoped-flags name_kinds.Ordinary prefix path name a b e = ap (λ s. space s ∷ (prefix ++ name)) (name_space-same a b e)
+scoped-flags _ prefix path name a b e = ap (λ s. space s ∷ (prefix ++ name)) (name_space-same a b e)
+
+named-same : (kind : NameKind) (scope scope' : ScopePieces) (v v' n n' : List Piece) (a b : ℕ) → scope ≡ scope' →
+    v ≡ v' → n ≡ n' → Same a b → named kind scope v n a ≡ named kind scope' v' n' b
+named-same kind scope scope' v v' n n' a b hs hv hn e =
+    ap (λ x. named kind x v n a) hs ∙ ap (λ x. named kind scope' x n a) hv ∙ ap (λ x. named kind scope' v' x a) hn
+    ∙ scoped-flags kind scope'.prefix scope'.path _ a b e
+
+-- sides
+between-same : (x x' : List Piece) (s s' : Sides) (y y' : List Piece) → x ≡ x' → s ≡ s' → y ≡ y' →
+    between x s y ≡ between x' s' y'
+between-same x x' s s' y y' hx hs hy =
+    ap (λ z. between z s y) hx ∙ ap (λ z. between x' z y) hs ∙ ap (λ z. between x' s' z) hy
+
+around_kept-same : (s s' : Sides) (x x' : List Piece) (a b : ℕ) → s ≡ s' → x ≡ x' → Same a b →
+    around (kept s a) x ≡ around (kept s' b) x'
+around_kept-same s s' x x' a b hs hx e = same-append _ _ _ _
+    (kept_left-same s.left s'.left a b (ap (λ z. z.left) hs) e)
+    (same-append _ _ _ _ hx (kept_right-same s.right s'.right a b (ap (λ z. z.right) hs) e))
+
+-- names, scopes, types and their lists
+mutual
+  unfolding name_pieces scope_pieces conversion grown parameters
+
+  name_pieces-same : (n : NameTree) (of_symbol : Bool) (a b : ℕ) → Same a b →
+      name_pieces n of_symbol a ≡ name_pieces n of_symbol b
+  name_pieces-same (spelled how bytes) of_symbol a b e = refl
+  name_pieces-same (template n ts) of_symbol a b e = same-append (name_pieces n false a) (name_pieces n false b)
+      (angled (parameters ts true a)) (angled (parameters ts true b)) (name_pieces-same n false a b e)
+      (ap angled (parameters-same ts true a b e))
+  name_pieces-same (discriminator z) of_symbol a b e = refl
+  name_pieces-same (nested n ns t) of_symbol a b e = ap (quoted_unless of_symbol) (around_kept-same _ _ _ _ a b
+      (grown-same t false alone alone a b refl e)
+      (named-same (name_kind n) _ _ _ _ _ _ a b (scope_pieces-same ns a b e)
+      (conversion-same t (name_pieces n true a) (name_pieces n true b) a b (name_pieces-same n true a b e) e)
+      (name_pieces-same n true a b e) e) e)
+  name_pieces-same (anonymous digits) of_symbol a b e = refl
+  name_pieces-same (operator o) of_symbol a b e = refl
+  name_pieces-same (guard g n) of_symbol a b e = refl
+  name_pieces-same (type_descriptor set t) of_symbol a b e =
+      ap (λ s. space AfterPointer ∷ (s.left ++ text (codes "::`RTTI Type Descriptor'") ∷ []))
+      (grown-same t false alone alone a b refl e)
+  name_pieces-same (base_class_descriptor k l m n) of_symbol a b e = base_class-same k l m n a b e
+
+  scope_pieces-same : (ns : NameTrees) (a b : ℕ) → Same a b → scope_pieces ns a ≡ scope_pieces ns b
+  scope_pieces-same no_names a b e = refl
+  scope_pieces-same (names n ns) a b e =
+      ap (λ x. with_inner x (name_pieces n false a)) (scope_pieces-same ns a b e)
+      ∙ ap (λ x. with_inner (scope_pieces ns b) x) (name_pieces-same n false a b e)
+
+  conversion-same : (t : TypeTree) (name name' : List Piece) (a b : ℕ) → name ≡ name' → Same a b →
+      conversion t name a ≡ conversion t name' b
+  conversion-same (member_function class convention ts set t) name name' a b h e =
+      ap (λ s. text (codes "operator ") ∷ around s []) (grown-same t false alone alone a b refl e)
+  conversion-same _ name name' a b h e = h
+
+  grown-same : (t : TypeTree) (pointed : Bool) (s s' : Sides) (a b : ℕ) → s ≡ s' → Same a b →
+      grown t pointed s a ≡ grown t pointed s' b
+  grown-same (base w set) pointed s s' a b h e = between-same _ _ s s' [] [] (same-append _ _ _ _
+      (ap (λ x. text x ∷ []) (base_word-same w a b e)) (qualifiers-same set a b e)) h refl
+  grown-same (tagged tag n scope set) pointed s s' a b h e = between-same _ _ s s' [] [] (same-append _ _ _ _
+      (ap (λ x. text x ∷ []) (tag_word-same tag a b e)) (same-append _ _ _ _
+      (named-same (name_kind n) _ _ _ _ _ _ a b (scope_pieces-same scope a b e) (name_pieces-same n true a b e)
+      (name_pieces-same n true a b e) e) (qualifiers-same set a b e))) h refl
+  grown-same (pointing m t set) pointed s s' a b h e = grown-same t true _ _ a b
+      (between-same _ _ s s' [] [] (marked-same (mark_word m) set a b e) h refl) e
+  grown-same (array n t set) pointed s s' a b h e =
+      let end : List Piece = closing pointed ++ length_pieces n in
+      grown-same t false _ _ a b (between-same _ _ s s' end end
+      (ap (λ x. x ++ opening pointed) (qualifiers-same set a b e)) h refl) e
+  grown-same (function convention ts set t) pointed s s' a b h e = grown-same t false _ _ a b
+      (between-same _ _ s s' _ _ (calling-same pointed convention a b e) h
+      (parameter_list-same pointed _ _ set a b (parameters-same ts true a b e) e)) e
+  grown-same (member_function class convention ts set t) pointed s s' a b h e =
+      between-same _ _ _ _ [] [] (member_start-same pointed class a b e) (grown-same t false _ _ a b
+      (between-same _ _ s s' _ _ (calling-same pointed convention a b e) h
+      (parameter_list-same pointed _ _ set a b (parameters-same ts true a b e) e)) e) refl
+  grown-same (member_pointer n scope class convention ts set t) pointed s s' a b h e =
+      let const : List Piece = function_qualifier 1 (codes "const") set in
+      between-same [] [] _ _ const const refl (grown-same t false _ _ a b
+      (between-same _ _ s s' _ _ (same-append _ _ _ _ (calling-same true convention a b e) (ap pointed_class
+      (named-same (name_kind n) _ _ _ _ _ _ a b (scope_pieces-same scope a b e) (name_pieces-same n true a b e)
+      (name_pieces-same n true a b e) e))) h
+      (ap (λ x. text (codes ")(") ∷ (x ++ text (codes ")") ∷ [])) (parameters-same ts true a b e))) e) refl
+  grown-same (variable t kind set) pointed s s' a b h e =
+      let word : List Piece = text (variable_word kind) ∷ [] in
+      between-same word word _ _ [] [] refl (grown-same t false _ _ a b
+      (between-same _ _ s s' [] [] (qualifiers-same set a b e) h refl) e) refl
+  grown-same (table k scope set) pointed s s' a b h e = between-same _ _ s s' _ _ (qualifiers-same set a b e) h
+      (ap (λ x. table_end k scope x.path) (scope_pieces-same scope a b e))
+  grown-same (vcall_thunk n convention) pointed s s' a b h e = between-same _ _ s s' _ _
+      (ap (λ x. text (codes "[thunk]: ") ∷ x) (calling-same false convention a b e)) h
+      (ap (λ x. text (codes "{") ∷ text (signed_decimal n) ∷ (x ++ text (codes "{flat}}") ∷ []))
+      (separator-same false a b e))
+  grown-same (numbered number_kind.Constant n) pointed s s' a b h e =
+      ap (λ x. between (text (signed_decimal n) ∷ []) x []) h
+  grown-same (numbered number_kind.TemplateParameter n) pointed s s' a b h e = ap (λ x. between
+      (text (codes "`template-parameter") ∷ text (signed_decimal n) ∷ text (codes "'") ∷ []) x []) h
+  grown-same (numbered number_kind.ThreadSafeGuard n) pointed s s' a b h e =
+      ap (λ x. between (text (codes "TSS") ∷ text (signed_decimal n) ∷ []) x []) h
+  grown-same (plain plain_kind.Variadic) pointed s s' a b h e = ap (λ x. between (text (codes "...") ∷ []) x []) h
+  grown-same (plain plain_kind.Nullptr) pointed s s' a b h e =
+      ap (λ x. between (text (codes "std::nullptr_t") ∷ []) x []) h
+  grown-same _ pointed s s' a b h e = h
+
+  parameters-same : (ts : TypeTrees) (first : Bool) (a b : ℕ) → Same a b → parameters ts first a ≡ parameters ts first b
+  parameters-same no_types first a b e = refl
+  parameters-same (types t ts) first a b e = same-choice (is_empty_pack t) _ _ _ _ (parameters-same ts first a b e)
+      (same-append _ _ _ _ (separator-same first a b e) (same-append _ _ _ _
+      (ap (λ s. around s []) (grown-same t false alone alone a b refl e)) (parameters-same ts false a b e)))
+
+symbol_pieces-same : (n : NameTree) (ns : NameTrees) (t : TypeTree) (a b : ℕ) → Same a b →
+    symbol_pieces n ns t a ≡ symbol_pieces n ns t b
+symbol_pieces-same n ns t a b e = around_kept-same _ _ _ _ a b (grown-same t false alone alone a b refl e)
+    (named-same (name_kind n) _ _ _ _ _ _ a b (scope_pieces-same ns a b e)
+    (conversion-same t (name_pieces n true a) (name_pieces n true b) a b (name_pieces-same n true a b e) e)
+    (name_pieces-same n true a b e) e) e
+
+pub other_bits-change-nothing : OtherBitsChangeNothing
+unfolding declaration
+other_bits-change-nothing = λ s a b agree.
+    ap resolve (symbol_pieces-same s.name s.scope s.symbol_type a b (all-same a b agree))
+
+pub decoding-changes-nothing : DecodingChangesNothing
+decoding-changes-nothing = λ s a b agree.
+    other_bits-change-nothing s a b (fewer a b all_but_decoding obeyed_flags refl agree)
+
+-- under NAME_ONLY nothing but the name is left
+name_only-pieces : (n : NameTree) (scope : NameTrees) (t : TypeTree) (flags : ℕ) → has flags name_only ≡ true →
+    symbol_pieces n scope t flags ≡ symbol_name n scope t flags ++ []
+name_only-pieces n scope t flags only = same-append _ _ _ _
+    (kept_left-name_only (grown t false alone flags).left flags only)
+    (ap (λ x. symbol_name n scope t flags ++ x) (kept_right-dropped (grown t false alone flags).right flags only))
+
+-- only a conversion operator prints what its symbol returns
+unqualified_name-conversion : (n : NameTree) (c d v v' name : List Piece) →
+    (n ≡ operator plain_operator.Conversion → ⊥) →
+    unqualified_name (name_kind n) c d v name ≡ unqualified_name (name_kind n) c d v' name
+unfolding name_kind
+unqualified_name-conversion (operator plain_operator.Ctor) c d v v' name other = refl
+unqualified_name-conversion (operator plain_operator.Dtor) c d v v' name other = refl
+unqualified_name-conversion (operator plain_operator.Conversion) c d v v' name other = absurd (other refl)
+unqualified_name-conversion (operator plain_operator.VBTable) c d v v' name other = refl
+unqualified_name-conversion (operator plain_operator.LiteralOperatorName) c d v v' name other = refl
+unqualified_name-conversion (operator o) c d v v' name other = refl
+unqualified_name-conversion _ c d v v' name other = refl
+
+pub name_only-asks-no-type : NameOnlyAsksNoType
+unfolding declaration
+name_only-asks-no-type = λ n scope t other flags only no_conversion.
+    ap resolve (name_only-pieces n scope t flags only
+    ∙ ap (λ x. scoped (name_kind n) (scope_prefix scope flags) (scope_path scope flags) x flags ++ [])
+    (unqualified_name-conversion n _ _ _ _ _ no_conversion)
+    ∙ sym (name_only-pieces n scope other flags only))
+
+-- no flag puts anything before nothing
+none-before : (flags : ℕ) → kept_left [] flags ≡ []
+unfolding kept_left
+none-before flags = go (has flags name_only) (has flags no_function_returns)
+  where
+    go : (only returns : Bool) → cond {A = List Piece} only [] (cond returns [] []) ≡ []
+    go true returns = refl
+    go false true = refl
+    go false false = refl
+
+none-after : (flags : ℕ) → kept_right [] flags ≡ []
+unfolding kept_right
+none-after flags = go (has flags name_only)
+  where
+    go : (only : Bool) → cond {A = List Piece} only [] [] ≡ []
+    go true = refl
+    go false = refl
+
+hash-pieces : (digits : List ℕ) (flags : ℕ) → symbol_pieces (spelled spelling_kind.Md5 digits) no_names
+    (plain plain_kind.None) flags
+    ≡ space (name_space flags) ∷ text (codes "??@") ∷ text digits ∷ text (codes "@") ∷ []
+unfolding grown scoped name_kind name_pieces scope_pieces
+hash-pieces digits flags =
+    ap (λ xs. xs ++ (symbol_name (spelled spelling_kind.Md5 digits) no_names (plain plain_kind.None) flags
+    ++ kept_right [] flags)) (none-before flags)
+    ∙ ap (λ xs. symbol_name (spelled spelling_kind.Md5 digits) no_names (plain plain_kind.None) flags ++ xs)
+    (none-after flags)
+
+hash-text : (only : Bool) (digits : List ℕ)
+    → resolve (space (cond only AfterWord AfterReference) ∷ text (codes "??@") ∷ text digits ∷ text (codes "@") ∷ [])
+    ≡ codes "??@" ++ (digits ++ codes "@")
+unfolding settle_all
+hash-text true digits = append_assoc (codes "??@") digits (codes "@")
+hash-text false digits = append_assoc (codes "??@") digits (codes "@")
+
+pub hash-is-its-text : HashIsItsText
+unfolding declaration
+hash-is-its-text = λ digits flags.
+    ap resolve (hash-pieces digits flags) ∙ hash-text (has flags space_before_pointer) digits

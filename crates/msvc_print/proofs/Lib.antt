@@ -1,0 +1,12 @@
+pub mod Settling
+pub mod Halves
+pub mod Stack
+pub mod Dropped
+pub mod Longer
+pub mod Names
+pub mod Nodes
+pub mod OperatorNames
+pub mod Parameters
+pub mod PrinterLoop
+pub mod Laws
+pub mod Texts

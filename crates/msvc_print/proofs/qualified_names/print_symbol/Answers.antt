@@ -1,0 +1,16 @@
+use Rattle.std.specs.Prelude.{OnOk}
+use Rattle.std.proofs.Common.{subst}
+use Rattle.msvc_nodes.specs.NodeView.{name_of, names_in}
+use Rattle.msvc_print.specs.Declaration.{symbol_as}
+use Rattle.msvc_print.specs.SymbolNodes.{type_or_none}
+use Rattle.msvc_print.specs.Work.{Prints}
+use Rattle.msvc_print.proofs.qualified_names.print_symbol.Goals as goal
+
+pub returns-clause-text : goal.returns-clause-text
+returns-clause-text c =
+    let s = c.args.symbol.now in
+    subst (λ kind. OnOk c.print_symbol_as.result
+    (Prints (symbol_as kind (name_of s.name.now) (names_in s.scope.now) (type_or_none c.args.symbol_type)
+    c.args.flags.0) c.args.flags.0 c.args.stack.now.items c.args.out.now.items c.print_symbol_as.new.stack.items
+    c.print_symbol_as.new.out.items))
+    c.name_kind-kind.ensures c.print_symbol_as.ensures.text

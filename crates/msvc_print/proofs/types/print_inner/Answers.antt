@@ -1,0 +1,26 @@
+use Rattle.std.proofs.Common.{ap, arith, sym, subst, ◌∙◌}
+use Rattle.msvc_nodes.specs.NodeView.{type_of}
+use Rattle.msvc_nodes.proofs.NodeViews.{type_of-Tagged}
+use Rattle.msvc_print.specs.Halves.{before}
+use Rattle.msvc_print.specs.Weights.{type_weight}
+use Rattle.msvc_print.specs.Work.{Prints}
+use Rattle.msvc_print.proofs.types.print_inner.Goals as goal
+
+pub returns-in_ok-print_tagged-in-Tagged-clause-text : goal.returns-in_ok-print_tagged-in-Tagged-clause-text
+unfolding before
+returns-in_ok-print_tagged-in-Tagged-clause-text c =
+    let w = c.in-Tagged in
+    subst (λ t. Prints (before t c.args.pointed c.args.flags.0) c.args.flags.0 c.args.stack.now.items
+    c.args.out.now.items c.print_tagged.new.stack.items c.print_tagged.new.out.items)
+    (sym (ap type_of w.is ∙ type_of-Tagged w.tag w.set w.symbol))
+    (rw (sym c.tag_word.ensures) c.in_ok-print_tagged-in-Tagged.ensures.text)
+
+pub returns-in_ok-print_tagged-in-Tagged-clause-lighter : goal.returns-in_ok-print_tagged-in-Tagged-clause-lighter
+unfolding type_weight
+returns-in_ok-print_tagged-in-Tagged-clause-lighter c =
+    let w = c.in-Tagged in
+    omega (
+      arith,
+      c.in_ok-print_tagged-in-Tagged.ensures.lighter,
+      ap type_weight (ap type_of w.is ∙ type_of-Tagged w.tag w.set w.symbol),
+    )

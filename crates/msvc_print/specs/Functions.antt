@@ -1,0 +1,81 @@
+-- What the declaration of a function has beside its types.
+use Rattle.std.specs.Prelude.{ℕ, List, [], ◌∷◌, ◌++◌, Bool, cond, codes}
+use Rattle.msvc_nodes.specs.declared.kinds.CallingConv.{CallingConv}
+use Rattle.msvc_nodes.specs.declared.kinds.CallingConv.TheVariants.{Cdecl, Pascal, Thiscall, Stdcall, Fastcall, _Regcall}
+use Rattle.msvc_print.specs.Flags.{has, no_access_specifiers, no_member_type, no_ms_keywords, no_this_type}
+use Rattle.msvc_print.specs.Flags.{space_after_comma, with_ptr64}
+use Rattle.msvc_print.specs.Pieces.{Piece, text, space}
+use Rattle.msvc_print.specs.Words.{opening, closing, qualifier}
+use Rattle.msvc_print.specs.declared.text.Space.TheVariants.{AfterPointer, UnlessOpen}
+
+abbrev pub convention_word : CallingConv → List ℕ
+convention_word Cdecl = codes "__cdecl "
+convention_word Pascal = codes "__pascal "
+convention_word Thiscall = codes "__thiscall "
+convention_word Stdcall = codes "__stdcall "
+convention_word Fastcall = codes "__fastcall "
+convention_word _Regcall = codes "__regcall "
+
+-- one word on a member function, where its bit is set
+abbrev pub member_word : ℕ → List ℕ → ℕ → List Piece
+member_word bit word class = cond (has class bit) (text word ∷ []) []
+
+-- who may call a member function
+unfoldable pub access_words : ℕ → ℕ → List Piece
+access_words class flags = cond (has flags no_access_specifiers) []
+    (member_word 4 (codes "private: ") class
+    ++ (member_word 2 (codes "protected: ") class
+    ++ member_word 1 (codes "public: ") class))
+
+-- what kind of member a function is
+unfoldable pub kind_words : ℕ → ℕ → List Piece
+kind_words class flags = cond (has flags no_member_type) []
+    (member_word 16 (codes "static ") class ++ member_word 32 (codes "virtual ") class)
+
+-- all words on a member function
+unfoldable pub member_words : ℕ → ℕ → List Piece
+member_words class flags =
+    member_word 128 (codes "[thunk]: ") class ++ (access_words class flags ++ kind_words class flags)
+
+-- the words stand before a function, and not before a pointer to one
+unfoldable pub member_start : Bool → ℕ → ℕ → List Piece
+member_start pointed class flags = cond pointed [] (member_words class flags)
+
+-- one qualifier of a function itself, where its bit is set
+abbrev pub function_qualifier : ℕ → List ℕ → ℕ → List Piece
+function_qualifier bit word set = qualifier AfterPointer bit word set
+
+-- `__ptr64`, which only a flag shows
+unfoldable pub wide_qualifier : ℕ → ℕ → List Piece
+wide_qualifier set flags = cond (has flags with_ptr64) (function_qualifier 64 (codes "__ptr64") set) []
+
+-- all qualifiers of a function itself
+unfoldable pub each_function_qualifier : ℕ → ℕ → List Piece
+each_function_qualifier set flags =
+    function_qualifier 1 (codes "const") set
+    ++ (function_qualifier 2 (codes "volatile") set
+    ++ (wide_qualifier set flags
+    ++ (function_qualifier 32 (codes "__restrict") set
+    ++ (function_qualifier 128 (codes "&") set
+    ++ function_qualifier 256 (codes "&&") set))))
+
+-- the same, unless a flag silences them
+unfoldable pub function_qualifiers : ℕ → ℕ → List Piece
+function_qualifiers set flags = cond (has flags no_this_type) [] (each_function_qualifier set flags)
+
+-- the word of how a function is called
+unfoldable pub convention_pieces : CallingConv → ℕ → List Piece
+convention_pieces convention flags = cond (has flags no_ms_keywords) [] (text (convention_word convention) ∷ [])
+
+-- how a function is called, and the parenthesis before the mark of a pointer to it
+unfoldable pub calling : Bool → CallingConv → ℕ → List Piece
+calling pointed convention flags = opening pointed ++ (space UnlessOpen ∷ convention_pieces convention flags)
+
+-- what a function has on its right: its parameters, and its qualifiers
+abbrev pub parameter_list : Bool → List Piece → ℕ → ℕ → List Piece
+parameter_list pointed parameters set flags = closing pointed
+    ++ (text (codes "(") ∷ (parameters ++ (text (codes ")") ∷ function_qualifiers set flags)))
+
+-- what stands before a parameter that is not the first
+unfoldable pub separator : Bool → ℕ → List Piece
+separator first flags = cond first [] (text (cond (has flags space_after_comma) (codes ", ") (codes ",")) ∷ [])

@@ -1,0 +1,71 @@
+-- What the printer's two passes over a type print: `before` the name what the type and those in it put on its left, the
+-- outermost first, and `after` the name what they put on its right, that nearest the name first. For the printer alone:
+-- no public contract speaks of it. `proofs/Halves` shows that these are what `grown` puts on the two sides.
+use Rattle.std.specs.Prelude.{ℕ, List, [], ◌∷◌, ◌++◌, Bool, true, false, codes}
+use Rattle.std.specs.Fmt.{signed_decimal}
+use Rattle.msvc_nodes.specs.declared.kinds.NumberedType.TheVariants as number_kind
+use Rattle.msvc_nodes.specs.declared.kinds.PlainType.TheVariants as plain_kind
+use Rattle.msvc_nodes.specs.Trees.{NameTree, NameTrees, TypeTree, plain, base, tagged, numbered, pointing, array}
+use Rattle.msvc_nodes.specs.Trees.{function, member_function, member_pointer, variable, table, vcall_thunk}
+use Rattle.msvc_print.specs.Declaration.{length_pieces, parameters, pointed_class, scope_path, symbol_name, table_end}
+use Rattle.msvc_print.specs.Declaration.{thunk_end}
+use Rattle.msvc_print.specs.Functions.{calling, member_start, function_qualifier, function_qualifiers}
+use Rattle.msvc_print.specs.Pieces.{Piece, text}
+use Rattle.msvc_print.specs.Words.{base_word, variable_word, tag_word, mark_word, qualifiers, marked}
+use Rattle.msvc_print.specs.Words.{opening, closing}
+
+-- the name of a symbol that has no type
+abbrev pub plain_name : NameTree → NameTrees → ℕ → List Piece
+plain_name n scope flags = symbol_name n scope (plain plain_kind.None) flags
+
+-- the class whose member function is pointed to
+abbrev pub pointed_name : NameTree → NameTrees → ℕ → List Piece
+pointed_name n scope flags = pointed_class (plain_name n scope flags)
+
+-- what stands after the name of a function: its parameters, its qualifiers, and the rest of what it returns
+abbrev pub function_end : Bool → List Piece → ℕ → ℕ → List Piece → List Piece
+function_end pointed parameters set flags returned = closing pointed
+    ++ (text (codes "(") ∷ (parameters ++ (text (codes ")") ∷ (function_qualifiers set flags ++ returned))))
+
+-- what stands after a pointer to a member function: its parameters, the rest of what it returns, and its `const`
+unfoldable pub member_pointer_end : List Piece → ℕ → List Piece → List Piece
+member_pointer_end parameters set returned = text (codes ")(") ∷ (parameters
+    ++ (text (codes ")") ∷ (returned ++ function_qualifier 1 (codes "const") set)))
+
+-- what a type has before the name
+unfoldable pub before : TypeTree → Bool → ℕ → List Piece
+before (base b set) pointed flags = text (base_word b flags) ∷ qualifiers set flags
+before (tagged tag n scope set) pointed flags =
+    text (tag_word tag flags) ∷ (plain_name n scope flags ++ qualifiers set flags)
+before (numbered number_kind.Constant n) pointed flags = text (signed_decimal n) ∷ []
+before (numbered number_kind.TemplateParameter n) pointed flags =
+    text (codes "`template-parameter") ∷ text (signed_decimal n) ∷ text (codes "'") ∷ []
+before (numbered number_kind.ThreadSafeGuard n) pointed flags = text (codes "TSS") ∷ text (signed_decimal n) ∷ []
+before (pointing m t set) pointed flags = before t true flags ++ marked (mark_word m) set flags
+before (array n t set) pointed flags = before t false flags ++ (qualifiers set flags ++ opening pointed)
+before (function convention ts set t) pointed flags = before t false flags ++ calling pointed convention flags
+before (member_function class convention ts set t) pointed flags = member_start pointed class flags
+    ++ (before t false flags ++ calling pointed convention flags)
+before (member_pointer n scope class convention ts set t) pointed flags =
+    before t false flags ++ (calling true convention flags ++ pointed_name n scope flags)
+before (plain plain_kind.Variadic) pointed flags = text (codes "...") ∷ []
+before (plain plain_kind.Nullptr) pointed flags = text (codes "std::nullptr_t") ∷ []
+before (table k scope set) pointed flags = qualifiers set flags
+before (vcall_thunk n convention) pointed flags = text (codes "[thunk]: ") ∷ calling false convention flags
+before (variable t kind set) pointed flags = text (variable_word kind) ∷ (before t false flags ++ qualifiers set flags)
+before _ pointed flags = []
+
+-- what it has after the name
+unfoldable pub after : TypeTree → Bool → ℕ → List Piece
+after (pointing m t set) pointed flags = after t true flags
+after (array n t set) pointed flags = closing pointed ++ (length_pieces n ++ after t false flags)
+after (function convention ts set t) pointed flags = function_end pointed (parameters ts true flags) set flags
+    (after t false flags)
+after (member_function class convention ts set t) pointed flags =
+    function_end pointed (parameters ts true flags) set flags (after t false flags)
+after (member_pointer n scope class convention ts set t) pointed flags =
+    member_pointer_end (parameters ts true flags) set (after t false flags)
+after (variable t kind set) pointed flags = after t false flags
+after (table k scope set) pointed flags = table_end k scope (scope_path scope flags)
+after (vcall_thunk n convention) pointed flags = thunk_end n flags
+after _ pointed flags = []

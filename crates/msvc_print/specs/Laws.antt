@@ -1,0 +1,51 @@
+-- What flags do not change, as statements about declarations alone, which `proofs/Laws` proves, and about the text of
+-- one.
+use Rattle.std.specs.Prelude.{ℕ, List, ◌++◌, ◌≡◌, bit_and, codes, true}
+use Rattle.std.specs.Str.Lossy.{utf8_lossy}
+use Rattle.msvc_nodes.specs.Trees.{NameTree, NameTrees, SymbolTree, TypeTree, md5_symbol, operator}
+use Rattle.msvc_nodes.specs.declared.kinds.PlainOperator.TheVariants as plain_operator
+use Rattle.msvc_print.specs.Declaration.{declaration}
+use Rattle.msvc_print.specs.Flags.{has, name_only}
+
+-- the bits that some definition asks for
+abbrev pub obeyed_flags : ℕ
+obeyed_flags = 0x1F016E6
+
+-- all bits of a word but for that of DECODE_32_BIT
+abbrev pub all_but_decoding : ℕ
+all_but_decoding = 0xFFFFF7FF
+
+-- two words have the same bits within these
+abbrev pub Agree : ℕ → ℕ → ℕ → Type 0
+Agree bits a b = bit_and a bits ≡ bit_and b bits
+
+-- words that differ in bits alone that are not asked for have the same declarations
+abbrev pub OtherBitsChangeNothing : Type 0
+OtherBitsChangeNothing = (s : SymbolTree) (a b : ℕ) → Agree obeyed_flags a b → declaration s a ≡ declaration s b
+
+-- words that differ in DECODE_32_BIT alone have the same declarations
+abbrev pub DecodingChangesNothing : Type 0
+DecodingChangesNothing = (s : SymbolTree) (a b : ℕ) → Agree all_but_decoding a b → declaration s a ≡ declaration s b
+
+-- under NAME_ONLY symbols that differ in their types alone have the same declarations, but for conversion operators
+abbrev pub NameOnlyAsksNoType : Type 0
+NameOnlyAsksNoType = (n : NameTree) (scope : NameTrees) (t other : TypeTree) (flags : ℕ) → has flags name_only ≡ true →
+    (n ≡ operator plain_operator.Conversion → ⊥) →
+    declaration (record { name = n; scope = scope; symbol_type = t }) flags
+    ≡ declaration (record { name = n; scope = scope; symbol_type = other }) flags
+
+-- a text shows the symbol's declaration under every word that agrees with this one within the bits that are asked for
+abbrev pub IsTextUnderOtherBits : List ℕ → SymbolTree → ℕ → Type 0
+IsTextUnderOtherBits text s flags =
+    (other : ℕ) → Agree obeyed_flags flags other → text ≡ utf8_lossy (declaration s other)
+
+-- under NAME_ONLY a text shows the declaration of every symbol that differs from this one in its type alone, but for
+-- conversion operators
+abbrev pub IsTextOfOtherTypes : List ℕ → SymbolTree → ℕ → Type 0
+IsTextOfOtherTypes text s flags = has flags name_only ≡ true → (s.name ≡ operator plain_operator.Conversion → ⊥) →
+    (other : TypeTree) → text ≡ utf8_lossy (declaration (record s { symbol_type = other }) flags)
+
+-- a hash alone is shown as it was written, under every word
+abbrev pub HashIsItsText : Type 0
+HashIsItsText = (digits : List ℕ) (flags : ℕ) →
+    declaration (md5_symbol digits) flags ≡ codes "??@" ++ (digits ++ codes "@")

@@ -1,0 +1,14 @@
+pub use Rattle.msvc_nodes.specs.NodeView
+pub mod Flags
+pub mod Pieces
+pub mod Words
+pub mod Operators
+pub mod Functions
+pub mod Sides
+pub mod Declaration
+pub mod Within
+pub mod Laws
+pub mod Halves
+pub mod Weights
+pub mod SymbolNodes
+pub mod Work

@@ -1,0 +1,79 @@
+-- What names of operators print, and which names print otherwise where they are the name of a symbol itself.
+use Rattle.std.specs.Prelude.{ℕ, ℤ, List, [], ◌∷◌, ◌++◌, Option, Some, None, false, codes, if◌then◌else◌}
+use Rattle.std.specs.Fmt.{decimal, signed_decimal}
+use denote.Enum.Bare.{sameb}
+use Rattle.msvc_nodes.specs.PlainOperators.{OperatorRow, first_operators, second_operators, third_operators}
+use Rattle.msvc_nodes.specs.PlainOperators.{type_information_operators}
+use Rattle.msvc_nodes.specs.Trees.{NameTree, operator}
+use Rattle.msvc_nodes.specs.contracts.kinds.PlainOperator.{the_type as operators}
+use Rattle.msvc_nodes.specs.declared.kinds.Guard.{Guard}
+use Rattle.msvc_nodes.specs.declared.kinds.Guard.TheVariants as guard_kind
+use Rattle.msvc_nodes.specs.declared.kinds.PlainOperator.{PlainOperator}
+use Rattle.msvc_nodes.specs.declared.kinds.PlainOperator.TheVariants as plain_operator
+use Rattle.msvc_print.specs.Functions.{separator}
+use Rattle.msvc_print.specs.Pieces.{Piece, text, space}
+use Rattle.msvc_print.specs.Words.{name_space}
+use Rattle.msvc_print.specs.declared.operators.NameKind.{NameKind}
+use Rattle.msvc_print.specs.declared.operators.NameKind.TheVariants as name_kinds
+use Rattle.msvc_print.specs.declared.text.Space.TheVariants.{AfterPointer}
+
+-- what the row of an operator prints
+abbrev pub words_in : PlainOperator → List OperatorRow → List ℕ
+words_in o [] = []
+words_in o (row ∷ table) = if sameb operators o row.1 then row.2 else words_in o table
+
+-- what an operator prints
+unfoldable pub operator_word : PlainOperator → List ℕ
+operator_word o =
+    words_in o (first_operators ++ (second_operators ++ (type_information_operators ++ third_operators)))
+
+abbrev pub guard_word : Guard → List ℕ
+guard_word guard_kind.Static = codes "`local static guard'"
+guard_word guard_kind.Thread = codes "`local static thread guard'"
+
+-- words after the space that operators begin with
+abbrev pub spaced : List ℕ → List Piece
+spaced word = space AfterPointer ∷ text word ∷ []
+
+-- the number of a guard, if it has one
+unfoldable pub guard_number : Option ℕ → List Piece
+guard_number None = []
+guard_number (Some n) = text (codes "{") ∷ text (decimal n) ∷ text (codes "}") ∷ []
+
+unfoldable pub guard_pieces : Guard → Option ℕ → List Piece
+guard_pieces g n = space AfterPointer ∷ text (guard_word g) ∷ guard_number n
+
+-- a comma and a number
+abbrev pub listed : ℤ → ℕ → List Piece
+listed z flags = separator false flags ++ text (signed_decimal z) ∷ []
+
+unfoldable pub base_class_pieces : ℤ → ℤ → ℤ → ℤ → ℕ → List Piece
+base_class_pieces a b c d flags =
+    space AfterPointer ∷ text (codes "`RTTI Base Class Descriptor at (") ∷ text (signed_decimal a)
+    ∷ (listed b flags ++ (listed c flags ++ (listed d flags ++ text (codes ")'") ∷ [])))
+
+-- which names print otherwise where they are the name of a symbol itself
+unfoldable pub name_kind : NameTree → NameKind
+name_kind (operator plain_operator.Ctor) = name_kinds.Constructor
+name_kind (operator plain_operator.Dtor) = name_kinds.Destructor
+name_kind (operator plain_operator.Conversion) = name_kinds.Conversion
+name_kind (operator plain_operator.VBTable) = name_kinds.BaseTable
+name_kind (operator plain_operator.LiteralOperatorName) = name_kinds.Literal
+name_kind _ = name_kinds.Ordinary
+
+-- The name of a symbol after its scope: what a constructor, a destructor and a conversion operator print, and what the
+-- name prints in any scope.
+abbrev pub unqualified_name : NameKind → List Piece → List Piece → List Piece → List Piece → List Piece
+unqualified_name name_kinds.Constructor constructor destructor conversion name = constructor
+unqualified_name name_kinds.Destructor constructor destructor conversion name = destructor
+unqualified_name name_kinds.Conversion constructor destructor conversion name = conversion
+unqualified_name name_kinds.BaseTable constructor destructor conversion name = text (codes "`vbtable'{for `") ∷ []
+unqualified_name name_kinds.Literal constructor destructor conversion name = []
+unqualified_name name_kinds.Ordinary constructor destructor conversion name = name
+
+-- A name in its scope: after the names of the scope with `::` after each (`prefix`). A literal operator stands before
+-- the names of the scope with `::` between them (`path`).
+unfoldable pub scoped : NameKind → List Piece → List Piece → List Piece → ℕ → List Piece
+scoped name_kinds.Literal prefix path name flags =
+    space (name_space flags) ∷ space AfterPointer ∷ text (codes "operator \"\"") ∷ path
+scoped _ prefix path name flags = space (name_space flags) ∷ (prefix ++ name)

@@ -1,0 +1,61 @@
+-- The pieces of a text, and the text that they settle to.
+use Rattle.std.specs.Prelude.{ℕ, List, [], ◌∷◌, ◌++◌, ◌-◌, ◌≡◌, Bool, cond, not, ◌==◌, ◌||◌, fold, length, slice_index}
+use Rattle.std.specs.Char.{is_ascii_alphabetic}
+use Rattle.msvc_print.specs.declared.text.Space.{Space}
+use Rattle.msvc_print.specs.declared.text.Space.TheVariants.{AfterPointer, AfterReference, AfterWord, UnlessOpen}
+use Rattle.msvc_print.specs.declared.text.Space.TheVariants.{AfterAngle}
+
+pub data Piece : Type 0 where
+  text : List ℕ → Piece
+  -- a space that is written or not, by the byte before it
+  space : Space → Piece
+
+-- the last byte of a text, 0 where there is none
+abbrev pub last_byte : List ℕ → ℕ
+last_byte bytes = slice_index bytes (length bytes - 1)
+
+abbrev pub blank : ℕ
+blank = 32
+
+abbrev pub ampersand : ℕ
+ampersand = 38
+
+abbrev pub opening_round : ℕ
+opening_round = 40
+
+abbrev pub closing_round : ℕ
+closing_round = 41
+
+abbrev pub star : ℕ
+star = 42
+
+abbrev pub closing_angle : ℕ
+closing_angle = 62
+
+-- an ASCII letter, `>` or `)`
+abbrev pub ends_word : ℕ → Bool
+ends_word b = is_ascii_alphabetic b || b == closing_angle || b == closing_round
+
+-- whether a space is written after this byte
+abbrev pub is_written_after : Space → ℕ → Bool
+is_written_after AfterWord b = ends_word b
+is_written_after AfterReference b = ends_word b || b == ampersand
+is_written_after AfterPointer b = ends_word b || b == ampersand || b == star
+is_written_after UnlessOpen b = not (b == blank || b == opening_round)
+is_written_after AfterAngle b = b == closing_angle
+
+-- a text with one more piece after it
+abbrev pub settle : List ℕ → Piece → List ℕ
+settle before (text bytes) = before ++ bytes
+settle before (space s) = cond (is_written_after s (last_byte before)) (before ++ blank ∷ []) before
+
+-- a text with the pieces after it, from the left
+unfoldable pub settle_all : List ℕ → List Piece → List ℕ
+settle_all before pieces = fold settle before pieces
+
+-- these pieces were written after what was there
+abbrev pub Writes : List Piece → List ℕ → List ℕ → Type 0
+Writes pieces out out' = out' ≡ settle_all out pieces
+
+abbrev pub resolve : List Piece → List ℕ
+resolve pieces = settle_all [] pieces

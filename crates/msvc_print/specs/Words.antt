@@ -1,0 +1,98 @@
+-- The words of a declaration that no recursion needs.
+use Rattle.std.specs.Prelude.{ℕ, List, [], ◌∷◌, ◌++◌, Bool, cond, codes}
+use Rattle.msvc_nodes.specs.declared.kinds.BaseType.{BaseType}
+use Rattle.msvc_nodes.specs.declared.kinds.Mark.{Mark}
+use Rattle.msvc_nodes.specs.declared.kinds.Tag.{Tag}
+use Rattle.msvc_nodes.specs.declared.kinds.BaseType.TheVariants as base_kind
+use Rattle.msvc_nodes.specs.declared.kinds.Mark.TheVariants as mark_kind
+use Rattle.msvc_nodes.specs.declared.kinds.Tag.TheVariants as tag_kind
+use Rattle.msvc_nodes.specs.declared.kinds.VarStorageKind.{VarStorageKind}
+use Rattle.msvc_nodes.specs.declared.kinds.VarStorageKind.TheVariants.{PrivateStatic, ProtectedStatic, PublicStatic}
+use Rattle.msvc_nodes.specs.declared.kinds.VarStorageKind.TheVariants.{Global, FunctionLocalStatic}
+use Rattle.msvc_print.specs.Flags.{has, hug_type, ms_type_names, no_class_type, space_before_pointer}
+use Rattle.msvc_print.specs.Pieces.{Piece, text, space}
+use Rattle.msvc_print.specs.declared.text.Space.{Space}
+use Rattle.msvc_print.specs.declared.text.Space.TheVariants.{AfterPointer, AfterReference, AfterWord}
+
+abbrev pub base_word : BaseType → ℕ → List ℕ
+base_word base_kind.Void flags = codes "void"
+base_word base_kind.Char flags = codes "char"
+base_word base_kind.Schar flags = codes "signed char"
+base_word base_kind.Uchar flags = codes "unsigned char"
+base_word base_kind.Short flags = codes "short"
+base_word base_kind.Ushort flags = codes "unsigned short"
+base_word base_kind.Int flags = codes "int"
+base_word base_kind.Uint flags = codes "unsigned int"
+base_word base_kind.Long flags = codes "long"
+base_word base_kind.Ulong flags = codes "unsigned long"
+base_word base_kind.Float flags = codes "float"
+base_word base_kind.Double flags = codes "double"
+base_word base_kind.Ldouble flags = codes "long double"
+base_word base_kind.Bool flags = codes "bool"
+base_word base_kind.Wchar flags = codes "wchar_t"
+base_word base_kind.Char8 flags = codes "char8_t"
+base_word base_kind.Char16 flags = codes "char16_t"
+base_word base_kind.Char32 flags = codes "char32_t"
+base_word base_kind.Int64 flags = cond (has flags ms_type_names) (codes "__int64") (codes "int64_t")
+base_word base_kind.Uint64 flags = cond (has flags ms_type_names) (codes "unsigned __int64") (codes "uint64_t")
+base_word base_kind.Int128 flags = cond (has flags ms_type_names) (codes "__int128") (codes "int128_t")
+base_word base_kind.Uint128 flags = cond (has flags ms_type_names) (codes "unsigned __int128") (codes "uint128_t")
+
+-- what stands before a variable, by who may name it
+abbrev pub variable_word : VarStorageKind → List ℕ
+variable_word PrivateStatic = codes "private: static "
+variable_word ProtectedStatic = codes "protected: static "
+variable_word PublicStatic = codes "public: static "
+variable_word Global = []
+variable_word FunctionLocalStatic = []
+
+-- the space before a name
+abbrev pub name_space : ℕ → Space
+name_space flags = cond (has flags space_before_pointer) AfterWord AfterReference
+
+-- the space before `const` and `volatile`
+abbrev pub qualifier_space : ℕ → Space
+qualifier_space flags = cond (has flags space_before_pointer) AfterWord AfterPointer
+
+-- one qualifier after a space, where its bit is set
+abbrev pub qualifier : Space → ℕ → List ℕ → ℕ → List Piece
+qualifier s bit word set = cond (has set bit) (space s ∷ text word ∷ []) []
+
+-- `const` and `volatile` of a set of qualifiers
+unfoldable pub qualifiers : ℕ → ℕ → List Piece
+qualifiers set flags = qualifier (qualifier_space flags) 1 (codes "const") set
+    ++ qualifier (qualifier_space flags) 2 (codes "volatile") set
+
+-- the word for the kind of a named type
+abbrev pub kind_word : Tag → List ℕ
+kind_word tag_kind.Class = codes "class "
+kind_word tag_kind.Struct = codes "struct "
+kind_word tag_kind.Union = codes "union "
+kind_word tag_kind.Enum = codes "enum "
+kind_word tag_kind.Alias = []
+
+-- the word before a name that stands for a type
+abbrev pub tag_word : Tag → ℕ → List ℕ
+tag_word tag flags = cond (has flags no_class_type) [] (kind_word tag)
+
+abbrev pub mark_word : Mark → List ℕ
+mark_word mark_kind.Pointer = codes "*"
+mark_word mark_kind.Reference = codes "&"
+mark_word mark_kind.RValueReference = codes "&&"
+
+-- the space before a mark, if there is one
+abbrev pub mark_space : ℕ → List Piece
+mark_space flags = cond (has flags hug_type)
+    (cond (has flags space_before_pointer) (space AfterWord ∷ []) [])
+    (space AfterPointer ∷ [])
+
+-- the mark of a pointer or a reference, with its qualifiers
+unfoldable pub marked : List ℕ → ℕ → ℕ → List Piece
+marked word set flags = mark_space flags ++ (text word ∷ qualifiers set flags)
+
+-- the parentheses round that which a pointer's mark belongs to
+unfoldable pub opening : Bool → List Piece
+opening pointed = cond pointed (space AfterPointer ∷ text (codes "(") ∷ []) []
+
+unfoldable pub closing : Bool → List Piece
+closing pointed = cond pointed (text (codes ")") ∷ []) []

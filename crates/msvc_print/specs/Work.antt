@@ -1,0 +1,103 @@
+-- What the printer's stack of work means, and how much it is. For the printer alone: no public contract speaks of it.
+use Rattle.std.specs.Prelude.{ℕ, ◌+◌, ◌<◌, ◌≤◌, ◌≡◌, List, [], ◌∷◌, ◌++◌, Bool, false, Option, Some, None}
+use Rattle.std.specs.Prelude.{codes}
+use Rattle.std.specs.Borrow.{Bor}
+use Rattle.msvc_nodes.specs.NodeView.{name_of, names_in, type_of, types_in}
+use Rattle.msvc_nodes.specs.Trees.{TypeTree, member_function}
+use Rattle.msvc_nodes.specs.declared.nodes.Type.{«Type»}
+use Rattle.msvc_print.specs.Declaration.{name_pieces, parameters, scope_prefix}
+use Rattle.msvc_print.specs.Functions.{calling, function_qualifiers}
+use Rattle.msvc_print.specs.Halves.{after, before}
+use Rattle.msvc_print.specs.Operators.{spaced}
+use Rattle.msvc_print.specs.Pieces.{Piece, text, space, settle_all}
+use Rattle.msvc_print.specs.Weights.{name_weight, scope_weight, type_weight, types_weight}
+use Rattle.msvc_print.specs.SymbolNodes.{class_pieces_of, class_weight_of, symbol_name_of, symbol_weight_of}
+use Rattle.msvc_print.specs.SymbolNodes.{type_or_none}
+use Rattle.msvc_print.specs.Words.{qualifiers, marked, opening}
+use Rattle.msvc_print.specs.declared.item.Item.{Item}
+use Rattle.msvc_print.specs.declared.item.Item.TheVariants.{Text, Spaced, Name, Scope, Symbol, Class}
+use Rattle.msvc_print.specs.declared.item.Item.TheVariants.{Qualifiers, Mark, ArrayLevel, Calling, Parameters}
+use Rattle.msvc_print.specs.declared.item.Item.TheVariants.{Before, After}
+use Rattle.msvc_print.specs.declared.item.ListEnd.{ListEnd}
+use Rattle.msvc_print.specs.declared.item.ListEnd.TheVariants.{Round, Bare, Angle}
+use Rattle.msvc_print.specs.declared.text.Space.TheVariants.{AfterAngle}
+
+-- what a member function returns
+unfoldable pub member_return : TypeTree → Option TypeTree
+member_return (member_function class convention ts set t) = Some t
+member_return _ = None
+
+-- what a conversion operator of a symbol that returns this prints, or one that is no member function
+unfoldable pub conversion_to : Option TypeTree → List Piece → ℕ → List Piece
+conversion_to None name flags = name
+conversion_to (Some t) name flags = text (codes "operator ") ∷ (before t false flags ++ after t false flags)
+
+unfoldable pub return_weight : Option TypeTree → ℕ
+return_weight None = 0
+return_weight (Some t) = type_weight t
+
+-- what stands after the last type of a list
+abbrev pub end_pieces : ListEnd → ℕ → List Piece
+end_pieces (Round set) flags = text (codes ")") ∷ function_qualifiers set.0 flags
+end_pieces Bare flags = text (codes ")") ∷ []
+end_pieces Angle flags = space AfterAngle ∷ text (codes ">") ∷ []
+
+-- the types that are left of a list, and what stands after them
+abbrev pub rest_of_parameters : List (Bor «Type») → Bool → ListEnd → ℕ → List Piece
+rest_of_parameters ts first end flags = parameters (types_in ts) first flags ++ end_pieces end flags
+
+-- the pieces that an item stands for
+abbrev pub item_pieces : Item → ℕ → List Piece
+item_pieces (Text bytes) flags = text bytes.now ∷ []
+item_pieces (Name n of_symbol) flags = name_pieces (name_of n.now) of_symbol flags
+item_pieces (Scope s) flags = scope_prefix (names_in s.names.now) flags
+item_pieces (Symbol s t) flags = symbol_name_of s.now (type_or_none t) flags
+item_pieces (Class s) flags = class_pieces_of s.now flags
+item_pieces (Spaced word) flags = spaced word.now
+item_pieces (Qualifiers set) flags = qualifiers set.0 flags
+item_pieces (Mark word set) flags = marked word.now set.0 flags
+item_pieces (ArrayLevel set pointed) flags = qualifiers set.0 flags ++ opening pointed
+item_pieces (Calling pointed convention) flags = calling pointed convention flags
+item_pieces (Parameters left first end) flags = rest_of_parameters left.types.now first end flags
+item_pieces (Before t pointed) flags = before (type_of t.now) pointed flags
+item_pieces (After t pointed) flags = after (type_of t.now) pointed flags
+
+abbrev pub item_weight : Item → ℕ
+item_weight (Text bytes) = 1
+item_weight (Name n of_symbol) = name_weight (name_of n.now)
+item_weight (Scope s) = scope_weight (names_in s.names.now)
+item_weight (Symbol s t) = symbol_weight_of s.now (type_or_none t)
+item_weight (Class s) = class_weight_of s.now
+item_weight (Spaced word) = 1
+item_weight (Qualifiers set) = 1
+item_weight (Mark word set) = 1
+item_weight (ArrayLevel set pointed) = 1
+item_weight (Calling pointed convention) = 1
+item_weight (Parameters left first end) = types_weight (types_in left.types.now)
+item_weight (Before t pointed) = type_weight (type_of t.now)
+item_weight (After t pointed) = type_weight (type_of t.now)
+
+-- the text once all work on the stack, the last item first, is written after what is there
+unfoldable pub finished : List Item → List ℕ → ℕ → List ℕ
+finished [] out flags = out
+finished (item ∷ above) out flags = settle_all (finished above out flags) (item_pieces item flags)
+
+unfoldable pub work : List Item → ℕ
+work [] = 0
+work (item ∷ above) = item_weight item + work above
+
+-- a step printed these pieces: wrote some, and left the rest on the stack
+abbrev pub Prints : List Piece → ℕ → List Item → List ℕ → List Item → List ℕ → Type 0
+Prints pieces flags stack out stack' out' = finished stack' out' flags ≡ finished stack (settle_all out pieces) flags
+
+-- pushes stand for these pieces, whatever is written before them
+abbrev pub Pushes : List Piece → ℕ → List Item → List Item → Type 0
+Pushes pieces flags stack stack' = (out : List ℕ) → Prints pieces flags stack out stack' out
+
+-- pushes added work of this weight at most
+abbrev pub AddsAtMost : ℕ → List Item → List Item → Type 0
+AddsAtMost weight stack stack' = work stack' ≤ weight + work stack
+
+-- a step on work of this weight left less
+abbrev pub Lightens : ℕ → List Item → List Item → Type 0
+Lightens weight stack stack' = work stack' < weight + work stack

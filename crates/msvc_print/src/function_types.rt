@@ -1,0 +1,241 @@
+//! Writes what the declaration of a function has beside its types: words, calling conventions, qualifiers, commas.
+
+ghost use Rattle.std.specs.Prelude.{◌≡◌, OnOk};
+ghost use Rattle.msvc_print.specs.Functions as spec;
+ghost use Rattle.msvc_print.specs.Pieces.{Writes};
+ghost use Rattle.msvc_print.specs.Work.{end_pieces};
+
+use crate::item::ListEnd;
+use crate::text::{Space, write_opening, write_qualifier, write_space, write_text};
+use bitflags::Flags;
+use msvc_nodes::flags::{DemangleFlags, FuncClass, StorageClass};
+use msvc_nodes::kinds::CallingConv;
+use std::alloc::AllocError;
+
+/// Returns the word of a calling convention, with one space after it.
+fn convention_word<'t>(convention: CallingConv) -> &'t [u8]
+    ensures { result.now ≡ spec.convention_word convention }
+{
+    match convention {
+        CallingConv::Cdecl => b"__cdecl ",
+        CallingConv::Pascal => b"__pascal ",
+        CallingConv::Thiscall => b"__thiscall ",
+        CallingConv::Stdcall => b"__stdcall ",
+        CallingConv::Fastcall => b"__fastcall ",
+        CallingConv::_Regcall => b"__regcall ",
+    }
+}
+
+/// Writes the word of a calling convention. NO_MS_KEYWORDS drops it.
+#[tactic(auto, using(crate::proofs::Settling::settling), unfolding(crate::specs::Functions::convention_pieces))]
+fn write_convention(
+    out: &mut Vec<u8>,
+    convention: CallingConv,
+    flags: DemangleFlags,
+) -> Result<(), AllocError>
+    ensures { OnOk result (Writes (spec.convention_pieces convention flags.0) out.old.items out.new.items) }
+{
+    if flags.contains(DemangleFlags::NO_MS_KEYWORDS) {
+        return Ok(());
+    }
+    write_text(out, convention_word(convention))?;
+    Ok(())
+}
+
+/// Writes the parenthesis before the mark of a pointer to a function, and the calling convention.
+#[tactic(auto, using(crate::proofs::Settling::settling), unfolding(crate::specs::Functions::calling))]
+pub fn write_calling(
+    out: &mut Vec<u8>,
+    pointed: bool,
+    convention: CallingConv,
+    flags: DemangleFlags,
+) -> Result<(), AllocError>
+    ensures { OnOk result (Writes (spec.calling pointed convention flags.0) out.old.items out.new.items) }
+{
+    write_opening(out, pointed)?;
+    write_space(out, Space::UnlessOpen)?;
+    write_convention(out, convention, flags)?;
+    Ok(())
+}
+
+/// Writes a word of a member function, if its bit is set.
+#[tactic(auto, unfolding(crate::specs::Pieces::settle_all))]
+fn write_member_word(
+    out: &mut Vec<u8>,
+    bit: FuncClass,
+    word: &[u8],
+    class: FuncClass,
+) -> Result<(), AllocError>
+    ensures { OnOk result (Writes (spec.member_word bit.0 word.now class.0) out.old.items out.new.items) }
+{
+    if class.contains(bit) {
+        write_text(out, word)?;
+    }
+    Ok(())
+}
+
+/// Writes who may call a member function. NO_ACCESS_SPECIFIERS drops it.
+#[tactic(auto, using(crate::proofs::Settling::settling), unfolding(crate::specs::Functions::access_words))]
+fn write_access_words(
+    out: &mut Vec<u8>,
+    class: FuncClass,
+    flags: DemangleFlags,
+) -> Result<(), AllocError>
+    ensures { OnOk result (Writes (spec.access_words class.0 flags.0) out.old.items out.new.items) }
+{
+    if flags.contains(DemangleFlags::NO_ACCESS_SPECIFIERS) {
+        return Ok(());
+    }
+    write_member_word(out, FuncClass::PRIVATE, b"private: ", class)?;
+    write_member_word(out, FuncClass::PROTECTED, b"protected: ", class)?;
+    write_member_word(out, FuncClass::PUBLIC, b"public: ", class)?;
+    Ok(())
+}
+
+/// Writes `static` and `virtual` of a member function. NO_MEMBER_TYPE drops them.
+#[tactic(auto, using(crate::proofs::Settling::settling), unfolding(crate::specs::Functions::kind_words))]
+fn write_kind_words(
+    out: &mut Vec<u8>,
+    class: FuncClass,
+    flags: DemangleFlags,
+) -> Result<(), AllocError>
+    ensures { OnOk result (Writes (spec.kind_words class.0 flags.0) out.old.items out.new.items) }
+{
+    if flags.contains(DemangleFlags::NO_MEMBER_TYPE) {
+        return Ok(());
+    }
+    write_member_word(out, FuncClass::STATIC, b"static ", class)?;
+    write_member_word(out, FuncClass::VIRTUAL, b"virtual ", class)?;
+    Ok(())
+}
+
+/// Writes the words of a member function.
+#[tactic(auto, using(crate::proofs::Settling::settling), unfolding(crate::specs::Functions::member_words))]
+fn write_member_words(
+    out: &mut Vec<u8>,
+    class: FuncClass,
+    flags: DemangleFlags,
+) -> Result<(), AllocError>
+    ensures { OnOk result (Writes (spec.member_words class.0 flags.0) out.old.items out.new.items) }
+{
+    write_member_word(out, FuncClass::THUNK, b"[thunk]: ", class)?;
+    write_access_words(out, class, flags)?;
+    write_kind_words(out, class, flags)?;
+    Ok(())
+}
+
+/// Writes the words of a member function, unless it is pointed to.
+#[tactic(auto, using(crate::proofs::Settling::settling), unfolding(crate::specs::Functions::member_start))]
+pub fn write_member_start(
+    out: &mut Vec<u8>,
+    pointed: bool,
+    class: FuncClass,
+    flags: DemangleFlags,
+) -> Result<(), AllocError>
+    ensures { OnOk result (Writes (spec.member_start pointed class.0 flags.0) out.old.items out.new.items) }
+{
+    if !pointed {
+        write_member_words(out, class, flags)?;
+    }
+    Ok(())
+}
+
+/// Writes `__ptr64`, if its bit is set and WITH_PTR64 shows it.
+#[tactic(auto, using(crate::proofs::Settling::settling), unfolding(crate::specs::Functions::wide_qualifier))]
+fn write_wide_qualifier(
+    out: &mut Vec<u8>,
+    set: StorageClass,
+    flags: DemangleFlags,
+) -> Result<(), AllocError>
+    ensures { OnOk result (Writes (spec.wide_qualifier set.0 flags.0) out.old.items out.new.items) }
+{
+    if flags.contains(DemangleFlags::WITH_PTR64) {
+        write_qualifier(
+            out,
+            Space::AfterPointer,
+            StorageClass::PTR64,
+            b"__ptr64",
+            set,
+        )?;
+    }
+    Ok(())
+}
+
+/// Writes the qualifiers of a function itself whose bits are set.
+fn write_each_function_qualifier(
+    out: &mut Vec<u8>,
+    set: StorageClass,
+    flags: DemangleFlags,
+) -> Result<(), AllocError>
+    ensures { OnOk result (Writes (spec.each_function_qualifier set.0 flags.0) out.old.items out.new.items) }
+{
+    if set.is_empty() {
+        return Ok(());
+    }
+    let kind = Space::AfterPointer;
+    write_qualifier(out, kind, StorageClass::CONST, b"const", set)?;
+    write_qualifier(out, kind, StorageClass::VOLATILE, b"volatile", set)?;
+    write_wide_qualifier(out, set, flags)?;
+    write_qualifier(out, kind, StorageClass::RESTRICT, b"__restrict", set)?;
+    write_qualifier(out, kind, StorageClass::LVALUE_QUAL, b"&", set)?;
+    write_qualifier(out, kind, StorageClass::RVALUE_QUAL, b"&&", set)?;
+    Ok(())
+}
+
+/// Writes the qualifiers of a function itself. Both bits of NO_THISTYPE together drop them.
+#[tactic(auto, using(crate::proofs::Settling::settling), unfolding(crate::specs::Functions::function_qualifiers))]
+fn write_function_qualifiers(
+    out: &mut Vec<u8>,
+    set: StorageClass,
+    flags: DemangleFlags,
+) -> Result<(), AllocError>
+    ensures { OnOk result (Writes (spec.function_qualifiers set.0 flags.0) out.old.items out.new.items) }
+{
+    if flags.contains(DemangleFlags::NO_THISTYPE) {
+        return Ok(());
+    }
+    write_each_function_qualifier(out, set, flags)?;
+    Ok(())
+}
+
+/// Writes the end of a list of types.
+#[tactic(auto, using(crate::proofs::Settling::settling))]
+pub fn write_list_end(
+    out: &mut Vec<u8>,
+    end: ListEnd,
+    flags: DemangleFlags,
+) -> Result<(), AllocError>
+    ensures { OnOk result (Writes (end_pieces end flags.0) out.old.items out.new.items) }
+{
+    match end {
+        ListEnd::Round(set) => {
+            write_text(out, b")")?;
+            write_function_qualifiers(out, set, flags)
+        }
+        ListEnd::Bare => write_text(out, b")"),
+        ListEnd::Angle => {
+            write_space(out, Space::AfterAngle)?;
+            write_text(out, b">")
+        }
+    }
+}
+
+/// Writes the comma before a parameter that is not the first.
+#[tactic(auto, using(crate::proofs::Settling::settling), unfolding(crate::specs::Functions::separator))]
+pub fn write_separator(
+    out: &mut Vec<u8>,
+    first: bool,
+    flags: DemangleFlags,
+) -> Result<(), AllocError>
+    ensures { OnOk result (Writes (spec.separator first flags.0) out.old.items out.new.items) }
+{
+    if first {
+        return Ok(());
+    }
+    if flags.contains(DemangleFlags::SPACE_AFTER_COMMA) {
+        write_text(out, b", ")?;
+    } else {
+        write_text(out, b",")?;
+    }
+    Ok(())
+}

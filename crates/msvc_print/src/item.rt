@@ -1,0 +1,68 @@
+//! The items of the printer's stack: what is left to print.
+
+ghost use Rattle.std.specs.Prelude.{◌≡◌, ◌++◌, ◌∷◌, [], OnOk};
+
+use bumpalo::Bump;
+use msvc_nodes::flags::StorageClass;
+use msvc_nodes::kinds::CallingConv;
+use msvc_nodes::nodes::{Name, Scope, Symbol, Type};
+use std::alloc::AllocError;
+
+/// The end of a list of types.
+#[derive(Clone, Copy)]
+pub enum ListEnd {
+    /// `)`, and the qualifiers of the function itself, whose parameters the list is.
+    Round(StorageClass),
+    /// `)`, of a member function that is pointed to.
+    Bare,
+    /// `>`, of the arguments of a template.
+    Angle,
+}
+
+/// Types of a list.
+#[derive(Clone, Copy)]
+pub struct Types<'a, 'b> {
+    pub types: &'b [&'b Type<'a, 'b>],
+}
+
+/// A part of a declaration that is left to print. It borrows the nodes that it names.
+#[derive(Clone, Copy)]
+pub enum Item<'a, 'b> {
+    /// Fixed words.
+    Text(&'b [u8]),
+    /// Fixed words after the space that operators begin with.
+    Spaced(&'b [u8]),
+    /// A name. The flag says whether it is the name of a symbol itself.
+    Name(&'b Name<'a, 'b>, bool),
+    /// The names of a scope, the innermost first, each with `::` after it.
+    Scope(Scope<'a, 'b>),
+    /// A name in its scope, and the type of the symbol that it is the name of.
+    Symbol(&'b Symbol<'a, 'b>, Option<&'b Type<'a, 'b>>),
+    /// The class whose member function is pointed to.
+    Class(&'b Symbol<'a, 'b>),
+    /// `const` and `volatile`.
+    Qualifiers(StorageClass),
+    /// The mark of a pointer or a reference, with its qualifiers.
+    Mark(&'b [u8], StorageClass),
+    /// The qualifiers of a level of an array, and the parenthesis before the mark of a pointer to it.
+    ArrayLevel(StorageClass, bool),
+    /// The calling convention of a function, and the parenthesis before the mark of a pointer to it.
+    Calling(bool, CallingConv),
+    /// The types that are left of a list, and what stands after the last. The flag says whether none was printed yet.
+    Parameters(Types<'a, 'b>, bool, ListEnd),
+    /// What a type has before the name. The flag says whether it stands directly under a pointer or a reference.
+    Before(&'b Type<'a, 'b>, bool),
+    /// What a type has after the name.
+    After(&'b Type<'a, 'b>, bool),
+}
+
+/// Pushes an item. Its contract is the part of `Vec::push`'s that proofs of steps need.
+pub fn push<'a, 'b>(
+    stack: &mut Vec<Item<'a, 'b>, &'b Bump>,
+    item: Item<'a, 'b>,
+) -> Result<(), AllocError>
+    ensures { OnOk result (stack.new.items ≡ stack.old.items ++ item.entry ∷ []) }
+{
+    stack.push(item)?;
+    Ok(())
+}

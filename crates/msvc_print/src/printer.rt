@@ -1,0 +1,160 @@
+//! The printer's loop over its stack, one step for each item; the room that the stack takes; and its bytes as a text.
+
+ghost use Rattle.std.specs.Prelude.{◌≡◌, ◌≤◌, ◌^◌, OnOk, IfOk, string_bytes};
+ghost use Rattle.std.specs.Str.{IsUtf8};
+ghost use Rattle.std.specs.Str.Lossy.{utf8_lossy};
+ghost use Rattle.msvc_nodes.specs.NodeView.{typed_symbol_of};
+ghost use Rattle.msvc_print.specs.Declaration.{declaration};
+ghost use Rattle.msvc_print.specs.Within.{IsPrintedWithin};
+ghost use Rattle.msvc_print.specs.Work.{Lightens, Prints, finished, item_pieces, item_weight};
+
+use crate::function_types::write_calling;
+use crate::item::Item;
+use crate::operators::write_spaced;
+use crate::qualified_names::{
+    print_class, print_name, print_scope, print_symbol, push_typed_symbol,
+};
+use crate::text::{write_mark, write_qualifiers, write_text};
+use crate::types::{print_after, print_before, print_parameters, write_level};
+use bumpalo::Bump;
+use msvc_nodes::flags::DemangleFlags;
+use msvc_nodes::nodes::TypedSymbol;
+use std::alloc::{AllocError, Global};
+
+/// Items that the stack has room for before it grows: more than most symbols need.
+const FIRST_ITEMS: usize = 32;
+
+/// Bytes that the stack takes of an arena at first.
+const ROOM_AT_FIRST: usize = 1024;
+
+/// Most bytes that the stack takes of an arena for a byte of a symbol. The stack has at most one item for two bytes,
+/// and has grown by doubling.
+const ROOM_OF_A_BYTE: usize = 64;
+
+/// Most bytes that the stack takes of an arena for a node, where nodes are limited.
+const ROOM_OF_A_NODE: usize = 128;
+
+/// Most bytes that are asked for ahead of printing.
+const MOST_ROOM: usize = 1 << 20;
+
+/// Returns how many bytes of an arena the stack takes while a symbol of `symbol_bytes` bytes is printed, at most a
+/// megabyte. An arena that has them makes no further request for memory. Of a longer symbol, the stack asks for the
+/// rest as it grows.
+pub fn stack_room(symbol_bytes: usize) -> usize
+    ensures most { result ≤ 2 ^ 20 }
+{
+    symbol_bytes
+        .saturating_mul(ROOM_OF_A_BYTE)
+        .saturating_add(ROOM_AT_FIRST)
+        .min(MOST_ROOM)
+}
+
+/// Returns the same where the symbol also has at most `nodes` nodes.
+pub fn stack_room_within(symbol_bytes: usize, nodes: usize) -> usize
+    ensures most { result ≤ 2 ^ 20 }
+{
+    nodes
+        .saturating_mul(ROOM_OF_A_NODE)
+        .saturating_add(ROOM_AT_FIRST)
+        .min(stack_room(symbol_bytes))
+}
+
+/// Prints one item of the stack.
+#[tactic(auto, using(crate::proofs::Stack::pushes))]
+fn step<'a, 'b>(
+    stack: &mut Vec<Item<'a, 'b>, &'b Bump>,
+    out: &mut Vec<u8>,
+    item: Item<'a, 'b>,
+    flags: DemangleFlags,
+) -> Result<(), AllocError>
+    ensures text { OnOk result (Prints (item_pieces item.entry flags.0) flags.0
+        stack.old.items out.old.items stack.new.items out.new.items) }
+    ensures lighter { OnOk result (Lightens (item_weight item.entry) stack.old.items stack.new.items) }
+{
+    match item {
+        Item::Text(bytes) => write_text(out, bytes),
+        Item::Name(name, of_symbol) => print_name(stack, out, name, of_symbol, flags),
+        Item::Scope(scope) => print_scope(stack, out, scope.names, flags),
+        Item::Symbol(symbol, symbol_type) => print_symbol(stack, out, symbol, symbol_type, flags),
+        Item::Class(class) => print_class(stack, out, class, flags),
+        Item::Spaced(word) => write_spaced(out, word),
+        Item::Qualifiers(set) => write_qualifiers(out, set, flags),
+        Item::Mark(word, set) => write_mark(out, word, set, flags),
+        Item::ArrayLevel(set, pointed) => write_level(out, set, pointed, flags),
+        Item::Calling(pointed, convention) => write_calling(out, pointed, convention, flags),
+        Item::Parameters(left, first, end) => {
+            print_parameters(stack, out, left.types, first, end, flags)
+        }
+        Item::Before(t, pointed) => print_before(stack, out, t, pointed, flags),
+        Item::After(t, pointed) => print_after(stack, out, t, pointed, flags),
+    }
+}
+
+/// Prints the items of the stack, the last first, until none is left or `out` has more than `most` bytes, and returns
+/// whether none is left.
+fn empty<'a, 'b>(
+    stack: &mut Vec<Item<'a, 'b>, &'b Bump>,
+    out: &mut Vec<u8>,
+    flags: DemangleFlags,
+    most: usize,
+) -> Result<bool, AllocError>
+    ensures { IfOk result (λ ended.
+        IsPrintedWithin most (finished stack.old.items out.old.items flags.0) ended out.new.items) }
+{
+    'items: while out.len() <= most {
+        let Some(item) = stack.pop() else {
+            return Ok(true);
+        };
+        step(stack, out, item, flags)?;
+    }
+    Ok(false)
+}
+
+/// Replaces the bytes of `out` with the declaration of `symbol` under `flags`. The stack of the printer is in `arena`.
+///
+/// Fails only if memory is refused; `out` is then unspecified.
+pub fn print<'a, 'b>(
+    arena: &'b Bump,
+    symbol: &'b TypedSymbol<'a, 'b>,
+    flags: DemangleFlags,
+    out: &mut Vec<u8>,
+) -> Result<(), AllocError>
+    ensures { OnOk result (out.new.items ≡ declaration (typed_symbol_of symbol.now) flags.0) }
+{
+    // No list of bytes is longer than this.
+    print_within(arena, symbol, flags, usize::MAX, out)?;
+    Ok(())
+}
+
+/// Prints as [`print`] does, if the declaration has at most `most` bytes, and returns whether it has. If it is longer,
+/// printing ends with the piece that exceeds `most` bytes, and `out` has the bytes up to there.
+///
+/// Fails only if memory is refused; `out` is then unspecified.
+pub fn print_within<'a, 'b>(
+    arena: &'b Bump,
+    symbol: &'b TypedSymbol<'a, 'b>,
+    flags: DemangleFlags,
+    most: usize,
+    out: &mut Vec<u8>,
+) -> Result<bool, AllocError>
+    ensures { IfOk result (λ within.
+        IsPrintedWithin most (declaration (typed_symbol_of symbol.now) flags.0) within out.new.items) }
+{
+    out.clear();
+    let mut stack = Vec::with_capacity(arena, FIRST_ITEMS)?;
+    push_typed_symbol(&mut stack, symbol, flags)?;
+    empty(&mut stack, out, flags, most)
+}
+
+/// Converts the bytes of a declaration to a text. Each piece that is not UTF-8 becomes U+FFFD.
+///
+/// Allocates only if the bytes are not UTF-8, and fails only if memory is refused.
+pub fn text_of(alloc: Global, bytes: Vec<u8>) -> Result<String, AllocError>
+    ensures whole { IfOk result (λ text. IsUtf8 bytes.items → string_bytes text ≡ bytes.items) }
+    ensures lossy { IfOk result (λ text. string_bytes text ≡ utf8_lossy bytes.items) }
+{
+    match String::from_utf8(bytes) {
+        Ok(text) => Ok(text),
+        Err(refused) => String::from_utf8_lossy(alloc, refused.as_bytes()),
+    }
+}

@@ -1,0 +1,526 @@
+//! Prints names: those of scopes, and that of a symbol in its scope. Spelled names are written at once; what holds
+//! types or other names is pushed.
+
+ghost use Rattle.std.specs.Prelude.{ℕ, ◌≡◌, ◌≤◌, ◌+◌, ◌++◌, ◌∷◌, [], Bool, true, false, OnOk, IfOk};
+ghost use Rattle.std.specs.Prelude.{codes, cond, take, length, option_map};
+ghost use Rattle.std.specs.Fmt.{signed_decimal};
+ghost use Rattle.msvc_nodes.specs.NodeView.{name_of, names_in, type_of, types_in};
+ghost use Rattle.msvc_nodes.specs.declared.kinds.Spelling.TheVariants as spelling_kind;
+ghost use Rattle.msvc_print.specs.Declaration as spec;
+ghost use Rattle.msvc_print.specs.Halves.{after, before};
+ghost use Rattle.msvc_print.specs.Operators.{spaced};
+ghost use Rattle.msvc_print.specs.Pieces.{Writes, settle_all, space, text};
+ghost use Rattle.msvc_print.specs.Sides.{alone, kept_left, kept_right};
+ghost use Rattle.msvc_print.specs.SymbolNodes.{class_pieces_of, class_weight_of, symbol_as_of, symbol_name_of};
+ghost use Rattle.msvc_print.specs.SymbolNodes.{symbol_pieces_of, symbol_weight_of, type_or_none};
+ghost use Rattle.msvc_print.specs.SymbolNodes.{typed_symbol_weight_of};
+ghost use Rattle.msvc_print.specs.Weights.{name_weight, scope_weight, type_weight, types_weight};
+ghost use Rattle.msvc_print.specs.Work.{AddsAtMost, Lightens, Prints, Pushes, member_return};
+ghost use Rattle.msvc_print.specs.declared.text.Space.TheVariants.{AfterPointer};
+
+use crate::item::{Item, ListEnd, Types, push};
+use crate::operators::{
+    NameKind, name_kind, operator_word, write_base_class, write_guard, write_spaced,
+};
+use crate::text::{Space, name_space, write_number, write_space, write_text};
+use bitflags::Flags;
+use bumpalo::Bump;
+use msvc_nodes::flags::DemangleFlags;
+use msvc_nodes::nodes::{Name, Scope, Symbol, Type, TypedSymbol};
+use std::alloc::AllocError;
+
+/// Writes bytes between two words.
+#[tactic(auto, using(crate::proofs::Settling::settling))]
+fn write_between(
+    out: &mut Vec<u8>,
+    opening: &[u8],
+    bytes: &[u8],
+    closing: &[u8],
+) -> Result<(), AllocError>
+    ensures { OnOk result (Writes (text opening.now ∷ text bytes.now ∷ text closing.now ∷ [])
+        out.old.items out.new.items) }
+{
+    write_text(out, opening)?;
+    write_text(out, bytes)?;
+    write_text(out, closing)
+}
+
+/// Writes the name of an interface, in its brackets.
+#[tactic(auto, using(crate::proofs::Settling::settling))]
+fn write_interface(out: &mut Vec<u8>, bytes: &[u8]) -> Result<(), AllocError>
+    ensures { OnOk result (Writes (spec.spelled_name spelling_kind.Interface bytes.now) out.old.items out.new.items) }
+{
+    write_between(out, b"[", bytes, b"]")
+}
+
+/// Writes the digits that stand for a name, between their marks.
+#[tactic(auto, using(crate::proofs::Settling::settling))]
+fn write_md5(out: &mut Vec<u8>, bytes: &[u8]) -> Result<(), AllocError>
+    ensures { OnOk result (Writes (spec.spelled_name spelling_kind.Md5 bytes.now) out.old.items out.new.items) }
+{
+    write_between(out, b"??@", bytes, b"@")
+}
+
+/// Writes a name if it is spelled, and returns whether it is.
+#[tactic(auto, unfolding(crate::specs::Declaration::name_pieces, msvc_nodes::specs::NodeView::name_of))]
+fn write_if_spelled<'a, 'b>(out: &mut Vec<u8>, name: &'b Name<'a, 'b>) -> Result<bool, AllocError>
+    ensures spelled { IfOk result (λ is. is ≡ true → (of_symbol : Bool) (flags : ℕ) →
+        Writes (spec.name_pieces (name_of name.now) of_symbol flags) out.old.items out.new.items) }
+    ensures other { IfOk result (λ is. is ≡ false → out.new.items ≡ out.old.items) }
+{
+    match name {
+        Name::Source(bytes) => {
+            write_text(out, *bytes)?;
+            Ok(true)
+        }
+        Name::Interface(bytes) => {
+            write_interface(out, *bytes)?;
+            Ok(true)
+        }
+        Name::Md5(bytes) => {
+            write_md5(out, *bytes)?;
+            Ok(true)
+        }
+        _ => Ok(false),
+    }
+}
+
+/// Writes the outermost names of a scope, as long as they are spelled, each with `::` after it. Returns how many names
+/// are left.
+fn write_spelled_names<'a, 'b>(
+    out: &mut Vec<u8>,
+    names: &'b [&'b Name<'a, 'b>],
+) -> Result<usize, AllocError>
+    ensures fits { IfOk result (λ left. left ≤ length names.now) }
+    ensures text { IfOk result (λ left. (flags : ℕ) →
+        settle_all out.new.items (spec.scope_prefix (names_in (take left names.now)) flags)
+        ≡ settle_all out.old.items (spec.scope_prefix (names_in names.now) flags)) }
+{
+    let mut left = names.len();
+    while left > 0 {
+        if !write_if_spelled(out, names[left - 1])? {
+            return Ok(left);
+        }
+        write_text(out, b"::")?;
+        left -= 1;
+    }
+    Ok(left)
+}
+
+/// Writes the number that parts local names, in quotes.
+#[tactic(auto, using(crate::proofs::Settling::settling))]
+fn write_discriminator(out: &mut Vec<u8>, number: i32) -> Result<(), AllocError>
+    ensures { OnOk result (Writes (spec.quoted (text (signed_decimal number) ∷ [])) out.old.items out.new.items) }
+{
+    write_text(out, b"`")?;
+    write_number(out, number)?;
+    write_text(out, b"'")
+}
+
+/// Writes the name of an anonymous namespace.
+fn write_anonymous(out: &mut Vec<u8>) -> Result<(), AllocError>
+    ensures { OnOk result (Writes (text (codes "`anonymous namespace'") ∷ []) out.old.items out.new.items) }
+{
+    write_text(out, b"`anonymous namespace'")
+}
+
+/// Pushes what a symbol has after its name. NAME_ONLY drops it.
+fn push_right<'a, 'b>(
+    stack: &mut Vec<Item<'a, 'b>, &'b Bump>,
+    t: &'b Type<'a, 'b>,
+    flags: DemangleFlags,
+) -> Result<(), AllocError>
+    ensures text { OnOk result (Pushes (kept_right (after (type_of t.now) false flags.0) flags.0) flags.0
+        stack.old.items stack.new.items) }
+    ensures lighter { OnOk result (AddsAtMost (type_weight (type_of t.now)) stack.old.items stack.new.items) }
+{
+    if !flags.contains(DemangleFlags::NAME_ONLY) {
+        push(stack, Item::After(t, false))?;
+    }
+    Ok(())
+}
+
+/// Pushes what a symbol has before its name. NAME_ONLY and NO_FUNCTION_RETURNS drop it.
+fn push_left<'a, 'b>(
+    stack: &mut Vec<Item<'a, 'b>, &'b Bump>,
+    t: &'b Type<'a, 'b>,
+    flags: DemangleFlags,
+) -> Result<(), AllocError>
+    ensures text { OnOk result (Pushes (kept_left (before (type_of t.now) false flags.0) flags.0) flags.0
+        stack.old.items stack.new.items) }
+    ensures lighter { OnOk result (AddsAtMost (type_weight (type_of t.now)) stack.old.items stack.new.items) }
+{
+    if flags.contains(DemangleFlags::NAME_ONLY) {
+        return Ok(());
+    }
+    if !flags.contains(DemangleFlags::NO_FUNCTION_RETURNS) {
+        push(stack, Item::Before(t, false))?;
+    }
+    Ok(())
+}
+
+/// Pushes a symbol with its type: the name between what the type has before and after it.
+#[tactic(auto, using(crate::proofs::Stack::pushes))]
+pub fn push_typed_symbol<'a, 'b>(
+    stack: &mut Vec<Item<'a, 'b>, &'b Bump>,
+    tree: &'b TypedSymbol<'a, 'b>,
+    flags: DemangleFlags,
+) -> Result<(), AllocError>
+    ensures text { OnOk result (Pushes (symbol_pieces_of tree.now flags.0) flags.0
+        stack.old.items stack.new.items) }
+    ensures lighter { OnOk result (Lightens (typed_symbol_weight_of tree.now) stack.old.items stack.new.items) }
+{
+    push_right(stack, tree.symbol_type, flags)?;
+    push(stack, Item::Symbol(&tree.symbol, Some(tree.symbol_type)))?;
+    push_left(stack, tree.symbol_type, flags)?;
+    Ok(())
+}
+
+/// Prints a nested symbol, in quotes unless it is the name of a symbol itself.
+#[tactic(auto, using(crate::proofs::Stack::pushes), unfolding(crate::specs::Declaration::quoted_unless))]
+fn print_nested<'a, 'b>(
+    stack: &mut Vec<Item<'a, 'b>, &'b Bump>,
+    out: &mut Vec<u8>,
+    tree: &'b TypedSymbol<'a, 'b>,
+    of_symbol: bool,
+    flags: DemangleFlags,
+) -> Result<(), AllocError>
+    ensures text { OnOk result (Prints (spec.quoted_unless of_symbol (symbol_pieces_of tree.now flags.0)) flags.0
+        stack.old.items out.old.items stack.new.items out.new.items) }
+    ensures lighter { OnOk result (Lightens (3 + typed_symbol_weight_of tree.now) stack.old.items stack.new.items) }
+{
+    if of_symbol {
+        push_typed_symbol(stack, tree, flags)?;
+        return Ok(());
+    }
+    write_text(out, b"`")?;
+    push(stack, Item::Text(b"'"))?;
+    push_typed_symbol(stack, tree, flags)?;
+    Ok(())
+}
+
+/// Prints the descriptor of a type.
+#[tactic(auto, using(crate::proofs::Halves::pushed_left))]
+fn print_descriptor<'a, 'b>(
+    stack: &mut Vec<Item<'a, 'b>, &'b Bump>,
+    out: &mut Vec<u8>,
+    described: &'b Type<'a, 'b>,
+    flags: DemangleFlags,
+) -> Result<(), AllocError>
+    ensures text { OnOk result (Prints (space AfterPointer
+        ∷ ((spec.grown (type_of described.now) false alone flags.0).left
+        ++ text (codes "::`RTTI Type Descriptor'") ∷ [])) flags.0
+        stack.old.items out.old.items stack.new.items out.new.items) }
+    ensures lighter { OnOk result (Lightens (3 + type_weight (type_of described.now))
+        stack.old.items stack.new.items) }
+{
+    write_space(out, Space::AfterPointer)?;
+    push(stack, Item::Text(b"::`RTTI Type Descriptor'"))?;
+    push(stack, Item::Before(described, false))
+}
+
+/// Prints a template with its arguments. Most of their names are spelled, and are written at once.
+#[tactic(auto, using(crate::proofs::Stack::pushes))]
+fn print_template<'a, 'b>(
+    stack: &mut Vec<Item<'a, 'b>, &'b Bump>,
+    out: &mut Vec<u8>,
+    name: &'b Name<'a, 'b>,
+    arguments: &'b [&'b Type<'a, 'b>],
+    flags: DemangleFlags,
+) -> Result<(), AllocError>
+    ensures text { OnOk result (Prints (spec.name_pieces (name_of name.now) false flags.0
+        ++ spec.angled (spec.parameters (types_in arguments.now) true flags.0)) flags.0
+        stack.old.items out.old.items stack.new.items out.new.items) }
+    ensures lighter { OnOk result (Lightens (3 + name_weight (name_of name.now) + types_weight (types_in arguments.now))
+        stack.old.items stack.new.items) }
+{
+    let list = Item::Parameters(Types { types: arguments }, true, ListEnd::Angle);
+    if write_if_spelled(out, name)? {
+        write_text(out, b"<")?;
+        return push(stack, list);
+    }
+    push(stack, list)?;
+    push(stack, Item::Text(b"<"))?;
+    push(stack, Item::Name(name, false))
+}
+
+/// Prints a name.
+#[tactic(auto, using(crate::proofs::Nodes::printed), unfolding(crate::specs::Declaration::name_pieces, crate::specs::Weights::name_weight, msvc_nodes::specs::NodeView::name_of))]
+pub fn print_name<'a, 'b>(
+    stack: &mut Vec<Item<'a, 'b>, &'b Bump>,
+    out: &mut Vec<u8>,
+    name: &'b Name<'a, 'b>,
+    of_symbol: bool,
+    flags: DemangleFlags,
+) -> Result<(), AllocError>
+    ensures text { OnOk result (Prints (spec.name_pieces (name_of name.now) of_symbol flags.0) flags.0
+        stack.old.items out.old.items stack.new.items out.new.items) }
+    ensures lighter { OnOk result (Lightens (name_weight (name_of name.now)) stack.old.items stack.new.items) }
+{
+    match name {
+        Name::Source(bytes) => write_text(out, *bytes),
+        Name::Interface(bytes) => write_interface(out, *bytes),
+        Name::Md5(bytes) => write_md5(out, *bytes),
+        Name::Anonymous => write_anonymous(out),
+        Name::AnonymousDigits(_) => write_anonymous(out),
+        Name::Plain(operator) => write_spaced(out, operator_word(*operator)),
+        Name::Guard(guard, number) => write_guard(out, *guard, *number),
+        Name::TypeDescriptor(_, described) => print_descriptor(stack, out, *described, flags),
+        Name::BaseClassDescriptor(place) => write_base_class(out, *place, flags),
+        Name::Template(template) => {
+            print_template(stack, out, template.name, template.arguments, flags)
+        }
+        Name::Discriminator(number) => write_discriminator(out, *number),
+        Name::Nested(tree) => print_nested(stack, out, *tree, of_symbol, flags),
+    }
+}
+
+/// Prints the names of a scope, the outermost first, each with `::` after it.
+pub fn print_scope<'a, 'b>(
+    stack: &mut Vec<Item<'a, 'b>, &'b Bump>,
+    out: &mut Vec<u8>,
+    names: &'b [&'b Name<'a, 'b>],
+    flags: DemangleFlags,
+) -> Result<(), AllocError>
+    ensures text { OnOk result (Prints (spec.scope_prefix (names_in names.now) flags.0) flags.0
+        stack.old.items out.old.items stack.new.items out.new.items) }
+    ensures lighter { OnOk result (Lightens (scope_weight (names_in names.now)) stack.old.items stack.new.items) }
+{
+    let left = write_spelled_names(out, names)?;
+    if left == 0 {
+        return Ok(());
+    }
+    let last = left - 1;
+    push(
+        stack,
+        Item::Scope(Scope {
+            names: &names[..last],
+        }),
+    )?;
+    push(stack, Item::Text(b"::"))?;
+    print_name(stack, out, names[last], false, flags)?;
+    Ok(())
+}
+
+/// Prints the names of a scope and the name of a symbol in it. The name is printed at once if all names of the scope
+/// are spelled, as most are.
+fn print_in_scope<'a, 'b>(
+    stack: &mut Vec<Item<'a, 'b>, &'b Bump>,
+    out: &mut Vec<u8>,
+    names: &'b [&'b Name<'a, 'b>],
+    name: &'b Name<'a, 'b>,
+    flags: DemangleFlags,
+) -> Result<(), AllocError>
+    ensures text { OnOk result (Prints
+        (spec.scope_prefix (names_in names.now) flags.0 ++ spec.name_pieces (name_of name.now) true flags.0) flags.0
+        stack.old.items out.old.items stack.new.items out.new.items) }
+    ensures lighter { OnOk result (Lightens (1 + scope_weight (names_in names.now) + name_weight (name_of name.now))
+        stack.old.items stack.new.items) }
+{
+    let left = write_spelled_names(out, names)?;
+    if left == 0 {
+        print_name(stack, out, name, true, flags)?;
+        return Ok(());
+    }
+    push(stack, Item::Name(name, true))?;
+    push(
+        stack,
+        Item::Scope(Scope {
+            names: &names[..left],
+        }),
+    )?;
+    Ok(())
+}
+
+/// Prints the names of a scope, the outermost first, with `::` between them.
+pub fn print_path<'a, 'b>(
+    stack: &mut Vec<Item<'a, 'b>, &'b Bump>,
+    out: &mut Vec<u8>,
+    names: &'b [&'b Name<'a, 'b>],
+    flags: DemangleFlags,
+) -> Result<(), AllocError>
+    ensures text { OnOk result (Prints (spec.scope_path (names_in names.now) flags.0) flags.0
+        stack.old.items out.old.items stack.new.items out.new.items) }
+    ensures lighter { OnOk result (Lightens (scope_weight (names_in names.now)) stack.old.items stack.new.items) }
+{
+    match names {
+        [] => Ok(()),
+        [name, outer @ ..] => {
+            push(stack, Item::Name(*name, false))?;
+            print_scope(stack, out, outer, flags)?;
+            Ok(())
+        }
+    }
+}
+
+/// Pushes what a constructor or a destructor prints: the innermost name of its scope, that of a destructor after `~`.
+fn push_class_name<'a, 'b>(
+    stack: &mut Vec<Item<'a, 'b>, &'b Bump>,
+    names: &'b [&'b Name<'a, 'b>],
+    destructor: bool,
+    flags: DemangleFlags,
+) -> Result<(), AllocError>
+    ensures text { OnOk result (Pushes
+        (spec.class_name (names_in names.now) (cond destructor spec.tilde []) flags.0) flags.0
+        stack.old.items stack.new.items) }
+    ensures lighter { OnOk result (AddsAtMost (1 + scope_weight (names_in names.now)) stack.old.items stack.new.items) }
+{
+    match names {
+        [] => {
+            push(stack, Item::Text(b"[invalid]"))?;
+            Ok(())
+        }
+        [name, ..] => {
+            push(stack, Item::Name(*name, false))?;
+            if destructor {
+                push(stack, Item::Text(b"~"))?;
+            }
+            Ok(())
+        }
+    }
+}
+
+/// Returns the type that a member function returns, or `None` of any other type.
+#[tactic(auto, unfolding(crate::specs::Work::member_return, msvc_nodes::specs::NodeView::type_of))]
+fn function_return<'a, 'b>(t: &'b Type<'a, 'b>) -> Option<&'b Type<'a, 'b>>
+    ensures { option_map (λ t. type_of t.now) result ≡ member_return (type_of t.now) }
+{
+    match t {
+        Type::MemberFunction(function) => Some(function.returned),
+        _ => None,
+    }
+}
+
+/// Returns the type that a symbol returns, if it is a member function.
+fn symbol_return<'a, 'b>(symbol_type: Option<&'b Type<'a, 'b>>) -> Option<&'b Type<'a, 'b>>
+    ensures { option_map (λ t. type_of t.now) result ≡ member_return (type_or_none symbol_type.entry) }
+{
+    match symbol_type {
+        Some(t) => function_return(t),
+        None => None,
+    }
+}
+
+/// Pushes what a conversion operator prints.
+fn push_conversion<'a, 'b>(
+    stack: &mut Vec<Item<'a, 'b>, &'b Bump>,
+    name: &'b Name<'a, 'b>,
+    symbol_type: Option<&'b Type<'a, 'b>>,
+    flags: DemangleFlags,
+) -> Result<(), AllocError>
+    ensures text { OnOk result (Pushes
+        (spec.conversion (type_or_none symbol_type.entry) (spec.name_pieces (name_of name.now) true flags.0) flags.0)
+        flags.0 stack.old.items stack.new.items) }
+    ensures lighter { OnOk result (AddsAtMost (1 + name_weight (name_of name.now)
+        + type_weight (type_or_none symbol_type.entry) + type_weight (type_or_none symbol_type.entry))
+        stack.old.items stack.new.items) }
+{
+    match symbol_return(symbol_type) {
+        Some(returned) => {
+            push(stack, Item::After(returned, false))?;
+            push(stack, Item::Before(returned, false))?;
+            push(stack, Item::Text(b"operator "))?;
+            Ok(())
+        }
+        None => {
+            push(stack, Item::Name(name, true))?;
+            Ok(())
+        }
+    }
+}
+
+/// Pushes what the name of a table of virtual bases prints.
+fn push_base_table<'a, 'b>(
+    stack: &mut Vec<Item<'a, 'b>, &'b Bump>,
+    flags: DemangleFlags,
+) -> Result<(), AllocError>
+    ensures text { OnOk result (Pushes (text (codes "`vbtable'{for `") ∷ []) flags.0 stack.old.items stack.new.items) }
+    ensures lighter { OnOk result (AddsAtMost 1 stack.old.items stack.new.items) }
+{
+    push(stack, Item::Text(b"`vbtable'{for `"))?;
+    Ok(())
+}
+
+/// Writes the name of a literal operator.
+fn write_literal(out: &mut Vec<u8>) -> Result<(), AllocError>
+    ensures { OnOk result (Writes (spaced (codes "operator \"\"")) out.old.items out.new.items) }
+{
+    write_spaced(out, b"operator \"\"")
+}
+
+/// Prints a symbol's name in its scope, by the kind of the name.
+#[tactic(auto, using(crate::proofs::Stack::pushes), unfolding(crate::specs::Operators::scoped))]
+fn print_symbol_as<'a, 'b>(
+    stack: &mut Vec<Item<'a, 'b>, &'b Bump>,
+    out: &mut Vec<u8>,
+    symbol: &'b Symbol<'a, 'b>,
+    symbol_type: Option<&'b Type<'a, 'b>>,
+    kind: NameKind,
+    flags: DemangleFlags,
+) -> Result<(), AllocError>
+    ensures text { OnOk result (Prints (symbol_as_of kind symbol.now (type_or_none symbol_type.entry) flags.0) flags.0
+        stack.old.items out.old.items stack.new.items out.new.items) }
+    ensures lighter { OnOk result (Lightens (symbol_weight_of symbol.now (type_or_none symbol_type.entry))
+        stack.old.items stack.new.items) }
+{
+    write_space(out, name_space(flags))?;
+    match kind {
+        NameKind::Ordinary => print_in_scope(stack, out, symbol.scope, symbol.name, flags),
+        NameKind::Constructor => {
+            push_class_name(stack, symbol.scope, false, flags)?;
+            print_scope(stack, out, symbol.scope, flags)
+        }
+        NameKind::Destructor => {
+            push_class_name(stack, symbol.scope, true, flags)?;
+            print_scope(stack, out, symbol.scope, flags)
+        }
+        NameKind::Conversion => {
+            push_conversion(stack, symbol.name, symbol_type, flags)?;
+            print_scope(stack, out, symbol.scope, flags)
+        }
+        NameKind::BaseTable => {
+            push_base_table(stack, flags)?;
+            print_scope(stack, out, symbol.scope, flags)
+        }
+        NameKind::Literal => {
+            write_literal(out)?;
+            print_path(stack, out, symbol.scope, flags)
+        }
+    }
+}
+
+/// Prints a symbol's name in its scope.
+pub fn print_symbol<'a, 'b>(
+    stack: &mut Vec<Item<'a, 'b>, &'b Bump>,
+    out: &mut Vec<u8>,
+    symbol: &'b Symbol<'a, 'b>,
+    symbol_type: Option<&'b Type<'a, 'b>>,
+    flags: DemangleFlags,
+) -> Result<(), AllocError>
+    ensures text { OnOk result (Prints (symbol_name_of symbol.now (type_or_none symbol_type.entry) flags.0) flags.0
+        stack.old.items out.old.items stack.new.items out.new.items) }
+    ensures lighter { OnOk result (Lightens (symbol_weight_of symbol.now (type_or_none symbol_type.entry))
+        stack.old.items stack.new.items) }
+{
+    let kind = name_kind(symbol.name);
+    print_symbol_as(stack, out, symbol, symbol_type, kind, flags)
+}
+
+/// Prints the class whose member function is pointed to.
+#[tactic(auto, using(crate::proofs::Stack::pushes))]
+pub fn print_class<'a, 'b>(
+    stack: &mut Vec<Item<'a, 'b>, &'b Bump>,
+    out: &mut Vec<u8>,
+    class: &'b Symbol<'a, 'b>,
+    flags: DemangleFlags,
+) -> Result<(), AllocError>
+    ensures text { OnOk result (Prints
+        (class_pieces_of class.now flags.0) flags.0
+        stack.old.items out.old.items stack.new.items out.new.items) }
+    ensures lighter { OnOk result (Lightens (class_weight_of class.now) stack.old.items stack.new.items) }
+{
+    write_space(out, Space::AfterPointer)?;
+    push(stack, Item::Text(b"::*"))?;
+    print_symbol(stack, out, class, None, flags)?;
+    Ok(())
+}

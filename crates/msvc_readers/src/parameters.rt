@@ -1,0 +1,181 @@
+//! Parameters, and the table of types that they are added to.
+
+ghost use Rattle.std.specs.Option.{option_map};
+ghost use Rattle.std.specs.Prelude.{◌≡◌, ◌≤◌, ◌<◌, ◌-◌, ◌∷◌, ◌++◌, [], IfErr, IfOk, IfSome, length, map, Some};
+ghost use Rattle.msvc_nodes.specs.NodeView.{type_at};
+ghost use Rattle.msvc_nodes.specs.Trees.{base};
+ghost use Rattle.msvc_nodes.specs.declared.kinds.BaseType.TheVariants as base_kind;
+ghost use Rattle.msvc_grammar.specs.Reads.{read_name, with_value};
+ghost use Rattle.msvc_grammar.specs.Rules as rules;
+ghost use Rattle.msvc_parser.specs.Parser.{counting_ellipsis, Eats, ellipsis_types, frame_of, parameters_stop, ReadsAs};
+ghost use Rattle.msvc_parser.specs.Parser.{state_of, types_at};
+ghost use Rattle.msvc_parser.specs.Rows.{EndsTypes, ListsTypes};
+ghost use Rattle.msvc_parser.specs.Stack.{here, outer};
+
+use crate::types::any_type;
+use bitflags::Flags;
+use msvc_nodes::flags::StorageClass;
+use msvc_nodes::kinds::{BaseType, PlainType};
+use msvc_nodes::list::List;
+use msvc_nodes::nodes::Type;
+use msvc_nodes::same::is_same_type;
+use msvc_parser::forms::Ellipsis;
+use msvc_parser::limit::Limit;
+use msvc_parser::memorized::is_long;
+use msvc_parser::parser::Parser;
+use msvc_parser::refusal::{Message, Refusal, Refused};
+
+/// Reads `FUNCTION_PARAMETERS = ("X" | PARAMETERS) "Z"`: an `X` means one `void`.
+#[cycle(readers)]
+#[tactic(auto, using(msvc_parser::proofs::FunctionSteps::function_parameters_step))]
+#[inline(never)]
+pub fn function_parameters<'a, 'b, L: Limit>(
+    parser: &mut Parser<'a, 'b, L>,
+) -> Result<usize, Refused>
+    ensures value { ReadsAs (λ _. map type_at (here parser.new.listed_types)) parser.old parser.new result
+        (read_name rules.function_parameters) }
+    ensures shorter { IfOk result (λ _. length parser.new.rest.now < length parser.old.rest.now) }
+    ensures lists { ListsTypes parser.old parser.new result }
+{
+    if parser.eat(b"X") {
+        parser.expected(b"Z", Message::ZExpected)?;
+        parser.count_node()?;
+        return no_parameters(parser);
+    }
+    let checkpoint = parameters(parser)?;
+    parser.expected(b"Z", Message::ZExpected)?;
+    Ok(checkpoint)
+}
+
+/// Puts one `void`, which is already counted, on a new part of the list. The result ends that part.
+#[tactic(auto, unfolding(msvc_nodes::specs::NodeView::type_of))]
+#[inline(never)]
+pub fn no_parameters<'a, 'b, L: Limit>(parser: &mut Parser<'a, 'b, L>) -> Result<usize, Refused>
+    ensures value { ReadsAs (λ _. map type_at (here parser.new.listed_types)) parser.old parser.new result
+        (with_value (Some (base base_kind.Void 0 ∷ []))) }
+    ensures rest { IfOk result (λ _. parser.new.rest.now ≡ parser.old.rest.now) }
+    ensures lists { ListsTypes parser.old parser.new result }
+{
+    let checkpoint = parser.listed_types.begin();
+    let void = parser.put_type(Type::Base(BaseType::Void, StorageClass::empty()))?;
+    list_type(parser, void)?;
+    Ok(checkpoint)
+}
+
+/// Reads `PARAMETERS = {PARAMETER} ("@" | "Z" | end)`: a `Z` adds an ellipsis. The types are on a new part of the
+/// parser's list, and the result ends that part.
+#[cycle(readers)]
+#[tactic(auto, using(msvc_parser::proofs::RowSteps::parameters_go_on))]
+#[inline(never)]
+pub fn parameters<'a, 'b, L: Limit>(parser: &mut Parser<'a, 'b, L>) -> Result<usize, Refused>
+    ensures value { ReadsAs (λ _. map type_at (here parser.new.listed_types)) parser.old parser.new result
+        (read_name rules.parameters) }
+    ensures shorter { IfOk result (λ _. length parser.new.rest.now ≤ length parser.old.rest.now) }
+    ensures lists { ListsTypes parser.old parser.new result }
+{
+    let checkpoint = parser.listed_types.begin();
+    'parameters: loop {
+        if let Some((ellipsis, rest)) = parameters_stop(parser.rest) {
+            parser.rest = rest;
+            list_ellipsis(parser, ellipsis)?;
+            return Ok(checkpoint);
+        }
+        let parameter = parameter(parser)?;
+        list_type(parser, parameter)?;
+    }
+}
+
+/// Reads `PARAMETER = digit | TYPE`.
+#[cycle(readers)]
+#[tactic(auto, using(msvc_parser::proofs::FunctionSteps::parameter_is))]
+#[inline(always)]
+pub fn parameter<'a, 'b, L: Limit>(
+    parser: &mut Parser<'a, 'b, L>,
+) -> Result<&'b Type<'a, 'b>, Refused>
+    ensures value { ReadsAs type_at parser.old parser.new result (read_name rules.parameter) }
+    ensures eats { Eats parser.old parser.new result }
+{
+    let start = parser.rest;
+    if let Some(digit) = parser.digit() {
+        return parser.parameter_of_digit(digit, start);
+    }
+    let before = parser.limit;
+    let parameter = any_type(parser, StorageClass::empty())?;
+    if is_long(start, parser.rest) {
+        let nodes = parser.limit.since(before);
+        return parser.memorize_type(parameter, start, nodes);
+    }
+    Ok(parameter)
+}
+
+/// Appends a type to the list of parameters.
+pub fn list_type<'a, 'b, L: Limit>(
+    parser: &mut Parser<'a, 'b, L>,
+    parameter: &'b Type<'a, 'b>,
+) -> Result<(), Refused>
+    ensures rest { IfOk result (λ _. parser.new.rest.now ≡ parser.old.rest.now) }
+    ensures state { IfOk result (λ _. state_of parser.new ≡ state_of parser.old) }
+    ensures kept { IfOk result (λ _. frame_of parser.new
+        ≡ record (frame_of parser.old) { listed_types = here parser.old.listed_types ++ parameter.entry ∷ [] }) }
+    ensures why { IfErr result (λ _. parser.new.why ≡ Refusal.Memory) }
+{
+    if parser.listed_types.push(parameter).is_err() {
+        return Err(parser.no_memory());
+    }
+    Ok(())
+}
+
+/// Copies the listed types into the arena and ends their part of the list.
+pub fn listed_types<'a, 'b, L: Limit>(
+    parser: &mut Parser<'a, 'b, L>,
+    checkpoint: usize,
+) -> Result<List<'b, &'b Type<'a, 'b>>, Refused>
+    requires { checkpoint ≤ length (outer parser.old.listed_types) }
+    ensures value { ReadsAs types_at parser.old parser.new result
+        (λ left s. with_value (Some (map type_at (here parser.old.listed_types))) left s) }
+    ensures rest { IfOk result (λ _. parser.new.rest.now ≡ parser.old.rest.now) }
+    ensures kept { EndsTypes checkpoint parser.old parser.new result }
+{
+    match parser.listed_types.end_in(parser.arena, checkpoint) {
+        Some(types) => Ok(types),
+        None => Err(parser.no_memory()),
+    }
+}
+
+/// Appends an ellipsis to the list of parameters, if there is one, and counts it as a node.
+#[tactic(auto, using(msvc_parser::proofs::Nodes::map_last), unfolding(msvc_nodes::specs::NodeView::type_of))]
+#[inline(never)]
+pub fn list_ellipsis<'a, 'b, L: Limit>(
+    parser: &mut Parser<'a, 'b, L>,
+    ellipsis: Ellipsis,
+) -> Result<(), Refused>
+    ensures value { ReadsAs (λ _. tt) parser.old parser.new result (counting_ellipsis ellipsis) }
+    ensures rest { IfOk result (λ _. parser.new.rest.now ≡ parser.old.rest.now) }
+    ensures seen { IfOk result (λ _. map type_at (here parser.new.listed_types)
+        ≡ map type_at (here parser.old.listed_types) ++ ellipsis_types ellipsis) }
+    ensures kept { IfOk result (λ _. frame_of parser.new
+        ≡ record (frame_of parser.old) { listed_types = here parser.new.listed_types }) }
+{
+    match ellipsis {
+        Ellipsis::Absent => Ok(()),
+        Ellipsis::Present => {
+            let dots = parser.new_type(Type::Plain(PlainType::Variadic))?;
+            list_type(parser, dots)
+        }
+    }
+}
+
+/// Returns whether an ellipsis is last and the bytes that follow, if the parameters end here.
+#[tactic(auto, unfolding(msvc_parser::specs::Parser::parameters_stop))]
+#[inline(always)]
+fn parameters_stop<'a>(left: &'a [u8]) -> Option<(Ellipsis, &'a [u8])>
+    ensures value { option_map (λ stop. (stop.0, stop.1.now)) result ≡ parameters_stop left.now }
+    ensures shorter { IfSome result (λ stop. length stop.1.now ≤ length left.now) }
+{
+    match left {
+        [] => Some((Ellipsis::Absent, left)),
+        [b'@', rest @ ..] => Some((Ellipsis::Absent, rest)),
+        [b'Z', rest @ ..] => Some((Ellipsis::Present, rest)),
+        _ => None,
+    }
+}

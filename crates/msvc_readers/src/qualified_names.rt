@@ -1,0 +1,430 @@
+//! Names, scopes and templates, and the table of names that they are added to.
+
+ghost use Rattle.std.specs.Option.{option_map};
+ghost use Rattle.std.specs.Prelude.{◌≡◌, ◌≤◌, ◌<◌, ◌++◌, ◌∷◌, [], codes, IfErr, IfOk, IfSome, length, map, Some};
+ghost use Rattle.std.specs.Prelude.{string_bytes};
+ghost use Rattle.msvc_nodes.specs.NodeView.{name_at, name_of, type_at, typed_symbol_of};
+ghost use Rattle.msvc_nodes.specs.Trees.{discriminator, nested, template, type_trees};
+ghost use Rattle.msvc_grammar.specs.Counts.{name_count};
+ghost use Rattle.msvc_grammar.specs.Grammar.{new_interface, new_source_name, template_inside, template_kept};
+ghost use Rattle.msvc_grammar.specs.Letters.{hexadecimal_codes};
+ghost use Rattle.msvc_grammar.specs.Reads.{and_then, in_node, letter_here, read, read_name, with_value};
+ghost use Rattle.msvc_grammar.specs.Rules as rules;
+ghost use Rattle.msvc_parser.specs.Parser.{cut_at, Eats, frame_of, is_of_symbol, kept_name, name_length, names_at};
+ghost use Rattle.msvc_parser.specs.Parser.{ReadsAs, state_of, Stays};
+ghost use Rattle.msvc_parser.specs.Rows.{EndsNames, EndsTypes, ListsNames, named_at};
+ghost use Rattle.msvc_parser.specs.Stack.{here, outer};
+
+use crate::parameters::{listed_types, parameters};
+use crate::special_names::special_name;
+use crate::symbols::symbol_body;
+use bumpalo::Bump;
+use msvc_nodes::list::List;
+use msvc_nodes::nodes::{Name, Symbol, Template, Type, TypedSymbol};
+use msvc_nodes::same::is_same_name;
+use msvc_parser::forms::TemplateNames;
+use msvc_parser::letters;
+use msvc_parser::limit::Limit;
+use msvc_parser::parser::Parser;
+use msvc_parser::refusal::{Message, Refusal, Refused};
+
+/// Reads `SOURCE_NAME = {byte} "@"`: the bytes up to the next `@`, possibly none.
+#[inline(always)]
+pub fn source_name<'a, 'b, L: Limit>(parser: &mut Parser<'a, 'b, L>) -> Result<&'a [u8], Refused>
+    ensures value { ReadsAs (λ n. n.now) parser.old parser.new result (λ left s. cut_at (name_length left) left s) }
+    ensures eats { Eats parser.old parser.new result }
+{
+    match up_to_at(parser) {
+        Some(text) => Ok(text),
+        None => Err(parser.refuse(Message::MissingAt)),
+    }
+}
+
+/// Reads up to and including the next `@`, and returns the bytes before it. Reads nothing if there is no `@`.
+pub fn up_to_at<'a, 'b, L: Limit>(parser: &mut Parser<'a, 'b, L>) -> Option<&'a [u8]>
+    ensures value { option_map (λ n. (n.now, parser.new.rest.now, state_of parser.new)) result
+        ≡ cut_at (name_length parser.old.rest.now) parser.old.rest.now (state_of parser.old) }
+    ensures shorter { IfSome result (λ _. length parser.new.rest.now < length parser.old.rest.now) }
+    ensures kept { frame_of parser.new ≡ frame_of parser.old }
+{
+    let bytes = parser.rest;
+    let end = name_length(bytes)?;
+    parser.rest = &bytes[end + 1..];
+    Some(&bytes[..end])
+}
+
+/// Reads a source name and memorizes it.
+#[tactic(auto, using(msvc_parser::proofs::NameSteps::new_source_name_is), unfolding(msvc_nodes::specs::NodeView::name_of))]
+#[inline(never)]
+pub fn new_source_name<'a, 'b, L: Limit>(
+    parser: &mut Parser<'a, 'b, L>,
+) -> Result<&'b Name<'a, 'b>, Refused>
+    ensures value { ReadsAs name_at parser.old parser.new result (read new_source_name) }
+    ensures eats { Eats parser.old parser.new result }
+{
+    parser.count_node()?;
+    let text = source_name(parser)?;
+    parser.memorized_name(Name::Source(text))
+}
+
+/// Memorizes a template name that has `nodes` nodes, unless `templates` says not to, and returns it.
+#[inline(never)]
+pub fn kept_name<'a, 'b, L: Limit>(
+    parser: &mut Parser<'a, 'b, L>,
+    name: &'b Name<'a, 'b>,
+    nodes: L,
+    templates: TemplateNames,
+) -> Result<&'b Name<'a, 'b>, Refused>
+    requires { L.made nodes ≡ name_count L.weight (name_of name.now) }
+    ensures value { ReadsAs name_at parser.old parser.new result
+        (λ left s. with_value (Some (name_of name.now)) left
+        (kept_name (is_of_symbol templates) (name_of name.now) s)) }
+    ensures stays { Stays parser.old parser.new result }
+{
+    match templates {
+        TemplateNames::Memorized => parser.memorize_name(name, nodes),
+        TemplateNames::NotMemorized => Ok(name),
+    }
+}
+
+/// Appends a name to the list of the scope.
+pub fn list_name<'a, 'b, L: Limit>(
+    parser: &mut Parser<'a, 'b, L>,
+    name: &'b Name<'a, 'b>,
+) -> Result<(), Refused>
+    ensures rest { IfOk result (λ _. parser.new.rest.now ≡ parser.old.rest.now) }
+    ensures state { IfOk result (λ _. state_of parser.new ≡ state_of parser.old) }
+    ensures kept { IfOk result (λ _. frame_of parser.new
+        ≡ record (frame_of parser.old) { listed_names = here parser.old.listed_names ++ name.entry ∷ [] }) }
+    ensures why { IfErr result (λ _. parser.new.why ≡ Refusal.Memory) }
+{
+    if parser.listed_names.push(name).is_err() {
+        return Err(parser.no_memory());
+    }
+    Ok(())
+}
+
+/// Copies the listed names into the arena and ends their part of the list.
+pub fn listed_names<'a, 'b, L: Limit>(
+    parser: &mut Parser<'a, 'b, L>,
+    checkpoint: usize,
+) -> Result<List<'b, &'b Name<'a, 'b>>, Refused>
+    requires { checkpoint ≤ length (outer parser.old.listed_names) }
+    ensures value { ReadsAs names_at parser.old parser.new result
+        (λ left s. with_value (Some (map name_at (here parser.old.listed_names))) left s) }
+    ensures rest { IfOk result (λ _. parser.new.rest.now ≡ parser.old.rest.now) }
+    ensures kept { EndsNames checkpoint parser.old parser.new result }
+{
+    match parser.listed_names.end_in(parser.arena, checkpoint) {
+        Some(names) => Ok(names),
+        None => Err(parser.no_memory()),
+    }
+}
+
+/// Reads `UNQUALIFIED_NAME = digit | "?$" TEMPLATE_NAME | "?" SPECIAL_NAME | SOURCE_NAME`.
+#[cycle(readers)]
+#[tactic(auto, using(msvc_parser::proofs::NameSteps::unqualified_name_is))]
+#[inline(always)]
+pub fn unqualified_name<'a, 'b, L: Limit>(
+    parser: &mut Parser<'a, 'b, L>,
+    templates: TemplateNames,
+) -> Result<&'b Name<'a, 'b>, Refused>
+    ensures value { ReadsAs name_at parser.old parser.new result
+        (read_name (rules.unqualified_name (is_of_symbol templates))) }
+    ensures eats { Eats parser.old parser.new result }
+{
+    if let Some(digit) = parser.digit() {
+        return parser.name_of_digit(digit);
+    }
+    if parser.eat(b"?$") {
+        return template_name(parser, templates);
+    }
+    if parser.eat(b"?") {
+        return special_name(parser);
+    }
+    new_source_name(parser)
+}
+
+/// Reads `TEMPLATE_NAME = UNQUALIFIED_NAME PARAMETERS`, with separate tables of names and types.
+#[cycle(readers)]
+#[tactic(auto, using(msvc_parser::proofs::NameSteps::template_kept_is))]
+pub fn template_name<'a, 'b, L: Limit>(
+    parser: &mut Parser<'a, 'b, L>,
+    templates: TemplateNames,
+) -> Result<&'b Name<'a, 'b>, Refused>
+    ensures value { ReadsAs name_at parser.old parser.new result (read (template_kept (is_of_symbol templates))) }
+    ensures eats { Eats parser.old parser.new result }
+{
+    let before = parser.limit;
+    let enclosing = parser.memorized.open_template();
+    let template = template(parser)?;
+    parser.memorized.close_template(enclosing);
+    let nodes = parser.limit.since(before);
+    kept_name(parser, template, nodes, templates)
+}
+
+/// Reads the name and the arguments of a template.
+#[cycle(readers)]
+#[tactic(auto, using(msvc_parser::proofs::NameSteps::template_inside_step))]
+#[inline(always)]
+pub fn template<'a, 'b, L: Limit>(
+    parser: &mut Parser<'a, 'b, L>,
+) -> Result<&'b Name<'a, 'b>, Refused>
+    ensures value { ReadsAs name_at parser.old parser.new result (read template_inside) }
+    ensures eats { Eats parser.old parser.new result }
+{
+    parser.count_node()?;
+    let name = unqualified_name(parser, TemplateNames::Memorized)?;
+    let checkpoint = parameters(parser)?;
+    put_template(parser, name, checkpoint)
+}
+
+/// Stores a template of its name and of the arguments on the list. It stands outside the cycle, as `put_tagged` does.
+#[tactic(auto, using(msvc_parser::proofs::Nodes::views))]
+#[inline(never)]
+pub fn put_template<'a, 'b, L: Limit>(
+    parser: &mut Parser<'a, 'b, L>,
+    name: &'b Name<'a, 'b>,
+    checkpoint: usize,
+) -> Result<&'b Name<'a, 'b>, Refused>
+    requires { checkpoint ≤ length (outer parser.old.listed_types) }
+    ensures value { ReadsAs name_at parser.old parser.new result
+        (with_value (Some (template (name_of name.now) (type_trees (map type_at (here parser.old.listed_types)))))) }
+    ensures rest { IfOk result (λ _. parser.new.rest.now ≡ parser.old.rest.now) }
+    ensures kept { EndsTypes checkpoint parser.old parser.new result }
+{
+    let arguments = listed_types(parser, checkpoint)?.items;
+    let template = parser.put(Template { name, arguments })?;
+    parser.put_name(Name::Template(template))
+}
+
+/// Reads `NESTED_NAME = digit | "?" MARKED_NAME | SOURCE_NAME`.
+#[cycle(readers)]
+#[tactic(auto, using(msvc_parser::proofs::NameSteps::nested_name_is))]
+#[inline(always)]
+pub fn nested_name<'a, 'b, L: Limit>(
+    parser: &mut Parser<'a, 'b, L>,
+) -> Result<&'b Name<'a, 'b>, Refused>
+    ensures value { ReadsAs name_at parser.old parser.new result (read_name rules.nested_name) }
+    ensures eats { Eats parser.old parser.new result }
+{
+    if let Some(digit) = parser.digit() {
+        return parser.name_of_digit(digit);
+    }
+    if parser.eat(b"?") {
+        return marked_name(parser);
+    }
+    new_source_name(parser)
+}
+
+/// Reads `MARKED_NAME = "?" SYMBOL_BODY | "$" TEMPLATE_NAME | "A" ANONYMOUS_NAMESPACE | "Q" SOURCE_NAME "@" | NUMBER`.
+#[cycle(readers)]
+#[tactic(auto, using(msvc_parser::proofs::Nodes::marked_split))]
+pub fn marked_name<'a, 'b, L: Limit>(
+    parser: &mut Parser<'a, 'b, L>,
+) -> Result<&'b Name<'a, 'b>, Refused>
+    ensures value { ReadsAs name_at parser.old parser.new result (read_name rules.marked_name) }
+    ensures eats { Eats parser.old parser.new result }
+{
+    if parser.eat(b"?") {
+        parser.count_node()?;
+        let symbol = symbol_body(parser)?;
+        return put_nested(parser, symbol);
+    }
+    if parser.eat(b"$") {
+        return template_name(parser, TemplateNames::Memorized);
+    }
+    if parser.eat(b"A") {
+        return anonymous_namespace(parser);
+    }
+    if parser.eat(b"Q") {
+        return interface(parser);
+    }
+    discriminator(parser)
+}
+
+/// Reads the number that distinguishes a scope.
+#[tactic(auto, unfolding(msvc_nodes::specs::NodeView::name_of))]
+#[inline(never)]
+pub fn discriminator<'a, 'b, L: Limit>(
+    parser: &mut Parser<'a, 'b, L>,
+) -> Result<&'b Name<'a, 'b>, Refused>
+    ensures value { ReadsAs name_at parser.old parser.new result
+        (λ left s. in_node left s (λ left s. and_then (read_name rules.number left s)
+        (λ z left s. Some (discriminator z, left, s)))) }
+    ensures eats { Eats parser.old parser.new result }
+{
+    parser.count_node()?;
+    let number = parser.number()?;
+    parser.put_name(Name::Discriminator(number))
+}
+
+/// Stores a symbol as a name.
+#[tactic(auto, using(msvc_parser::proofs::Nodes::views))]
+#[inline(never)]
+pub fn put_nested<'a, 'b, L: Limit>(
+    parser: &mut Parser<'a, 'b, L>,
+    symbol: &'b TypedSymbol<'a, 'b>,
+) -> Result<&'b Name<'a, 'b>, Refused>
+    ensures value { ReadsAs name_at parser.old parser.new result
+        (with_value (Some (nested (typed_symbol_of symbol.now).name (typed_symbol_of symbol.now).scope
+        (typed_symbol_of symbol.now).symbol_type))) }
+    ensures stays { Stays parser.old parser.new result }
+{
+    parser.put_name(Name::Nested(symbol))
+}
+
+/// Reads the name of an interface, after its `?Q`.
+#[tactic(auto, using(msvc_parser::proofs::NameSteps::new_interface_step), unfolding(msvc_nodes::specs::NodeView::name_of))]
+#[inline(never)]
+pub fn interface<'a, 'b, L: Limit>(
+    parser: &mut Parser<'a, 'b, L>,
+) -> Result<&'b Name<'a, 'b>, Refused>
+    ensures value { ReadsAs name_at parser.old parser.new result (read new_interface) }
+    ensures eats { Eats parser.old parser.new result }
+{
+    parser.count_node()?;
+    let text = source_name(parser)?;
+    parser.expected(b"@", Message::AtExpected)?;
+    parser.memorized_name(Name::Interface(text))
+}
+
+/// Reads `ANONYMOUS_NAMESPACE = ["0x" {hexadecimal digit}] "@"`, after its `?A`.
+#[tactic(auto, using(msvc_parser::proofs::NameSteps::anonymous_namespace_step), unfolding(msvc_nodes::specs::NodeView::name_of))]
+#[inline(never)]
+pub fn anonymous_namespace<'a, 'b, L: Limit>(
+    parser: &mut Parser<'a, 'b, L>,
+) -> Result<&'b Name<'a, 'b>, Refused>
+    ensures value { ReadsAs name_at parser.old parser.new result (read_name rules.anonymous_namespace) }
+    ensures eats { Eats parser.old parser.new result }
+{
+    if !parser.eat(b"0x") {
+        parser.count_node()?;
+        parser.expected(b"@", Message::AtExpected)?;
+        return parser.put_name(Name::Anonymous);
+    }
+    parser.count_node()?;
+    let digits = hexadecimal_digits(parser)?;
+    parser.memorized_name(Name::AnonymousDigits(digits))
+}
+
+/// Reads the digits after `0x` and stores them in the arena, with the `0x`.
+pub fn hexadecimal_digits<'a, 'b, L: Limit>(
+    parser: &mut Parser<'a, 'b, L>,
+) -> Result<&'b str, Refused>
+    ensures value { ReadsAs (λ t. t.now) parser.old parser.new result
+        (λ left s. and_then (read_name rules.hexadecimal_digits left s)
+        (λ ds left s. Some (codes "0x" ++ ds, left, s))) }
+    ensures eats { Eats parser.old parser.new result }
+{
+    let digits = gathered_digits(parser)?;
+    match parser.arena.try_alloc_str(&digits) {
+        Ok(digits) => Ok(digits),
+        Err(_) => Err(parser.no_memory()),
+    }
+}
+
+/// Reads `HEXADECIMAL_DIGITS = {hexadecimal digit} "@"`, and returns `0x` and the digits.
+#[tactic(auto, using(msvc_parser::proofs::RowSteps::hexadecimal_digits_go_on))]
+pub fn gathered_digits<'a, 'b, L: Limit>(
+    parser: &mut Parser<'a, 'b, L>,
+) -> Result<String<&'b Bump>, Refused>
+    ensures value { ReadsAs string_bytes parser.old parser.new result
+        (λ left s. and_then (read_name rules.hexadecimal_digits left s)
+        (λ ds left s. Some (codes "0x" ++ ds, left, s))) }
+    ensures eats { Eats parser.old parser.new result }
+{
+    let Ok(mut digits) = String::from_str(parser.arena, "0x") else {
+        return Err(parser.no_memory());
+    };
+    'digits: loop {
+        if parser.eat(b"@") {
+            return Ok(digits);
+        }
+        let digit = hexadecimal_digit(parser)?;
+        if digits.push(char::from(digit)).is_err() {
+            return Err(parser.no_memory());
+        }
+    }
+}
+
+/// Reads a base 16 digit, and returns its byte unchanged.
+#[tactic(auto, using(msvc_parser::proofs::Choices::letter_is))]
+pub fn hexadecimal_digit<'a, 'b, L: Limit>(parser: &mut Parser<'a, 'b, L>) -> Result<u8, Refused>
+    ensures value { ReadsAs (λ d. d) parser.old parser.new result (letter_here hexadecimal_codes) }
+    ensures eats { Eats parser.old parser.new result }
+    ensures low { IfOk result (λ d. d < 128) }
+{
+    let left = parser.rest.len();
+    let Some(letter) = parser.next_byte() else {
+        return Err(parser.refuse_at(Message::AtExpected, left));
+    };
+    match letters::hexadecimal_code(letter) {
+        Some(digit) => Ok(digit),
+        None => Err(parser.refuse_at(Message::AtExpected, left)),
+    }
+}
+
+/// Reads `SCOPE = {NESTED_NAME} "@"`, the innermost name first. The names are on a new part of the parser's list, and
+/// the result ends that part.
+#[cycle(readers)]
+#[tactic(auto, using(msvc_parser::proofs::RowSteps::scope_goes_on))]
+#[inline(never)]
+pub fn scope<'a, 'b, L: Limit>(parser: &mut Parser<'a, 'b, L>) -> Result<usize, Refused>
+    ensures value { ReadsAs (λ _. map name_at (here parser.new.listed_names)) parser.old parser.new result
+        (read_name rules.scope) }
+    ensures shorter { IfOk result (λ _. length parser.new.rest.now < length parser.old.rest.now) }
+    ensures lists { ListsNames parser.old parser.new result }
+{
+    let checkpoint = parser.listed_names.begin();
+    'names: loop {
+        if parser.eat(b"@") {
+            return Ok(checkpoint);
+        }
+        let name = nested_name(parser)?;
+        list_name(parser, name)?;
+    }
+}
+
+/// Reads `QUALIFIED_NAME = UNQUALIFIED_NAME SCOPE`.
+#[cycle(readers)]
+#[tactic(auto, using(msvc_parser::proofs::NameSteps::qualified_name_is))]
+#[inline(never)]
+pub fn qualified_name<'a, 'b, L: Limit>(
+    parser: &mut Parser<'a, 'b, L>,
+    templates: TemplateNames,
+) -> Result<&'b Symbol<'a, 'b>, Refused>
+    ensures value { ReadsAs named_at parser.old parser.new result
+        (read_name (rules.qualified_name (is_of_symbol templates))) }
+    ensures eats { Eats parser.old parser.new result }
+{
+    let name = unqualified_name(parser, templates)?;
+    let checkpoint = scope(parser)?;
+    put_symbol(parser, name, checkpoint)
+}
+
+/// Stores a name in the scope on the list.
+#[inline(never)]
+pub fn put_symbol<'a, 'b, L: Limit>(
+    parser: &mut Parser<'a, 'b, L>,
+    name: &'b Name<'a, 'b>,
+    checkpoint: usize,
+) -> Result<&'b Symbol<'a, 'b>, Refused>
+    requires { checkpoint ≤ length (outer parser.old.listed_names) }
+    ensures value { ReadsAs named_at parser.old parser.new result
+        (with_value (Some (name_of name.now, map name_at (here parser.old.listed_names)))) }
+    ensures rest { IfOk result (λ _. parser.new.rest.now ≡ parser.old.rest.now) }
+    ensures kept { EndsNames checkpoint parser.old parser.new result }
+{
+    let scope = listed_names(parser, checkpoint)?.items;
+    parser.put(Symbol { name, scope })
+}
+
+/// Returns how many bytes precede the first `@`.
+#[tactic(auto, unfolding(msvc_parser::specs::Parser::name_length))]
+fn name_length(bytes: &[u8]) -> Option<usize>
+    ensures value { result ≡ name_length bytes.now }
+    ensures inside { IfSome result (λ n. n < length bytes.now) }
+{
+    bytes.iter().position(|byte| *byte == b'@')
+}

@@ -1,0 +1,382 @@
+//! Types.
+
+ghost use Rattle.std.specs.Int.{int_wrapping_neg, w32};
+ghost use Rattle.std.specs.Prelude.{codes, false, map, Some, true};
+ghost use Rattle.msvc_nodes.specs.NodeView.{name_at, name_of, type_at, type_of};
+ghost use Rattle.msvc_nodes.specs.Trees.{name_trees, numbered, plain, pointing, tagged};
+ghost use Rattle.msvc_nodes.specs.declared.kinds.NumberedType.TheVariants as number_kind;
+ghost use Rattle.msvc_grammar.specs.Grammar.{array_class, arrays};
+ghost use Rattle.msvc_grammar.specs.Letters.{qualifiers};
+ghost use Rattle.msvc_grammar.specs.Reads.{and_then, in_node, read, read_name, with_value};
+ghost use Rattle.msvc_grammar.specs.Rules as rules;
+ghost use Rattle.msvc_grammar.specs.Sorts.{extended};
+ghost use Rattle.msvc_parser.specs.Parser.{Eats, is_of_symbol, MayEat, ReadsAs, Stays};
+
+use crate::function_types::{function_type, member_pointer};
+use crate::qualified_names::qualified_name;
+use bitflags::Flags;
+use bumpalo::Bump;
+use bumpalo::collections::into_bump_slice;
+use msvc_grammar::forms::TypeForm;
+use msvc_nodes::flags::StorageClass;
+use msvc_nodes::kinds::{Mark, NumberedType, PlainType, Tag};
+use msvc_nodes::nodes::{Symbol, Type};
+use msvc_parser::forms::{MemberPointerForm, ObjectQualifiers, TemplateNames};
+use msvc_parser::letters::{self, OptionalLetters};
+use msvc_parser::limit::Limit;
+use msvc_parser::parser::Parser;
+use msvc_parser::refusal::{Message, Refused};
+use msvc_parser::type_forms::type_form;
+
+/// Reads `TYPE = text of a form, and what the form asks for | ["$"] PLAIN_TYPE`.
+#[cycle(readers)]
+#[tactic(auto, using(msvc_parser::proofs::TypeSteps::any_type_is))]
+pub fn any_type<'a, 'b, L: Limit>(
+    parser: &mut Parser<'a, 'b, L>,
+    q: StorageClass,
+) -> Result<&'b Type<'a, 'b>, Refused>
+    ensures value { ReadsAs type_at parser.old parser.new result (read_name (rules.any_type q.0)) }
+    ensures eats { Eats parser.old parser.new result }
+{
+    if let Some((form, rest)) = type_form(parser.rest) {
+        parser.rest = rest;
+        return formed_type(parser, form, q);
+    }
+    // A `$` is dropped. Each branch has its call, so that the prover matches each with a rule.
+    if parser.eat(b"$") {
+        return plain_type(parser, q);
+    }
+    plain_type(parser, q)
+}
+
+/// Reads what follows the text of a form. Each case ends in a call, so that this frame is gone while parts are read.
+#[cycle(readers)]
+#[tactic(auto, using(msvc_parser::proofs::TypeSteps::type_form_is), unfolding(msvc_nodes::specs::NodeView::type_of))]
+#[inline(never)]
+pub fn formed_type<'a, 'b, L: Limit>(
+    parser: &mut Parser<'a, 'b, L>,
+    form: TypeForm,
+    q: StorageClass,
+) -> Result<&'b Type<'a, 'b>, Refused>
+    ensures value { ReadsAs type_at parser.old parser.new result (read_name (rules.type_form q.0 form)) }
+    ensures eats { MayEat parser.old parser.new result }
+{
+    match form {
+        TypeForm::Enumeration => tagged_type(parser, Tag::Enum, TemplateNames::Memorized, q),
+        TypeForm::Alias => tagged_type(parser, Tag::Alias, TemplateNames::NotMemorized, q),
+        TypeForm::ReferenceToFunction => pointed_function(parser, Mark::Reference, q),
+        TypeForm::PointerToFunction => pointed_function(parser, Mark::Pointer, q),
+        TypeForm::RValueReference => pointing_type(parser, Mark::RValueReference, q),
+        TypeForm::Constant => numbered_type(parser, NumberedType::Constant),
+        TypeForm::TemplateParameter => numbered_type(parser, NumberedType::TemplateParameter),
+        TypeForm::EmptyPack => new_plain(parser, PlainType::EmptyPack),
+        TypeForm::Nullptr => new_plain(parser, PlainType::Nullptr),
+        TypeForm::Array => array(parser),
+        TypeForm::Function => function_type(parser, ObjectQualifiers::Absent),
+        TypeForm::QualifiedFunction => function_type(parser, ObjectQualifiers::Present),
+        TypeForm::Requalified => requalified(parser),
+        TypeForm::QualifiedMemberPointer => member_pointer(parser, MemberPointerForm::Qualified),
+        TypeForm::MemberPointer => marked_member_pointer(parser),
+    }
+}
+
+/// Reads `[qualifier] PLAIN_TYPE`: the qualifiers replace those that were read before.
+#[cycle(readers)]
+#[inline(never)]
+pub fn requalified<'a, 'b, L: Limit>(
+    parser: &mut Parser<'a, 'b, L>,
+) -> Result<&'b Type<'a, 'b>, Refused>
+    ensures value { ReadsAs type_at parser.old parser.new result
+        (λ left s. and_then (read (rules.optional qualifiers) left s) (λ q l t. read_name (rules.plain_type q) l t)) }
+    ensures eats { Eats parser.old parser.new result }
+{
+    let qualifiers = parser.optional(OptionalLetters::Qualifiers);
+    plain_type(parser, qualifiers)
+}
+
+/// Reads `"?" MEMBER_POINTER`, with the class of the member function.
+#[cycle(readers)]
+#[inline(never)]
+pub fn marked_member_pointer<'a, 'b, L: Limit>(
+    parser: &mut Parser<'a, 'b, L>,
+) -> Result<&'b Type<'a, 'b>, Refused>
+    ensures value { ReadsAs type_at parser.old parser.new result
+        (λ left s. and_then (read (rules.literal (codes "?")) left s)
+        (λ _ l t. read_name (rules.member_pointer false) l t)) }
+    ensures eats { Eats parser.old parser.new result }
+{
+    parser.expected(b"?", Message::QuestionMarkExpected)?;
+    member_pointer(parser, MemberPointerForm::OfClass)
+}
+
+/// Counts and stores a type without parts.
+#[tactic(auto, unfolding(msvc_nodes::specs::NodeView::type_of))]
+#[inline(never)]
+pub fn new_plain<'a, 'b, L: Limit>(
+    parser: &mut Parser<'a, 'b, L>,
+    kind: PlainType,
+) -> Result<&'b Type<'a, 'b>, Refused>
+    ensures value { ReadsAs type_at parser.old parser.new result
+        (λ left s. in_node left s (with_value (Some (plain kind)))) }
+    ensures stays { Stays parser.old parser.new result }
+{
+    parser.new_type(Type::Plain(kind))
+}
+
+/// Reads a class, struct, union, enumeration or alias by its name.
+#[cycle(readers)]
+pub fn tagged_type<'a, 'b, L: Limit>(
+    parser: &mut Parser<'a, 'b, L>,
+    tag: Tag,
+    templates: TemplateNames,
+    q: StorageClass,
+) -> Result<&'b Type<'a, 'b>, Refused>
+    ensures value { ReadsAs type_at parser.old parser.new result
+        (λ left s. in_node left s (λ left s. and_then (read_name (rules.qualified_name (is_of_symbol templates)) left s)
+        (λ n left s. Some (tagged tag n.0 (name_trees n.1) q.0, left, s)))) }
+    ensures eats { Eats parser.old parser.new result }
+{
+    parser.count_node()?;
+    let symbol = qualified_name(parser, templates)?;
+    put_tagged(parser, tag, symbol, q)
+}
+
+/// Stores a type of its name. Every `put_` of several parts is a function outside the cycle of readers: a reader then
+/// only calls, and its step lemma is all that the prover needs.
+#[tactic(auto, using(msvc_parser::proofs::Nodes::views))]
+pub fn put_tagged<'a, 'b, L: Limit>(
+    parser: &mut Parser<'a, 'b, L>,
+    tag: Tag,
+    symbol: &'b Symbol<'a, 'b>,
+    q: StorageClass,
+) -> Result<&'b Type<'a, 'b>, Refused>
+    ensures value { ReadsAs type_at parser.old parser.new result
+        (with_value (Some (tagged tag (name_of symbol.now.name.now)
+        (name_trees (map name_at symbol.now.scope.now)) q.0))) }
+    ensures stays { Stays parser.old parser.new result }
+{
+    parser.put_type(Type::Tagged(tag, q, symbol))
+}
+
+/// Reads a pointer or reference to a type.
+#[cycle(readers)]
+#[tactic(auto, unfolding(msvc_nodes::specs::NodeView::type_of))]
+pub fn pointing_type<'a, 'b, L: Limit>(
+    parser: &mut Parser<'a, 'b, L>,
+    mark: Mark,
+    q: StorageClass,
+) -> Result<&'b Type<'a, 'b>, Refused>
+    ensures value { ReadsAs type_at parser.old parser.new result
+        (λ left s. in_node left s (λ left s. and_then (read_name rules.pointee left s)
+        (λ t left s. Some (pointing mark t q.0, left, s)))) }
+    ensures eats { Eats parser.old parser.new result }
+{
+    parser.count_node()?;
+    let inner = pointee(parser)?;
+    parser.put_type(Type::Pointing(mark, q, inner))
+}
+
+/// Reads a pointer or reference to a function.
+#[cycle(readers)]
+#[tactic(auto, unfolding(msvc_nodes::specs::NodeView::type_of))]
+pub fn pointed_function<'a, 'b, L: Limit>(
+    parser: &mut Parser<'a, 'b, L>,
+    mark: Mark,
+    q: StorageClass,
+) -> Result<&'b Type<'a, 'b>, Refused>
+    ensures value { ReadsAs type_at parser.old parser.new result
+        (λ left s. in_node left s (λ left s. and_then (read_name (rules.function_type true) left s)
+        (λ t left s. Some (pointing mark t q.0, left, s)))) }
+    ensures eats { Eats parser.old parser.new result }
+{
+    parser.count_node()?;
+    let inner = function_type(parser, ObjectQualifiers::Absent)?;
+    parser.put_type(Type::Pointing(mark, q, inner))
+}
+
+/// Reads a template argument that is a number.
+#[tactic(auto, unfolding(msvc_nodes::specs::NodeView::type_of))]
+pub fn numbered_type<'a, 'b, L: Limit>(
+    parser: &mut Parser<'a, 'b, L>,
+    kind: NumberedType,
+) -> Result<&'b Type<'a, 'b>, Refused>
+    ensures value { ReadsAs type_at parser.old parser.new result
+        (λ left s. in_node left s (λ left s. and_then (read_name rules.number left s)
+        (λ z left s. Some (numbered kind z, left, s)))) }
+    ensures eats { Eats parser.old parser.new result }
+{
+    parser.count_node()?;
+    let number = parser.number()?;
+    parser.put_type(Type::Numbered(kind, number))
+}
+
+/// Reads `PLAIN_TYPE = base letter | letter of types, and what its row asks for`.
+#[cycle(readers)]
+#[tactic(auto, using(msvc_parser::proofs::Nodes::plain_split), unfolding(msvc_parser::proofs::TypeSteps::type_by, msvc_nodes::specs::NodeView::type_of))]
+#[inline(always)]
+pub fn plain_type<'a, 'b, L: Limit>(
+    parser: &mut Parser<'a, 'b, L>,
+    q: StorageClass,
+) -> Result<&'b Type<'a, 'b>, Refused>
+    ensures value { ReadsAs type_at parser.old parser.new result (read_name (rules.plain_type q.0)) }
+    ensures eats { Eats parser.old parser.new result }
+{
+    let letter = parser.byte()?;
+    let both = StorageClass::CONST.union(StorageClass::VOLATILE);
+    match letter {
+        b'T' => tagged_type(parser, Tag::Union, TemplateNames::Memorized, q),
+        b'U' => tagged_type(parser, Tag::Struct, TemplateNames::Memorized, q),
+        b'V' => tagged_type(parser, Tag::Class, TemplateNames::Memorized, q),
+        b'A' => pointing_type(parser, Mark::Reference, q),
+        b'B' => pointing_type(parser, Mark::Reference, StorageClass::VOLATILE),
+        b'P' => pointing_type(parser, Mark::Pointer, q),
+        b'Q' => pointing_type(parser, Mark::Pointer, StorageClass::CONST),
+        b'R' => pointing_type(parser, Mark::Pointer, StorageClass::VOLATILE),
+        b'S' => pointing_type(parser, Mark::Pointer, both),
+        b'Y' => array(parser),
+        b'_' => extended_type(parser, q),
+        b'?' => template_parameter(parser),
+        _ => parser.type_of_letter(letter, q),
+    }
+}
+
+/// Reads `POINTEE = ["E"] [storage class] TYPE`.
+#[cycle(readers)]
+#[tactic(auto, using(msvc_parser::proofs::TypeSteps::pointee_is))]
+pub fn pointee<'a, 'b, L: Limit>(
+    parser: &mut Parser<'a, 'b, L>,
+) -> Result<&'b Type<'a, 'b>, Refused>
+    ensures value { ReadsAs type_at parser.old parser.new result (read_name rules.pointee) }
+    ensures eats { Eats parser.old parser.new result }
+{
+    let size = parser.optional_flag(b'E', StorageClass::PTR64);
+    let class = parser.optional(OptionalLetters::StorageClasses);
+    any_type(parser, size.union(class))
+}
+
+/// Reads `ARRAY = NUMBER {NUMBER} ["$$C" array qualifier] TYPE`: the first number is how many lengths follow. The
+/// functions that read the parts before the elements are not inlined, so that arrays of arrays take little stack.
+#[cycle(readers)]
+#[tactic(auto, using(msvc_parser::proofs::TypeSteps::array_is))]
+#[inline(never)]
+pub fn array<'a, 'b, L: Limit>(parser: &mut Parser<'a, 'b, L>) -> Result<&'b Type<'a, 'b>, Refused>
+    ensures value { ReadsAs type_at parser.old parser.new result (read_name rules.array) }
+    ensures eats { Eats parser.old parser.new result }
+{
+    let dimension = dimension(parser)?;
+    let lengths = lengths(parser, dimension)?;
+    let class = array_class(parser)?;
+    let element = any_type(parser, StorageClass::empty())?;
+    nested_arrays(parser, lengths, element, class)
+}
+
+/// Reads a number greater than 0.
+#[tactic(auto, using(msvc_parser::proofs::TypeSteps::dimension_is))]
+#[inline(never)]
+pub fn dimension<'a, 'b, L: Limit>(parser: &mut Parser<'a, 'b, L>) -> Result<u32, Refused>
+    ensures value { ReadsAs (λ n. n) parser.old parser.new result (read_name rules.dimension) }
+    ensures eats { Eats parser.old parser.new result }
+{
+    let dimension = parser.number()?;
+    if dimension < 1 {
+        return Err(parser.refuse(Message::InvalidArrayDimension(dimension)));
+    }
+    Ok(dimension as u32)
+}
+
+/// Reads the qualifiers of each level of an array.
+#[tactic(auto, using(msvc_parser::proofs::TypeSteps::array_class_is))]
+#[inline(never)]
+pub fn array_class<'a, 'b, L: Limit>(
+    parser: &mut Parser<'a, 'b, L>,
+) -> Result<StorageClass, Refused>
+    ensures value { ReadsAs (λ q. q.0) parser.old parser.new result (read array_class) }
+    ensures eats { MayEat parser.old parser.new result }
+{
+    if !parser.eat(b"$$C") {
+        return Ok(StorageClass::empty());
+    }
+    let left = parser.rest.len();
+    let Some(letter) = parser.next_byte() else {
+        return Err(parser.refuse_at(Message::UnknownStorageClass, left));
+    };
+    match letters::array_qualifier(letter) {
+        Some(class) => Ok(class),
+        None => Err(parser.refuse_at(Message::UnknownStorageClass, left)),
+    }
+}
+
+/// Reads exactly `count` lengths of arrays, and counts each array as a node.
+#[tactic(auto, using(msvc_parser::proofs::RowSteps::lengths_go_on))]
+#[inline(never)]
+pub fn lengths<'a, 'b, L: Limit>(
+    parser: &mut Parser<'a, 'b, L>,
+    count: u32,
+) -> Result<&'b [i32], Refused>
+    ensures value { ReadsAs (λ zs. zs.now) parser.old parser.new result (read_name (rules.lengths count)) }
+    ensures eats { MayEat parser.old parser.new result }
+{
+    let mut lengths = Vec::new(parser.arena);
+    for _ in 0..count {
+        parser.count_node()?;
+        let length = parser.number()?;
+        if lengths.push(length).is_err() {
+            return Err(parser.no_memory());
+        }
+    }
+    Ok(into_bump_slice(lengths))
+}
+
+/// Stores an array of these lengths, the outermost first, with qualifiers at each level. It is recursive, since the
+/// borrow checker rejects a reference that a loop reassigns.
+#[tactic(auto, unfolding(msvc_grammar::specs::Grammar::arrays, msvc_nodes::specs::NodeView::type_of))]
+pub fn nested_arrays<'a, 'b, L: Limit>(
+    parser: &mut Parser<'a, 'b, L>,
+    lengths: &[i32],
+    element: &'b Type<'a, 'b>,
+    class: StorageClass,
+) -> Result<&'b Type<'a, 'b>, Refused>
+    ensures value { ReadsAs type_at parser.old parser.new result
+        (with_value (Some (arrays lengths.now (type_of element.now) class.0))) }
+    ensures stays { Stays parser.old parser.new result }
+{
+    let [length, inner @ ..] = lengths else {
+        return Ok(element);
+    };
+    let inner = nested_arrays(parser, inner, element, class)?;
+    parser.put_type(Type::Array(*length, class, inner))
+}
+
+/// Reads a base type by its second letter.
+#[tactic(auto, using(msvc_parser::proofs::TypeSteps::extended_is), unfolding(msvc_nodes::specs::NodeView::type_of))]
+#[inline(never)]
+pub fn extended_type<'a, 'b, L: Limit>(
+    parser: &mut Parser<'a, 'b, L>,
+    q: StorageClass,
+) -> Result<&'b Type<'a, 'b>, Refused>
+    ensures value { ReadsAs type_at parser.old parser.new result (read_name (rules.type_after q.0 extended)) }
+    ensures eats { Eats parser.old parser.new result }
+{
+    parser.count_node()?;
+    let letter = parser.byte()?;
+    match letters::extended_type(letter) {
+        Some(base) => parser.put_type(Type::Base(base, q)),
+        None => Err(parser.refuse(Message::UnknownPrimitiveType)),
+    }
+}
+
+/// Reads the negated number of a template parameter.
+#[tactic(auto, unfolding(msvc_nodes::specs::NodeView::type_of))]
+#[inline(never)]
+pub fn template_parameter<'a, 'b, L: Limit>(
+    parser: &mut Parser<'a, 'b, L>,
+) -> Result<&'b Type<'a, 'b>, Refused>
+    ensures value { ReadsAs type_at parser.old parser.new result
+        (λ left s. in_node left s (λ left s. and_then (read_name rules.number left s)
+        (λ z left s. Some (numbered number_kind.TemplateParameter (int_wrapping_neg w32 z), left, s)))) }
+    ensures eats { Eats parser.old parser.new result }
+{
+    parser.count_node()?;
+    let number = parser.number()?;
+    parser.put_type(Type::Numbered(NumberedType::TemplateParameter, number.wrapping_neg()))
+}

@@ -1,0 +1,419 @@
+//! Converts trees to nodes in an arena, in one pass. Texts are not copied: nodes borrow them from the tree. Contracts say
+//! that a node and its tree are seen as the same tree of the definitions.
+
+#![tactic(auto, using(msvc_nodes::proofs::NodeViews::views), unfolding(msvc_nodes::specs::NodeView::name_of, msvc_nodes::specs::NodeView::type_of))]
+
+ghost use Rattle.std.specs.Prelude.{◌≡◌, IfOk, option_map, string_bytes};
+ghost use Rattle.msvc_nodes.specs.NodeView.{name_of as node_name, type_of as node_type, names_in as node_names};
+ghost use Rattle.msvc_nodes.specs.NodeView.{types_in as node_types, typed_symbol_of};
+ghost use Rattle.msvc_nodes.specs.Trees.{anonymous, function, member_function, member_pointer, nested};
+ghost use Rattle.msvc_nodes.specs.Trees.{spelled, table, tagged, template};
+ghost use Rattle.msvc_tree.specs.View.{name_of, operator_of, type_of, scope_of, params_of, tree_of};
+
+use crate::tree::{CallingConv, Name, NameSequence, Operator, Params, ParseResult, Symbol, Type};
+use crate::variants::{
+    NameRef, OperatorRef, TypeRef, name_ref, operator_ref, pointed_class, type_ref,
+};
+use bitflags::Flags;
+use bumpalo::Bump;
+use bumpalo::collections::into_bump_slice;
+use msvc_nodes::flags::{FuncClass, StorageClass};
+use msvc_nodes::kinds::{Spelling, Table, Tag};
+use msvc_nodes::list::List;
+use msvc_nodes::nodes::{self, BaseClass, Function, Scope, Template, TypedSymbol};
+use std::alloc::{AllocError, Global};
+
+/// The size in bytes of an arena's first block: more than the nodes of most trees and the text printed of them take.
+/// Memory that is not written to costs nothing.
+const FIRST_ROOM: usize = 1 << 15;
+
+/// Makes an arena that has room for the nodes of most trees. Fails only when it is out of memory.
+pub fn arena_for_nodes(alloc: Global) -> Result<Bump, AllocError> {
+    Bump::try_with_capacity(alloc, FIRST_ROOM)
+}
+
+/// Converts the tree of a symbol to nodes in `arena`. Fails only when it is out of memory.
+#[cycle(to_nodes)]
+pub fn tree_to_nodes<'a, 'b>(
+    arena: &'b Bump,
+    tree: &'b ParseResult<'a>,
+) -> Result<TypedSymbol<'a, 'b>, AllocError>
+    ensures { IfOk result (λ w. typed_symbol_of w ≡ tree_of tree.now) }
+{
+    let symbol = symbol_to_nodes(arena, &tree.symbol)?;
+    let symbol_type = type_to_nodes(arena, &tree.symbol_type)?;
+    Ok(TypedSymbol {
+        symbol,
+        symbol_type,
+    })
+}
+
+/// Converts a name in its scope to nodes.
+#[cycle(to_nodes)]
+#[inline(always)]
+pub(crate) fn symbol_to_nodes<'a, 'b>(
+    arena: &'b Bump,
+    tree: &'b Symbol<'a>,
+) -> Result<nodes::Symbol<'a, 'b>, AllocError>
+    ensures name { IfOk result (λ s. node_name s.name.now ≡ name_of tree.now.name) }
+    ensures scope { IfOk result (λ s. node_names s.scope.now ≡ scope_of tree.now.scope) }
+{
+    let name = name_to_nodes(arena, &tree.name)?;
+    let scope = names_to_nodes(arena, &tree.scope)?;
+    Ok(nodes::Symbol {
+        name,
+        scope: scope.items,
+    })
+}
+
+/// Converts a name to a node.
+#[cycle(to_nodes)]
+pub(crate) fn name_to_nodes<'a, 'b>(
+    arena: &'b Bump,
+    tree: &'b Name<'a>,
+) -> Result<&'b nodes::Name<'a, 'b>, AllocError>
+    ensures { IfOk result (λ n. node_name n.now ≡ name_of tree.now) }
+{
+    match name_ref(tree) {
+        NameRef::Spelled(how, text) => put_name(arena, spelled_node(how, text)),
+        NameRef::Operator(operator) => operator_to_nodes(arena, operator),
+        NameRef::Template(name, arguments) => {
+            let name = name_to_nodes(arena, name)?;
+            let arguments = types_to_nodes(arena, arguments)?;
+            put_template(arena, name, arguments)
+        }
+        NameRef::Discriminator(number) => put_name(arena, nodes::Name::Discriminator(number)),
+        NameRef::Nested(symbol) => {
+            let symbol = tree_to_nodes(arena, symbol)?;
+            put_nested(arena, symbol)
+        }
+        NameRef::Anonymous(digits) => put_name(arena, anonymous_node(digits)),
+    }
+}
+
+/// Converts an operator to the node of a name.
+#[cycle(to_nodes)]
+#[inline(always)]
+fn operator_to_nodes<'a, 'b>(
+    arena: &'b Bump,
+    tree: &'b Operator<'a>,
+) -> Result<&'b nodes::Name<'a, 'b>, AllocError>
+    ensures { IfOk result (λ n. node_name n.now ≡ operator_of tree.now) }
+{
+    match operator_ref(tree) {
+        OperatorRef::Plain(plain) => put_name(arena, nodes::Name::Plain(plain)),
+        OperatorRef::Guard(guard, number) => put_name(arena, nodes::Name::Guard(guard, number)),
+        OperatorRef::TypeDescriptor(set, described) => {
+            let described = type_to_nodes(arena, described)?;
+            put_name(arena, nodes::Name::TypeDescriptor(set, described))
+        }
+        OperatorRef::BaseClassDescriptor(a, b, c, d) => {
+            let place = put_base_class(arena, a, b, c, d)?;
+            put_name(arena, nodes::Name::BaseClassDescriptor(place))
+        }
+    }
+}
+
+/// Converts a type to a node.
+#[cycle(to_nodes)]
+pub(crate) fn type_to_nodes<'a, 'b>(
+    arena: &'b Bump,
+    tree: &'b Type<'a>,
+) -> Result<&'b nodes::Type<'a, 'b>, AllocError>
+    ensures { IfOk result (λ t. node_type t.now ≡ type_of tree.now) }
+{
+    match type_ref(tree) {
+        TypeRef::Plain(plain) => put_type(arena, nodes::Type::Plain(plain)),
+        TypeRef::Base(base, set) => put_type(arena, nodes::Type::Base(base, set)),
+        TypeRef::Tagged(tag, symbol, set) => {
+            let symbol = symbol_to_nodes(arena, symbol)?;
+            put_tagged(arena, tag, symbol, set)
+        }
+        TypeRef::Numbered(kind, number) => put_type(arena, nodes::Type::Numbered(kind, number)),
+        TypeRef::ConstantString(text) => put_type(arena, nodes::Type::ConstantString(text)),
+        TypeRef::Pointing(mark, inner, set) => {
+            let inner = type_to_nodes(arena, inner)?;
+            put_type(arena, nodes::Type::Pointing(mark, set, inner))
+        }
+        TypeRef::Array(length, inner, set) => {
+            let inner = type_to_nodes(arena, inner)?;
+            put_type(arena, nodes::Type::Array(length, set, inner))
+        }
+        TypeRef::Function(convention, parameters, set, returned) => {
+            let parameters = types_to_nodes(arena, parameters)?;
+            let returned = type_to_nodes(arena, returned)?;
+            put_function(arena, convention, parameters, set, returned)
+        }
+        TypeRef::MemberFunction(class, convention, parameters, set, returned) => {
+            let parameters = types_to_nodes(arena, parameters)?;
+            let returned = type_to_nodes(arena, returned)?;
+            put_member_function(arena, class, convention, parameters, set, returned)
+        }
+        TypeRef::MemberPointer(class, convention, parameters, set, returned) => {
+            let Some(pointed) = pointed_class(tree) else {
+                unreachable!();
+            };
+            let symbol = symbol_to_nodes(arena, pointed)?;
+            let parameters = types_to_nodes(arena, parameters)?;
+            let returned = type_to_nodes(arena, returned)?;
+            put_member_pointer(arena, symbol, class, convention, parameters, set, returned)
+        }
+        TypeRef::Variable(inner, kind, set) => {
+            let inner = type_to_nodes(arena, inner)?;
+            put_type(arena, nodes::Type::Variable(kind, set, inner))
+        }
+        TypeRef::Table(table, scope, set) => {
+            let names = names_to_nodes(arena, scope)?;
+            put_table(arena, table, names, set)
+        }
+        TypeRef::VcallThunk(number, convention) => {
+            put_type(arena, nodes::Type::VcallThunk(number, convention))
+        }
+    }
+}
+
+/// Converts the names of a scope to a list of nodes.
+#[cycle(to_nodes)]
+#[inline(always)]
+pub(crate) fn names_to_nodes<'a, 'b>(
+    arena: &'b Bump,
+    tree: &'b NameSequence<'a>,
+) -> Result<List<'b, &'b nodes::Name<'a, 'b>>, AllocError>
+    ensures { IfOk result (λ l. node_names l.items.now ≡ scope_of tree.now) }
+{
+    let mut nodes = Vec::with_capacity(arena, tree.names.len())?;
+    for name in &tree.names {
+        nodes.push(name_to_nodes(arena, name)?)?;
+    }
+    Ok(List {
+        items: into_bump_slice(nodes),
+    })
+}
+
+/// Converts a list of types to a list of nodes.
+#[cycle(to_nodes)]
+#[inline(always)]
+pub(crate) fn types_to_nodes<'a, 'b>(
+    arena: &'b Bump,
+    tree: &'b Params<'a>,
+) -> Result<List<'b, &'b nodes::Type<'a, 'b>>, AllocError>
+    ensures { IfOk result (λ l. node_types l.items.now ≡ params_of tree.now) }
+{
+    let mut nodes = Vec::with_capacity(arena, tree.types.len())?;
+    for item in &tree.types {
+        nodes.push(type_to_nodes(arena, item)?)?;
+    }
+    Ok(List {
+        items: into_bump_slice(nodes),
+    })
+}
+
+/// Moves a value into the arena.
+#[inline(always)]
+fn put<'b, T: Copy>(arena: &'b Bump, node: T) -> Result<&'b T, AllocError>
+    ensures { IfOk result (λ t. t.now ≡ node) }
+{
+    match arena.try_alloc(node) {
+        Ok(node) => Ok(node),
+        Err(_) => Err(AllocError),
+    }
+}
+
+/// Moves the node of a name into the arena.
+fn put_name<'a, 'b>(
+    arena: &'b Bump,
+    node: nodes::Name<'a, 'b>,
+) -> Result<&'b nodes::Name<'a, 'b>, AllocError>
+    ensures { IfOk result (λ n. node_name n.now ≡ node_name node.entry) }
+{
+    put(arena, node)
+}
+
+/// Moves the node of a type into the arena.
+fn put_type<'a, 'b>(
+    arena: &'b Bump,
+    node: nodes::Type<'a, 'b>,
+) -> Result<&'b nodes::Type<'a, 'b>, AllocError>
+    ensures { IfOk result (λ t. node_type t.now ≡ node_type node.entry) }
+{
+    put(arena, node)
+}
+
+/// Makes the node of a template with its arguments.
+fn put_template<'a, 'b>(
+    arena: &'b Bump,
+    name: &'b nodes::Name<'a, 'b>,
+    arguments: List<'b, &'b nodes::Type<'a, 'b>>,
+) -> Result<&'b nodes::Name<'a, 'b>, AllocError>
+    ensures { IfOk result (λ n. node_name n.now
+        ≡ template (node_name name.now) (node_types arguments.entry.items.now)) }
+{
+    let template = put(
+        arena,
+        Template {
+            name,
+            arguments: arguments.items,
+        },
+    )?;
+    put_name(arena, nodes::Name::Template(template))
+}
+
+/// Makes the node of a scope that is a symbol with its type.
+fn put_nested<'a, 'b>(
+    arena: &'b Bump,
+    symbol: TypedSymbol<'a, 'b>,
+) -> Result<&'b nodes::Name<'a, 'b>, AllocError>
+    ensures { IfOk result (λ n. node_name n.now
+        ≡ nested (typed_symbol_of symbol.entry).name (typed_symbol_of symbol.entry).scope (typed_symbol_of symbol.entry).symbol_type) }
+{
+    let symbol = put(arena, symbol)?;
+    put_name(arena, nodes::Name::Nested(symbol))
+}
+
+/// Moves the place of a base class into the arena.
+fn put_base_class<'b>(
+    arena: &'b Bump,
+    member: i32,
+    pointer: i32,
+    entry: i32,
+    attributes: i32,
+) -> Result<&'b BaseClass, AllocError>
+    ensures { IfOk result (λ p. (p.now.member ≡ member) × (p.now.pointer ≡ pointer) × (p.now.entry ≡ entry)
+        × (p.now.attributes ≡ attributes)) }
+{
+    put(
+        arena,
+        BaseClass {
+            member,
+            pointer,
+            entry,
+            attributes,
+        },
+    )
+}
+
+/// Makes the node of a class, struct, union, enumeration or alias.
+fn put_tagged<'a, 'b>(
+    arena: &'b Bump,
+    tag: Tag,
+    symbol: nodes::Symbol<'a, 'b>,
+    set: StorageClass,
+) -> Result<&'b nodes::Type<'a, 'b>, AllocError>
+    ensures { IfOk result (λ t. node_type t.now
+        ≡ tagged tag (node_name symbol.entry.name.now) (node_names symbol.entry.scope.now) set.0) }
+{
+    let symbol = put(arena, symbol)?;
+    put_type(arena, nodes::Type::Tagged(tag, set, symbol))
+}
+
+/// Makes the node of a plain function.
+fn put_function<'a, 'b>(
+    arena: &'b Bump,
+    convention: CallingConv,
+    parameters: List<'b, &'b nodes::Type<'a, 'b>>,
+    qualifiers: StorageClass,
+    returned: &'b nodes::Type<'a, 'b>,
+) -> Result<&'b nodes::Type<'a, 'b>, AllocError>
+    ensures { IfOk result (λ t. node_type t.now
+        ≡ function convention (node_types parameters.entry.items.now) qualifiers.0 (node_type returned.now)) }
+{
+    let function = put(
+        arena,
+        Function {
+            convention,
+            class: FuncClass::empty(),
+            qualifiers,
+            parameters: parameters.items,
+            returned,
+        },
+    )?;
+    put_type(arena, nodes::Type::Function(function))
+}
+
+/// Makes the node of a member function.
+fn put_member_function<'a, 'b>(
+    arena: &'b Bump,
+    class: FuncClass,
+    convention: CallingConv,
+    parameters: List<'b, &'b nodes::Type<'a, 'b>>,
+    qualifiers: StorageClass,
+    returned: &'b nodes::Type<'a, 'b>,
+) -> Result<&'b nodes::Type<'a, 'b>, AllocError>
+    ensures { IfOk result (λ t. node_type t.now
+        ≡ member_function class.0 convention (node_types parameters.entry.items.now) qualifiers.0
+        (node_type returned.now)) }
+{
+    let function = put(
+        arena,
+        Function {
+            convention,
+            class,
+            qualifiers,
+            parameters: parameters.items,
+            returned,
+        },
+    )?;
+    put_type(arena, nodes::Type::MemberFunction(function))
+}
+
+/// Makes the node of a pointer to a member function.
+fn put_member_pointer<'a, 'b>(
+    arena: &'b Bump,
+    symbol: nodes::Symbol<'a, 'b>,
+    class: FuncClass,
+    convention: CallingConv,
+    parameters: List<'b, &'b nodes::Type<'a, 'b>>,
+    qualifiers: StorageClass,
+    returned: &'b nodes::Type<'a, 'b>,
+) -> Result<&'b nodes::Type<'a, 'b>, AllocError>
+    ensures { IfOk result (λ t. node_type t.now
+        ≡ member_pointer (node_name symbol.entry.name.now) (node_names symbol.entry.scope.now) class.0 convention
+        (node_types parameters.entry.items.now) qualifiers.0 (node_type returned.now)) }
+{
+    let symbol = put(arena, symbol)?;
+    let function = put(
+        arena,
+        Function {
+            convention,
+            class,
+            qualifiers,
+            parameters: parameters.items,
+            returned,
+        },
+    )?;
+    put_type(arena, nodes::Type::MemberPointer(symbol, function))
+}
+
+/// Makes the node of a table of virtual functions or bases.
+fn put_table<'a, 'b>(
+    arena: &'b Bump,
+    which: Table,
+    names: List<'b, &'b nodes::Name<'a, 'b>>,
+    set: StorageClass,
+) -> Result<&'b nodes::Type<'a, 'b>, AllocError>
+    ensures { IfOk result (λ t. node_type t.now ≡ table which (node_names names.entry.items.now) set.0) }
+{
+    let scope = put(arena, Scope { names: names.items })?;
+    put_type(arena, nodes::Type::Table(which, set, scope))
+}
+
+/// Makes the node of a name that is a text, by how it is spelled.
+fn spelled_node<'a, 'b>(how: Spelling, text: &'a [u8]) -> nodes::Name<'a, 'b>
+    ensures { node_name result ≡ spelled how text.now }
+{
+    match how {
+        Spelling::Source => nodes::Name::Source(text),
+        Spelling::Interface => nodes::Name::Interface(text),
+        Spelling::Md5 => nodes::Name::Md5(text),
+    }
+}
+
+/// Makes the node of an anonymous namespace, with its digits if it has them.
+fn anonymous_node<'a, 'b>(digits: &'b Option<String>) -> nodes::Name<'a, 'b>
+    ensures { node_name result ≡ anonymous (option_map string_bytes digits.now) }
+{
+    match digits {
+        None => nodes::Name::Anonymous,
+        Some(digits) => nodes::Name::AnonymousDigits(digits.as_str()),
+    }
+}

@@ -1,5 +1,0 @@
-use Rattle.msvc_write.proofs.Settling.{settled_two}
-use Rattle.msvc_write.proofs.types.write_thunk.Goals as goal
-
-pub returns : goal.returns
-returns c = settled_two _ _ _ _ _ c.in_ok-write_text.ensures c.in_ok-write_calling.ensures

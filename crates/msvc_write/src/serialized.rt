@@ -1,0 +1,49 @@
+//! The declaration of an owned tree.
+
+ghost use Rattle.std.specs.Prelude.{◌≡◌, IfOk, IfErr, string_bytes};
+ghost use Rattle.msvc_nodes.specs.declared.error.ErrorRepr.TheVariants.{Memory};
+ghost use Rattle.msvc_tree.specs.View.{tree_of};
+ghost use Rattle.msvc_print.specs.Declaration.{declaration};
+ghost use Rattle.msvc_write.specs.Serialized.{IsTextOf};
+
+use msvc_nodes::error::Error;
+use msvc_nodes::flags::DemangleFlags;
+use msvc_print::{print, text_of};
+use msvc_tree::to_nodes::{arena_for_nodes, tree_to_nodes};
+use msvc_tree::tree::ParseResult;
+use std::alloc::{AllocError, Global};
+
+/// Bytes that a declaration has room for before it grows: more than most need.
+const FIRST_BYTES: usize = 128;
+
+/// Returns the bytes of the declaration of a tree.
+fn declared(
+    alloc: Global,
+    input: &ParseResult<'_>,
+    flags: DemangleFlags,
+) -> Result<Vec<u8>, AllocError>
+    ensures { IfOk result (λ out. out.items ≡ declaration (tree_of input.now) flags.0) }
+{
+    let arena = arena_for_nodes(alloc)?;
+    let symbol = tree_to_nodes(&arena, input)?;
+    let mut out = Vec::with_capacity(alloc, FIRST_BYTES)?;
+    print(&arena, &symbol, flags, &mut out)?;
+    Ok(out)
+}
+
+/// Prints the declaration of the symbol `input` under `flags`. Bits that are no flag change nothing. If a name of the
+/// symbol is not UTF-8, each piece that is not becomes U+FFFD.
+///
+/// Fails only if memory is refused.
+pub fn serialize(
+    alloc: Global,
+    input: &ParseResult<'_>,
+    flags: DemangleFlags,
+) -> Result<String, Error>
+    ensures text { IfOk result (λ text. IsTextOf (tree_of input.now) flags.0 (string_bytes text)) }
+    ensures memory { IfErr result (λ e. e ≡ Memory) }
+{
+    let bytes = declared(alloc, input, flags)?;
+    let text = text_of(alloc, bytes)?;
+    Ok(text)
+}
