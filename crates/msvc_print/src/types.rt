@@ -1,9 +1,9 @@
 //! Prints types on both sides of a name: writes the pieces that come first, and pushes what is left.
 
-ghost use Rattle.std.specs.Prelude.{ℕ, [], ◌∷◌, ◌++◌, ◌+◌, ◌≤◌, Bool, true, false, OnOk, ◌≡◌, codes};
+ghost use Rattle.std.specs.Prelude.{ℕ, [], ◌∷◌, ◌++◌, ◌+◌, Bool, true, false, OnOk, ◌≡◌, codes};
 ghost use Rattle.std.specs.Fmt.{signed_decimal};
 ghost use Rattle.msvc_nodes.specs.Trees.{plain, numbered};
-ghost use Rattle.msvc_nodes.specs.NodeView.{name_of, names_in, type_of, types_in};
+ghost use Rattle.msvc_nodes.specs.NodeView.{names_in, type_of, types_in};
 ghost use Rattle.msvc_nodes.specs.declared.kinds.Table.TheVariants.{Functions};
 ghost use Rattle.msvc_print.specs.Declaration as spec;
 ghost use Rattle.msvc_print.specs.Functions.{calling, function_qualifier};

@@ -18,7 +18,6 @@ use msvc_nodes::flags::StorageClass;
 use msvc_nodes::kinds::{BaseType, PlainType};
 use msvc_nodes::list::List;
 use msvc_nodes::nodes::Type;
-use msvc_nodes::same::is_same_type;
 use msvc_parser::forms::Ellipsis;
 use msvc_parser::limit::Limit;
 use msvc_parser::memorized::is_long;

@@ -15,7 +15,6 @@ ghost use Rattle.msvc_parser.specs.Parser.{Eats, is_of_symbol, MayEat, ReadsAs, 
 use crate::function_types::{function_type, member_pointer};
 use crate::qualified_names::qualified_name;
 use bitflags::Flags;
-use bumpalo::Bump;
 use bumpalo::collections::into_bump_slice;
 use msvc_grammar::forms::TypeForm;
 use msvc_nodes::flags::StorageClass;
