@@ -1,125 +1,173 @@
-//! `msvcfilt [-n] [FILE..]` writes each file, or standard input if there is none, with each symbol in it replaced by
-//! its declaration, as `llvm-undname` spells it: `foo!void __cdecl crash(void)+0x12` for `foo!?crash@@YAXXZ+0x12`.
-//! With `-n` it prints names without types.
+//! `msvcfilt [OPTIONS] [FILE..]` writes each file, or standard input if there is none, with each symbol in it replaced
+//! by its declaration, as `llvm-undname` spells it: `foo!void __cdecl crash(void)+0x12` for `foo!?crash@@YAXXZ+0x12`.
+//! With `-n` it prints names without types. The text of each line is written before the program waits for the next.
 //!
 //! The exit status is 0, or 1 if a file or standard input can't be read, the text can't be written, or an allocation
-//! fails. Then standard error says which. After a file that can't be read the others are still filtered.
+//! fails, or 2 if the arguments are wrong. Then standard error says which, except where nobody reads the pipe that is
+//! written. After a file that can't be read the others are still filtered.
 #![tactic(auto)]
 
-use clap::{Arg, ArgAction, Command};
-use msvc_demangler::{DemangleFlags, Fault, Flags, Watched, filter_text};
-use std::alloc::{AllocError, Global};
+mod options;
+mod streams;
+
+use clap::Command;
+use msvc_demangler::{DemangleFlags, Fault, Watched, filter_text};
+use std::alloc::Global;
+use std::cell::RefCell;
 use std::fs::File;
-use std::io::{BufReader, BufWriter, IsTerminal, Read, Write};
+use std::io::{BufReader, BufWriter, ErrorKind, Read, Write};
 use std::process::ExitCode;
 use std::{env, io};
+use streams::{Input, Output, Text};
 
 /// Bytes that are read, or written, at once.
 const BUFFER_LENGTH: usize = 64 * 1024;
 
-fn main(rt: HostRuntime) -> io::Result<ExitCode> {
-    let words: Vec<String> = env::args(&rt)?.collect(rt.alloc())?;
-    let matches = match command(rt.alloc())?.try_get_matches_from(words.as_slice()) {
-        Ok(matches) => matches,
-        Err(error) => {
-            error.print(&rt)?;
-            return Ok(ExitCode::from(error.exit_code() as u8));
+/// The exit status if the arguments are wrong.
+const WRONG_ARGUMENTS: u8 = 2;
+
+fn main(rt: HostRuntime) -> ExitCode {
+    let words = match words(&rt) {
+        Ok(words) => words,
+        Err(error) if error.kind() == ErrorKind::InvalidData => {
+            let _ = eprintln!(rt; "msvcfilt: argument is not UTF-8");
+            return ExitCode::from(WRONG_ARGUMENTS);
         }
+        Err(_) => return failure(&rt, Fault::Memory),
     };
-    let mut flags = DemangleFlags::llvm();
-    if matches.get_flag("name-only") {
-        flags.insert(DemangleFlags::NAME_ONLY);
-    }
-    let out = BufWriter::with_capacity(rt.alloc(), text_length(&rt), rt.stdout())?;
-    let mut out = Watched::new(out);
-    let done = match matches.get_strs("file") {
-        Some(names) => filter_files(&rt, names, &mut out, flags),
-        None => filter(rt.alloc(), rt.stdin(), &mut out, flags).map(|_| ExitCode::SUCCESS),
-    };
-    let flushed = out.into_inner().flush().map_err(|_| Fault::Write);
-    match flushed.and(done) {
-        Ok(status) => Ok(status),
-        Err(fault) => {
-            tell(&rt, fault);
-            Ok(ExitCode::FAILURE)
+    let program = Command::new(rt.alloc(), "msvcfilt").version("0.11.0");
+    match options::read(rt.alloc(), program, &words) {
+        Ok((matches, flags)) => {
+            let names = matches
+                .get_strs("file")
+                .unwrap_or(&[options::STANDARD_INPUT]);
+            run(&rt, names, flags)
         }
+        Err(error) => show(&rt, &error),
     }
 }
 
-/// Declares the options and arguments of the command line.
-fn command<'a>(alloc: Global) -> Result<Command<'a>, AllocError> {
-    let name_only = Arg::new(alloc, "name-only")
-        .short('n')
-        .long("name-only")
-        .action(ArgAction::SetTrue)
-        .help("Print names without types");
-    let file = Arg::new(alloc, "file")
-        .value_name("FILE")
-        .action(ArgAction::Append)
-        .help("What to filter, in place of standard input");
-    Command::new(alloc, "msvcfilt")
-        .version("0.11.0")
-        .about("Replaces each symbol of Microsoft's C++ compiler in a text by its declaration")
-        .arg(name_only)?
-        .arg(file)
+/// Returns the arguments. One that isn't UTF-8 is invalid data.
+fn words(rt: &HostRuntime) -> io::Result<Vec<String>> {
+    let words = env::args(rt)?.collect(rt.alloc())?;
+    Ok(words)
+}
+
+/// Prints the help, the version or a mistake in the arguments, and returns the exit status.
+fn show(rt: &HostRuntime, error: &clap::Error) -> ExitCode {
+    if error.kind() == clap::error::ErrorKind::OutOfMemory {
+        return failure(rt, Fault::Memory);
+    }
+    match error.print(rt) {
+        Ok(()) => ExitCode::from(error.exit_code() as u8),
+        Err(error) => write_failure(rt, error.kind() == ErrorKind::BrokenPipe),
+    }
+}
+
+/// Filters the files, and flushes the text, also after a fault. Returns the exit status.
+fn run(rt: &HostRuntime, names: &[&str], flags: DemangleFlags) -> ExitCode {
+    let Ok(held) = BufWriter::with_capacity(rt.alloc(), BUFFER_LENGTH, rt.stdout()) else {
+        return failure(rt, Fault::Memory);
+    };
+    let output = RefCell::new(Output::new(held));
+    let done = filter_files(rt, names, &output, flags);
+    let mut output = output.into_inner();
+    let flushed = output.flush().map_err(|_| Fault::Write);
+    match flushed.and(done) {
+        Ok(status) => status,
+        Err(Fault::Write) => write_failure(rt, output.is_closed),
+        Err(fault) => failure(rt, fault),
+    }
 }
 
 /// Filters each file, in order. Reports one that can't be opened or read to its end, and returns a status of failure
 /// then.
-fn filter_files<W: Write>(
+fn filter_files(
     rt: &HostRuntime,
     names: &[&str],
-    out: &mut Watched<W>,
+    output: &RefCell<Output>,
     flags: DemangleFlags,
 ) -> Result<ExitCode, Fault> {
     let mut status = ExitCode::SUCCESS;
     for name in names {
-        match File::open(rt, *name) {
-            Ok(file) => match filter(rt.alloc(), file, out, flags) {
-                Ok(()) => {}
-                Err(Fault::Read) => {
-                    let _ = eprintln!(rt; "msvcfilt: {name}: read failed");
-                    status = ExitCode::FAILURE;
-                }
-                Err(fault) => return Err(fault),
-            },
-            Err(error) => {
-                let _ = eprintln!(rt; "msvcfilt: {name}: {error}");
-                status = ExitCode::FAILURE;
-            }
+        if !filter_file(rt, *name, output, flags)? {
+            status = ExitCode::FAILURE;
         }
     }
     Ok(status)
 }
 
+/// Filters a file, or standard input if that is its name, and returns whether it was read to its end. Reports why it
+/// was not.
+fn filter_file(
+    rt: &HostRuntime,
+    name: &str,
+    output: &RefCell<Output>,
+    flags: DemangleFlags,
+) -> Result<bool, Fault> {
+    let done = if name == options::STANDARD_INPUT {
+        filter(rt.alloc(), rt.stdin(), output, flags)
+    } else {
+        match File::open(rt, name) {
+            Ok(file) => filter(rt.alloc(), file, output, flags),
+            Err(error) => {
+                let _ = eprintln!(rt; "msvcfilt: {name}: {error}");
+                return Ok(false);
+            }
+        }
+    };
+    match done {
+        Ok(()) => Ok(true),
+        Err(Fault::Read) => {
+            report_read(rt, name);
+            Ok(false)
+        }
+        Err(fault) => Err(fault),
+    }
+}
+
 /// Filters a stream to its end.
-fn filter<R: Read + Drop, W: Write>(
+fn filter<R: Read + Drop>(
     alloc: Global,
     stream: R,
-    out: &mut Watched<W>,
+    output: &RefCell<Output>,
     flags: DemangleFlags,
 ) -> Result<(), Fault> {
-    match BufReader::with_capacity(alloc, BUFFER_LENGTH, stream) {
-        Ok(stream) => filter_text(alloc, &mut Watched::new(stream), out, flags),
-        Err(_) => Err(Fault::Memory),
-    }
-}
-
-/// Returns how many bytes of text are held back: none if lines are typed or looked at, so that each is seen before the
-/// next.
-fn text_length(rt: &HostRuntime) -> usize {
-    if rt.stdin().is_terminal() || rt.stdout().is_terminal() {
-        0
+    let Ok(held) = BufReader::with_capacity(alloc, BUFFER_LENGTH, stream) else {
+        return Err(Fault::Memory);
+    };
+    let mut input = Watched::new(Input::new(held, output));
+    let done = filter_text(alloc, &mut input, &mut Watched::new(Text(output)), flags);
+    if input.into_inner().flush_failed {
+        Err(Fault::Write)
     } else {
-        BUFFER_LENGTH
+        done
     }
 }
 
-/// Reports why the run ended.
-fn tell(rt: &HostRuntime, fault: Fault) {
+/// Reports that a file can't be read to its end.
+fn report_read(rt: &HostRuntime, name: &str) {
+    let _ = if name == options::STANDARD_INPUT {
+        eprintln!(rt; "msvcfilt: read failed")
+    } else {
+        eprintln!(rt; "msvcfilt: {name}: read failed")
+    };
+}
+
+/// Returns the status of a write that failed, and reports it, except where nobody reads the pipe.
+fn write_failure(rt: &HostRuntime, is_closed: bool) -> ExitCode {
+    if is_closed {
+        return ExitCode::FAILURE;
+    }
+    failure(rt, Fault::Write)
+}
+
+/// Reports why the run ended, and returns the status of a failure.
+fn failure(rt: &HostRuntime, fault: Fault) -> ExitCode {
     let _ = match fault {
         Fault::Read => eprintln!(rt; "msvcfilt: read failed"),
         Fault::Write => eprintln!(rt; "msvcfilt: write failed"),
         Fault::Memory => eprintln!(rt; "msvcfilt: out of memory"),
     };
+    ExitCode::FAILURE
 }

@@ -1,27 +1,53 @@
 //! `undname [-v] [symbols]` prints the declaration of each symbol on a line, as `llvm-undname` spells it: `int ns::x`
-//! for `?x@ns@@3HA`. Without symbols it reads them from the lines of standard input. A rejected symbol is printed
-//! unchanged, and the error goes to standard error; `-v`, as the first argument, also prints each tree there.
+//! for `?x@ns@@3HA`. Without symbols it reads them from the lines of standard input, and answers each line before it
+//! waits for the next. A rejected symbol is printed unchanged, and the error goes to standard error; `-v`, as the first
+//! argument, also prints each tree there.
 //!
-//! The exit status is 0, or 1 if standard input can't be read, a line can't be written, or an allocation fails. Then
-//! standard error says which, and the lines before are printed.
+//! The exit status is 0, or 1 if standard input can't be read, a line can't be written, or an allocation fails, or 2 if
+//! an argument isn't UTF-8. Then standard error says which, and the lines before are printed.
 #![tactic(auto)]
 
-mod outputs;
+mod streams;
 
 use msvc_demangler::{Fault, Watched, undname_run};
-use outputs::{Answers, Remarks};
 use std::cell::RefCell;
 use std::env;
-use std::io::{BufReader, BufWriter, IsTerminal, Read, Write};
+use std::io::{self, BufReader, BufWriter, ErrorKind, Write};
 use std::process::ExitCode;
+use streams::{Answers, Input, Outputs, Remarks};
 
 /// Bytes that are read, or written, at once.
 const BUFFER_LENGTH: usize = 64 * 1024;
 
+/// The exit status if an argument isn't UTF-8.
+const UNFIT_ARGUMENT: u8 = 2;
+
 fn main(rt: HostRuntime) -> ExitCode {
-    let Err(fault) = run(&rt) else {
-        return ExitCode::SUCCESS;
+    let words = match words(&rt) {
+        Ok(words) => words,
+        Err(error) if error.kind() == ErrorKind::InvalidData => {
+            let _ = eprintln!(rt; "undname: argument is not UTF-8");
+            return ExitCode::from(UNFIT_ARGUMENT);
+        }
+        Err(_) => return failure(&rt, Fault::Memory),
     };
+    match run(&rt, &words) {
+        Ok(()) => ExitCode::SUCCESS,
+        Err(fault) => failure(&rt, fault),
+    }
+}
+
+/// Returns the arguments after the program's name. An argument that isn't UTF-8 is invalid data.
+fn words(rt: &HostRuntime) -> io::Result<Vec<String>> {
+    let mut words = Vec::new(rt.alloc());
+    for word in env::args(rt)?.skip(1) {
+        words.push(word)?;
+    }
+    Ok(words)
+}
+
+/// Reports why the run ended, and returns the status of a failure.
+fn failure(rt: &HostRuntime, fault: Fault) -> ExitCode {
     let _ = match fault {
         Fault::Read => eprintln!(rt; "undname: read failed"),
         Fault::Write => eprintln!(rt; "undname: write failed"),
@@ -30,60 +56,34 @@ fn main(rt: HostRuntime) -> ExitCode {
     ExitCode::FAILURE
 }
 
-/// Runs over the standard streams, and flushes the output, also after a fault.
-fn run(rt: &HostRuntime) -> Result<(), Fault> {
-    let words = words(rt)?;
-    let mut input = reader(rt, rt.stdin())?;
-    let remarks = RefCell::new(writer(rt, rt.stderr(), BUFFER_LENGTH)?);
-    let answers = writer(rt, rt.stdout(), answers_length(rt))?;
-    let mut out = Watched::new(Answers {
-        held: answers,
-        remarks: &remarks,
-    });
-    let mut err = Watched::new(Remarks { held: &remarks });
-    let done = undname_run(rt.alloc(), &words, &mut input, &mut out, &mut err);
-    let explained = flush(err);
-    let printed = flush(out);
-    done.and(explained).and(printed)
+/// Runs over the standard streams, and flushes the outputs, also after a fault.
+fn run(rt: &HostRuntime, words: &[String]) -> Result<(), Fault> {
+    let outputs = Outputs {
+        answers: RefCell::new(writer(rt, rt.stdout())?),
+        remarks: RefCell::new(writer(rt, rt.stderr())?),
+    };
+    let done = answer(rt, words, &outputs);
+    let flushed = outputs.flush().map_err(|_| Fault::Write);
+    done.and(flushed)
 }
 
-/// Returns the arguments after the program's name.
-fn words(rt: &HostRuntime) -> Result<Vec<String>, Fault> {
-    let mut words = Vec::new(rt.alloc());
-    for word in env::args(rt).map_err(|_| Fault::Memory)?.skip(1) {
-        words.push(word).map_err(|_| Fault::Memory)?;
-    }
-    Ok(words)
-}
-
-/// Watches a stream that is read in large pieces.
-fn reader<R: Read + Drop>(rt: &HostRuntime, stream: R) -> Result<Watched<BufReader<R>>, Fault> {
-    match BufReader::with_capacity(rt.alloc(), BUFFER_LENGTH, stream) {
-        Ok(stream) => Ok(Watched::new(stream)),
-        Err(_) => Err(Fault::Memory),
-    }
-}
-
-/// Buffers a stream that is written in pieces of `length` bytes.
-fn writer<W: Write + Drop>(
-    rt: &HostRuntime,
-    stream: W,
-    length: usize,
-) -> Result<BufWriter<W>, Fault> {
-    BufWriter::with_capacity(rt.alloc(), length, stream).map_err(|_| Fault::Memory)
-}
-
-/// Returns how many bytes of answers are held back: none if lines are typed, so that each answer is seen before the
-/// next line.
-fn answers_length(rt: &HostRuntime) -> usize {
-    if rt.stdin().is_terminal() {
-        0
+/// Answers the symbols among the words or, if there are none, those of standard input.
+fn answer(rt: &HostRuntime, words: &[String], outputs: &Outputs) -> Result<(), Fault> {
+    let Ok(held) = BufReader::with_capacity(rt.alloc(), BUFFER_LENGTH, rt.stdin()) else {
+        return Err(Fault::Memory);
+    };
+    let mut input = Watched::new(Input::new(held, outputs));
+    let mut out = Watched::new(Answers(outputs));
+    let mut err = Watched::new(Remarks(outputs));
+    let done = undname_run(rt.alloc(), words, &mut input, &mut out, &mut err);
+    if input.into_inner().flush_failed {
+        Err(Fault::Write)
     } else {
-        BUFFER_LENGTH
+        done
     }
 }
 
-/// Writes the bytes that a stream holds back.
-fn flush<W: Write + Drop>(stream: Watched<W>) -> Result<(), Fault> {
-    stream.into_inner().flush().map_err(|_| Fault::Write)
+/// Buffers a stream that is written in large pieces.
+fn writer<W: Write + Drop>(rt: &HostRuntime, stream: W) -> Result<BufWriter<W>, Fault> {
+    BufWriter::with_capacity(rt.alloc(), BUFFER_LENGTH, stream).map_err(|_| Fault::Memory)
 }
