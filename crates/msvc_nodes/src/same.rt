@@ -9,10 +9,26 @@ use crate::kinds::{Table, Tag};
 use crate::nodes::{BaseClass, Function, Name, Scope, Symbol, Template, Type, TypedSymbol};
 
 /// Tests whether two names are seen as the same.
+#[inline(always)]
 pub fn is_same_name<'a, 'b>(left: &'b Name<'a, 'b>, right: &'b Name<'a, 'b>) -> bool
     ensures { result ≡ name_is (name_of left.now) (name_of right.now) }
 {
-    same_name(left, right)
+    same_name_inline(left, right)
+}
+
+/// Does what [`same_name`] does, and compares names of the source, which most are, in the caller's own code.
+#[inline(always)]
+#[tactic(auto, using(crate::proofs::NodeViews::views), unfolding(crate::specs::NodeView::name_of))]
+fn same_name_inline<'a, 'b>(left: &'b Name<'a, 'b>, right: &'b Name<'a, 'b>) -> bool
+    ensures { IsTrue result ↔ (name_of left.now ≡ name_of right.now) }
+{
+    match left {
+        Name::Source(text) => match right {
+            Name::Source(other) => same_text(*text, *other),
+            _ => false,
+        },
+        _ => same_name(left, right),
+    }
 }
 
 /// Tests whether two types are seen as the same.

@@ -73,6 +73,8 @@ impl<'a, 'b, L: Limit> Parser<'a, 'b, L> {
     }
 
     /// Records an allocation failure.
+    #[cold]
+    #[inline(never)]
     pub fn no_memory(&mut self) -> Refused
         ensures why { self.new.why ≡ Refusal.Memory }
     {
@@ -81,6 +83,8 @@ impl<'a, 'b, L: Limit> Parser<'a, 'b, L> {
     }
 
     /// Records a syntax error where `left` bytes are unread.
+    #[cold]
+    #[inline(never)]
     pub fn refuse_at(&mut self, message: Message, left: usize) -> Refused
         ensures why { self.new.why ≡ Refusal.Unread message left }
     {
@@ -169,6 +173,8 @@ impl<'a, 'b, L: Limit> Parser<'a, 'b, L> {
     }
 
     /// Records a syntax error at the first unread byte.
+    #[cold]
+    #[inline(never)]
     pub fn refuse(&mut self, message: Message) -> Refused
         ensures why { self.new.why ≡ Refusal.Unread message (length self.old.rest.now) }
     {
@@ -251,6 +257,13 @@ impl<'a, 'b, L: Limit> Parser<'a, 'b, L> {
                     self.rest = rest;
                     true
                 }
+                [next] => match rest {
+                    [second, left @ ..] if *second == *next => {
+                        self.rest = left;
+                        true
+                    }
+                    _ => false,
+                },
                 [_, ..] => self.eat_after(rest, others),
             },
             [_, ..] => false,

@@ -19,6 +19,7 @@ use crate::parameters::{listed_types, parameters};
 use crate::special_names::special_name;
 use crate::symbols::symbol_body;
 use bumpalo::Bump;
+use memchr::memchr;
 use msvc_nodes::list::List;
 use msvc_nodes::nodes::{Name, Symbol, Template, TypedSymbol};
 use msvc_parser::forms::TemplateNames;
@@ -425,5 +426,5 @@ fn name_length(bytes: &[u8]) -> Option<usize>
     ensures value { result ≡ name_length bytes.now }
     ensures inside { IfSome result (λ n. n < length bytes.now) }
 {
-    bytes.iter().position(|byte| *byte == b'@')
+    memchr(b'@', bytes)
 }

@@ -1,0 +1,8 @@
+use Rattle.msvc_grammar.specs.Letters.{at_sign}
+use Rattle.msvc_parser.specs.Parser.{name_length}
+use Rattle.msvc_readers.proofs.FirstByte.{first-position}
+use Rattle.msvc_readers.proofs.qualified_names.name_length.Goals as goal
+
+pub returns-clause-value : goal.returns-clause-value
+unfolding name_length
+returns-clause-value c = first-position at_sign c.args.bytes.now c.memchr.result c.memchr.ensures
