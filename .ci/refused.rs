@@ -3,8 +3,9 @@
 //! memory, and names it.
 
 use msvc_demangler::{
-    BackReference, DemangleFlags, Error, Fault, ParseResult, Watched, back_references, demangle, demangle_within,
-    filter_text, parse, parse_prefix, parse_within, serialize, symbol_length, symbol_length_within, undname_lines,
+    BackReference, DemangleFlags, Error, Fault, Limit, ParseResult, Watched, back_references, demangle,
+    demangle_within, filter_slice, filter_text, parse, parse_prefix, parse_within, serialize, symbol_length,
+    symbol_length_within, undname_lines,
 };
 use std::alloc::{AllocError, Global};
 use std::fmt;
@@ -194,7 +195,7 @@ fn lengths(rt: &HostRuntime, row: &Row<'_>) -> Result<(), AllocError> {
 
 /// Both calls with a limit, that allows all nodes.
 fn within(rt: &HostRuntime, row: &Row<'_>) -> Result<(), AllocError> {
-    let text = demangle_within(rt.alloc(), row.symbol, DemangleFlags::COMPLETE, NODES);
+    let text = demangle_within(rt.alloc(), row.symbol, DemangleFlags::COMPLETE, NODES, row.text.len());
     answered(rt, "demangle_within", row, text, |text| text.as_str() == row.text)?;
     let tree = parse_within(rt.alloc(), row.symbol, NODES);
     answered(rt, "parse_within", row, tree, |_| true)?;
@@ -203,7 +204,7 @@ fn within(rt: &HostRuntime, row: &Row<'_>) -> Result<(), AllocError> {
 
 /// Both calls with a limit, that does not allow all nodes.
 fn limited(rt: &HostRuntime, symbol: &str, nodes: usize) -> Result<(), AllocError> {
-    let text = demangle_within(rt.alloc(), symbol, DemangleFlags::COMPLETE, nodes);
+    let text = demangle_within(rt.alloc(), symbol, DemangleFlags::COMPLETE, nodes, usize::MAX);
     wants_nodes(rt, "demangle_within", text.err())?;
     let tree = parse_within(rt.alloc(), symbol, nodes);
     wants_nodes(rt, "parse_within", tree.err())
@@ -304,6 +305,30 @@ fn filter(rt: &HostRuntime) -> Result<(), AllocError> {
         return Err(AllocError);
     }
     check(rt, "filter_text", done == Ok(()) && *out == *FILTERED);
+    Ok(())
+}
+
+/// The filter over a slice.
+fn slice(rt: &HostRuntime) -> Result<(), AllocError> {
+    let mut out = [0; ROOM];
+    let Ok(filtered) = filter_slice(rt.alloc(), UNFILTERED, DemangleFlags::llvm(), &mut out) else {
+        let _ = println!(rt; "filter_slice");
+        return Err(AllocError);
+    };
+    let written = &out[..filtered.written];
+    check(rt, "filter_slice", filtered.length == FILTERED.len() && written == FILTERED);
+    Ok(())
+}
+
+/// A declaration with more bytes than are allowed.
+fn too_long(rt: &HostRuntime) -> Result<(), AllocError> {
+    let text = demangle_within(rt.alloc(), "?x@@3HA", DemangleFlags::COMPLETE, NODES, 4);
+    let Some(error) = text.err() else {
+        check(rt, "demangle_within", false);
+        return Ok(());
+    };
+    granted(rt, "demangle_within", &error)?;
+    check(rt, "demangle_within", error.limit() == Some(Limit::Bytes) && begins(&error, "longer than allowed"));
     Ok(())
 }
 

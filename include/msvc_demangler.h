@@ -1,8 +1,35 @@
-/* msvc_demangler 0.11.0: C++ symbols, as Microsoft's compiler mangles them, into declarations.
+/* msvc_demangler 0.11.0: turns C++ symbols, as Microsoft's compiler mangles them, into declarations.
 
-   Lengths and offsets are in bytes, texts are UTF-8. The calls keep no state, so any number of threads may call at
-   once. Of the C library they use malloc, realloc, free, memcpy and memmove, so they must not be called where malloc
-   must not be, as in a signal handler. docs/c.md says more. */
+       #include <msvc_demangler.h>
+       #include <stdio.h>
+
+       int main(void)
+       {
+           char text[256];
+           struct msvc_demangler_result result =
+               msvc_demangler_demangle_string("?x@ns@@3HA", MSVC_DEMANGLER_LLVM, text, sizeof text);
+           puts(text);
+           return result.status == MSVC_DEMANGLER_OK ? 0 : 1;
+       }
+
+   prints "int ns::x". It uses the default limits, which suit symbols that are not trusted.
+
+   Rules for all calls:
+
+   - Lengths, sizes and offsets are in bytes. Declarations and messages are UTF-8.
+   - Input is a pointer and a length. It needs no NUL after it, and a NUL inside it is a byte like others. The pointer
+     may be null if the length is 0.
+   - Output goes to a buffer of the caller by the rules of snprintf. At most size bytes are written, and the last one
+     written is a NUL. A text that does not fit is cut, never inside a character of a declaration or a message. The
+     length in the result is that of the whole text without the NUL, so the text was cut exactly if length >= size, and
+     a buffer of length + 1 bytes holds it. If size is 0, nothing is written and out may be null: such a call asks for
+     the length. Bytes of the buffer after the NUL stay as they were. Input and output must not overlap.
+   - The library keeps nothing after a call: there is nothing to set up, to free or to tear down, and no locale and no
+     errno are involved. Any number of threads may call at once.
+   - The calls use malloc, realloc and free, so they must not be called where malloc must not be, as in a signal
+     handler. They throw no exceptions.
+
+   Within soname 0 no symbol, status number, flag or field of the struct changes. docs/c.md says more. */
 #ifndef MSVC_DEMANGLER_H
 #define MSVC_DEMANGLER_H
 
@@ -16,7 +43,7 @@
 #define MSVC_DEMANGLER_VERSION_MINOR 11
 #define MSVC_DEMANGLER_VERSION_PATCH 0
 
-/* How a declaration is printed: any of these bits. The README has an example of each. */
+/* Flags say how a declaration is printed. They are combined with |; 0 is none. The README has an example of each. */
 #define MSVC_DEMANGLER_NO_MS_KEYWORDS 0x2u         /* no __cdecl and the like */
 #define MSVC_DEMANGLER_NO_FUNCTION_RETURNS 0x4u    /* of functions the name and the parameters alone */
 #define MSVC_DEMANGLER_NO_MS_THISTYPE 0x20u        /* this one and the next: no const after a member function */
@@ -34,8 +61,23 @@
 #define MSVC_DEMANGLER_WITH_PTR64 0x1000000u       /* __ptr64 */
 #define MSVC_DEMANGLER_LLVM 0xE00400u              /* as llvm-undname prints: four of them */
 
-/* Of nodes: as many as there are. */
-#define MSVC_DEMANGLER_NO_BOUND ((size_t)-1)
+/* Limits for symbols that are not trusted. A call with so many nodes takes up to 872 KB of stack; a thread with a
+   smaller stack needs a lower limit: about 90 bytes of stack a node. */
+#define MSVC_DEMANGLER_DEFAULT_NODES ((size_t)10000)
+#define MSVC_DEMANGLER_DEFAULT_BYTES ((size_t)65536)
+
+/* No limit, for max_nodes and for max_bytes. This is unsafe for symbols that are not trusted. Without a limit on nodes
+   a symbol that nests deeply overflows the stack, which ends the process. Without a limit on bytes a short symbol can
+   have a declaration that takes all memory. */
+#define MSVC_DEMANGLER_UNLIMITED ((size_t)-1)
+
+#if defined(__cplusplus) && __cplusplus >= 201103L
+#define MSVC_DEMANGLER_NOEXCEPT noexcept
+#elif defined(__cplusplus)
+#define MSVC_DEMANGLER_NOEXCEPT throw()
+#else
+#define MSVC_DEMANGLER_NOEXCEPT
+#endif
 
 #ifdef __cplusplus
 extern "C" {
@@ -43,77 +85,153 @@ extern "C" {
 
 enum msvc_demangler_status {
     MSVC_DEMANGLER_OK = 0,
-    MSVC_DEMANGLER_REFUSED = 1,       /* no symbol begins here */
-    MSVC_DEMANGLER_NOT_UTF8 = 2,      /* the symbol's bytes are not UTF-8 */
-    MSVC_DEMANGLER_OUT_OF_MEMORY = 3, /* malloc or realloc gave null */
-    MSVC_DEMANGLER_TOO_MANY_NODES = 4 /* the symbol has more nodes than allowed */
+    MSVC_DEMANGLER_INVALID = 1,        /* the input begins with no symbol */
+    MSVC_DEMANGLER_NOT_UTF8 = 2,       /* the input is not UTF-8 */
+    MSVC_DEMANGLER_OUT_OF_MEMORY = 3,  /* malloc or realloc returned null */
+    MSVC_DEMANGLER_TOO_MANY_NODES = 4, /* the symbol has more than max_nodes nodes */
+    MSVC_DEMANGLER_TOO_LONG = 5        /* the declaration has more than max_bytes bytes */
 };
 
-struct msvc_demangler_answer {
-    uint32_t status; /* enum msvc_demangler_status */
-    size_t offset;   /* in the symbol: of a refusal, or up to where it is UTF-8; else 0 */
-    size_t length;   /* of the whole text, without the NUL; of msvc_demangler_prefix, of the symbol that was read */
+struct msvc_demangler_result {
+    uint32_t status; /* one of enum msvc_demangler_status */
+    size_t offset;   /* INVALID, TOO_MANY_NODES, TOO_LONG: where in the input; NOT_UTF8: how much is UTF-8; else 0 */
+    size_t length;   /* of the whole text without the NUL, cut or not; msvc_demangler_prefix: of the symbol */
 };
 
-/* Writes into out[0 .. size) the declaration of the symbol that symbol[0 .. length) begins with, or why there is none.
+#if defined(__cplusplus) && __cplusplus >= 201103L
+#define MSVC_DEMANGLER_ASSERT(holds) static_assert(holds, "msvc_demangler_result has another layout")
+#elif defined(__STDC_VERSION__) && __STDC_VERSION__ >= 201112L
+#define MSVC_DEMANGLER_ASSERT(holds) _Static_assert(holds, "msvc_demangler_result has another layout")
+#endif
+#ifdef MSVC_DEMANGLER_ASSERT
+MSVC_DEMANGLER_ASSERT(sizeof(struct msvc_demangler_result) == 24);
+MSVC_DEMANGLER_ASSERT(offsetof(struct msvc_demangler_result, status) == 0);
+MSVC_DEMANGLER_ASSERT(offsetof(struct msvc_demangler_result, offset) == 8);
+MSVC_DEMANGLER_ASSERT(offsetof(struct msvc_demangler_result, length) == 16);
+#undef MSVC_DEMANGLER_ASSERT
+#endif
 
-   status            the text                                                       offset
-   OK                the declaration                                                0
-   REFUSED           as: unknown primitive type (offset: 6, remaining: "")          of the refusal
-   NOT_UTF8          not UTF-8                                                      up to where the symbol is UTF-8
-   OUT_OF_MEMORY     out of memory                                                  0
-   TOO_MANY_NODES    as: more nodes than allowed (offset: 9, remaining: "EA")       of the refusal
+/* Demangles a symbol: writes its declaration, or why there is none, into a buffer.
 
-   It writes as snprintf does: the text and a NUL, and where these don't fit, a beginning of the text that ends before a
-   character and leaves room for the NUL. So the text was cut where the answer's length is not less than size. Bytes
-   after the NUL stay as they were, and with size 0 none is written. A NUL inside the symbol is a byte of a name like
-   others, and then one of the text. The symbol needs no NUL after it; what follows a finished symbol makes no
-   difference, if it is UTF-8. symbol may be null where length is 0, and out where size is 0. They must not overlap.
+   symbol, length  the input, which begins with the symbol; it must be UTF-8 as a whole, and what follows a finished
+                   symbol makes no other difference
+   flags           how to print
+   max_nodes       the limit on the tree of the symbol; each name and each type in it is a node, at every depth
+   max_bytes       the limit on the length of the declaration
+   out, size       the buffer
 
-   nodes bounds the tree of the symbol: each name and each type in it is a node, at every depth. Reading an
-   untrusted symbol without a bound can run out of any stack, which ends the process. With 1000 nodes a call takes at
-   most 92 KB of stack. The length of the declaration is not bounded so: some symbols double it with 10 nodes more, and
-   where it is too long for memory the status is OUT_OF_MEMORY. */
-struct msvc_demangler_answer msvc_demangler_demangle(const char *symbol, size_t length, uint32_t flags, size_t nodes,
-                                                     char *out, size_t size);
+   Each limit may be MSVC_DEMANGLER_UNLIMITED, and the other one then still holds.
 
-/* How many bytes the symbol takes that symbol[0 .. length) begins with: the answer's length. Where there is none it is
-   0, and status and offset are those of msvc_demangler_demangle. */
-struct msvc_demangler_answer msvc_demangler_prefix(const char *symbol, size_t length, size_t nodes);
+   status          text                                                        offset
+   OK              the declaration                                             0
+   INVALID         unknown primitive type (offset: 6, remaining: "")           where the input is rejected; 0 if it
+                                                                               has no leading '?'
+   NOT_UTF8        not UTF-8                                                   how many bytes are UTF-8
+   OUT_OF_MEMORY   out of memory                                               0
+   TOO_MANY_NODES  more nodes than allowed (offset: 9, remaining: "EA")        where reading stopped
+   TOO_LONG        longer than allowed (offset: 10, remaining: "")             where the symbol ends
 
-/* Writes the version of the library, as MSVC_DEMANGLER_VERSION is that of this header, and answers its length. It
-   writes as msvc_demangler_demangle does. */
-size_t msvc_demangler_version(char *out, size_t size);
+   The texts of INVALID, TOO_MANY_NODES and TOO_LONG are examples, and may change. An input that is no symbol, as
+   "main", is no failure of the program: print the input itself if the status is not OK.
 
-/* msvc_demangler_demangle, of a symbol that ends in NUL. */
-static inline struct msvc_demangler_answer msvc_demangler_demangle_string(const char *symbol, uint32_t flags,
-                                                                          size_t nodes, char *out, size_t size)
+       const char symbol[] = "?f@@YAXH@Z and more";
+       char text[256];
+       struct msvc_demangler_result result =
+           msvc_demangler_demangle(symbol, strlen(symbol), MSVC_DEMANGLER_LLVM, MSVC_DEMANGLER_DEFAULT_NODES,
+                                   MSVC_DEMANGLER_DEFAULT_BYTES, text, sizeof text);
+       puts(result.status == MSVC_DEMANGLER_OK ? text : symbol);
+
+   prints "void __cdecl f(int)". */
+struct msvc_demangler_result msvc_demangler_demangle(const char *symbol, size_t length, uint32_t flags,
+                                                     size_t max_nodes, size_t max_bytes, char *out,
+                                                     size_t size) MSVC_DEMANGLER_NOEXCEPT;
+
+/* Measures a symbol: returns, as the length in the result, how many bytes of the input it takes.
+
+   symbol, length  the input, which begins with the symbol, as of msvc_demangler_demangle
+   max_nodes       the limit on the tree of the symbol
+
+   The statuses and offsets are those of msvc_demangler_demangle, without TOO_LONG. If the status is not OK, the length
+   is 0.
+
+       const char symbol[] = "?x@@3HA and more";
+       struct msvc_demangler_result result =
+           msvc_demangler_prefix(symbol, strlen(symbol), MSVC_DEMANGLER_DEFAULT_NODES);
+       printf("%zu bytes\n", result.length);
+
+   prints "7 bytes". */
+struct msvc_demangler_result msvc_demangler_prefix(const char *symbol, size_t length,
+                                                   size_t max_nodes) MSVC_DEMANGLER_NOEXCEPT;
+
+/* Filters a text: writes it with each symbol inside it replaced by its declaration. All other bytes stay. The file
+   docs/msvcfilt.md says where in a text a symbol may stand. The limits on each symbol are the default ones; a symbol
+   that exceeds one stays.
+
+   text, length  the text, of any bytes, which need not be UTF-8
+   flags         how to print
+   out, size     the buffer; a cut never splits a character of a declaration
+
+   The status is OK or OUT_OF_MEMORY, and the offset 0. If memory runs out, the text is "out of memory" instead, and
+   the bytes of the buffer after the NUL are unspecified.
+
+       const char line[] = "undefined: ?x@ns@@3HA";
+       char text[256];
+       struct msvc_demangler_result result =
+           msvc_demangler_filter(line, strlen(line), MSVC_DEMANGLER_LLVM, text, sizeof text);
+       puts(result.status == MSVC_DEMANGLER_OK ? text : line);
+
+   prints "undefined: int ns::x". */
+struct msvc_demangler_result msvc_demangler_filter(const char *text, size_t length, uint32_t flags, char *out,
+                                                   size_t size) MSVC_DEMANGLER_NOEXCEPT;
+
+/* Writes the version of the library, as MSVC_DEMANGLER_VERSION is that of this header, and returns its length.
+
+       char version[16];
+       msvc_demangler_version(version, sizeof version);
+       puts(version);
+
+   prints "0.11.0". */
+size_t msvc_demangler_version(char *out, size_t size) MSVC_DEMANGLER_NOEXCEPT;
+
+/* Demangles a symbol that ends in NUL, as msvc_demangler_demangle does, under the default limits. */
+static inline struct msvc_demangler_result msvc_demangler_demangle_string(const char *symbol, uint32_t flags, char *out,
+                                                                          size_t size) MSVC_DEMANGLER_NOEXCEPT
 {
-    return msvc_demangler_demangle(symbol, strlen(symbol), flags, nodes, out, size);
+    return msvc_demangler_demangle(symbol, strlen(symbol), flags, MSVC_DEMANGLER_DEFAULT_NODES,
+                                   MSVC_DEMANGLER_DEFAULT_BYTES, out, size);
 }
 
-/* A size that the text of nearly every symbol fits in. */
-static inline size_t msvc_demangler_usual_size(size_t length)
+/* Returns a size that the text of nearly every symbol of this length fits in; it is at most 65,536. */
+static inline size_t msvc_demangler_usual_size(size_t length) MSVC_DEMANGLER_NOEXCEPT
 {
-    return 4 * length + 128;
+    return length < 16352 ? 4 * length + 128 : 65536;
 }
 
-/* The whole text of msvc_demangler_demangle, which the caller frees; null if out of memory. The answer goes to
-   *answer, if that is not null. */
-static inline char *msvc_demangler_demangle_allocated(const char *symbol, size_t length, uint32_t flags, size_t nodes,
-                                                      struct msvc_demangler_answer *answer)
+/* Demangles a symbol as msvc_demangler_demangle does, into a buffer that malloc makes and that holds the whole text.
+   The caller frees it. The result goes to *result, if that is not null. Returns null if memory runs out, and only then.
+
+       struct msvc_demangler_result result;
+       char *text = msvc_demangler_demangle_allocated("?x@@3HA", 7, MSVC_DEMANGLER_LLVM, MSVC_DEMANGLER_DEFAULT_NODES,
+                                                      MSVC_DEMANGLER_DEFAULT_BYTES, &result);
+       puts(result.status == MSVC_DEMANGLER_OK ? text : "?x@@3HA");
+       free(text);
+
+   prints "int x". */
+static inline char *msvc_demangler_demangle_allocated(const char *symbol, size_t length, uint32_t flags,
+                                                      size_t max_nodes, size_t max_bytes,
+                                                      struct msvc_demangler_result *result) MSVC_DEMANGLER_NOEXCEPT
 {
-    struct msvc_demangler_answer found;
+    struct msvc_demangler_result found = {MSVC_DEMANGLER_OUT_OF_MEMORY, 0, 0};
     size_t size = msvc_demangler_usual_size(length);
     char *out = (char *)malloc(size);
     if (out != NULL) {
-        found = msvc_demangler_demangle(symbol, length, flags, nodes, out, size);
+        found = msvc_demangler_demangle(symbol, length, flags, max_nodes, max_bytes, out, size);
         if (found.length >= size) {
             free(out);
             size = found.length + 1;
             out = (char *)malloc(size);
             if (out != NULL) {
-                found = msvc_demangler_demangle(symbol, length, flags, nodes, out, size);
+                found = msvc_demangler_demangle(symbol, length, flags, max_nodes, max_bytes, out, size);
             }
         }
     }
@@ -124,8 +242,8 @@ static inline char *msvc_demangler_demangle_allocated(const char *symbol, size_t
         found.offset = 0;
         found.length = 0;
     }
-    if (answer != NULL) {
-        *answer = found;
+    if (result != NULL) {
+        *result = found;
     }
     return out;
 }
@@ -142,32 +260,52 @@ static inline char *msvc_demangler_demangle_allocated(const char *symbol, size_t
 
 namespace msvc_demangler {
 
-/* The whole text of msvc_demangler_demangle, and its answer. Throws std::bad_alloc if out of memory. */
-inline std::string demangle(std::string_view symbol, msvc_demangler_answer &answer,
-                            std::uint32_t flags = MSVC_DEMANGLER_LLVM, std::size_t nodes = MSVC_DEMANGLER_NO_BOUND)
+/* Returns the whole text of msvc_demangler_demangle, and its result. Throws std::bad_alloc if memory runs out. */
+inline std::string demangle(std::string_view symbol, msvc_demangler_result &result,
+                            std::uint32_t flags = MSVC_DEMANGLER_LLVM,
+                            std::size_t max_nodes = MSVC_DEMANGLER_DEFAULT_NODES,
+                            std::size_t max_bytes = MSVC_DEMANGLER_DEFAULT_BYTES)
 {
     std::string out(msvc_demangler_usual_size(symbol.size()), '\0');
-    answer = msvc_demangler_demangle(symbol.data(), symbol.size(), flags, nodes, out.data(), out.size());
-    if (answer.length >= out.size()) {
-        out.resize(answer.length + 1);
-        answer = msvc_demangler_demangle(symbol.data(), symbol.size(), flags, nodes, out.data(), out.size());
+    result = msvc_demangler_demangle(symbol.data(), symbol.size(), flags, max_nodes, max_bytes, out.data(), out.size());
+    if (result.length >= out.size()) {
+        out.resize(result.length + 1);
+        result =
+            msvc_demangler_demangle(symbol.data(), symbol.size(), flags, max_nodes, max_bytes, out.data(), out.size());
     }
-    if (answer.status == MSVC_DEMANGLER_OUT_OF_MEMORY) {
+    if (result.status == MSVC_DEMANGLER_OUT_OF_MEMORY) {
         throw std::bad_alloc();
     }
-    out.resize(answer.length);
+    out.resize(result.length);
     return out;
 }
 
-/* The declaration, if there is one. Throws std::bad_alloc if out of memory. */
+/* Returns the declaration, if there is one. Throws std::bad_alloc if memory runs out. */
 inline std::optional<std::string> demangle(std::string_view symbol, std::uint32_t flags = MSVC_DEMANGLER_LLVM,
-                                           std::size_t nodes = MSVC_DEMANGLER_NO_BOUND)
+                                           std::size_t max_nodes = MSVC_DEMANGLER_DEFAULT_NODES,
+                                           std::size_t max_bytes = MSVC_DEMANGLER_DEFAULT_BYTES)
 {
-    msvc_demangler_answer answer;
-    std::string out = demangle(symbol, answer, flags, nodes);
-    if (answer.status != MSVC_DEMANGLER_OK) {
+    msvc_demangler_result result;
+    std::string out = demangle(symbol, result, flags, max_nodes, max_bytes);
+    if (result.status != MSVC_DEMANGLER_OK) {
         return std::nullopt;
     }
+    return out;
+}
+
+/* Returns the whole text of msvc_demangler_filter. Throws std::bad_alloc if memory runs out. */
+inline std::string filter(std::string_view text, std::uint32_t flags = MSVC_DEMANGLER_LLVM)
+{
+    std::string out(text.size() + 256, '\0');
+    msvc_demangler_result result = msvc_demangler_filter(text.data(), text.size(), flags, out.data(), out.size());
+    if (result.length >= out.size()) {
+        out.resize(result.length + 1);
+        result = msvc_demangler_filter(text.data(), text.size(), flags, out.data(), out.size());
+    }
+    if (result.status == MSVC_DEMANGLER_OUT_OF_MEMORY) {
+        throw std::bad_alloc();
+    }
+    out.resize(result.length);
     return out;
 }
 

@@ -14,16 +14,16 @@ struct work {
     char *symbol;
     size_t length;
     size_t nodes;
-    struct msvc_demangler_answer demangled;
-    struct msvc_demangler_answer prefix;
+    struct msvc_demangler_result demangled;
+    struct msvc_demangler_result prefix;
     char text[256];
 };
 
 static void *call(void *argument)
 {
     struct work *work = argument;
-    work->demangled = msvc_demangler_demangle(work->symbol, work->length, MSVC_DEMANGLER_LLVM, work->nodes, work->text,
-                                              sizeof work->text);
+    work->demangled = msvc_demangler_demangle(work->symbol, work->length, MSVC_DEMANGLER_LLVM, work->nodes,
+                                              MSVC_DEMANGLER_DEFAULT_BYTES, work->text, sizeof work->text);
     work->prefix = msvc_demangler_prefix(work->symbol, work->length, work->nodes);
     return NULL;
 }

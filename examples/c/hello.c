@@ -4,8 +4,8 @@
 int main(void)
 {
     char text[256];
-    struct msvc_demangler_answer answer =
-        msvc_demangler_demangle_string("?x@ns@@3HA", MSVC_DEMANGLER_LLVM, 1000, text, sizeof text);
+    struct msvc_demangler_result result =
+        msvc_demangler_demangle_string("?x@ns@@3HA", MSVC_DEMANGLER_LLVM, text, sizeof text);
     puts(text);
-    return answer.status == MSVC_DEMANGLER_OK ? 0 : 1;
+    return result.status == MSVC_DEMANGLER_OK ? 0 : 1;
 }

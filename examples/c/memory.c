@@ -43,27 +43,32 @@ static const char *const symbols[] = {
     "x",
 };
 
-enum kind { into_a_buffer, allocated, prefix };
+enum kind { into_a_buffer, allocated, filtered, prefix, kinds };
 
 /* A call of this kind, and whether it says that it wants memory. */
 static bool wants_memory(enum kind kind, const char *symbol)
 {
-    struct msvc_demangler_answer answer;
+    struct msvc_demangler_result result;
     char text[2048] = "";
     char *copy;
     requests = 0;
     switch (kind) {
     case into_a_buffer:
-        answer = msvc_demangler_demangle_string(symbol, MSVC_DEMANGLER_LLVM, 100000, text, sizeof text);
-        return answer.status == MSVC_DEMANGLER_OUT_OF_MEMORY && answer.offset == 0 && answer.length == 13 &&
+        result = msvc_demangler_demangle_string(symbol, MSVC_DEMANGLER_LLVM, text, sizeof text);
+        return result.status == MSVC_DEMANGLER_OUT_OF_MEMORY && result.offset == 0 && result.length == 13 &&
                strcmp(text, "out of memory") == 0;
     case allocated:
-        copy = msvc_demangler_demangle_allocated(symbol, strlen(symbol), MSVC_DEMANGLER_LLVM, 100000, &answer);
+        copy = msvc_demangler_demangle_allocated(symbol, strlen(symbol), MSVC_DEMANGLER_LLVM,
+                                                 MSVC_DEMANGLER_DEFAULT_NODES, MSVC_DEMANGLER_DEFAULT_BYTES, &result);
         free(copy);
-        return copy == NULL && answer.status == MSVC_DEMANGLER_OUT_OF_MEMORY;
+        return copy == NULL && result.status == MSVC_DEMANGLER_OUT_OF_MEMORY;
+    case filtered:
+        result = msvc_demangler_filter(symbol, strlen(symbol), MSVC_DEMANGLER_LLVM, text, sizeof text);
+        return result.status == MSVC_DEMANGLER_OUT_OF_MEMORY && result.offset == 0 && result.length == 13 &&
+               strcmp(text, "out of memory") == 0;
     default:
-        answer = msvc_demangler_prefix(symbol, strlen(symbol), 100000);
-        return answer.status == MSVC_DEMANGLER_OUT_OF_MEMORY && answer.offset == 0 && answer.length == 0;
+        result = msvc_demangler_prefix(symbol, strlen(symbol), MSVC_DEMANGLER_DEFAULT_NODES);
+        return result.status == MSVC_DEMANGLER_OUT_OF_MEMORY && result.offset == 0 && result.length == 0;
     }
 }
 
@@ -71,9 +76,9 @@ int main(void)
 {
     long tried = 0;
     long wrong = 0;
-    for (size_t n = 0; n < 3 * (sizeof symbols / sizeof symbols[0]); n++) {
-        const char *symbol = symbols[n / 3];
-        enum kind kind = (enum kind)(n % 3);
+    for (size_t n = 0; n < kinds * (sizeof symbols / sizeof symbols[0]); n++) {
+        const char *symbol = symbols[n / kinds];
+        enum kind kind = (enum kind)(n % kinds);
         refused = 0;
         wrong += wants_memory(kind, symbol);
         long count = requests;
@@ -85,6 +90,6 @@ int main(void)
             }
         }
     }
-    printf("%ld refused requests, %ld wrong answers\n", tried, wrong);
+    printf("%ld refused requests, %ld wrong results\n", tried, wrong);
     return wrong != 0;
 }

@@ -40,16 +40,16 @@ static struct row parsed(char *line)
     return row;
 }
 
-/* Whether the whole text and its answer are those of the row. */
-static bool is_wanted(const struct row *row, const char *text, struct msvc_demangler_answer answer)
+/* Whether the whole text and its result are those of the row. */
+static bool is_wanted(const struct row *row, const char *text, struct msvc_demangler_result result)
 {
-    if (answer.offset != row->offset || answer.length != strlen(text)) {
+    if (result.offset != row->offset || result.length != strlen(text)) {
         return false;
     }
-    switch (answer.status) {
+    switch (result.status) {
     case MSVC_DEMANGLER_OK:
         return row->is_ok && strcmp(text, row->text) == 0;
-    case MSVC_DEMANGLER_REFUSED:
+    case MSVC_DEMANGLER_INVALID:
         return !row->is_ok && strncmp(text, row->text, strlen(row->text)) == 0 &&
                strncmp(text + strlen(row->text), " (offset: ", 10) == 0;
     case MSVC_DEMANGLER_NOT_UTF8:
@@ -81,20 +81,21 @@ static bool is_written(const struct row *row, const char *text, size_t size)
         memcpy(wanted, text, length);
         wanted[length] = '\0';
     }
-    struct msvc_demangler_answer answer =
-        msvc_demangler_demangle_string(row->symbol, row->flags, MSVC_DEMANGLER_NO_BOUND, out, size);
-    bool good = answer.length == strlen(text) && memcmp(out, wanted, room) == 0;
+    struct msvc_demangler_result result =
+        msvc_demangler_demangle(row->symbol, strlen(row->symbol), row->flags, MSVC_DEMANGLER_UNLIMITED,
+                                MSVC_DEMANGLER_UNLIMITED, out, size);
+    bool good = result.length == strlen(text) && memcmp(out, wanted, room) == 0;
     free(out);
     return good;
 }
 
 static bool agrees(const struct row *row)
 {
-    struct msvc_demangler_answer answer;
+    struct msvc_demangler_result result;
     char *text = msvc_demangler_demangle_allocated(row->symbol, strlen(row->symbol), row->flags,
-                                                   MSVC_DEMANGLER_NO_BOUND, &answer);
-    bool good = text != NULL && is_wanted(row, text, answer);
-    for (size_t size = 0; good && size <= answer.length + 2; size++) {
+                                                   MSVC_DEMANGLER_UNLIMITED, MSVC_DEMANGLER_UNLIMITED, &result);
+    bool good = text != NULL && is_wanted(row, text, result);
+    for (size_t size = 0; good && size <= result.length + 2; size++) {
         good = is_written(row, text, size);
     }
     free(text);

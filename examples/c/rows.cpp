@@ -4,6 +4,8 @@
 #include <iostream>
 #include <msvc_demangler.h>
 
+static constexpr std::size_t any = MSVC_DEMANGLER_UNLIMITED;
+
 // The field that rest begins with; rest is what follows it.
 static std::string_view next_field(std::string_view &rest)
 {
@@ -19,14 +21,14 @@ static bool agrees(std::string_view row)
     bool is_ok = next_field(row) == "ok";
     std::size_t offset = is_ok ? 0 : std::stoul(std::string(next_field(row)));
 
-    std::optional<std::string> declaration = msvc_demangler::demangle(symbol, flags);
-    msvc_demangler_answer answer;
-    std::string text = msvc_demangler::demangle(symbol, answer, flags);
+    std::optional<std::string> declaration = msvc_demangler::demangle(symbol, flags, any, any);
+    msvc_demangler_result result;
+    std::string text = msvc_demangler::demangle(symbol, result, flags, any, any);
     if (is_ok) {
-        return declaration == row && text == row && answer.status == MSVC_DEMANGLER_OK;
+        return declaration == row && text == row && result.status == MSVC_DEMANGLER_OK;
     }
-    return !declaration && answer.offset == offset && text.substr(0, row.size()) == row &&
-           answer.status == (row == "not UTF-8" ? MSVC_DEMANGLER_NOT_UTF8 : MSVC_DEMANGLER_REFUSED);
+    return !declaration && result.offset == offset && text.substr(0, row.size()) == row &&
+           result.status == (row == "not UTF-8" ? MSVC_DEMANGLER_NOT_UTF8 : MSVC_DEMANGLER_INVALID);
 }
 
 int main()
@@ -45,5 +47,8 @@ int main()
         }
     }
     std::cout << agree << " rows agree, " << differ << " differ\n";
-    return differ != 0;
+    bool is_right = msvc_demangler::demangle("?x@ns@@3HA") == "int ns::x" &&
+                    !msvc_demangler::demangle("?x@ns@@3HA", MSVC_DEMANGLER_LLVM, any, 8) &&
+                    msvc_demangler::filter("a ?x@ns@@3HA b") == "a int ns::x b";
+    return is_right && differ == 0 ? 0 : 1;
 }

@@ -1,4 +1,4 @@
-/* Two threads that call at once: each answer has to be that of a single thread. */
+/* Two threads that call at once: each result has to be that of a single thread. */
 
 #include <msvc_demangler.h>
 #include <pthread.h>
@@ -17,7 +17,7 @@ static void *call_often(void *argument)
     struct work *work = argument;
     for (int call = 0; call < calls; call++) {
         char text[256];
-        msvc_demangler_demangle_string(work->symbol, MSVC_DEMANGLER_LLVM, 1000, text, sizeof text);
+        msvc_demangler_demangle_string(work->symbol, MSVC_DEMANGLER_LLVM, text, sizeof text);
         work->wrong += strcmp(text, work->text) != 0;
     }
     return NULL;
@@ -40,6 +40,6 @@ int main(void)
         pthread_join(threads[n], NULL);
         wrong += works[n].wrong;
     }
-    printf("%d calls of two threads, %d wrong answers\n", 2 * calls, wrong);
+    printf("%d calls of two threads, %d wrong results\n", 2 * calls, wrong);
     return wrong != 0;
 }

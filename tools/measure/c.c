@@ -35,17 +35,18 @@ static struct names read_names(void)
 static size_t length_in_buffer(const char *name)
 {
     static char text[1 << 16];
-    struct msvc_demangler_answer answer =
-        msvc_demangler_demangle_string(name, MSVC_DEMANGLER_LLVM, MSVC_DEMANGLER_NO_BOUND, text, sizeof text);
-    return answer.status == MSVC_DEMANGLER_OK ? strlen(text) : 0;
+    struct msvc_demangler_result result =
+        msvc_demangler_demangle(name, strlen(name), MSVC_DEMANGLER_LLVM, MSVC_DEMANGLER_UNLIMITED,
+                                MSVC_DEMANGLER_UNLIMITED, text, sizeof text);
+    return result.status == MSVC_DEMANGLER_OK ? strlen(text) : 0;
 }
 
 static size_t length_of_allocated(const char *name)
 {
-    struct msvc_demangler_answer answer;
-    char *text = msvc_demangler_demangle_allocated(name, strlen(name), MSVC_DEMANGLER_LLVM, MSVC_DEMANGLER_NO_BOUND,
-                                                   &answer);
-    size_t length = answer.status == MSVC_DEMANGLER_OK ? strlen(text) : 0;
+    struct msvc_demangler_result result;
+    char *text = msvc_demangler_demangle_allocated(name, strlen(name), MSVC_DEMANGLER_LLVM, MSVC_DEMANGLER_UNLIMITED,
+                                                   MSVC_DEMANGLER_UNLIMITED, &result);
+    size_t length = result.status == MSVC_DEMANGLER_OK ? strlen(text) : 0;
     free(text);
     return length;
 }

@@ -4,7 +4,7 @@
 #[cfg(test)]
 mod tests {
     use crate::streams::{Failing, Reader, Writer};
-    use msvc_demangler::{DemangleFlags, Fault, Flags, Watched, filter_text};
+    use msvc_demangler::{DemangleFlags, Fault, Flags, Watched, filter_slice, filter_text};
     use std::alloc::{AllocError, Global};
     use std::io::ErrorKind;
     use std::test::Fail;
@@ -75,6 +75,32 @@ mod tests {
             let (out, done) = filtered(rt.alloc(), bytes, DemangleFlags::llvm());
             assert_eq!(rt; done, Ok(()));
             assert_eq!(rt; out.as_slice(), text);
+        }
+    }
+
+    /// A slice of any size gets a beginning of the text, and no byte after it is changed.
+    #[test]
+    fn slices(rt: HostRuntime) -> Result<(), Fail> {
+        for (bytes, text) in TEXTS {
+            for size in 0..text.len().saturating_add(2) {
+                let mut out = around(rt.alloc(), b"", 0xFE, size, b"")?;
+                let filtered = filter_slice(rt.alloc(), bytes, DemangleFlags::llvm(), &mut out)?;
+                assert_eq!(rt; filtered.length, text.len());
+                assert_eq!(rt; filtered.written, written_of(text, size));
+                assert_eq!(rt; &out[..filtered.written], &text[..filtered.written]);
+                assert!(rt; out[filtered.written..].iter().all(|byte| *byte == 0xFE));
+            }
+        }
+        Ok(())
+    }
+
+    /// Returns how many bytes of a text a slice gets: it doesn't split the only character of two bytes, the first of
+    /// which is 0xC3.
+    fn written_of(text: &[u8], size: usize) -> usize {
+        let cut = size.min(text.len());
+        match &text[..cut] {
+            [.., 0xC3] => cut - 1,
+            _ => cut,
         }
     }
 

@@ -10,6 +10,7 @@
 mod calls;
 mod digits;
 mod filter;
+mod limits;
 mod lines;
 mod measure;
 mod rows;

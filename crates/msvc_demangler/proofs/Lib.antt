@@ -1,9 +1,13 @@
 pub mod Demangled
+pub mod Filled
 pub mod Fronts
 pub mod Going
 pub mod Joined
+pub mod Local
 pub mod Pieces
 pub mod Replaced
+pub mod Starts
+pub mod Streamed
 pub mod Symbols
 pub mod Texts
 pub mod Within

@@ -1,6 +1,6 @@
 -- Symbols at the starts of a text.
 use Rattle.std.proofs.Common.{◌≡◌, ◌≢◌, ◌≤◌, ◌<◌, ◌+◌, ◌-◌, ◌∙◌, ℕ, List, drop, length, take, refl, sym, ap, subst}
-use Rattle.std.proofs.Common.{arith, false, length-take, true}
+use Rattle.std.proofs.Common.{Bool, cond, arith, false, length-take, true}
 use Rattle.std.specs.List.{prefix_len, take_while}
 use Rattle.std.specs.Str.Lossy.{utf8_valid_len}
 use Rattle.msvc_nodes.specs.Trees.{SymbolTree}
@@ -16,9 +16,8 @@ use Rattle.msvc_grammar.proofs.Checks.{Fine, eater, eats, rank}
 use Rattle.msvc_grammar.proofs.Progress.{Less, shorter}
 use Rattle.msvc_grammar.proofs.Laws.{derived-only}
 use Rattle.msvc_print.specs.Declaration.{declaration}
-use Rattle.msvc_demangler.specs.Demangled.{IsDeclared}
 use Rattle.msvc_demangler.specs.Filtered.{IsNoSymbol, IsSymbol, most_declared, most_nodes}
-use Rattle.msvc_demangler.specs.Words.{candidate, continues, is_visible, most_bytes, symbol_extent}
+use Rattle.msvc_demangler.specs.Words.{candidate, continues, is_left_over, is_visible, most_bytes, symbol_extent}
 
 -- a candidate is no longer than what it begins
 within : (n : ℕ) (l : List ℕ) → length (take n l) ≤ length l
@@ -27,7 +26,7 @@ within n l = omega (arith, length-take n l)
 at_most : (a b c d : ℕ) → a ≤ b → b ≤ c → c ≤ d → a ≤ d
 at_most a b c d first second third = omega arith
 
-candidate-within : (left : List ℕ) → length (candidate left) ≤ length left
+pub candidate-within : (left : List ℕ) → length (candidate left) ≤ length left
 candidate-within left =
     let seen = take_while is_visible left in
     let first = take most_bytes seen in
@@ -51,12 +50,11 @@ as-many left tree other rest remaining notes others d e =
     (derived-only (candidate left) tree other rest remaining notes others d e).1
 
 -- a symbol that was read
-pub symbol-read : (flags read : ℕ) (left input text : List ℕ) → input ≡ candidate left → (tree : SymbolTree)
-    → IsDeclared input tree flags text → node_count tree ≤ most_nodes → IsSymbolLength read input
-    → length text ≤ most_declared → continues (drop (symbol_extent left read) left) ≡ false
-    → IsSymbol flags left (symbol_extent left read) text
-symbol-read flags read left input text same tree declared nodes read_length short ends =
-    let is = declared.parsed in
+pub symbol-read : (flags read : ℕ) (left input : List ℕ) → input ≡ candidate left → (tree : SymbolTree)
+    → IsParsed input tree → node_count tree ≤ most_nodes → IsSymbolLength read input
+    → length (declaration tree flags) ≤ most_declared → continues (drop (symbol_extent left read) left) ≡ false
+    → IsSymbol flags left (symbol_extent left read) (declaration tree flags)
+symbol-read flags read left input same tree is nodes read_length short ends =
     let to = (read_length.read_to tree is.rest is.notes is.derived).0 in
     let so_many : read ≡ length (candidate left) - length is.rest = omega (arith, to, ap length same) in
     record {
@@ -65,7 +63,7 @@ symbol-read flags read left input text same tree declared nodes read_length shor
       notes = is.notes;
       derived = subst (λ l. Derives l tree is.rest is.notes) same is.derived;
       nodes = nodes;
-      declared = declared.printed;
+      declared = refl;
       short = short;
       takes = ap (symbol_extent left) so_many;
       ends = ends;
@@ -128,3 +126,29 @@ symbol-only flags left bytes others text other s t =
       t.takes ∙ as-many left t.tree s.tree t.rest s.rest t.notes s.notes t.derived s.derived ∙ sym s.takes,
       t.declared ∙ ap (λ z. declaration z flags) one.0 ∙ sym s.declared,
     )
+
+-- whatever is a symbol at a start is the one that the grammar derives
+pub symbol-of : (flags : ℕ) (left : List ℕ) (bytes : ℕ) (text : List ℕ) (tree : SymbolTree) (rest : List ℕ)
+    (notes : List Note) → Derives (candidate left) tree rest notes → IsSymbol flags left bytes text
+    → (s : SymbolTree) × (s ≡ tree) × (node_count s ≤ most_nodes)
+    × (bytes ≡ symbol_extent left (length (candidate left) - length rest)) × (text ≡ declaration tree flags)
+symbol-of flags left bytes text tree rest notes d s =
+    let one = derived-only (candidate left) s.tree tree s.rest rest s.notes notes s.derived d in (
+      s.tree,
+      one.0,
+      s.nodes,
+      s.takes ∙ as-many left s.tree tree s.rest rest s.notes notes s.derived d,
+      s.declared ∙ ap (λ z. declaration z flags) one.0,
+    )
+
+-- a symbol takes some byte
+pub symbol-eaten : (flags : ℕ) (left : List ℕ) (bytes : ℕ) (text : List ℕ) → IsSymbol flags left bytes text
+    → 0 < bytes
+symbol-eaten flags left bytes text s =
+    let some = symbol-eats (candidate left) s.tree s.rest s.notes s.derived in
+    at (is_left_over (drop (length (candidate left) - length s.rest) left)) s.takes some
+  where
+    at : (o : Bool) → bytes ≡ cond o ((length (candidate left) - length s.rest) + 1)
+        (length (candidate left) - length s.rest) → length s.rest + 1 ≤ length (candidate left) → 0 < bytes
+    at true e some = omega arith
+    at false e some = omega arith

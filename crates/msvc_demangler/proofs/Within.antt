@@ -1,110 +1,174 @@
--- The text of a line, on its way.
-use Rattle.std.proofs.Common.{◌≡◌, ◌≤◌, ◌<◌, ◌+◌, ◌-◌, ◌++◌, ◌∷◌, [], ◌∙◌, ℕ, List, Bool, true, false, length, take}
-use Rattle.std.proofs.Common.{drop, get_or, refl, sym, ap, subst, append_assoc, append-nil, add-one, drop-cons}
-use Rattle.std.proofs.Common.{take_all}
-use Rattle.std.proofs.Common.{arith, length-drop}
+-- The parts of some bytes, on their way.
+use Rattle.std.proofs.Common.{◌≡◌, ◌≤◌, ◌<◌, ◌+◌, ◌-◌, ◌++◌, ◌∷◌, [], ◌∙◌, inl, inr, ℕ, List, true, false, Option, map}
+use Rattle.std.proofs.Common.{length, take, drop, get_or, refl, sym, ap, subst, arith, add-one}
+use Rattle.std.proofs.Common.{append_assoc, append-nil, drop-cons, length-drop}
 use Rattle.std.proofs.lemmas.Bool.{or_parts}
-use Rattle.std.proofs.lemmas.List.{drop-drop, get_or-drop, take_more}
+use Rattle.std.proofs.lemmas.List.{drop-append-le, drop-drop, get_or-drop, get_or_append_left, map-append, take_more}
 use Rattle.std.specs.List.{list_any}
 use Rattle.std.specs.Prelude.{◌==◌, ◌&&◌, ◌||◌, not}
-use Rattle.msvc_demangler.specs.Filtered.{IsNoSymbol, IsSymbol, IsTextOf, IsTextOfLine, nothing, replaced, stays}
-use Rattle.msvc_demangler.specs.Words.{blocks_start, sees_question_mark, is_of_word, is_start}
+use Rattle.msvc_demangler.specs.Filtered.{IsFilteredFrom, IsNoSymbol, IsSymbol, Part, declared, kept}
+use Rattle.msvc_demangler.specs.Filtered.{nothing, replaced, stays, text_of_parts}
+use Rattle.msvc_demangler.specs.Scans.{ArePartsUpTo, AreRest, IsDecided, IsFound, IsSymbolShown, Keeps}
+use Rattle.msvc_demangler.specs.Scans.{most_looked_at}
+use Rattle.msvc_demangler.specs.Words.{blocks_start, byte_before, has_question_mark, is_start, word_before}
+use Rattle.msvc_demangler.specs.declared.words.Scan.{Scan}
+use Rattle.msvc_demangler.proofs.Local.{no_symbol-more, symbol-more}
+use Rattle.msvc_demangler.proofs.Replaced.{text-append}
 
--- What stands before a place of a line is looked at; what it becomes is written, but for the bytes from another place
--- on, which stay. So whatever text the rest has, this is before it.
-pub record Within (flags : ℕ) (line out : List ℕ) (kept at : ℕ) (seen_question_mark : Bool) (last : ℕ) : Type 0 where
-  pub inside : at ≤ length line
-  pub order : kept ≤ at
-  pub completes : (text : List ℕ) → IsTextOf flags seen_question_mark last (drop at line) text
-      → IsTextOfLine flags line (out ++ (take (at - kept) (drop kept line) ++ text))
+-- bytes after these that decide a symbol change nothing
+enough : (left : List ℕ) (at until : ℕ) → at < until → until + most_looked_at ≤ length left
+    → most_looked_at ≤ length (drop at left)
+enough left at until below far = omega (arith, length-drop at left)
 
-pub Within-start : (flags : ℕ) (line : List ℕ) → Within flags line [] 0 0 false 10
-Within-start flags line = record { inside = omega arith; order = omega arith; completes = λ text h. h }
+no_symbol-decided : (flags : ℕ) (left : List ℕ) (at until : ℕ) (more : List ℕ) → at < until → IsDecided left until more
+    → IsNoSymbol flags (drop at left) → IsNoSymbol flags (drop at left ++ more)
+no_symbol-decided flags left at until more below (inl e) none =
+    subst (IsNoSymbol flags) (sym (append-nil (drop at left)) ∙ ap (λ l. drop at left ++ l) (sym e)) none
+no_symbol-decided flags left at until more below (inr far) none =
+    no_symbol-more flags (drop at left) more (inl (enough left at until below far)) none
 
--- one byte more is kept
-kept_more : (line : List ℕ) (kept at : ℕ) (text : List ℕ) → kept ≤ at → at < length line
-    → take (at - kept) (drop kept line) ++ (get_or line at 0 ∷ text) ≡ take ((at + 1) - kept) (drop kept line) ++ text
-kept_more line kept at text order inside =
-    let here = drop kept line in
-    let n = at - kept in
-    let more = take_more here n 0 (omega (arith, length-drop kept line)) in
-    let byte : get_or here n 0 ≡ get_or line at 0 =
-    get_or-drop kept line n 0 ∙ ap (λ i. get_or line i 0) (let e : kept + n ≡ at = omega arith in e) in
-    let count : (at + 1) - kept ≡ n + 1 = omega arith in
-    sym (append_assoc (take n here) (get_or line at 0 ∷ []) text)
-    ∙ ap (λ l. l ++ text) (ap (λ b. take n here ++ b ∷ []) (sym byte) ∙ sym more ∙ ap (λ m. take m here) (sym count))
+symbol-decided : (flags : ℕ) (left : List ℕ) (at until : ℕ) (more : List ℕ) (bytes : ℕ) (text : List ℕ) → at < until
+    → IsDecided left until more → IsSymbol flags (drop at left) bytes text
+    → IsSymbol flags (drop at left ++ more) bytes text
+symbol-decided flags left at until more bytes text below (inl e) is =
+    subst (λ l. IsSymbol flags l bytes text)
+    (sym (append-nil (drop at left)) ∙ ap (λ l. drop at left ++ l) (sym e)) is
+symbol-decided flags left at until more bytes text below (inr far) is =
+    symbol-more flags (drop at left) more bytes text (inl (enough left at until below far)) is
 
-pub Within-stays : (flags : ℕ) (line out : List ℕ) (kept at : ℕ) (seen_question_mark : Bool) (last b : ℕ)
-    → Within flags line out kept at seen_question_mark last → at < length line → b ≡ get_or line at 0
-    → (is_start seen_question_mark last b ≡ true → IsNoSymbol flags (drop at line))
-    → Within flags line out kept (at + 1) (sees_question_mark seen_question_mark b) b
-Within-stays flags line out kept at seen_question_mark last b so inside is none =
-    let next = drop-cons line at 0 inside ∙ ap (λ n. get_or line at 0 ∷ drop n line) (sym (add-one at)) in
-    let whole : drop at line ≡ b ∷ drop (at + 1) line = next ∙ ap (λ x. x ∷ drop (at + 1) line) (sym is) in
-    record {
-      inside = omega arith;
-      order = omega (arith, so.order);
-      completes = λ text h.
-          subst (λ l. IsTextOfLine flags line (out ++ l))
-          (ap (λ x. take (at - kept) (drop kept line) ++ x ∷ text) is ∙ kept_more line kept at text so.order inside)
-          (so.completes (b ∷ text) (subst (λ l. IsTextOf flags seen_question_mark last l (b ∷ text)) (sym whole)
-          (stays (λ start. subst (IsNoSymbol flags) whole (none start)) h)));
-    }
+-- before the first byte
+pub parts-start : (flags : ℕ) (scan : Scan) (left : List ℕ) (until : ℕ) → ArePartsUpTo flags scan left until [] 0 scan
+parts-start flags scan left until more rest decided h = h
 
-pub Within-replaced : (flags : ℕ) (line out : List ℕ) (kept at : ℕ) (seen_question_mark : Bool) (last bytes : ℕ)
-    (first : List ℕ) → Within flags line out kept at seen_question_mark last → at < length line
-    → is_start seen_question_mark last (get_or line at 0) ≡ true
-    → IsSymbol flags (drop at line) bytes first → 0 < bytes → bytes ≤ length (drop at line)
-    → Within flags line ((out ++ take (at - kept) (drop kept line)) ++ first) (at + bytes) (at + bytes) false
-    (get_or line (at + bytes - 1) 0)
-Within-replaced flags line out kept at seen_question_mark last bytes first so inside start is some within =
-    let left = drop (at + 1) line in
-    let b = get_or line at 0 in
-    let whole : drop at line ≡ b ∷ left = drop-cons line at 0 inside ∙ ap (λ n. b ∷ drop n line) (sym (add-one at)) in
-    let here = take (at - kept) (drop kept line) in
-    let end : get_or (drop at line) (bytes - 1) 0 ≡ get_or line (at + bytes - 1) 0 =
-    get_or-drop at line (bytes - 1) 0 ∙ ap (λ i. get_or line i 0) (let e : at +
-    (bytes - 1) ≡ at + bytes - 1 = omega arith in e) in
-    record {
-      inside = omega (arith, length-drop at line);
-      order = omega arith;
-      completes = λ text h.
-          let rest : IsTextOf flags false (get_or (drop at line) (bytes - 1) 0) (drop bytes (drop at line)) text =
-          subst (λ l. IsTextOf flags false (get_or (drop at line) (bytes - 1) 0) l text) (sym (drop-drop bytes at line))
-          (subst (λ n. IsTextOf flags false n (drop (at + bytes) line) text) (sym end) h) in
-          let from : IsTextOf flags seen_question_mark last (drop at line) (first ++ text) =
-          subst (λ l. IsTextOf flags seen_question_mark last l (first ++ text)) (sym whole)
-          (replaced start (subst (λ l. IsSymbol flags l bytes first) whole is)
-          (subst (λ l. IsTextOf flags false (get_or l (bytes - 1) 0) (drop bytes l) text) whole rest)) in
-          subst (IsTextOfLine flags line)
-          (sym (ap (λ n. ((out ++ here) ++ first) ++ (take n (drop (at + bytes) line) ++ text))
-          (let e : (at + bytes) - (at + bytes) ≡ 0 = omega arith in e)
-          ∙ append_assoc (out ++ here) first text ∙ append_assoc out here (first ++ text)))
-          (so.completes (first ++ text) from);
-    }
+-- the bytes from a place on begin with that one
+from : (left more : List ℕ) (at : ℕ) → at < length left
+    → drop at left ++ more ≡ get_or left at 0 ∷ (drop (at + 1) left ++ more)
+from left more at inside =
+    ap (λ l. l ++ more)
+    (drop-cons left at 0 inside ∙ ap (λ n. get_or left at 0 ∷ drop n left) (sym (add-one at)))
 
--- at the end of the line
-pub Within-end : (flags : ℕ) (line out : List ℕ) (kept at : ℕ) (seen_question_mark : Bool) (last : ℕ)
-    → Within flags line out kept at seen_question_mark last → length line ≤ at
-    → IsTextOfLine flags line (out ++ drop kept line)
-Within-end flags line out kept at seen_question_mark last so end =
-    let over : drop at line ≡ [] = empty (drop at line) (omega (arith, length-drop at line)) in
-    let all : take (at - kept) (drop kept line) ≡ drop kept line =
-    take_all (at - kept) (drop kept line) (omega (arith, length-drop kept line, so.order)) in
-    subst (λ l. IsTextOfLine flags line (out ++ l)) (append-nil (take (at - kept) (drop kept line)) ∙ all)
-    (so.completes [] (subst (λ l. IsTextOf flags seen_question_mark last l []) (sym over) nothing))
+kept-more : (left : List ℕ) (at : ℕ) (rest : List Part) → at < length left
+    → map kept (take at left) ++ (kept (get_or left at 0) ∷ rest) ≡ map kept (take (at + 1) left) ++ rest
+kept-more left at rest inside =
+    sym (append_assoc (map kept (take at left)) (kept (get_or left at 0) ∷ []) rest)
+    ∙ ap (λ l. l ++ rest) (sym (map-append kept (take at left) (get_or left at 0 ∷ []))
+    ∙ ap (map kept) (sym (take_more left at 0 inside)))
+
+-- a byte stays
+pub parts-stays : (flags : ℕ) (scan now after : Scan) (left : List ℕ) (until at : ℕ)
+    → ArePartsUpTo flags scan left until (map kept (take at left)) at now → at < until → until ≤ length left
+    → ((last : ℕ) (passed : List ℕ) → Keeps now last passed → is_start last passed (get_or left at 0) ≡ true
+    → IsNoSymbol flags (drop at left))
+    → ((last : ℕ) (passed : List ℕ) → Keeps now last passed → Keeps after last (get_or left at 0 ∷ passed))
+    → ArePartsUpTo flags scan left until (map kept (take (at + 1) left)) (at + 1) after
+parts-stays flags scan now after left until at so below within none keeps more rest decided h =
+    let inside : at < length left = omega arith in
+    let b = get_or left at 0 in
+    let whole = from left more at inside in
+    subst (AreRest flags scan (left ++ more)) (kept-more left at rest inside)
+    (so more (kept b ∷ rest) decided (λ last passed k.
+    subst (λ l. IsFilteredFrom flags last passed l (kept b ∷ rest)) (sym whole)
+    (stays (λ start. subst (IsNoSymbol flags) whole
+    (no_symbol-decided flags left at until more below decided (none last passed k start)))
+    (h last (b ∷ passed) (keeps last passed k)))))
+
+-- a symbol is found
+pub parts-found : (flags : ℕ) (scan now after : Scan) (left : List ℕ) (until at bytes : ℕ) (shown : Option (List ℕ))
+    → ArePartsUpTo flags scan left until (map kept (take at left)) at now → at < until → until ≤ length left
+    → ((last : ℕ) (passed : List ℕ) → Keeps now last passed → is_start last passed (get_or left at 0) ≡ true)
+    → IsSymbolShown flags (drop at left) bytes shown → Keeps after (get_or left (at + bytes - 1) 0) []
+    → IsFound flags scan left until at bytes shown after
+parts-found flags scan now after left until at bytes shown so below within start is keeps = record {
+  text = is.0;
+  printed = is.1;
+  some = is.3;
+  inside = omega (arith, is.4, length-drop at left);
+  parts = λ more rest decided h.
+      let inside : at < length left = omega arith in
+      let b = get_or left at 0 in
+      let whole = from left more at inside in
+      let fits : bytes ≤ length (drop at left) = is.4 in
+      let last_byte : get_or (drop at left ++ more) (bytes - 1) 0 ≡ get_or left (at + bytes - 1) 0 =
+      get_or_append_left (drop at left) more 0 (bytes - 1) (omega (arith, is.3)) ∙ get_or-drop at left (bytes - 1) 0
+      ∙ ap (λ i. get_or left i 0) (let e : at + (bytes - 1) ≡ at + bytes - 1 = omega (arith, is.3) in e) in
+      let past : drop (at + bytes) left ++ more ≡ drop bytes (drop at left ++ more) =
+      ap (λ l. l ++ more) (sym (drop-drop bytes at left)) ∙ sym (drop-append-le bytes (drop at left) more fits) in
+      subst (AreRest flags scan (left ++ more))
+      (sym (append_assoc (map kept (take at left)) (declared is.0 ∷ []) rest))
+      (so more (declared is.0 ∷ rest) decided (λ last passed k.
+      subst (λ l. IsFilteredFrom flags last passed l (declared is.0 ∷ rest)) (sym whole)
+      (replaced (start last passed k)
+      (subst (λ l. IsSymbol flags l bytes is.0) whole
+      (symbol-decided flags left at until more bytes is.0 below decided is.2))
+      (subst (λ l. IsFilteredFrom flags (get_or l (bytes - 1) 0) [] (drop bytes l) rest) whole
+      (subst (λ n. IsFilteredFrom flags n [] (drop bytes (drop at left ++ more)) rest) (sym last_byte)
+      (subst (λ l. IsFilteredFrom flags (get_or left (at + bytes - 1) 0) [] l rest) past
+      (h (get_or left (at + bytes - 1) 0) [] keeps)))))));
+}
+
+-- parts after others
+pub parts-further : (flags : ℕ) (scan now after : Scan) (left : List ℕ) (until at on : ℕ) (parts others : List Part)
+    → ArePartsUpTo flags scan left until parts at now → at ≤ until → until ≤ length left
+    → ArePartsUpTo flags now (drop at left) (until - at) others on after
+    → ArePartsUpTo flags scan left until (parts ++ others) (at + on) after
+parts-further flags scan now after left until at on parts others so below within further more rest decided h =
+    subst (AreRest flags scan (left ++ more)) (sym (append_assoc parts others rest))
+    (so more (others ++ rest) decided (further more rest (later decided)
+    (subst (λ l. AreRest flags after (l ++ more) rest) (sym (drop-drop on at left)) h)))
+  where
+    later : IsDecided left until more → IsDecided (drop at left) (until - at) more
+    later (inl e) = inl e
+    later (inr far) = inr (omega (arith, length-drop at left))
+
+-- bytes that stay are their text
+pub text-kept : (bytes : List ℕ) → text_of_parts (map kept bytes) ≡ bytes
+text-kept [] = refl
+text-kept (b ∷ bytes) = ap (λ l. b ∷ l) (text-kept bytes)
+
+-- to the end
+pub parts-all : (flags : ℕ) (scan after : Scan) (left : List ℕ) (until at : ℕ) (parts : List Part)
+    → ArePartsUpTo flags scan left until parts at after → length left ≤ at → AreRest flags scan left parts
+parts-all flags scan after left until at parts so end =
+    let none : drop at left ++ [] ≡ [] =
+    append-nil (drop at left) ∙ empty (drop at left) (omega (arith, length-drop at left)) in
+    subst (AreRest flags scan left) (append-nil parts)
+    (subst (λ l. AreRest flags scan l (parts ++ [])) (append-nil left)
+    (so [] [] (inl refl) (λ last passed k. subst (λ l. IsFilteredFrom flags last passed l []) (sym none) nothing)))
   where
     empty : (l : List ℕ) → length l ≡ 0 → l ≡ []
     empty [] e = refl
     empty (x ∷ xs) e = absurd (omega arith)
 
--- what has no `?` stays as it is, if its word has had none before
-pub without_question_mark : (flags last : ℕ) (line : List ℕ) → list_any (λ b. b == 63) line ≡ false
-    → IsTextOf flags false last line line
-without_question_mark flags last [] none = nothing
-without_question_mark flags last (b ∷ bs) none =
+-- what has no `?` stays as it is
+pub without_question_mark : (flags : ℕ) (last : ℕ) (passed left : List ℕ) → list_any (λ b. b == 63) left ≡ false
+    → IsFilteredFrom flags last passed left (map kept left)
+without_question_mark flags last passed [] none = nothing
+without_question_mark flags last passed (b ∷ bs) none =
     let parts = or_parts (b == 63) (list_any (λ c. c == 63) bs) none in
-    let start = ap (λ is. is && not (false || blocks_start last)) parts.0 in
-    let seen = ap (λ is. (false || is) && is_of_word b) parts.0 in
-    stays (λ starts. let never : true ≡ false = sym starts ∙ start in absurd (cc))
-    (subst (λ is. IsTextOf flags is b bs bs) (sym seen) (without_question_mark flags b bs parts.1))
+    stays (λ starts. absurd (never b parts.0 starts)) (without_question_mark flags last (b ∷ passed) bs parts.1)
+  where
+    never : (b : ℕ) → (b == 63) ≡ false → is_start last passed b ≡ true → ⊥
+    never b is starts =
+        let blocked = has_question_mark (word_before passed) || blocks_start (byte_before last passed) in
+        let no : false && not blocked ≡ true = subst (λ t. t && not blocked ≡ true) is starts in cc
+
+pub first-of : (left : List ℕ) (at : ℕ) → get_or (drop at left) 0 0 ≡ get_or left at 0
+first-of left at = get_or-drop at left 0 0 ∙ ap (λ i. get_or left i 0) (let e : at + 0 ≡ at = omega arith in e)
+
+-- what is appended for a symbol
+pub text-further : (text shown : List ℕ) (parts : List Part) (bytes : List ℕ) → text ≡ text_of_parts parts
+    → (text ++ bytes) ++ shown ≡ text_of_parts (parts ++ (map kept bytes ++ declared shown ∷ []))
+text-further text shown parts bytes is =
+    append_assoc text bytes shown ∙ ap (λ t. t ++ (bytes ++ shown)) is
+    ∙ ap (λ t. text_of_parts parts ++ t)
+    (ap (λ b. b ++ shown) (sym (text-kept bytes))
+    ∙ ap (λ t. text_of_parts (map kept bytes) ++ t) (sym (append-nil shown))
+    ∙ sym (text-append (map kept bytes) (declared shown ∷ [])))
+    ∙ sym (text-append parts (map kept bytes ++ declared shown ∷ []))
+
+-- and for bytes that stay
+pub text-stays : (text : List ℕ) (parts : List Part) (bytes : List ℕ) → text ≡ text_of_parts parts
+    → text ++ bytes ≡ text_of_parts (parts ++ map kept bytes)
+text-stays text parts bytes is =
+    ap (λ t. t ++ bytes) is ∙ ap (λ t. text_of_parts parts ++ t) (sym (text-kept bytes))
+    ∙ sym (text-append parts (map kept bytes))

@@ -1,12 +1,12 @@
 -- The filter's text: that of some bytes in which each symbol is replaced by its declaration.
-use Rattle.std.specs.Prelude.{ℕ, List, [], ◌∷◌, ◌++◌, ◌-◌, ◌≡◌, ◌≤◌, Bool, true, false, length, drop, slice_index}
+use Rattle.std.specs.Prelude.{ℕ, List, [], ◌∷◌, ◌++◌, ◌-◌, ◌≡◌, ◌≤◌, ◌==◌, true, false, length, drop, slice_index, take}
+use Rattle.std.specs.Prelude.{nat_le, if◌then◌else◌}
 use Rattle.msvc_nodes.specs.Trees.{SymbolTree}
 use Rattle.msvc_grammar.specs.Counts.{node_count}
 use Rattle.msvc_grammar.specs.Reads.{Derives}
 use Rattle.msvc_grammar.specs.State.{Note}
 use Rattle.msvc_print.specs.Declaration.{declaration}
-use Rattle.msvc_demangler.specs.Lines.{pieces}
-use Rattle.msvc_demangler.specs.Words.{candidate, continues, sees_question_mark, is_start, symbol_extent}
+use Rattle.msvc_demangler.specs.Words.{candidate, continues, is_start, symbol_extent, utf8_front}
 
 -- a symbol of a text has at most so many nodes, and its declaration so many bytes
 abbrev pub most_nodes : ℕ
@@ -31,31 +31,49 @@ pub record IsSymbol (flags : ℕ) (left : List ℕ) (bytes : ℕ) (text : List �
 abbrev pub IsNoSymbol : (flags : ℕ) (left : List ℕ) → Type 0
 IsNoSymbol flags left = (bytes : ℕ) (text : List ℕ) → IsSymbol flags left bytes text → ⊥
 
--- The text of the bytes that are left of a line. Each byte stays, unless a symbol begins at it: then the symbol's
--- declaration takes the place of the bytes that it takes.
-pub data IsTextOf (flags : ℕ) : (seen_question_mark : Bool) (last : ℕ) → List ℕ → List ℕ → Type 0 where
-  nothing : {seen_question_mark : Bool} {last : ℕ} → IsTextOf flags seen_question_mark last [] []
-  stays : {seen_question_mark : Bool} {last b : ℕ} {left text : List ℕ} → (is_start seen_question_mark last b ≡ true
-      → IsNoSymbol flags (b ∷ left))
-      → IsTextOf flags (sees_question_mark seen_question_mark b) b left text
-      → IsTextOf flags seen_question_mark last (b ∷ left) (b ∷ text)
-  replaced : {seen_question_mark : Bool} {last b bytes : ℕ} {left first text : List ℕ}
-      → is_start seen_question_mark last b ≡ true
-      → IsSymbol flags (b ∷ left) bytes first
-      → IsTextOf flags false (slice_index (b ∷ left) (bytes - 1)) (drop bytes (b ∷ left)) text
-      → IsTextOf flags seen_question_mark last (b ∷ left) (first ++ text)
+-- A part of what the filter writes: a byte that stays, or the declaration that replaces a symbol.
+pub data Part : Type 0 where
+  kept : ℕ → Part
+  declared : List ℕ → Part
 
--- a line begins after a line feed, and no word goes on there
-abbrev pub IsTextOfLine : ℕ → List ℕ → List ℕ → Type 0
-IsTextOfLine flags line text = IsTextOf flags false 10 line text
+-- the bytes of parts
+abbrev pub text_of_parts : List Part → List ℕ
+text_of_parts [] = []
+text_of_parts (kept b ∷ parts) = b ∷ text_of_parts parts
+text_of_parts (declared text ∷ parts) = text ++ text_of_parts parts
 
--- the texts of lines, one after another
-pub data IsTextOfLines (flags : ℕ) : List (List ℕ) → List ℕ → Type 0 where
-  none : IsTextOfLines flags [] []
-  one_more : {line first text : List ℕ} {lines : List (List ℕ)} → IsTextOfLine flags line first
-      → IsTextOfLines flags lines text → IsTextOfLines flags (line ∷ lines) (first ++ text)
+-- The parts that the filter makes of the bytes left. Bytes passed since the last symbol, or since the beginning, stand
+-- before them, last first, and a byte before these. Each byte stays, unless a symbol begins at it: then the symbol's
+-- declaration takes the place of the bytes that it takes, and a new word begins after these.
+pub data IsFilteredFrom (flags : ℕ) : (last : ℕ) (passed left : List ℕ) → List Part → Type 0 where
+  nothing : {last : ℕ} {passed : List ℕ} → IsFilteredFrom flags last passed [] []
+  stays : {last b : ℕ} {passed left : List ℕ} {parts : List Part}
+      → (is_start last passed b ≡ true → IsNoSymbol flags (b ∷ left))
+      → IsFilteredFrom flags last (b ∷ passed) left parts
+      → IsFilteredFrom flags last passed (b ∷ left) (kept b ∷ parts)
+  replaced : {last b bytes : ℕ} {passed left text : List ℕ} {parts : List Part}
+      → is_start last passed b ≡ true
+      → IsSymbol flags (b ∷ left) bytes text
+      → IsFilteredFrom flags (slice_index (b ∷ left) (bytes - 1)) [] (drop bytes (b ∷ left)) parts
+      → IsFilteredFrom flags last passed (b ∷ left) (declared text ∷ parts)
 
--- what the filter writes for some bytes: the text of their lines, and no other text is that
+-- the parts that the filter makes of some bytes, which begin as after a line feed
+abbrev pub AreParts : ℕ → List ℕ → List Part → Type 0
+AreParts flags bytes parts = IsFilteredFrom flags 10 [] bytes parts
+
+-- a text that the filter makes of some bytes
+abbrev pub IsFilteredText : ℕ → List ℕ → List ℕ → Type 0
+IsFilteredText flags bytes text = (parts : List Part) × AreParts flags bytes parts × (text ≡ text_of_parts parts)
+
+-- what the filter writes for some bytes, and no other text is that
 abbrev pub IsFiltered : ℕ → List ℕ → List ℕ → Type 0
-IsFiltered flags bytes text = IsTextOfLines flags (pieces bytes) text
-    × ((other : List ℕ) → IsTextOfLines flags (pieces bytes) other → other ≡ text)
+IsFiltered flags bytes text =
+    IsFilteredText flags bytes text × ((other : List ℕ) → IsFilteredText flags bytes other → other ≡ text)
+
+-- As much of these parts as fits into so many bytes: whole parts, and of a declaration that does not fit the longest
+-- beginning that is UTF-8.
+unfoldable pub fitting : (room : ℕ) → List Part → List ℕ
+fitting room [] = []
+fitting room (kept b ∷ parts) = if room == 0 then [] else b ∷ fitting (room - 1) parts
+fitting room (declared text ∷ parts) =
+    if nat_le (length text) room then text ++ fitting (room - length text) parts else utf8_front (take room text)

@@ -1,9 +1,12 @@
 pub mod Answers
 pub mod Demangled
 pub mod Faults
+pub mod Fillings
 pub mod Filtered
+pub mod Limits
 pub mod Lines
 pub mod Runs
+pub mod Scans
 pub mod Streams
 pub mod Taking
 pub mod Words

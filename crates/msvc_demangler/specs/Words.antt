@@ -2,7 +2,7 @@
 use Rattle.std.specs.Prelude.{ℕ, List, [], ◌∷◌, ◌+◌, Bool, false, true, not, ◌&&◌, ◌||◌, ◌==◌, nat_lt, take, drop}
 use Rattle.std.specs.Prelude.{if◌then◌else◌}
 use Rattle.std.specs.Char.{is_ascii_alphanumeric, is_ascii_uppercase}
-use Rattle.std.specs.List.{take_while}
+use Rattle.std.specs.List.{list_any, take_while}
 use Rattle.std.specs.Str.Lossy.{utf8_valid_len}
 
 -- a word is an unbroken row of letters, digits, `_`, `$`, `@` and `?`
@@ -13,14 +13,22 @@ is_of_word b = is_ascii_alphanumeric b || (b == 95 || (b == 36 || (b == 64 || b 
 abbrev pub blocks_start : ℕ → Bool
 blocks_start b = is_ascii_alphanumeric b || b == 46
 
--- A symbol may start at the first `?` of a word, unless the byte before it blocks the start. So two things matter of
--- the bytes before: the last of them, and whether the word that continues after them has had a `?`.
-abbrev pub is_start : (seen_question_mark : Bool) (last b : ℕ) → Bool
-is_start seen_question_mark last b = b == 63 && not (seen_question_mark || blocks_start last)
+-- the word that ends where these bytes end, which stand here last byte first: its bytes, last first
+abbrev pub word_before : List ℕ → List ℕ
+word_before passed = take_while is_of_word passed
 
--- whether the word that continues after one byte more has had a `?`
-abbrev pub sees_question_mark : (seen_question_mark : Bool) (b : ℕ) → Bool
-sees_question_mark seen_question_mark b = (seen_question_mark || b == 63) && is_of_word b
+abbrev pub has_question_mark : List ℕ → Bool
+has_question_mark bytes = list_any (λ b. b == 63) bytes
+
+-- the byte before a place, from those passed since a beginning, last first, and the one before these
+abbrev pub byte_before : (last : ℕ) (passed : List ℕ) → ℕ
+byte_before last [] = last
+byte_before last (b ∷ passed) = b
+
+-- A symbol may start at a `?` that is the first of its word, unless the byte before it blocks the start.
+abbrev pub is_start : (last : ℕ) (passed : List ℕ) (b : ℕ) → Bool
+is_start last passed b =
+    b == 63 && not (has_question_mark (word_before passed) || blocks_start (byte_before last passed))
 
 -- neither a space nor a control character
 abbrev pub is_visible : ℕ → Bool

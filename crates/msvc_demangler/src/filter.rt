@@ -1,41 +1,44 @@
 //! The filter over texts: each symbol in them is replaced by its declaration.
 
-ghost use Rattle.std.specs.Prelude.{◌≡◌, ◌≤◌, ◌<◌, ℕ, List, IfErr, IfNone, IfOk, IfSome, OnOk, OnSome, length};
-ghost use Rattle.std.specs.Prelude.{slice_index, true};
+ghost use Rattle.std.specs.Prelude.{◌≡◌, ◌≤◌, ◌<◌, ◌+◌, ◌++◌, ◌∷◌, ℕ, List, [], IfErr, IfNone, IfOk, IfSome};
+ghost use Rattle.std.specs.Prelude.{MatchResult};
+ghost use Rattle.std.specs.Prelude.{OnOk, OnSome, Some, drop, length, map, slice_index, take, true, vec_len};
 ghost use Rattle.std.specs.Io.KnownBytes.{Appends, Consumes, IsAtEnd};
 ghost use Rattle.msvc_nodes.specs.Trees.{SymbolTree};
 ghost use Rattle.msvc_grammar.specs.Counts.{node_count};
 ghost use Rattle.msvc_grammar.specs.Parsed.{IsParsed, IsRejectedWithin, IsSymbolLength};
 ghost use Rattle.msvc_print.specs.Declaration.{declaration};
-ghost use Rattle.msvc_demangler.specs.Demangled.{IsDeclared};
 ghost use Rattle.msvc_demangler.specs.Faults.{SetsFailureFlag, failure_flag, no_stream};
-ghost use Rattle.msvc_demangler.specs.Filtered.{IsFiltered, IsNoSymbol, IsSymbol, IsTextOfLine};
-ghost use Rattle.msvc_demangler.specs.Filtered.{most_declared, most_nodes};
-ghost use Rattle.msvc_demangler.specs.Runs.{Writes, WritesText};
+ghost use Rattle.msvc_demangler.specs.Fillings.{IsFilling, space_after};
+ghost use Rattle.msvc_demangler.specs.Filtered.{AreParts, IsNoSymbol, Part, declared, fitting, kept, most_declared};
+ghost use Rattle.msvc_demangler.specs.Filtered.{most_nodes, text_of_parts};
+ghost use Rattle.msvc_demangler.specs.Runs.{Writes, WritesFiltered, WritesPart};
+ghost use Rattle.msvc_demangler.specs.Scans.{ArePartsUpTo, IsFilteredUpTo, IsFound, IsPut, IsPutOf, IsRestText};
+ghost use Rattle.msvc_demangler.specs.Scans.{IsSymbolShown, Keeps};
 ghost use Rattle.msvc_demangler.specs.Words.{is_start};
 
 use crate::output::put_all;
 use crate::room::Room;
 use crate::watched::{Fault, Taken, Watched};
-use crate::words::{candidate, continues, is_start, sees_question_mark, symbol_extent};
+use crate::words::{Scan, candidate, continues, symbol_extent, utf8_front};
+use crate::{DEFAULT_BYTE_LIMIT, DEFAULT_NODE_LIMIT};
 use msvc_nodes::error::Error;
 use msvc_nodes::flags::DemangleFlags;
-use msvc_print::print_within;
-use msvc_read::read_symbol_within;
 use std::alloc::{AllocError, Global};
 use std::io::{BufRead, Write};
 
-/// The most nodes that the tree of a symbol in a text has.
-const MOST_NODES: usize = 10_000;
+/// The most bytes of a line that are held before a piece of the line is written.
+const MOST_HELD: usize = 65_536;
 
-/// The most bytes that the declaration of a symbol in a text has.
-const MOST_DECLARED: usize = 65_536;
+/// Bytes from a start on that decide whether a symbol begins there: those of a candidate, and two more.
+const MOST_LOOKED_AT: usize = 4098;
 
 /// Copies `input` to `out`, with each symbol in it replaced by its declaration under `flags`. All other bytes stay as
 /// they are.
 ///
-/// Each line is read whole, then filtered, then written. So a fault never leaves a part of a line behind, unless a
-/// write fails. At each start at most 4,096 bytes are read as a symbol, of at most 10,000 nodes, and at most 65,536
+/// A line of at most 65,536 bytes is read whole, then filtered, then written, so that a fault leaves no part of it
+/// behind, unless a write fails. Of a longer line pieces are written as they come, so that a line of any length takes
+/// no more memory. At each start at most 4,096 bytes are read as a symbol, of at most 10,000 nodes, and at most 65,536
 /// bytes are printed; so the time is linear in the bytes.
 ///
 /// # Errors
@@ -50,7 +53,7 @@ pub fn filter_text<R: BufRead, W: Write>(
 ) -> Result<(), Fault>
     ensures text { (taken text : List ℕ) × Consumes (R.remaining input.old.stream) (R.remaining input.new.stream) taken
         × Appends (W.contents out.old.stream) (W.contents out.new.stream) text
-        × WritesText result (IsFiltered flags.0) taken text }
+        × WritesFiltered result flags.0 taken text }
     ensures end { OnOk result (OnSome (R.remaining input.old.stream) (IsAtEnd (R.remaining input.new.stream))) }
     ensures marks { SetsFailureFlag result (failure_flag input.old input.new) (failure_flag out.old out.new)
         no_stream }
@@ -58,19 +61,16 @@ pub fn filter_text<R: BufRead, W: Write>(
     let mut room = Room::new(alloc);
     let mut text = Vec::new(alloc);
     let mut piece = Vec::new(alloc);
+    let mut scan = Scan::new(b'\n');
     'pieces: for polls in 0..u64::MAX {
         match input.take(polls, &mut piece)? {
-            Taken::Part => {}
+            Taken::Part => put_settled(&mut room, &mut text, &mut piece, &mut scan, out, flags)?,
             Taken::Line => {
-                put_filtered(&mut room, &mut text, &piece, out, flags)?;
+                put_rest(&mut room, &mut text, &piece, scan, out, flags)?;
                 piece.clear();
+                scan = Scan::new(b'\n');
             }
-            Taken::End => {
-                if piece.is_empty() {
-                    return Ok(());
-                }
-                return put_filtered(&mut room, &mut text, &piece, out, flags);
-            }
+            Taken::End => return put_rest(&mut room, &mut text, &piece, scan, out, flags),
         }
     }
     match input.take(u64::MAX, &mut piece) {
@@ -79,79 +79,288 @@ pub fn filter_text<R: BufRead, W: Write>(
     }
 }
 
-/// Writes the text of one line, for which `text` has room.
-fn put_filtered<W: Write>(
+/// Writes what is settled of a line whose end has not come, if more bytes of it are held than [`MOST_HELD`], and leaves
+/// the other bytes in `piece`.
+fn put_settled<W: Write>(
     room: &mut Room,
     text: &mut Vec<u8>,
-    line: &[u8],
+    piece: &mut Vec<u8>,
+    scan: &mut Scan,
     out: &mut Watched<W>,
     flags: DemangleFlags,
 ) -> Result<(), Fault>
     ensures text { (written : List ℕ) × Appends (W.contents out.old.stream) (W.contents out.new.stream) written
-        × Writes result (IsTextOfLine flags.0 line.now) written }
+        × MatchResult result (λ _. IsPut flags.0 scan.old piece.old.items written scan.new piece.new.items)
+        (λ fault. WritesPart fault (IsPutOf flags.0 scan.old piece.old.items) written) }
     ensures marks { SetsFailureFlag result no_stream (failure_flag out.old out.new) no_stream }
 {
-    // Most lines have no symbol, and stay as they are.
-    if !line.contains(&b'?') {
-        return put_all(out, line);
+    if piece.len() <= MOST_HELD {
+        return Ok(());
     }
-    match filter_line(room, line, text, flags) {
-        Ok(()) => put_all(out, text),
+    let until = piece.len() - MOST_LOOKED_AT;
+    match filter_piece(room, piece, until, scan, text, flags) {
+        Ok(at) => {
+            put_all(out, text)?;
+            drop_front(piece, at);
+            Ok(())
+        }
         Err(_) => Err(Fault::Memory),
     }
 }
 
-/// Replaces the contents of `text` by the text of a line.
-fn filter_line(
-    room: &mut Room,
-    line: &[u8],
-    text: &mut Vec<u8>,
-    flags: DemangleFlags,
-) -> Result<(), AllocError>
-    ensures { OnOk result (IsTextOfLine flags.0 line.now text.new.items) }
+/// Removes the first bytes.
+fn drop_front(bytes: &mut Vec<u8>, count: usize)
+    requires { count ≤ vec_len bytes.old }
+    ensures { bytes.new.items ≡ drop count bytes.old.items }
 {
-    text.clear();
-    let mut kept = 0;
+    let rest = bytes.len() - count;
+    bytes.copy_within(count.., 0);
+    bytes.truncate(rest);
+}
+
+/// Writes the filtered text of the rest of a line, for which `text` has room.
+fn put_rest<W: Write>(
+    room: &mut Room,
+    text: &mut Vec<u8>,
+    piece: &[u8],
+    mut scan: Scan,
+    out: &mut Watched<W>,
+    flags: DemangleFlags,
+) -> Result<(), Fault>
+    ensures text { (written : List ℕ) × Appends (W.contents out.old.stream) (W.contents out.new.stream) written
+        × Writes result (IsRestText flags.0 scan piece.now) written }
+    ensures marks { SetsFailureFlag result no_stream (failure_flag out.old out.new) no_stream }
+{
+    // Most lines have no symbol, and stay as they are.
+    if !piece.contains(&b'?') {
+        return put_all(out, piece);
+    }
+    match filter_piece(room, piece, piece.len(), &mut scan, text, flags) {
+        Ok(_) => put_all(out, text),
+        Err(_) => Err(Fault::Memory),
+    }
+}
+
+/// What [`filter_slice`] made of a text.
+#[derive(Clone, Copy)]
+pub struct Filtered {
+    /// Bytes of the whole filtered text, whether they fitted or not.
+    pub length: usize,
+    /// Bytes written.
+    pub written: usize,
+}
+
+/// Writes `text` into `out` with each symbol in it replaced by its declaration under `flags`: as much as fits, in whole
+/// characters of declarations. Bytes of `out` after these are unchanged.
+///
+/// Requests memory for the symbols only, not for the text.
+///
+/// # Errors
+///
+/// Fails if memory is refused, or if the filtered text has more bytes than a `usize` counts. The contents of `out` are
+/// unspecified then.
+pub fn filter_slice(
+    alloc: Global,
+    text: &[u8],
+    flags: DemangleFlags,
+    out: &mut [u8],
+) -> Result<Filtered, AllocError>
+    ensures text { IfOk result (λ f. (parts : List Part) × AreParts flags.0 text.now parts
+        × (f.length ≡ length (text_of_parts parts)) × (f.written ≡ length (fitting (length out.old) parts))
+        × (out.new ≡ fitting (length out.old) parts ++ drop (length (fitting (length out.old) parts)) out.old)) }
+{
+    let mut room = Room::new(alloc);
+    let mut scan = Scan::new(b'\n');
+    let mut filling = Filling {
+        length: 0,
+        written: 0,
+        space: out.len(),
+    };
     let mut at = 0;
-    let mut last = b'\n';
-    let mut seen_question_mark = false;
-    'bytes: while at < line.len() {
-        let byte = line[at];
-        match symbol_at(room, &line[at..], seen_question_mark, last, flags)? {
-            Some(bytes) => {
-                text.extend_from_slice(&line[kept..at])?;
-                text.extend_from_slice(&room.text)?;
-                at += bytes;
-                kept = at;
-                last = line[at - 1];
-                seen_question_mark = false;
+    'symbols: while at < text.len() {
+        match next_symbol(&mut room, &text[at..], text.len() - at, &mut scan, flags)? {
+            Some(found) => {
+                filling = fill_kept(out, filling, &text[at..at + found.before])?;
+                filling = fill_declared(out, filling, room.text.as_bytes())?;
+                at += found.before + found.bytes;
             }
             None => {
-                seen_question_mark = sees_question_mark(seen_question_mark, byte);
-                last = byte;
+                filling = fill_kept(out, filling, &text[at..])?;
+                at = text.len();
+            }
+        }
+    }
+    Ok(Filtered {
+        length: filling.length,
+        written: filling.written,
+    })
+}
+
+/// How far a slice is filled.
+#[derive(Clone, Copy)]
+struct Filling {
+    /// Bytes of the filtered text, whether they fitted or not.
+    length: usize,
+    /// Bytes written.
+    written: usize,
+    /// Bytes that later parts may take: none after a declaration that was cut.
+    space: usize,
+}
+
+/// Writes as many bytes that stay as fit.
+fn fill_kept(out: &mut [u8], filling: Filling, bytes: &[u8]) -> Result<Filling, AllocError>
+    requires { filling.written + filling.space ≤ length out.old }
+    ensures { IfOk result (λ f. (given : List ℕ) (parts : List Part) → IsFilling given parts filling out.old
+        → IsFilling given (parts ++ map kept bytes.now) f out.new) }
+{
+    fill(out, filling, bytes, bytes.len().min(filling.space))
+}
+
+/// Writes as many whole characters of a declaration as fit.
+fn fill_declared(out: &mut [u8], filling: Filling, text: &[u8]) -> Result<Filling, AllocError>
+    requires { filling.written + filling.space ≤ length out.old }
+    ensures { IfOk result (λ f. (given : List ℕ) (parts : List Part) → IsFilling given parts filling out.old
+        → IsFilling given (parts ++ declared text.now ∷ []) f out.new) }
+{
+    let taken = fitting_len(text, filling.space);
+    fill(out, filling, text, taken)
+}
+
+/// Counts the bytes of a declaration that fit into `space` bytes in whole characters.
+fn fitting_len(text: &[u8], space: usize) -> usize
+    ensures bound { result ≤ space }
+    ensures within { result ≤ length text.now }
+    ensures fits { (rest : List Part) → fitting space (declared text.now ∷ rest)
+        ≡ take result text.now ++ fitting (space_after result (length text.now) space) rest }
+{
+    if text.len() <= space {
+        text.len()
+    } else {
+        utf8_front(&text[..space]).len()
+    }
+}
+
+/// Writes the first `taken` of some bytes.
+fn fill(out: &mut [u8], filling: Filling, bytes: &[u8], taken: usize) -> Result<Filling, AllocError>
+    requires room { filling.written + filling.space ≤ length out.old }
+    requires bound { taken ≤ filling.space }
+    requires within { taken ≤ length bytes.now }
+    ensures { IfOk result (λ f. (given : List ℕ) (parts others : List Part) → text_of_parts others ≡ bytes.now
+        → ((rest : List Part) → fitting filling.space (others ++ rest)
+        ≡ take taken bytes.now ++ fitting (space_after taken (length bytes.now) filling.space) rest)
+        → IsFilling given parts filling out.old → IsFilling given (parts ++ others) f out.new) }
+{
+    let length = match filling.length.checked_add(bytes.len()) {
+        Some(length) => length,
+        None => return Err(AllocError),
+    };
+    put_bytes(out, filling.written, &bytes[..taken]);
+    Ok(Filling {
+        length,
+        written: filling.written + taken,
+        space: if taken < bytes.len() {
+            0
+        } else {
+            filling.space - taken
+        },
+    })
+}
+
+/// Writes some bytes into a slice from a place on.
+fn put_bytes(out: &mut [u8], at: usize, bytes: &[u8])
+    requires { at + length bytes.now ≤ length out.old }
+    ensures { out.new ≡ take at out.old ++ (bytes.now ++ drop (at + length bytes.now) out.old) }
+{
+    out[at..at + bytes.len()].copy_from_slice(bytes);
+}
+
+/// Replaces the contents of `text` by the filtered text of `piece` up to `until`, or up to the end of the symbol that
+/// `until` is inside. Returns how many bytes of `piece` these are.
+fn filter_piece(
+    room: &mut Room,
+    piece: &[u8],
+    until: usize,
+    scan: &mut Scan,
+    text: &mut Vec<u8>,
+    flags: DemangleFlags,
+) -> Result<usize, AllocError>
+    requires { until ≤ length piece.now }
+    ensures { IfOk result (λ at.
+        IsFilteredUpTo flags.0 scan.old piece.now until text.new.items at scan.new) }
+{
+    text.clear();
+    let mut at = 0;
+    'symbols: while at < until {
+        match next_symbol(room, &piece[at..], until - at, scan, flags)? {
+            Some(found) => {
+                text.extend_from_slice(&piece[at..at + found.before])?;
+                text.extend_from_slice(room.text.as_bytes())?;
+                at += found.before + found.bytes;
+            }
+            None => {
+                text.extend_from_slice(&piece[at..until])?;
+                at = until;
+            }
+        }
+    }
+    Ok(at)
+}
+
+/// Where a symbol is.
+#[derive(Clone, Copy)]
+struct Found {
+    /// Bytes before the symbol.
+    before: usize,
+    /// Bytes that the symbol takes.
+    bytes: usize,
+}
+
+/// Finds the first symbol of `left` that begins before `until`, and prints its declaration as the room's text. Moves
+/// the scan to the end of the symbol, or to `until` if there is none.
+fn next_symbol(
+    room: &mut Room,
+    left: &[u8],
+    until: usize,
+    scan: &mut Scan,
+    flags: DemangleFlags,
+) -> Result<Option<Found>, AllocError>
+    requires { until ≤ length left.now }
+    ensures none { IfOk result (λ found. IfNone found
+        (ArePartsUpTo flags.0 scan.old left.now until (map kept (take until left.now)) until scan.new)) }
+    ensures some { IfOk result (λ found. IfSome found (λ f.
+        IsFound flags.0 scan.old left.now until f.before f.bytes room.new.text.text scan.new)) }
+{
+    let mut at = 0;
+    'bytes: while at < until {
+        match symbol_at(room, &left[at..], *scan, flags)? {
+            Some(bytes) => {
+                *scan = Scan::new(left[at + bytes - 1]);
+                return Ok(Some(Found { before: at, bytes }));
+            }
+            None => {
+                *scan = scan.after(left[at]);
                 at += 1;
             }
         }
     }
-    text.extend_from_slice(&line[kept..])
+    Ok(None)
 }
 
 /// Returns how many bytes the symbol takes that begins here, if one does, with its declaration as the room's text.
 fn symbol_at(
     room: &mut Room,
     left: &[u8],
-    seen_question_mark: bool,
-    last: u8,
+    scan: Scan,
     flags: DemangleFlags,
 ) -> Result<Option<usize>, AllocError>
-    ensures none { IfOk result (λ found. IfNone found
-        (is_start seen_question_mark last (slice_index left.now 0) ≡ true → IsNoSymbol flags.0 left.now)) }
-    ensures some { IfOk result (λ found. IfSome found (λ bytes.
-        (is_start seen_question_mark last (slice_index left.now 0) ≡ true)
-        × IsSymbol flags.0 left.now bytes room.new.text.items × (0 < bytes) × (bytes ≤ length left.now))) }
+    ensures none { IfOk result (λ found. IfNone found ((last : ℕ) (passed : List ℕ) → Keeps scan last passed
+        → is_start last passed (slice_index left.now 0) ≡ true → IsNoSymbol flags.0 left.now)) }
+    ensures some { IfOk result (λ found. IfSome found (λ bytes. ((last : ℕ) (passed : List ℕ) → Keeps scan last passed
+        → is_start last passed (slice_index left.now 0) ≡ true)
+        × IsSymbolShown flags.0 left.now bytes room.new.text.text)) }
 {
     match left {
-        [byte, ..] if is_start(seen_question_mark, last, *byte) => symbol(room, left, flags),
+        [byte, ..] if scan.is_start(*byte) => symbol(room, left, flags),
         _ => Ok(None),
     }
 }
@@ -160,8 +369,8 @@ fn symbol_at(
 /// text.
 fn symbol(room: &mut Room, left: &[u8], flags: DemangleFlags) -> Result<Option<usize>, AllocError>
     ensures none { IfOk result (λ found. IfNone found (IsNoSymbol flags.0 left.now)) }
-    ensures some { IfOk result (λ found. IfSome found (λ bytes. IsSymbol flags.0 left.now bytes room.new.text.items
-        × (0 < bytes) × (bytes ≤ length left.now))) }
+    ensures some { IfOk result (λ found. IfSome found (λ bytes.
+        IsSymbolShown flags.0 left.now bytes room.new.text.text)) }
 {
     match declare(room, candidate(left), flags) {
         Ok(found) => match found {
@@ -181,20 +390,18 @@ fn symbol(room: &mut Room, left: &[u8], flags: DemangleFlags) -> Result<Option<u
 
 /// Prints the declaration of the symbol that `input` begins with as the room's text, and returns how many bytes were
 /// read for it. Returns none if the declaration is too long; the text is no declaration then.
-#[tactic(auto, using(crate::proofs::Demangled::memory_rejected_within))]
 fn declare(room: &mut Room, input: &str, flags: DemangleFlags) -> Result<Option<usize>, Error>
-    ensures declared { IfOk result (λ found. IfSome found (λ bytes. (tree : SymbolTree)
-        × IsDeclared input.now tree flags.0 room.new.text.items × (node_count tree ≤ most_nodes)
-        × IsSymbolLength bytes input.now × (length room.new.text.items ≤ most_declared))) }
+    ensures declared { IfOk result (λ found. IfSome found (λ bytes. (tree : SymbolTree) × IsParsed input.now tree
+        × (room.new.text.text ≡ Some (declaration tree flags.0)) × (node_count tree ≤ most_nodes)
+        × IsSymbolLength bytes input.now × (length (declaration tree flags.0) ≤ most_declared))) }
     ensures longer { IfOk result (λ found. IfNone found ((tree : SymbolTree) × IsParsed input.now tree
         × (most_declared < length (declaration tree flags.0)))) }
     ensures rejected { IfErr result (λ e. IsRejectedWithin most_nodes input.now e) }
 {
-    room.clear_within(input, MOST_NODES)?;
-    match read_symbol_within(room.alloc, &room.arena, input, MOST_NODES) {
-        Ok((symbol, bytes)) => {
-            if print_within(&room.arena, &symbol, flags, MOST_DECLARED, &mut room.text)? {
-                Ok(Some(bytes))
+    match room.demangle(input, flags, DEFAULT_NODE_LIMIT, DEFAULT_BYTE_LIMIT) {
+        Ok(printed) => {
+            if printed.whole {
+                Ok(Some(printed.read))
             } else {
                 Ok(None)
             }

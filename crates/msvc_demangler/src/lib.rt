@@ -3,11 +3,13 @@
 //! [`parse`] reads a symbol into a tree, [`serialize`] prints a tree, and [`demangle`] does both.
 #![tactic(auto)]
 
-ghost use Rattle.std.specs.Prelude.{◌≤◌, IfErr, IfOk, string_bytes};
+ghost use Rattle.std.specs.Prelude.{◌≤◌, IfErr, IfOk, length, string_bytes};
+ghost use Rattle.msvc_nodes.specs.Errors as spec;
+ghost use Rattle.msvc_nodes.specs.Errors.{IsRefusalOrMemory};
 ghost use Rattle.msvc_nodes.specs.Trees.{SymbolTree};
-ghost use Rattle.msvc_grammar.specs.Counts.{node_count};
-ghost use Rattle.msvc_grammar.specs.Parsed.{GrammarLaws, IsRejected, IsRejectedWithin};
-ghost use Rattle.msvc_demangler.specs.Demangled.{HashesAreShown, IsDeclared};
+ghost use Rattle.msvc_grammar.specs.Parsed.{GrammarLaws, IsRejected};
+ghost use Rattle.msvc_demangler.specs.Demangled.{HashesAreShown, IsDeclared, IsDeclaredWithin, IsRefusedUnder};
+ghost use Rattle.msvc_demangler.specs.Limits.{limits_of};
 
 mod debug;
 mod debug_words;
@@ -20,16 +22,15 @@ mod watched;
 mod words;
 
 pub use bitflags::Flags;
-pub use filter::filter_text;
+pub use filter::{Filtered, filter_slice, filter_text};
 pub use lines::{undname_lines, undname_one};
-pub use msvc_nodes::error::{Error, ErrorRepr};
+pub use msvc_nodes::error::{Error, ErrorRepr, Limit};
+use msvc_nodes::error::{TOO_LONG, parse_error};
 pub use msvc_nodes::flags::{DemangleFlags, FuncClass, StorageClass};
-use msvc_print::{print, text_of};
 pub use msvc_read::{
     BackReference, back_references, parse, parse_prefix, parse_within, symbol_length,
     symbol_length_within,
 };
-use msvc_read::{read_symbol, read_symbol_within};
 pub use msvc_tree::tree::{
     CallingConv, Name, NameSequence, Operator, Params, ParseResult, Symbol, Type, VarStorageKind,
 };
@@ -37,16 +38,26 @@ pub use msvc_write::serialize;
 use room::Room;
 pub use run::undname_run;
 use std::alloc::Global;
+use std::borrow::CowStr;
 pub use watched::{Fault, Watched};
 
-/// Prints the declaration of the symbol that `input` begins with, under `flags`: the text that [`serialize`] prints of
+/// The most nodes to allow for a symbol that is not trusted. A call that reads so many takes up to 870 KB of stack; a
+/// thread with a smaller stack needs a lower limit.
+pub const DEFAULT_NODE_LIMIT: usize = 10_000;
+
+/// The most bytes to allow for the declaration of a symbol that is not trusted.
+pub const DEFAULT_BYTE_LIMIT: usize = 65_536;
+
+/// Returns the declaration of the symbol that `input` begins with, under `flags`: the text that [`serialize`] prints of
 /// the tree that [`parse`] reads. Bytes after a complete symbol are ignored.
+///
+/// A tree, and a declaration, can be far larger than its symbol: for symbols that are not trusted call
+/// [`demangle_within`].
 ///
 /// # Errors
 ///
 /// The error of [`parse`] if `input` begins with no symbol, with an offset into `input` in bytes; an error for memory
 /// if an allocation fails.
-#[tactic(auto, using(crate::proofs::Demangled::memory_rejected))]
 pub fn demangle(alloc: Global, input: &str, flags: DemangleFlags) -> Result<String, Error>
     ensures declared { IfOk result (λ text. (tree : SymbolTree)
         × IsDeclared input.now tree flags.0 (string_bytes text)) }
@@ -54,48 +65,50 @@ pub fn demangle(alloc: Global, input: &str, flags: DemangleFlags) -> Result<Stri
     ensures laws { GrammarLaws input.now }
     ensures hashes { IfOk result (λ text. HashesAreShown input.now (string_bytes text)) }
 {
-    let mut room = Room::new(alloc);
-    room.clear_for(input)?;
-    match read_symbol(alloc, &room.arena, input) {
-        Ok(symbol) => {
-            print(&room.arena, &symbol, flags, &mut room.text)?;
-            let text = text_of(alloc, room.text)?;
-            Ok(text)
-        }
-        Err(error) => Err(error),
-    }
+    demangle_within(alloc, input, flags, usize::MAX, usize::MAX)
 }
 
-/// Prints the declaration of the symbol that `input` begins with, as [`demangle`] does, if its tree has at most `nodes`
-/// nodes. Each name and each type in a tree is a node, at every depth.
+/// Returns the declaration of the symbol that `input` begins with, as [`demangle`] does, if its tree has at most
+/// `nodes` nodes and its declaration at most `bytes` bytes. Each name and each type in a tree is a node, at every depth.
+/// `usize::MAX` is no limit, and leaves the other limit in force. [`DEFAULT_NODE_LIMIT`] and [`DEFAULT_BYTE_LIMIT`]
+/// suit symbols that are not trusted.
 ///
-/// The limit bounds the depth of the calls and the memory for nodes, whatever the length of `input`. It doesn't bound
-/// the declaration: a constructor or destructor prints the name of its class once more, and a conversion its type, so
-/// where these stand in one another, each level of some ten nodes can double it.
+/// Together the limits bound the memory that a call takes, whatever the length of `input`. They and, linearly, the
+/// length of `input` bound its time.
 ///
 /// # Errors
 ///
-/// Those of [`parse_within`], for the same inputs.
-#[tactic(auto, using(crate::proofs::Demangled::memory_rejected_within))]
+/// Those of [`parse_within`], for the same inputs. Fails with "longer than allowed" if the declaration has more than
+/// `bytes` bytes; the offset is the number of bytes read. [`Error::limit`] returns the limit that a symbol exceeds.
 pub fn demangle_within(
     alloc: Global,
     input: &str,
     flags: DemangleFlags,
     nodes: usize,
+    bytes: usize,
 ) -> Result<String, Error>
-    ensures declared { IfOk result (λ text. (tree : SymbolTree)
-        × IsDeclared input.now tree flags.0 (string_bytes text) × (node_count tree ≤ nodes)) }
-    ensures rejected { IfErr result (λ e. IsRejectedWithin nodes input.now e) }
+    ensures declared { IfOk result (λ text.
+        IsDeclaredWithin (limits_of nodes bytes) input.now flags.0 (string_bytes text)) }
+    ensures rejected { IfErr result (λ e. IsRefusedUnder (limits_of nodes bytes) input.now flags.0 e) }
     ensures hashes { IfOk result (λ text. HashesAreShown input.now (string_bytes text)) }
 {
     let mut room = Room::new(alloc);
-    room.clear_within(input, nodes)?;
-    match read_symbol_within(alloc, &room.arena, input, nodes) {
-        Ok((symbol, _)) => {
-            print(&room.arena, &symbol, flags, &mut room.text)?;
-            let shown = text_of(alloc, room.text)?;
-            Ok(shown)
+    match room.demangle(input, flags, nodes, bytes) {
+        Ok(printed) => {
+            if printed.whole {
+                Ok(room.text.into_string())
+            } else {
+                Err(too_long(alloc, input, printed.read))
+            }
         }
         Err(error) => Err(error),
     }
+}
+
+/// Returns the error for a declaration that is longer than allowed, of a symbol that takes `read` bytes of `input`.
+fn too_long(alloc: Global, input: &str, read: usize) -> Error
+    requires { read ≤ length input.now }
+    ensures { IsRefusalOrMemory spec.too_long (spec.context_text_of input.now read) read result }
+{
+    parse_error(alloc, CowStr::Borrowed(TOO_LONG), input.as_bytes(), read)
 }

@@ -1,6 +1,6 @@
 //! `undname` over one symbol and over lines, from a reader to writers.
 
-ghost use Rattle.std.specs.Prelude.{◌≡◌, ◌≢◌, ◌∷◌, ℕ, List, [], IfErr, IfOk, OnOk, OnSome};
+ghost use Rattle.std.specs.Prelude.{◌≡◌, ◌≢◌, ◌∷◌, ℕ, List, [], Some, IfErr, IfOk, OnOk, OnSome};
 ghost use Rattle.std.specs.Io.KnownBytes.{Appends, Consumes, IsAtEnd};
 ghost use Rattle.msvc_nodes.specs.declared.error.ErrorRepr.TheVariants.{Memory};
 ghost use Rattle.msvc_demangler.specs.Answers.{IsAnswer, IsLineText, IsText};
@@ -57,7 +57,7 @@ pub(crate) fn undname_in<W: Write, E: Write>(
     match answer(room, symbol, verbose, &mut tree) {
         Ok(()) => {
             put_all(err, tree.as_bytes())?;
-            put_line(out, &room.text)
+            put_line(out, room.text.as_bytes())
         }
         Err(error) => {
             if error.is_out_of_memory() {
@@ -72,12 +72,13 @@ pub(crate) fn undname_in<W: Write, E: Write>(
 /// Prints the declaration of a symbol, under the flags of lines, as the room's text, and its tree to `tree` if
 /// `verbose`.
 fn answer(room: &mut Room, symbol: &str, verbose: bool, tree: &mut String) -> Result<(), Error>
-    ensures declared { IfOk result (λ _. IsAnswer symbol.now room.new.text.items) }
+    ensures declared { IfOk result (λ _. (text : List ℕ) × (room.new.text.text ≡ Some text)
+        × IsAnswer symbol.now text) }
     ensures rejected { IfErr result (λ e. e ≢ Memory → IsAnswer symbol.now symbol.now) }
 {
-    room.clear_for(symbol)?;
+    room.clear_for(symbol, usize::MAX)?;
     match read_symbol(room.alloc, &room.arena, symbol) {
-        Ok(read) => {
+        Ok((read, _)) => {
             if verbose {
                 write_tree(room.alloc, &read, tree)?;
             }

@@ -1,13 +1,24 @@
-//! The memory that symbols are demangled in: an arena, and the bytes of a declaration. Both are kept from one symbol to
-//! the next. Reading and printing are calls of other crates, on the fields of a `Room`.
+//! The memory that symbols are demangled in: an arena, and the text of a declaration. Both are kept from one symbol to
+//! the next. Every call that demangles one symbol does so here.
+
+ghost use Rattle.std.specs.Prelude.{IfErr, IfOk};
+ghost use Rattle.msvc_nodes.specs.NodeView.{typed_symbol_of};
+ghost use Rattle.msvc_grammar.specs.Counts.{node_count};
+ghost use Rattle.msvc_grammar.specs.Parsed.{IsParsed, IsSymbolLength};
+ghost use Rattle.msvc_demangler.specs.Limits.{IsPrinted, IsRejectedUnder, IsWithin, limit_of_number, limits_of};
 
 use bumpalo::Bump;
-use msvc_print::{stack_room, stack_room_within};
-use msvc_read::{room_for, room_within};
+use msvc_nodes::error::Error;
+use msvc_nodes::flags::DemangleFlags;
+use msvc_nodes::nodes::TypedSymbol;
+use msvc_print::{Text, print_within, stack_room_within};
+use msvc_read::{read_symbol, read_symbol_within, room_within};
 use std::alloc::{AllocError, Global};
 
-/// Bytes that a declaration has room for before it grows, beside two for each byte of its symbol: of ten names of
-/// libraries nine need no more.
+/// Bytes that a declaration has room for before it grows, for each byte of its symbol: few names need more.
+const TEXT_OF_A_BYTE: usize = 3;
+
+/// Bytes that it has room for beside these.
 const TEXT_AT_FIRST: usize = 64;
 
 /// The most bytes that a declaration has room for before it grows.
@@ -15,6 +26,15 @@ const MOST_TEXT: usize = 1 << 16;
 
 /// The most bytes that an arena begins with.
 const MOST_ROOM: usize = 1 << 20;
+
+/// What was read and printed of an input.
+#[derive(Clone, Copy)]
+pub(crate) struct Printed {
+    /// Bytes of the input that the symbol takes.
+    pub(crate) read: usize,
+    /// Whether the declaration is within its limit. Only then is it the room's text.
+    pub(crate) whole: bool,
+}
 
 /// An arena and a text. A symbol that needs no more room than those before it makes no request for memory.
 #[derive(Drop)]
@@ -25,7 +45,7 @@ pub(crate) struct Room {
     /// Bytes that the arena began with.
     began: usize,
     /// The declaration of the last symbol that was printed.
-    pub(crate) text: Vec<u8>,
+    pub(crate) text: Text,
 }
 
 impl Room {
@@ -35,39 +55,83 @@ impl Room {
             alloc,
             arena: Bump::new(alloc),
             began: 0,
-            text: Vec::new(alloc),
+            text: Text::new(alloc),
         }
     }
 
-    /// Empties the room, and makes it large enough to read and to print this symbol. Requests no memory for a text that
-    /// doesn't begin with `?`.
-    pub(crate) fn clear_for(&mut self, input: &str) -> Result<(), AllocError> {
-        self.clear(
-            input,
-            room_for(input).saturating_add(stack_room(input.len())),
-        )
+    /// Reads the symbol that `input` begins with, if its tree has at most `nodes` nodes, and prints its declaration as
+    /// the room's text, if that has at most `bytes` bytes. `usize::MAX` is no limit.
+    ///
+    /// # Errors
+    ///
+    /// Fails if `input` begins with no such symbol, with an offset into `input` in bytes, or if an allocation fails.
+    pub(crate) fn demangle(
+        &mut self,
+        input: &str,
+        flags: DemangleFlags,
+        nodes: usize,
+        bytes: usize,
+    ) -> Result<Printed, Error>
+        ensures printed { IfOk result (λ p.
+            IsPrinted (limits_of nodes bytes) input.now flags.0 p.read p.whole self.new.text.text) }
+        ensures rejected { IfErr result (λ e. IsRejectedUnder (limit_of_number nodes) input.now e) }
+    {
+        self.clear_for(input, nodes)?;
+        match read(self.alloc, &self.arena, input, nodes) {
+            Ok((symbol, read)) => {
+                let whole = print_within(&self.arena, &symbol, flags, bytes, &mut self.text)?;
+                if !whole && bytes == usize::MAX {
+                    // No memory has room for so many bytes.
+                    return Err(Error::from(AllocError));
+                }
+                Ok(Printed { read, whole })
+            }
+            Err(error) => Err(error),
+        }
     }
 
-    /// Does the same for a symbol of at most `nodes` nodes.
-    pub(crate) fn clear_within(&mut self, input: &str, nodes: usize) -> Result<(), AllocError> {
-        let stack = stack_room_within(input.len(), nodes);
-        self.clear(input, room_within(input, nodes).saturating_add(stack))
-    }
-
-    /// Empties the room, and makes an arena of at least `bytes` bytes, up to the most that one begins with.
-    fn clear(&mut self, input: &str, bytes: usize) -> Result<(), AllocError> {
+    /// Empties the room, and makes it large enough to read and to print a symbol of at most `nodes` nodes. Requests no
+    /// memory for a text that doesn't begin with `?`.
+    pub(crate) fn clear_for(&mut self, input: &str, nodes: usize) -> Result<(), AllocError> {
         // An arena that some list was not given back to stays as it is, and can still be used.
         let _ = self.arena.reset();
-        self.text.clear();
         if !input.starts_with('?') {
             return Ok(());
         }
-        let bytes = bytes.min(MOST_ROOM);
+        let stack = stack_room_within(input.len(), nodes);
+        let bytes = room_within(input, nodes)
+            .saturating_add(stack)
+            .min(MOST_ROOM);
         if self.began < bytes {
             self.arena = Bump::try_with_capacity(self.alloc, bytes)?;
             self.began = bytes;
         }
-        let text = input.len().saturating_mul(2).saturating_add(TEXT_AT_FIRST);
+        self.text.clear(usize::MAX);
+        let text = input
+            .len()
+            .saturating_mul(TEXT_OF_A_BYTE)
+            .saturating_add(TEXT_AT_FIRST);
         self.text.try_reserve(text.min(MOST_TEXT))
+    }
+}
+
+/// Reads the symbol that `input` begins with as nodes in `arena`, if it has at most `nodes` nodes, and returns it and
+/// its length in bytes. Counts no nodes if any number is allowed.
+#[inline(always)]
+fn read<'a, 'b>(
+    alloc: Global,
+    arena: &'b Bump,
+    input: &'a str,
+    nodes: usize,
+) -> Result<(TypedSymbol<'a, 'b>, usize), Error>
+    ensures parsed { IfOk result (λ r. IsParsed input.now (typed_symbol_of r.0)) }
+    ensures within { IfOk result (λ r. IsWithin (limit_of_number nodes) (node_count (typed_symbol_of r.0))) }
+    ensures length { IfOk result (λ r. IsSymbolLength r.1 input.now) }
+    ensures rejected { IfErr result (λ e. IsRejectedUnder (limit_of_number nodes) input.now e) }
+{
+    if nodes == usize::MAX {
+        read_symbol(alloc, arena, input)
+    } else {
+        read_symbol_within(alloc, arena, input, nodes)
     }
 }

@@ -1,10 +1,10 @@
 //! Where a symbol may stand in a text: words, their starts, and the candidates that begin there.
 
-ghost use Rattle.std.specs.Prelude.{◌≡◌, ◌≤◌, ◌<◌, drop, length, take};
+ghost use Rattle.std.specs.Prelude.{◌&&◌, ◌∷◌, ◌==◌, ◌||◌, ◌≡◌, ◌≤◌, ◌<◌, ℕ, List, [], drop, length, take};
 ghost use Rattle.std.specs.List.{take_while};
 ghost use Rattle.msvc_demangler.specs.Words.{blocks_start, candidate, continues, ends_word, is_left_over};
-ghost use Rattle.msvc_demangler.specs.Words.{is_of_word, is_start, is_visible, most_bytes, sees_question_mark};
-ghost use Rattle.msvc_demangler.specs.Words.{symbol_extent, utf8_front};
+ghost use Rattle.msvc_demangler.specs.Scans.{Keeps};
+ghost use Rattle.msvc_demangler.specs.Words.{is_of_word, is_start, is_visible, most_bytes, symbol_extent, utf8_front};
 
 use std::str::from_utf8;
 
@@ -25,16 +25,47 @@ fn blocks_start(byte: u8) -> bool
     byte.is_ascii_alphanumeric() || byte == b'.'
 }
 
-/// Returns whether a symbol may start at a byte, from the last byte before it and whether its word has had a `?`.
-pub(crate) fn is_start(seen_question_mark: bool, last: u8, byte: u8) -> bool
-    ensures { result ≡ is_start seen_question_mark last byte }
-{
-    byte == b'?' && !(seen_question_mark || blocks_start(last))
+/// What a start depends on of the bytes before it.
+#[derive(Clone, Copy)]
+pub(crate) struct Scan {
+    /// Whether the word that ends before this place has had a `?`.
+    seen_question_mark: bool,
+    /// The byte before this place.
+    last: u8,
+}
+
+impl Scan {
+    /// Begins after a byte that ends a line or a symbol, so that no word continues after it.
+    pub(crate) fn new(last: u8) -> Scan
+        ensures { Keeps result last [] }
+    {
+        Scan {
+            seen_question_mark: false,
+            last,
+        }
+    }
+
+    /// Returns whether a symbol may start at a byte.
+    pub(crate) fn is_start(self, byte: u8) -> bool
+        ensures { (last : ℕ) (passed : List ℕ) → Keeps self last passed → result ≡ is_start last passed byte }
+    {
+        byte == b'?' && !(self.seen_question_mark || blocks_start(self.last))
+    }
+
+    /// Moves past a byte that stays.
+    pub(crate) fn after(self, byte: u8) -> Scan
+        ensures { (last : ℕ) (passed : List ℕ) → Keeps self last passed → Keeps result last (byte ∷ passed) }
+    {
+        Scan {
+            seen_question_mark: sees_question_mark(self.seen_question_mark, byte),
+            last: byte,
+        }
+    }
 }
 
 /// Returns whether the word that continues after a byte has had a `?`.
-pub(crate) fn sees_question_mark(seen_question_mark: bool, byte: u8) -> bool
-    ensures { result ≡ sees_question_mark seen_question_mark byte }
+fn sees_question_mark(seen_question_mark: bool, byte: u8) -> bool
+    ensures { result ≡ (seen_question_mark || byte == 63) && is_of_word byte }
 {
     (seen_question_mark || byte == b'?') && is_of_word(byte)
 }
@@ -67,7 +98,7 @@ fn is_visible(byte: u8) -> bool
 }
 
 /// Returns the longest beginning of some bytes that is UTF-8.
-fn utf8_front(bytes: &[u8]) -> &str
+pub(crate) fn utf8_front(bytes: &[u8]) -> &str
     ensures { result.now ≡ utf8_front bytes.now }
 {
     match from_utf8(bytes) {

@@ -1,2 +1,3 @@
 mod Cuts
+mod Filters
 mod Refusals

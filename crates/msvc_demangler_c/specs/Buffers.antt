@@ -1,6 +1,7 @@
--- How a text is written into a buffer, by the rules of `snprintf`.
+-- What is written into a buffer, by the rules of `snprintf`.
 use Rattle.std.specs.Prelude.{ℕ, List, [], ◌∷◌, ◌++◌, ◌≡◌, ◌≤◌, ◌<◌, length, take, drop}
 use Rattle.std.specs.Str.{IsUtf8}
+use Rattle.msvc_demangler.specs.Filtered.{Part, fitting}
 
 -- so many bytes are the longest beginning of the text that is UTF-8 and has room
 abbrev pub IsLongest : List ℕ → ℕ → ℕ → Type 0
@@ -13,3 +14,10 @@ abbrev pub IsWritten : List ℕ → List ℕ → List ℕ → Type 0
 IsWritten text [] new = new ≡ []
 IsWritten text (first ∷ old) new =
     (cut : ℕ) × IsLongest text (length old) cut × (new ≡ take cut text ++ 0 ∷ drop cut old)
+
+-- The same of what the filter makes of a text: as many whole parts as leave room for a NUL, and of a declaration that
+-- does not fit its longest beginning that is UTF-8; then the NUL.
+abbrev pub ArePartsWritten : List Part → List ℕ → List ℕ → Type 0
+ArePartsWritten parts [] new = new ≡ []
+ArePartsWritten parts (first ∷ old) new =
+    new ≡ fitting (length old) parts ++ 0 ∷ drop (length (fitting (length old) parts)) old

@@ -1,112 +1,117 @@
--- What the calls from C return and write.
-use Rattle.std.specs.Prelude.{ℕ, List, ◌-◌, ◌≡◌, ◌≤◌, ◌^◌, ◌==◌, length, string_bytes, codes}
-use Rattle.std.specs.Prelude.{Option, Some, None, IfSome, Result, Ok, Err, String, if◌then◌else◌}
-use Rattle.std.specs.Str.{IsUtf8, IsValidUpTo}
-use Rattle.std.specs.declared.alloc.Global.{Global}
-use Rattle.msvc_demangler.specs.Errors.{error_text}
-use Rattle.msvc_demangler.specs.Errors as errors
-use Rattle.msvc_demangler.specs.Trees.{SymbolTree}
-use Rattle.msvc_demangler.specs.ErrorRepr.{ErrorRepr}
+-- What the calls from C return and write, whatever makes it: definitions over bytes and numbers.
+use Rattle.std.specs.Prelude.{ℕ, List, ◌≡◌, ◌≤◌, length, codes, if◌then◌else◌}
+use Rattle.std.specs.Prelude.{Option, Some, None, IfSome, is_some}
+use Rattle.std.specs.Fmt.{◌++?◌, debug_str, decimal}
+use Rattle.std.specs.Str.{IsAscii, IsUtf8, IsValidUpTo}
 use Rattle.msvc_demangler.specs.Counts.{node_count}
-use Rattle.msvc_demangler.specs.Parsed.{IsParsed, IsRejected, IsRejectedWithin, IsSymbolLength}
+use Rattle.msvc_demangler.specs.Declaration.{declaration}
+use Rattle.msvc_demangler.specs.Demangled.{IsDeclaredWithin}
+use Rattle.msvc_demangler.specs.Errors.{context_of, message_limit}
+use Rattle.msvc_demangler.specs.Filtered.{AreParts, Part, text_of_parts}
+use Rattle.msvc_nodes.specs.declared.error.Limit.{Limit}
+use Rattle.msvc_nodes.specs.declared.error.Limit.TheVariants.{Nodes, Bytes}
+use Rattle.msvc_demangler.specs.Limits.{IsBeyond, IsWithin, Limits}
+use Rattle.msvc_demangler.specs.Parsed.{IsParsed, IsSymbolLength}
+use Rattle.msvc_demangler.specs.Reads.{Derives}
 use Rattle.msvc_demangler.specs.Refusals.{begins_with}
-use Rattle.msvc_demangler.specs.Demangled.{IsDeclared}
-use Rattle.msvc_demangler_c.specs.Buffers.{IsWritten}
-use Rattle.msvc_demangler_c.specs.declared.Answer.{Answer}
-use Rattle.msvc_demangler_c.specs.declared.Refusal.{Refusal}
-use Rattle.msvc_demangler_c.specs.declared.Refusal.TheVariants as refusal
+use Rattle.msvc_demangler.specs.State.{Note}
+use Rattle.msvc_demangler.specs.Trees.{SymbolTree}
+use Rattle.msvc_demangler_c.specs.Buffers.{ArePartsWritten, IsWritten}
 
 abbrev pub version : List ℕ
 version = codes "0.11.0"
 
-abbrev pub too_many_nodes : List ℕ
-too_many_nodes = codes "more nodes than allowed"
+abbrev pub not_utf8_text : List ℕ
+not_utf8_text = codes "not UTF-8"
 
--- how many nodes are allowed by the caller's number, if that is limited
-abbrev pub bound_of : ℕ → Option ℕ
-bound_of nodes = if nodes == 2 ^ 64 - 1 then None else Some nodes
+abbrev pub out_of_memory_text : List ℕ
+out_of_memory_text = codes "out of memory"
 
-abbrev pub IsAllowed : Option ℕ → SymbolTree → Type 0
-IsAllowed None tree = Unit {0}
-IsAllowed (Some nodes) tree = node_count tree ≤ nodes
+-- The status of a symbol that is rejected with a message about this limit, or about none: TOO_MANY_NODES or TOO_LONG if
+-- the caller set that limit, else INVALID.
+abbrev pub status_by : Limits → Option Limit → ℕ
+status_by limits None = 1
+status_by limits (Some Nodes) = if is_some limits.nodes then 4 else 1
+status_by limits (Some Bytes) = if is_some limits.bytes then 5 else 1
 
--- the text is the declaration of the symbol's tree, which is allowed
-abbrev pub IsDeclaration : Option ℕ → List ℕ → ℕ → List ℕ → Type 0
-IsDeclaration bound symbol flags text =
-    (tree : SymbolTree) × IsDeclared symbol tree flags text × IsAllowed bound tree
+-- The grammar derives no tree from a beginning of the symbol, or none that is within the limit on nodes.
+abbrev pub IsNoSymbolUnder : Option ℕ → List ℕ → Type 0
+IsNoSymbolUnder nodes symbol = (tree : SymbolTree) (rest : List ℕ) (notes : List Note)
+    → Derives symbol tree rest notes → IsBeyond nodes (node_count tree)
 
--- so many bytes were read for the symbol's tree, which is allowed; cut after these, the symbol has the same tree
+-- Each tree that is derived within the limit on nodes has a declaration that exceeds the limit on bytes.
+abbrev pub IsNoDeclarationUnder : Limits → List ℕ → ℕ → Type 0
+IsNoDeclarationUnder limits symbol flags = (tree : SymbolTree) (rest : List ℕ) (notes : List Note)
+    → Derives symbol tree rest notes → IsWithin limits.nodes (node_count tree)
+    → IsBeyond limits.bytes (length (declaration tree flags))
+
+-- the text that says why a symbol is rejected; nothing is said of a context that is not ASCII
+abbrev pub rejection_text : (message context : List ℕ) (offset : ℕ) → Option (List ℕ)
+rejection_text message context offset =
+    Some message ++? Some (codes " (offset: ") ++? Some (decimal offset)
+    ++? Some (codes ", remaining: ") ++? debug_str context ++? Some (codes ")")
+
+-- A symbol is rejected with this message, at this offset, and the text says so.
+pub record IsRejection (symbol message : List ℕ) (offset : ℕ) (text : List ℕ) : Type 0 where
+  -- the offset is one in the symbol
+  pub inside : offset ≤ length symbol
+  -- a symbol without a question mark at its beginning is rejected at offset 0
+  pub begins : (begins_with (codes "?") symbol → ⊥) → offset ≡ 0
+  -- what the text shows of the symbol
+  pub context : List ℕ
+  -- if the symbol is ASCII, that is what stands at the offset
+  pub shows : IsAscii symbol → context ≡ context_of symbol offset
+  pub says : IfSome (rejection_text message context offset) (λ said. text ≡ said)
+
+-- A symbol is not read: the status, the offset, and the text that says why.
+pub data IsRefused (limits : Limits) (symbol : List ℕ) : (status offset : ℕ) (text : List ℕ) → Type 0 where
+  -- INVALID
+  invalid : {offset : ℕ} {message text : List ℕ} → IsUtf8 symbol → IsNoSymbolUnder limits.nodes symbol
+      → status_by limits (message_limit message) ≡ 1
+      → IsRejection symbol message offset text
+      → IsRefused limits symbol 1 offset text
+  -- NOT_UTF8: the offset is that up to which the symbol is UTF-8
+  not_utf8 : {offset : ℕ} → ¬ (IsUtf8 symbol) → IsValidUpTo symbol offset
+      → IsRefused limits symbol 2 offset not_utf8_text
+  -- OUT_OF_MEMORY
+  out_of_memory : IsUtf8 symbol → IsRefused limits symbol 3 0 out_of_memory_text
+  -- TOO_MANY_NODES
+  too_many_nodes : {offset : ℕ} {message text : List ℕ} → IsUtf8 symbol → IsNoSymbolUnder limits.nodes symbol
+      → status_by limits (message_limit message) ≡ 4
+      → IsRejection symbol message offset text
+      → IsRefused limits symbol 4 offset text
+
+-- What is found of a symbol: the status, the offset, and its declaration or the text that says why it has none.
+pub data IsFound (limits : Limits) (symbol : List ℕ) (flags : ℕ) : (status offset : ℕ) (text : List ℕ) → Type 0 where
+  -- OK
+  declared : {text : List ℕ} → IsUtf8 symbol → IsDeclaredWithin limits symbol flags text
+      → IsFound limits symbol flags 0 0 text
+  not_read : {status offset : ℕ} {text : List ℕ} → IsRefused limits symbol status offset text
+      → IsFound limits symbol flags status offset text
+  -- TOO_LONG
+  too_long : {offset : ℕ} {message text : List ℕ} → IsUtf8 symbol → IsNoDeclarationUnder limits symbol flags
+      → status_by limits (message_limit message) ≡ 5
+      → IsRejection symbol message offset text
+      → IsFound limits symbol flags 5 offset text
+
+-- so many bytes were read for the symbol's tree, which is within the limit; cut after these, the symbol has this tree
 abbrev pub IsLength : Option ℕ → List ℕ → ℕ → Type 0
-IsLength bound symbol bytes =
-    (tree : SymbolTree) × IsParsed symbol tree × IsAllowed bound tree × IsSymbolLength bytes symbol
+IsLength nodes symbol bytes =
+    (tree : SymbolTree) × IsParsed symbol tree × IsWithin nodes (node_count tree) × IsSymbolLength bytes symbol
 
--- the library rejects the symbol with this error: memory aside, no allowed tree is derived
-abbrev pub IsRejectedBy : Option ℕ → List ℕ → ErrorRepr → Type 0
-IsRejectedBy None symbol e = IsRejected symbol e
-IsRejectedBy (Some nodes) symbol e = IsRejectedWithin nodes symbol e
+-- What is measured of a symbol: the status, the offset, and how many bytes it takes.
+pub data IsMeasured (limits : Limits) (symbol : List ℕ) : (status offset bytes : ℕ) → Type 0 where
+  -- OK
+  measured : {bytes : ℕ} → IsUtf8 symbol → IsLength limits.nodes symbol bytes → IsMeasured limits symbol 0 0 bytes
+  -- as of `IsFound`, where no text is written
+  not_measured : {status offset : ℕ} {text : List ℕ} → IsRefused limits symbol status offset text
+      → IsMeasured limits symbol status offset 0
 
--- a refusal at this offset with this text: for the symbol's nodes exactly if the text begins so
-abbrev pub IsByReason : ℕ → List ℕ → Refusal → Type 0
-IsByReason offset text (refusal.Symbol at shown) =
-    (at ≡ offset) × (string_bytes shown ≡ text) × (begins_with too_many_nodes text → ⊥)
-IsByReason offset text (refusal.Nodes at shown) =
-    (at ≡ offset) × (string_bytes shown ≡ text) × begins_with too_many_nodes text
-IsByReason offset text _ = ⊥
-
--- An error of the library, as the caller sees it: with its offset and the text that it prints, of which nothing is said
--- if its context is not ASCII; or else out of memory.
-abbrev pub IsShown : ErrorRepr → Refusal → Type 0
-IsShown e refusal.Memory = Unit {0}
-IsShown e shown = (offset : ℕ) × (text : List ℕ) × (errors.offset_of e ≡ Some offset)
-    × IfSome (error_text e) (λ printed. text ≡ printed) × IsByReason offset text shown
-
--- the symbol is rejected, and this is why
-abbrev pub IsRefused : Option ℕ → List ℕ → Refusal → Type 0
-IsRefused bound symbol (refusal.NotUtf8 offset) = IsValidUpTo symbol offset × ¬ (IsUtf8 symbol)
-IsRefused bound symbol refusal.Memory = Unit {0}
-IsRefused bound symbol other = (e : ErrorRepr) × IsRejectedBy bound symbol e × IsShown e other
-
--- what is found of a symbol: its declaration, or why it has none
-abbrev pub IsFound : Option ℕ → List ℕ → ℕ → Result (String Global) Refusal → Type 0
-IsFound bound symbol flags (Ok text) = IsDeclaration bound symbol flags (string_bytes text)
-IsFound bound symbol flags (Err refused) = IsRefused bound symbol refused
-
--- what is measured of it: how many bytes it takes, or why there is none
-abbrev pub IsMeasured : Option ℕ → List ℕ → Result ℕ Refusal → Type 0
-IsMeasured bound symbol (Ok bytes) = IsLength bound symbol bytes
-IsMeasured bound symbol (Err refused) = IsRefused bound symbol refused
-
-abbrev pub status_of : Refusal → ℕ
-status_of (refusal.Symbol offset text) = 1
-status_of (refusal.NotUtf8 offset) = 2
-status_of refusal.Memory = 3
-status_of (refusal.Nodes offset text) = 4
-
-abbrev pub offset_of : Refusal → ℕ
-offset_of (refusal.Symbol offset text) = offset
-offset_of (refusal.Nodes offset text) = offset
-offset_of (refusal.NotUtf8 offset) = offset
-offset_of refusal.Memory = 0
-
--- the text that is written of a refusal
-abbrev pub text_of : Refusal → List ℕ
-text_of (refusal.Symbol offset text) = string_bytes text
-text_of (refusal.Nodes offset text) = string_bytes text
-text_of (refusal.NotUtf8 offset) = codes "not UTF-8"
-text_of refusal.Memory = codes "out of memory"
-
-abbrev pub Says : Answer → (status offset length : ℕ) → Type 0
-Says answer status offset length =
-    (answer.status ≡ status) × (answer.offset ≡ offset) × (answer.length ≡ length)
-
--- what C is given of what was found, beside its buffer and in it
-abbrev pub IsGiven : Result (String Global) Refusal → List ℕ → List ℕ → Answer → Type 0
-IsGiven (Ok text) old new answer =
-    Says answer 0 0 (length (string_bytes text)) × IsWritten (string_bytes text) old new
-IsGiven (Err refused) old new answer =
-    Says answer (status_of refused) (offset_of refused) (length (text_of refused)) × IsWritten (text_of refused) old new
-
--- what C is told of what was measured
-abbrev pub IsTold : Result ℕ Refusal → Answer → Type 0
-IsTold (Ok bytes) answer = Says answer 0 0 bytes
-IsTold (Err refused) answer = Says answer (status_of refused) (offset_of refused) 0
+-- What the filter makes of a text, and what it writes into a buffer: the status and the length.
+pub data IsFilteredInto (flags : ℕ) (text old new : List ℕ) : (status length : ℕ) → Type 0 where
+  -- OK
+  filtered : {parts : List Part} → AreParts flags text parts → ArePartsWritten parts old new
+      → IsFilteredInto flags text old new 0 (length (text_of_parts parts))
+  -- OUT_OF_MEMORY: the bytes after the text and its NUL are any
+  not_filtered : (others : List ℕ) → length others ≡ length old → IsWritten out_of_memory_text others new
+      → IsFilteredInto flags text old new 3 (length out_of_memory_text)

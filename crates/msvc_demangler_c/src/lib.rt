@@ -1,76 +1,146 @@
-//! The demangler for C: three calls that `include/msvc_demangler.h` declares. They take and return bytes, keep no
-//! state, and can be called by any number of threads.
+//! The demangler for C: the calls that `include/msvc_demangler.h` declares. They take and return bytes, keep no state,
+//! and can be called by any number of threads.
 #![tactic(auto)]
 
-ghost use Rattle.std.specs.Prelude.{◌≡◌, ℕ, Result, String, IfErr, IfOk, length, string_bytes};
-ghost use Rattle.std.specs.declared.alloc.Global.{Global};
+ghost use Rattle.std.specs.Prelude.{◌≡◌, ℕ, IfErr, IfOk, List, length};
+ghost use Rattle.std.specs.Cow.{cow_str_bytes};
+ghost use Rattle.msvc_demangler.specs.Errors.{limit_of};
+ghost use Rattle.msvc_demangler.specs.Limits.{IsRejectedUnder, limit_of_number, limits_of};
 ghost use Rattle.msvc_demangler_c.specs.Buffers.{IsWritten};
-ghost use Rattle.msvc_demangler_c.specs.Calls.{IsDeclaration, IsFound, IsLength, IsMeasured, IsRejectedBy, IsShown};
-ghost use Rattle.msvc_demangler_c.specs.Calls.{IsByReason, IsGiven, IsTold, bound_of, offset_of, status_of, text_of};
-ghost use Rattle.msvc_demangler_c.specs.Calls.{version};
-ghost use Rattle.msvc_demangler_c.specs.declared.Refusal.{Refusal};
+ghost use Rattle.msvc_demangler_c.specs.Calls.{IsFilteredInto, IsFound, IsLength, IsMeasured, status_by, version};
 
 use msvc_demangler::{
-    DemangleFlags, Error, Flags, demangle, demangle_within, symbol_length, symbol_length_within,
+    DemangleFlags, Error, Filtered, Flags, Limit, demangle_within, filter_slice, symbol_length,
+    symbol_length_within,
 };
 use std::alloc::Global;
+use std::borrow::CowStr;
 use std::str::from_utf8;
 
 /// The version of the library.
 const VERSION: &str = "0.11.0";
 
-/// The beginning of the error's text for a symbol of more nodes than allowed.
-const TOO_MANY_NODES: &str = "more nodes than allowed";
+/// The status of a declaration, a length or a filtered text.
+const OK: u32 = 0;
 
-/// The result of a call.
+/// The status of an input that begins with no symbol.
+const INVALID: u32 = 1;
+
+/// The status of an input that is not UTF-8.
+const NOT_UTF8: u32 = 2;
+
+/// The status of a call that ran out of memory.
+const OUT_OF_MEMORY: u32 = 3;
+
+/// The status of a symbol with more nodes than allowed.
+const TOO_MANY_NODES: u32 = 4;
+
+/// The status of a symbol whose declaration has more bytes than allowed.
+const TOO_LONG: u32 = 5;
+
+/// The text of a symbol that is not UTF-8.
+const NOT_UTF8_TEXT: &str = "not UTF-8";
+
+/// The text of a call that is out of memory.
+const OUT_OF_MEMORY_TEXT: &str = "out of memory";
+
+/// The result of a call: `struct msvc_demangler_result` of the header.
 #[repr(C)]
 #[derive(Drop)]
-pub struct Answer {
-    /// 0: a symbol; 1: none, by the grammar; 2: no UTF-8; 3: out of memory; 4: a symbol of more nodes than allowed.
+pub struct CallResult {
+    /// One of the statuses.
     pub status: u32,
     /// The offset in bytes at which the symbol was rejected, or up to which it is UTF-8; else 0.
     pub offset: usize,
-    /// The bytes of the whole text, without the NUL after it, whether it fitted or not; or the bytes of the symbol.
+    /// The bytes of the whole text, without the NUL after it, whether it fits or not; or the bytes of the symbol.
     pub length: usize,
 }
 
-/// Why a symbol has no declaration.
+/// What is found of a symbol.
 #[derive(Drop)]
-enum Refusal {
-    /// It is rejected at this offset in bytes, with this text.
-    Symbol(usize, String),
-    /// It has too many nodes: the offset and the text likewise.
-    Nodes(usize, String),
-    /// It is UTF-8 up to this offset in bytes, and no further.
-    NotUtf8(usize),
-    Memory,
+struct Reply {
+    /// As of the result.
+    status: u32,
+    /// As of the result, in bytes.
+    offset: usize,
+    /// The declaration, or why there is none.
+    text: CowStr<'static>,
 }
 
 /// Writes the declaration of the symbol that these bytes begin with, or why there is none, into `out` by the rules of
-/// `snprintf`: cut short if it does not fit, and with a NUL after it. The symbol's tree may have at most `nodes` nodes,
-/// or any number for 2^64 - 1.
+/// `snprintf`: cut short if it does not fit, and with a NUL after it. The symbol's tree may have at most `max_nodes`
+/// nodes and the declaration at most `max_bytes` bytes; 2^64 - 1 is no limit.
 #[unsafe(no_mangle)]
 pub extern "C" fn msvc_demangler_demangle(
     alloc: Global,
     symbol: &[u8],
     flags: u32,
-    nodes: usize,
+    max_nodes: usize,
+    max_bytes: usize,
     out: &mut [u8],
-) -> Answer
-    ensures { (found : Result (String Global) Refusal) × IsFound (bound_of nodes) symbol.now flags found
-        × IsGiven found out.old out.new result }
+) -> CallResult
+    ensures { (text : List ℕ)
+        × IsFound (limits_of max_nodes max_bytes) symbol.now flags result.status result.offset text
+        × (result.length ≡ length text) × IsWritten text out.old out.new }
 {
-    let found = find(alloc, symbol, flags, bound(nodes));
-    give(&found, out)
+    let found = find(alloc, symbol, flags, max_nodes, max_bytes);
+    CallResult {
+        status: found.status,
+        offset: found.offset,
+        length: write(found.text.as_str(), out),
+    }
 }
 
 /// Returns the length in bytes of the symbol that a longer text begins with, with the same limit on nodes.
 #[unsafe(no_mangle)]
-pub extern "C" fn msvc_demangler_prefix(alloc: Global, symbol: &[u8], nodes: usize) -> Answer
-    ensures { (found : Result ℕ Refusal) × IsMeasured (bound_of nodes) symbol.now found × IsTold found result }
+pub extern "C" fn msvc_demangler_prefix(
+    alloc: Global,
+    symbol: &[u8],
+    max_nodes: usize,
+) -> CallResult
+    ensures { IsMeasured (limits_of max_nodes usize.MAX) symbol.now result.status result.offset result.length }
 {
-    let found = measure(alloc, symbol, bound(nodes));
-    tell(&found)
+    match from_utf8(symbol) {
+        Ok(text) => measure(alloc, text, max_nodes),
+        Err(fault) => CallResult {
+            status: NOT_UTF8,
+            offset: fault.valid_up_to(),
+            length: 0,
+        },
+    }
+}
+
+/// Writes a text, with each symbol inside it replaced by its declaration, into `out` by the rules of `snprintf`. The
+/// limits on a symbol are the default ones.
+#[unsafe(no_mangle)]
+pub extern "C" fn msvc_demangler_filter(
+    alloc: Global,
+    text: &[u8],
+    flags: u32,
+    out: &mut [u8],
+) -> CallResult
+    ensures filtered { IsFilteredInto flags text.now out.old out.new result.status result.length }
+    ensures offset { result.offset ≡ 0 }
+{
+    let room = out.len().saturating_sub(1);
+    let flags = DemangleFlags::from_bits_retain(flags);
+    match filter_slice(alloc, text, flags, &mut out[..room]) {
+        Ok(Filtered { length, written }) => {
+            if !out.is_empty() {
+                out[written] = 0;
+            }
+            CallResult {
+                status: OK,
+                offset: 0,
+                length,
+            }
+        }
+        Err(_) => CallResult {
+            status: OUT_OF_MEMORY,
+            offset: 0,
+            length: write(OUT_OF_MEMORY_TEXT, out),
+        },
+    }
 }
 
 /// Writes the version into `out`, by the same rules, and returns its length in bytes.
@@ -82,23 +152,21 @@ pub extern "C" fn msvc_demangler_version(out: &mut [u8]) -> usize
     write(VERSION, out)
 }
 
-/// Returns how many nodes are allowed, if that is limited.
-fn bound(nodes: usize) -> Option<usize>
-    ensures { result ≡ bound_of nodes }
-{
-    if nodes == usize::MAX {
-        return None;
-    }
-    Some(nodes)
-}
-
-/// Returns the declaration of a symbol, or why it has none.
-fn find(alloc: Global, symbol: &[u8], flags: u32, bound: Option<usize>) -> Result<String, Refusal>
-    ensures { IsFound bound symbol.now flags result }
+/// Finds the declaration of a symbol, or why it has none.
+fn find(alloc: Global, symbol: &[u8], flags: u32, max_nodes: usize, max_bytes: usize) -> Reply
+    ensures { IsFound (limits_of max_nodes max_bytes) symbol.now flags
+        result.status result.offset (cow_str_bytes result.text) }
 {
     match from_utf8(symbol) {
-        Ok(text) => declare(alloc, text, DemangleFlags::from_bits_retain(flags), bound),
-        Err(fault) => Err(Refusal::NotUtf8(fault.valid_up_to())),
+        Ok(text) => {
+            let flags = DemangleFlags::from_bits_retain(flags);
+            declare(alloc, text, flags, max_nodes, max_bytes)
+        }
+        Err(fault) => Reply {
+            status: NOT_UTF8,
+            offset: fault.valid_up_to(),
+            text: CowStr::Borrowed(NOT_UTF8_TEXT),
+        },
     }
 }
 
@@ -107,153 +175,78 @@ fn declare(
     alloc: Global,
     symbol: &str,
     flags: DemangleFlags,
-    bound: Option<usize>,
-) -> Result<String, Refusal>
-    ensures { IsFound bound symbol.now flags.0 result }
+    max_nodes: usize,
+    max_bytes: usize,
+) -> Reply
+    ensures { IsFound (limits_of max_nodes max_bytes) symbol.now flags.0
+        result.status result.offset (cow_str_bytes result.text) }
 {
-    match demangled(alloc, symbol, flags, bound) {
-        Ok(declaration) => Ok(declaration),
-        Err(error) => Err(refused(alloc, &error)),
+    match demangle_within(alloc, symbol, flags, max_nodes, max_bytes) {
+        Ok(declaration) => Reply {
+            status: OK,
+            offset: 0,
+            text: CowStr::Owned(declaration),
+        },
+        Err(error) => match (error.offset(), format!(in alloc; "{error}")) {
+            (Some(offset), Ok(text)) => Reply {
+                status: status(&error, max_nodes, max_bytes),
+                offset,
+                text: CowStr::Owned(text),
+            },
+            _ => Reply {
+                status: OUT_OF_MEMORY,
+                offset: 0,
+                text: CowStr::Borrowed(OUT_OF_MEMORY_TEXT),
+            },
+        },
+    }
+}
+
+/// Measures how many bytes a symbol that is UTF-8 takes.
+fn measure(alloc: Global, symbol: &str, max_nodes: usize) -> CallResult
+    ensures { IsMeasured (limits_of max_nodes usize.MAX) symbol.now result.status result.offset result.length }
+{
+    match bytes_of(alloc, symbol, max_nodes) {
+        Ok(bytes) => CallResult {
+            status: OK,
+            offset: 0,
+            length: bytes,
+        },
+        Err(error) => match error.offset() {
+            Some(offset) => CallResult {
+                status: status(&error, max_nodes, usize::MAX),
+                offset,
+                length: 0,
+            },
+            None => CallResult {
+                status: OUT_OF_MEMORY,
+                offset: 0,
+                length: 0,
+            },
+        },
     }
 }
 
 /// Calls the library, with the nodes limited or not.
-fn demangled(
-    alloc: Global,
-    symbol: &str,
-    flags: DemangleFlags,
-    bound: Option<usize>,
-) -> Result<String, Error>
-    ensures declared { IfOk result (λ text. IsDeclaration bound symbol.now flags.0 (string_bytes text)) }
-    ensures rejected { IfErr result (λ e. IsRejectedBy bound symbol.now e) }
+fn bytes_of(alloc: Global, symbol: &str, max_nodes: usize) -> Result<usize, Error>
+    ensures length { IfOk result (λ bytes. IsLength (limit_of_number max_nodes) symbol.now bytes) }
+    ensures rejected { IfErr result (λ e. IsRejectedUnder (limit_of_number max_nodes) symbol.now e) }
 {
-    match bound {
-        None => demangle(alloc, symbol, flags),
-        Some(nodes) => demangle_within(alloc, symbol, flags, nodes),
-    }
-}
-
-/// Returns how many bytes a symbol takes, or why there is none.
-fn measure(alloc: Global, symbol: &[u8], bound: Option<usize>) -> Result<usize, Refusal>
-    ensures { IsMeasured bound symbol.now result }
-{
-    match from_utf8(symbol) {
-        Ok(text) => measure_text(alloc, text, bound),
-        Err(fault) => Err(Refusal::NotUtf8(fault.valid_up_to())),
-    }
-}
-
-/// Does the same for a text that is UTF-8.
-fn measure_text(alloc: Global, symbol: &str, bound: Option<usize>) -> Result<usize, Refusal>
-    ensures { IsMeasured bound symbol.now result }
-{
-    match measured(alloc, symbol, bound) {
-        Ok(bytes) => Ok(bytes),
-        Err(error) => Err(refused(alloc, &error)),
-    }
-}
-
-/// Calls the library, with the nodes limited or not.
-fn measured(alloc: Global, symbol: &str, bound: Option<usize>) -> Result<usize, Error>
-    ensures length { IfOk result (λ bytes. IsLength bound symbol.now bytes) }
-    ensures rejected { IfErr result (λ e. IsRejectedBy bound symbol.now e) }
-{
-    match bound {
-        None => symbol_length(alloc, symbol),
-        Some(nodes) => symbol_length_within(alloc, symbol, nodes),
-    }
-}
-
-/// Returns where a symbol was rejected, and the text that says why.
-fn refused(alloc: Global, error: &Error) -> Refusal
-    ensures { IsShown error.now result }
-{
-    match (error.offset(), format!(in alloc; "{error}")) {
-        (Some(offset), Ok(text)) => by_reason(offset, text),
-        _ => Refusal::Memory,
-    }
-}
-
-/// Parts the errors for too many nodes from all others, by the beginning of the text.
-fn by_reason(offset: usize, text: String) -> Refusal
-    ensures { IsByReason offset (string_bytes text) result }
-{
-    if text.as_str().starts_with(TOO_MANY_NODES) {
-        Refusal::Nodes(offset, text)
+    if max_nodes == usize::MAX {
+        symbol_length(alloc, symbol)
     } else {
-        Refusal::Symbol(offset, text)
+        symbol_length_within(alloc, symbol, max_nodes)
     }
 }
 
-/// Writes what was found into a buffer.
-fn give(found: &Result<String, Refusal>, out: &mut [u8]) -> Answer
-    ensures { IsGiven found.now out.old out.new result }
+/// Returns the status of an error that rejects a symbol: that of the limit that the symbol exceeds, if it was set.
+fn status(error: &Error, max_nodes: usize, max_bytes: usize) -> u32
+    ensures { result ≡ status_by (limits_of max_nodes max_bytes) (limit_of error.now) }
 {
-    match found {
-        Ok(declaration) => Answer {
-            status: 0,
-            offset: 0,
-            length: write(declaration.as_str(), out),
-        },
-        Err(refusal) => Answer {
-            status: status(refusal),
-            offset: offset(refusal),
-            length: write(text(refusal), out),
-        },
-    }
-}
-
-/// Returns what was measured.
-fn tell(found: &Result<usize, Refusal>) -> Answer
-    ensures { IsTold found.now result }
-{
-    match found {
-        Ok(bytes) => Answer {
-            status: 0,
-            offset: 0,
-            length: *bytes,
-        },
-        Err(refusal) => Answer {
-            status: status(refusal),
-            offset: offset(refusal),
-            length: 0,
-        },
-    }
-}
-
-/// Returns the status of a refusal.
-fn status(refusal: &Refusal) -> u32
-    ensures { result ≡ status_of refusal.now }
-{
-    match refusal {
-        Refusal::Symbol(_, _) => 1,
-        Refusal::NotUtf8(_) => 2,
-        Refusal::Memory => 3,
-        Refusal::Nodes(_, _) => 4,
-    }
-}
-
-/// Returns the offset of a refusal in bytes, or 0.
-fn offset(refusal: &Refusal) -> usize
-    ensures { result ≡ offset_of refusal.now }
-{
-    match refusal {
-        Refusal::Symbol(offset, _) => *offset,
-        Refusal::Nodes(offset, _) => *offset,
-        Refusal::NotUtf8(offset) => *offset,
-        Refusal::Memory => 0,
-    }
-}
-
-/// Returns the text that is written for a refusal.
-fn text(refusal: &Refusal) -> &str
-    ensures { result.now ≡ text_of refusal.now }
-{
-    match refusal {
-        Refusal::Symbol(_, text) => text.as_str(),
-        Refusal::Nodes(_, text) => text.as_str(),
-        Refusal::NotUtf8(_) => "not UTF-8",
-        Refusal::Memory => "out of memory",
+    match error.limit() {
+        Some(Limit::Nodes) if max_nodes != usize::MAX => TOO_MANY_NODES,
+        Some(Limit::Bytes) if max_bytes != usize::MAX => TOO_LONG,
+        _ => INVALID,
     }
 }
 

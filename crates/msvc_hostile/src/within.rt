@@ -1,10 +1,10 @@
-//! What the calls with a limit on nodes answer, compared with the calls without one.
+//! Compares what calls with limits return with the results of the calls without.
 //!
 //! `msvc_bench within NODES` prints for each line of standard input how they refuse it where so many nodes are allowed.
 
 use crate::made::{is_made, is_refused_so, is_within, refusal_of, shown_as};
 use msvc_demangler::{
-    DemangleFlags, Error, ParseResult, demangle, demangle_within, parse_within,
+    DemangleFlags, Error, Limit, ParseResult, demangle, demangle_within, parse_within,
     symbol_length_within,
 };
 use std::alloc::Global;
@@ -49,7 +49,7 @@ pub fn fewest_nodes(alloc: Global, text: &str) -> usize {
 
 /// Whether a text is accepted where so many nodes are allowed.
 fn is_accepted(alloc: Global, text: &str, nodes: usize) -> bool {
-    demangle_within(alloc, text, DemangleFlags::NAME_ONLY, nodes).is_ok()
+    demangle_within(alloc, text, DemangleFlags::NAME_ONLY, nodes, usize::MAX).is_ok()
 }
 
 /// What is tried between a limit that is refused and one that is accepted; the former where nothing lies between.
@@ -73,8 +73,26 @@ pub fn is_bounded<'a>(alloc: Global, tree: &ParseResult<'a>, text: &'a str, node
 fn is_printed_within(alloc: Global, text: &str, nodes: usize) -> bool {
     let flags = DemangleFlags::COMPLETE;
     match demangle(alloc, text, flags) {
-        Ok(declaration) => is_made(demangle_within(alloc, text, flags, nodes), &declaration),
+        Ok(declaration) => {
+            let bytes = declaration.len();
+            let made = |bytes| is_made(
+                demangle_within(alloc, text, flags, nodes, bytes),
+                &declaration,
+            );
+            made(usize::MAX) && made(bytes) && is_too_long(alloc, text, nodes, bytes)
+        }
         Err(_) => false,
+    }
+}
+
+/// Whether a declaration of so many bytes is refused where one byte less is allowed.
+fn is_too_long(alloc: Global, text: &str, nodes: usize, bytes: usize) -> bool {
+    let Some(less) = bytes.checked_sub(1) else {
+        return true;
+    };
+    match demangle_within(alloc, text, DemangleFlags::COMPLETE, nodes, less) {
+        Ok(_) => false,
+        Err(error) => error.limit() == Some(Limit::Bytes) && is_within(&error, text),
     }
 }
 
@@ -112,7 +130,7 @@ fn refusal_within(alloc: Global, text: &str, nodes: usize) -> Option<String> {
 /// How a refusal of `parse_within` is shown, if the other calls refuse the text so too, at a place in it.
 fn shown_by_all(alloc: Global, text: &str, nodes: usize, refusal: &Error) -> Option<String> {
     let shown = shown_as(alloc, refusal).ok()?;
-    let declared = demangle_within(alloc, text, DemangleFlags::COMPLETE, nodes);
+    let declared = demangle_within(alloc, text, DemangleFlags::COMPLETE, nodes, usize::MAX);
     let measured = symbol_length_within(alloc, text, nodes);
     if is_refused_so(alloc, declared, shown.as_str())
         && is_refused_so(alloc, measured, shown.as_str())

@@ -1,12 +1,15 @@
 -- What an error says, and the part of an input that a refusal shows.
 use Rattle.std.specs.Prelude.{◌≡◌, ℕ, List, ◌++◌, Option, Some, None, length, take, drop, nat_le, if◌then◌else◌}
-use Rattle.std.specs.Prelude.{codes, string_bytes}
+use Rattle.std.specs.Prelude.{◌==◌, codes, string_bytes}
+use Rattle.std.specs.Cmp.Lexicographic.{pointwise}
 use Rattle.std.specs.Cow.{cow_str_bytes}
 use Rattle.std.specs.Fmt.{◌++?◌, debug_str, decimal}
 use Rattle.std.specs.Str.{encode_utf8_all}
 use Rattle.bstr.specs.Utf8.{lossy_chars}
 use Rattle.msvc_nodes.specs.declared.error.ErrorRepr.{ErrorRepr}
 use Rattle.msvc_nodes.specs.declared.error.ErrorRepr.TheVariants.{ParseError, Other, Memory}
+use Rattle.msvc_nodes.specs.declared.error.Limit.{Limit}
+use Rattle.msvc_nodes.specs.declared.error.Limit.TheVariants.{Nodes, Bytes}
 
 -- what a refusal shows of the bytes that remain at its offset: the first 20 and three dots where there are more
 abbrev pub shortened : List ℕ → List ℕ
@@ -33,6 +36,24 @@ context_text_of input offset = shortened_text (drop offset input)
 abbrev pub offset_of : ErrorRepr → Option ℕ
 offset_of (ParseError message context offset) = Some offset
 offset_of _ = None
+
+-- the messages of errors for what exceeds a limit that a caller set
+abbrev pub too_many_nodes : List ℕ
+too_many_nodes = codes "more nodes than allowed"
+
+abbrev pub too_long : List ℕ
+too_long = codes "longer than allowed"
+
+-- the limit that a message is about
+abbrev pub message_limit : List ℕ → Option Limit
+message_limit message =
+    if pointwise (λ a b. a == b) message too_many_nodes then Some Nodes
+    else if pointwise (λ a b. a == b) message too_long then Some Bytes else None
+
+-- the limit that a symbol exceeds
+abbrev pub limit_of : ErrorRepr → Option Limit
+limit_of (ParseError message context offset) = message_limit (cow_str_bytes message)
+limit_of _ = None
 
 -- out of memory, or else a refusal with this message, this context and this offset
 abbrev pub IsRefusalOrMemory : List ℕ → List ℕ → ℕ → ErrorRepr → Type 0

@@ -1,13 +1,13 @@
 //! Errors: why a text was rejected, or that memory ran out, and what an error prints. Which message a text is rejected
 //! with is up to the parser.
 
-ghost use Rattle.std.specs.Prelude.{◌≡◌, ◌≤◌, ◌↔◌, length, IfOk, IsTrue, string_bytes};
+ghost use Rattle.std.specs.Prelude.{◌≡◌, ◌≤◌, ◌↔◌, length, IfOk, IsTrue, is_some, string_bytes};
 ghost use Rattle.std.specs.Cow.{cow_str_bytes};
 ghost use Rattle.std.specs.Str.{IsAscii};
 ghost use Rattle.msvc_nodes.specs.declared.error.ErrorRepr.{ErrorRepr};
 ghost use Rattle.msvc_nodes.specs.declared.error.ErrorRepr.TheVariants.{FromUtf8, Memory, Utf8};
 ghost use Rattle.msvc_nodes.specs.Errors.{IsMessageOrMemory, IsRefusalOrMemory, context_of, context_text_of};
-ghost use Rattle.msvc_nodes.specs.Errors.{error_text, offset_of, shortened_text};
+ghost use Rattle.msvc_nodes.specs.Errors.{error_text, limit_of, message_limit, offset_of, shortened_text};
 
 use bstr::ByteSlice;
 use std::alloc::{AllocError, AllocFailed, Global};
@@ -19,6 +19,21 @@ use std::string::FromUtf8Error;
 
 /// How many bytes of the input an error shows at most.
 const CONTEXT_LENGTH: usize = 20;
+
+/// The message of an error for a tree with more nodes than a caller allows.
+pub const TOO_MANY_NODES: &str = "more nodes than allowed";
+
+/// The message of an error for a declaration with more bytes than a caller allows.
+pub const TOO_LONG: &str = "longer than allowed";
+
+/// A limit that a caller sets.
+#[derive(Clone, Copy, Debug, PartialEq, Eq)]
+pub enum Limit {
+    /// The nodes of a tree.
+    Nodes,
+    /// The bytes of a declaration.
+    Bytes,
+}
 
 /// Why a call failed. It borrows nothing from the input. Contracts see it as its `ErrorRepr`.
 #[derive(Debug, Drop)]
@@ -74,6 +89,36 @@ impl Error {
         ensures { IsTrue result ↔ (self.now ≡ Memory) }
     {
         matches!(&self.repr, ErrorRepr::Memory)
+    }
+
+    /// Returns the limit that a symbol exceeds; `None` for any other error.
+    pub fn limit(&self) -> Option<Limit>
+        ensures { result ≡ limit_of self.now }
+    {
+        match &self.repr {
+            ErrorRepr::ParseError(message, _, _) => message_limit(message.as_bytes()),
+            _ => None,
+        }
+    }
+
+    /// Tests whether a symbol exceeds a limit.
+    pub fn is_over_limit(&self) -> bool
+        ensures { result ≡ is_some (limit_of self.now) }
+    {
+        self.limit().is_some()
+    }
+}
+
+/// Returns the limit that a message is about.
+fn message_limit(message: &[u8]) -> Option<Limit>
+    ensures { result ≡ message_limit message.now }
+{
+    if message == TOO_MANY_NODES.as_bytes() {
+        Some(Limit::Nodes)
+    } else if message == TOO_LONG.as_bytes() {
+        Some(Limit::Bytes)
+    } else {
+        None
     }
 }
 

@@ -2,7 +2,7 @@
 
 ghost use Rattle.msvc_parser.specs.Errors.{IsErrorOf};
 
-use msvc_nodes::error::{Error, parse_error};
+use msvc_nodes::error::{Error, TOO_MANY_NODES, parse_error};
 use std::alloc::{AllocError, Global};
 use std::borrow::CowStr;
 
@@ -68,7 +68,7 @@ impl Message {
             Message::HashLength => "expected MD5 mangled name of length 32",
             Message::UnknownOperatorName => "unknown operator name",
             Message::UnknownRttiOperatorName => "unknown RTTI Operator name",
-            Message::TooManyNodes => "more nodes than allowed",
+            Message::TooManyNodes => TOO_MANY_NODES,
             Message::InvalidBackReference(index) => {
                 return Ok(CowStr::Owned(format!(in alloc; "invalid backreference: {index}")?));
             }

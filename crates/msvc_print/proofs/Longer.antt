@@ -1,5 +1,8 @@
--- A text that is printed only grows.
-use Rattle.std.proofs.Common.{◌≤◌, ◌∷◌, ◌++◌, [], ℕ, List, Bool, true, false, cond, length, arith, length-append}
+-- Texts only grow, so a text under a limit is the text without a limit, or that is longer than the limit.
+use Rattle.std.proofs.Common.{◌≡◌, ◌≤◌, ◌<◌, ◌∷◌, ◌++◌, [], ℕ, List, Bool, true, false, cond, length, arith}
+use Rattle.std.proofs.Common.{length-append, ap, sym, ◌∙◌, refl, leb, le-leb, leb-true, leb-false, Option, Some, None}
+use Rattle.std.proofs.Common.{is_some}
+use Rattle.msvc_print.specs.Limited.{LimitedText, add_all, limited, settle_within, within}
 use Rattle.msvc_print.specs.Pieces.{Piece, blank, is_written_after, last_byte, settle, settle_all, space, text}
 use Rattle.msvc_print.specs.Work.{finished, item_pieces}
 use Rattle.msvc_print.specs.declared.item.Item.{Item}
@@ -21,9 +24,75 @@ settle_all-longer before [] = omega arith
 settle_all-longer before (piece ∷ pieces) =
     longer _ _ _ (settle-longer before piece) (settle_all-longer (settle before piece) pieces)
 
-pub finished-longer : (stack : List Item) (out : List ℕ) (flags : ℕ) → length out ≤ length (finished stack out flags)
+within-fits : (most : ℕ) (bytes : List ℕ) → length bytes ≤ most → within most bytes ≡ Some bytes
+within-fits most bytes fits = ap (λ b. cond b (Some bytes) None) (le-leb (length bytes) most fits)
+
+within-exceeds : (most : ℕ) (bytes : List ℕ) → most < length bytes → within most bytes ≡ None
+within-exceeds most bytes more = at (leb (length bytes) most) (leb-true (length bytes) most)
+  where
+    at : (b : Bool) → (b ≡ true → length bytes ≤ most) → cond b (Some bytes) None ≡ None
+    at true fits = absurd (omega (arith, fits refl))
+    at false fits = refl
+
+-- a piece that the limit allows
+pub added : (most : ℕ) (whole : Bool) (before after : List ℕ) (piece : Piece) → settle before piece ≡ after →
+    length after ≤ most → limited most whole after ≡ add_all (limited most whole before) (piece ∷ [])
+unfolding add_all settle_within
+added most true before after piece same fits =
+    ap (λ t. record { most = most; text = t }) (sym (ap (within most) same ∙ within-fits most after fits))
+added most false before after piece same fits = refl
+
+-- a piece that it does not allow
+pub left_out : (most : ℕ) (whole : Bool) (before : List ℕ) (piece : Piece) → most < length (settle before piece) →
+    record { most = most; text = None } ≡ add_all (limited most whole before) (piece ∷ [])
+unfolding add_all settle_within
+left_out most true before piece more =
+    ap (λ t. record { most = most; text = t }) (sym (within-exceeds most (settle before piece) more))
+left_out most false before piece more = refl
+
+-- a text that is not whole stays so
+add_all-left_out : (most : ℕ) (pieces : List Piece) →
+    add_all (record { most = most; text = None }) pieces ≡ record { most = most; text = None }
+unfolding add_all settle_within
+add_all-left_out most [] = refl
+add_all-left_out most (piece ∷ pieces) = add_all-left_out most pieces
+
+finished-left_out : (most : ℕ) (stack : List Item) (flags : ℕ) →
+    finished stack (record { most = most; text = None }) flags ≡ record { most = most; text = None }
 unfolding finished
-finished-longer [] out flags = omega arith
-finished-longer (item ∷ above) out flags =
-    longer _ _ _ (finished-longer above out flags)
-    (settle_all-longer (finished above out flags) (item_pieces item flags))
+finished-left_out most [] flags = refl
+finished-left_out most (item ∷ above) flags =
+    ap (λ t. add_all t (item_pieces item flags)) (finished-left_out most above flags)
+    ∙ add_all-left_out most (item_pieces item flags)
+
+none_left : (o : Option (List ℕ)) → is_some o ≡ false → o ≡ None
+none_left None e = refl
+none_left (Some bytes) e = absurd (cc)
+
+pub finished-not_whole : (stack : List Item) (out : LimitedText) (flags : ℕ) → is_some out.text ≡ false →
+    out ≡ finished stack out flags
+finished-not_whole stack out flags e =
+    let none : out ≡ record { most = out.most; text = None }
+    = ap (λ t. record { most = out.most; text = t }) (none_left out.text e) in
+    none ∙ sym (finished-left_out out.most stack flags) ∙ ap (λ t. finished stack t flags) (sym none)
+
+-- the text under a limit is the text without one, if that has at most so many bytes
+pub add_all-within : (most : ℕ) (before : List ℕ) (pieces : List Piece) → length before ≤ most →
+    (add_all (record { most = most; text = Some before }) pieces).text ≡ within most (settle_all before pieces)
+unfolding add_all settle_all settle_within
+add_all-within most before [] fits = sym (within-fits most before fits)
+add_all-within most before (piece ∷ pieces) fits =
+    at (leb (length (settle before piece)) most) (leb-true (length (settle before piece)) most)
+    (leb-false (length (settle before piece)) most) (add_all-within most (settle before piece) pieces)
+  where
+    at : (b : Bool) → (b ≡ true → length (settle before piece) ≤ most) →
+        (b ≡ false → most < length (settle before piece)) → (length (settle before piece) ≤ most →
+        (add_all (record { most = most; text = Some (settle before piece) }) pieces).text
+        ≡ within most (settle_all (settle before piece) pieces)) →
+        (add_all (record { most = most; text = cond b (Some (settle before piece)) None }) pieces).text
+        ≡ within most (settle_all (settle before piece) pieces)
+    at true fits more rest = rest (fits refl)
+    at false fits more rest =
+        ap (λ t. t.text) (add_all-left_out most pieces)
+        ∙ sym (within-exceeds most (settle_all (settle before piece) pieces)
+        (omega (arith, more refl, settle_all-longer (settle before piece) pieces)))

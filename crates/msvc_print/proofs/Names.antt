@@ -9,8 +9,9 @@ use Rattle.msvc_nodes.specs.NodeView.{name_of, names_in}
 use Rattle.msvc_nodes.specs.declared.nodes.Name.{Name}
 use Rattle.msvc_nodes.specs.declared.kinds.Table.TheVariants.{Functions}
 use Rattle.msvc_print.specs.Declaration.{name_pieces, scope_pieces, scope_prefix, table_end}
-use Rattle.msvc_print.proofs.Settling.{settle_all-append, settle_all-none, settled_two}
-use Rattle.msvc_print.specs.Pieces.{Piece, settle_all, text}
+use Rattle.msvc_print.proofs.Settling.{add_all-append, add_all-none, settled_two}
+use Rattle.msvc_print.specs.Limited.{LimitedText, add_all}
+use Rattle.msvc_print.specs.Pieces.{Piece, text}
 use Rattle.msvc_print.proofs.Stack.{work_one}
 use Rattle.msvc_print.specs.Weights.{name_weight, scope_weight}
 use Rattle.msvc_print.specs.Work.{Lightens, work}
@@ -42,26 +43,26 @@ scope_prefix-left ns d k flags some fits = ap (λ j. scope_prefix (names_in (tak
     ∙ scope_prefix-last ns d (k - 1) flags (omega arith)
 
 -- the last of the names that are left is written with `::` after it
-pub written-last : (ns : List (Bor Name)) (d : Bor Name) (k flags : ℕ) (out out1 out2 : List ℕ) → 0 < k →
-    k ≤ length ns → out1 ≡ settle_all out (name_pieces (name_of (get_or ns (k - 1) d).now) false flags) →
-    out2 ≡ settle_all out1 (text (codes "::") ∷ []) →
-    settle_all out2 (scope_prefix (names_in (take (k - 1) ns)) flags)
-    ≡ settle_all out (scope_prefix (names_in (take k ns)) flags)
+pub written-last : (ns : List (Bor Name)) (d : Bor Name) (k flags : ℕ) (out out1 out2 : LimitedText) → 0 < k →
+    k ≤ length ns → out1 ≡ add_all out (name_pieces (name_of (get_or ns (k - 1) d).now) false flags) →
+    out2 ≡ add_all out1 (text (codes "::") ∷ []) →
+    add_all out2 (scope_prefix (names_in (take (k - 1) ns)) flags)
+    ≡ add_all out (scope_prefix (names_in (take k ns)) flags)
 written-last ns d k flags out out1 out2 some fits e e' =
-    ap (λ x. settle_all x (scope_prefix (names_in (take (k - 1) ns)) flags)) (settled_two _ _ _ _ _ e e')
-    ∙ sym (settle_all-append out _ _) ∙ ap (settle_all out) (sym (scope_prefix-left ns d k flags some fits))
+    ap (λ x. add_all x (scope_prefix (names_in (take (k - 1) ns)) flags)) (settled_two _ _ _ _ _ e e')
+    ∙ sym (add_all-append out _ _) ∙ ap (add_all out) (sym (scope_prefix-left ns d k flags some fits))
 
 pub scope_prefix-none : (ns : List (Bor Name)) (flags : ℕ) → scope_prefix (names_in (take 0 ns)) flags ≡ []
 unfolding scope_pieces
 scope_prefix-none ns flags = refl
 
 -- where no name is left, all of the scope is written
-pub written-all : (ns : List (Bor Name)) (k flags : ℕ) (out out1 : List ℕ) → k ≡ 0 →
-    settle_all out1 (scope_prefix (names_in (take k ns)) flags) ≡ settle_all out (scope_prefix (names_in ns) flags) →
-    out1 ≡ settle_all out (scope_prefix (names_in ns) flags)
+pub written-all : (ns : List (Bor Name)) (k flags : ℕ) (out out1 : LimitedText) → k ≡ 0 →
+    add_all out1 (scope_prefix (names_in (take k ns)) flags) ≡ add_all out (scope_prefix (names_in ns) flags) →
+    out1 ≡ add_all out (scope_prefix (names_in ns) flags)
 written-all ns k flags out out1 none e =
-    sym (settle_all-none out1)
-    ∙ ap (settle_all out1) (sym (ap (λ j. scope_prefix (names_in (take j ns)) flags) none ∙ scope_prefix-none ns flags))
+    sym (add_all-none out1)
+    ∙ ap (add_all out1) (sym (ap (λ j. scope_prefix (names_in (take j ns)) flags) none ∙ scope_prefix-none ns flags))
     ∙ e
 
 -- the last of some names of a scope weighs more than those before it

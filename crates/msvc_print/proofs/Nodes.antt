@@ -2,15 +2,15 @@
 use Rattle.msvc_nodes.proofs.NodeViews.{name_of-Template, name_of-Nested, type_of-Tagged, type_of-Function}
 use Rattle.msvc_nodes.proofs.NodeViews.{type_of-MemberFunction, type_of-MemberPointer, type_of-Table}
 use Rattle.msvc_nodes.proofs.NodeViews.{types_of-hidden, names_of-hidden}
-use Rattle.msvc_print.proofs.Settling.{settle_all-none, settle_all-first, settle_all-append}
+use Rattle.msvc_print.proofs.Settling.{add_all-none, add_all-first, add_all-append}
 use Rattle.msvc_print.proofs.Stack.{finished-push, work-push}
 
 pub ruleset printed = (
   finished-push,
   work-push,
-  settle_all-none,
-  settle_all-first,
-  settle_all-append,
+  add_all-none,
+  add_all-first,
+  add_all-append,
   types_of-hidden,
   names_of-hidden,
   name_of-Template,

@@ -8,7 +8,8 @@ use Rattle.msvc_nodes.specs.declared.kinds.PlainOperator.TheVariants as plain_op
 use Rattle.msvc_print.proofs.Halves.{around-halves}
 use Rattle.msvc_print.specs.Declaration.{conversion}
 use Rattle.msvc_print.specs.Operators.{base_class_pieces, listed, name_kind, spaced}
-use Rattle.msvc_print.specs.Pieces.{Piece, settle_all, text}
+use Rattle.msvc_print.specs.Limited.{LimitedText, add_all}
+use Rattle.msvc_print.specs.Pieces.{Piece, text}
 use Rattle.msvc_print.proofs.Settling.{settled_two}
 use Rattle.msvc_print.specs.Weights.{type_weight}
 use Rattle.msvc_print.specs.Work.{conversion_to, member_return, return_weight}
@@ -38,16 +39,16 @@ return_weight-bound (member_function f c ts q t) = omega arith
 return_weight-bound _ = omega arith
 
 -- the place of a base class, from its parts
-pub settled-base_class : (out out1 out2 out3 out4 out5 out6 : List ℕ) (a b c d a' b' c' d' : ℤ) (flags : ℕ) →
-    out1 ≡ settle_all out (spaced (codes "`RTTI Base Class Descriptor at (")) →
-    out2 ≡ settle_all out1 (text (signed_decimal a') ∷ []) →
-    out3 ≡ settle_all out2 (listed b' flags) → out4 ≡ settle_all out3 (listed c' flags) →
-    out5 ≡ settle_all out4 (listed d' flags) → out6 ≡ settle_all out5 (text (codes ")'") ∷ []) →
-    a' ≡ a → b' ≡ b → c' ≡ c → d' ≡ d → out6 ≡ settle_all out (base_class_pieces a b c d flags)
+pub settled-base_class : (out out1 out2 out3 out4 out5 out6 : LimitedText) (a b c d a' b' c' d' : ℤ) (flags : ℕ) →
+    out1 ≡ add_all out (spaced (codes "`RTTI Base Class Descriptor at (")) →
+    out2 ≡ add_all out1 (text (signed_decimal a') ∷ []) →
+    out3 ≡ add_all out2 (listed b' flags) → out4 ≡ add_all out3 (listed c' flags) →
+    out5 ≡ add_all out4 (listed d' flags) → out6 ≡ add_all out5 (text (codes ")'") ∷ []) →
+    a' ≡ a → b' ≡ b → c' ≡ c → d' ≡ d → out6 ≡ add_all out (base_class_pieces a b c d flags)
 unfolding base_class_pieces
 settled-base_class out out1 out2 out3 out4 out5 out6 a b c d a' b' c' d' flags e1 e2 e3 e4 e5 e6 ea eb ec ed =
     settled_two _ _ _ _ _ e1
-    (settled_two _ _ _ _ _ (e2 ∙ ap (λ z. settle_all out1 (text (signed_decimal z) ∷ [])) ea)
-    (settled_two _ _ _ _ _ (e3 ∙ ap (λ z. settle_all out2 (listed z flags)) eb)
-    (settled_two _ _ _ _ _ (e4 ∙ ap (λ z. settle_all out3 (listed z flags)) ec)
-    (settled_two _ _ _ _ _ (e5 ∙ ap (λ z. settle_all out4 (listed z flags)) ed) e6))))
+    (settled_two _ _ _ _ _ (e2 ∙ ap (λ z. add_all out1 (text (signed_decimal z) ∷ [])) ea)
+    (settled_two _ _ _ _ _ (e3 ∙ ap (λ z. add_all out2 (listed z flags)) eb)
+    (settled_two _ _ _ _ _ (e4 ∙ ap (λ z. add_all out3 (listed z flags)) ec)
+    (settled_two _ _ _ _ _ (e5 ∙ ap (λ z. add_all out4 (listed z flags)) ed) e6))))

@@ -7,12 +7,13 @@ use Rattle.std.specs.Borrow.{Bor}
 use Rattle.msvc_nodes.specs.NodeView.{type_of, types_in}
 use Rattle.msvc_nodes.specs.declared.flags.StorageClass.{StorageClass}
 use Rattle.msvc_nodes.specs.declared.nodes.Type.{«Type»}
-use Rattle.msvc_print.proofs.Settling.{settle_all-append, settle_all-first, settled_three}
+use Rattle.msvc_print.proofs.Settling.{add_all-append, add_all-first, settled_three}
 use Rattle.msvc_print.proofs.Halves.{around-halves}
 use Rattle.msvc_print.specs.Declaration.{grown, is_empty_pack, length_pieces, parameters}
 use Rattle.msvc_print.specs.Functions.{function_qualifier, function_qualifiers, separator}
 use Rattle.msvc_print.specs.Halves.{after, before, function_end, member_pointer_end}
-use Rattle.msvc_print.specs.Pieces.{Piece, settle_all, text}
+use Rattle.msvc_print.specs.Limited.{LimitedText, add_all}
+use Rattle.msvc_print.specs.Pieces.{Piece, text}
 use Rattle.msvc_print.specs.Weights.{type_weight, types_weight}
 use Rattle.msvc_print.specs.Sides.{alone, around}
 use Rattle.msvc_print.specs.Words.{closing}
@@ -101,45 +102,46 @@ rest-kept ts d first end flags some kept =
     ∙ append_assoc s (b ++ (a ++ later)) last
     ∙ ap (λ ps. s ++ ps) (append_assoc b (a ++ later) last ∙ ap (λ ps. b ++ ps) (append_assoc a later last))
 
-pub settled_four : (out out1 : List ℕ) (a b c d : List Piece) → out1 ≡ settle_all out a →
-    settle_all (settle_all (settle_all out1 b) c) d ≡ settle_all out (a ++ (b ++ (c ++ d)))
+pub settled_four : (out out1 : LimitedText) (a b c d : List Piece) → out1 ≡ add_all out a →
+    add_all (add_all (add_all out1 b) c) d ≡ add_all out (a ++ (b ++ (c ++ d)))
 settled_four out out1 a b c d e =
-    sym (settle_all-append (settle_all out1 b) c d) ∙ sym (settle_all-append out1 b (c ++ d))
-    ∙ ap (λ x. settle_all x (b ++ (c ++ d))) e ∙ sym (settle_all-append out a (b ++ (c ++ d)))
+    sym (add_all-append (add_all out1 b) c d) ∙ sym (add_all-append out1 b (c ++ d))
+    ∙ ap (λ x. add_all x (b ++ (c ++ d))) e ∙ sym (add_all-append out a (b ++ (c ++ d)))
 
 -- after the length of a level of an array stands what is after its elements
-pub settled-array : (out out1 : List ℕ) (pointed : Bool) (m n : ℤ) (t : TypeTree) (q flags : ℕ) →
-    out1 ≡ settle_all out (closing pointed ++ length_pieces m) →
-    m ≡ n → settle_all out1 (after t false flags) ≡ settle_all out (after (array n t q) pointed flags)
+pub settled-array : (out out1 : LimitedText) (pointed : Bool) (m n : ℤ) (t : TypeTree) (q flags : ℕ) →
+    out1 ≡ add_all out (closing pointed ++ length_pieces m) →
+    m ≡ n → add_all out1 (after t false flags) ≡ add_all out (after (array n t q) pointed flags)
 unfolding after
 settled-array out out1 pointed m n t q flags e same =
-    ap (λ x. settle_all x (after t false flags)) e
-    ∙ sym (settle_all-append out (closing pointed ++ length_pieces m) (after t false flags))
-    ∙ ap (settle_all out) (append_assoc (closing pointed) (length_pieces m) (after t false flags))
-    ∙ ap (λ k. settle_all out (closing pointed ++ (length_pieces k ++ after t false flags))) same
+    ap (λ x. add_all x (after t false flags)) e
+    ∙ sym (add_all-append out (closing pointed ++ length_pieces m) (after t false flags))
+    ∙ ap (add_all out) (append_assoc (closing pointed) (length_pieces m) (after t false flags))
+    ∙ ap (λ k. add_all out (closing pointed ++ (length_pieces k ++ after t false flags))) same
 
 -- what a function has after its name, from its parts
-pub settled-function_end : (out out1 out2 : List ℕ) (ts : List (Bor «Type»)) (pointed : Bool) (set : StorageClass)
+pub settled-function_end : (out out1 out2 : LimitedText) (ts : List (Bor «Type»)) (pointed : Bool) (set : StorageClass)
     (flags : ℕ) (returned : List Piece) →
-    out1 ≡ settle_all out (closing pointed) → out2 ≡ settle_all out1 (text (codes "(") ∷ []) →
-    settle_all (settle_all out2 (rest_of_parameters ts true (Round set) flags)) returned
-    ≡ settle_all out (function_end pointed (parameters (types_in ts) true flags) set.0 flags returned)
+    out1 ≡ add_all out (closing pointed) → out2 ≡ add_all out1 (text (codes "(") ∷ []) →
+    add_all (add_all out2 (rest_of_parameters ts true (Round set) flags)) returned
+    ≡ add_all out (function_end pointed (parameters (types_in ts) true flags) set.0 flags returned)
 settled-function_end out out1 out2 ts pointed set flags returned e e' =
     let ps : List Piece = parameters (types_in ts) true flags in
     let end : List Piece = text (codes ")") ∷ function_qualifiers set.0 flags in
     let later : List Piece = ps ++ (text (codes ")") ∷ (function_qualifiers set.0 flags ++ returned)) in
-    sym (settle_all-append out2 (ps ++ end) returned)
-    ∙ ap (λ x. settle_all out2 x) (append_assoc ps end returned)
-    ∙ ap (λ x. settle_all x later) (e' ∙ ap (λ x. settle_all x (text (codes "(") ∷ [])) e)
-    ∙ sym (settle_all-first (settle_all out (closing pointed)) (text (codes "(")) later)
-    ∙ sym (settle_all-append out (closing pointed) (text (codes "(") ∷ later))
+    sym (add_all-append out2 (ps ++ end) returned)
+    ∙ ap (λ x. add_all out2 x) (append_assoc ps end returned)
+    ∙ ap (λ x. add_all x later) (e' ∙ ap (λ x. add_all x (text (codes "(") ∷ [])) e)
+    ∙ sym (add_all-first (add_all out (closing pointed)) (text (codes "(")) later)
+    ∙ sym (add_all-append out (closing pointed) (text (codes "(") ∷ later))
 
 -- what a pointer to a member function has after its name, from its parts
-pub settled-member_pointer_end : (out out1 : List ℕ) (ts : List (Bor «Type»)) (set flags : ℕ) (returned : List Piece) →
-    out1 ≡ settle_all out (text (codes ")(") ∷ []) →
-    settle_all (settle_all (settle_all out1 (rest_of_parameters ts true Bare flags)) returned)
+pub settled-member_pointer_end : (out out1 : LimitedText) (ts : List (Bor «Type»)) (set flags : ℕ)
+    (returned : List Piece) →
+    out1 ≡ add_all out (text (codes ")(") ∷ []) →
+    add_all (add_all (add_all out1 (rest_of_parameters ts true Bare flags)) returned)
     (function_qualifier 1 (codes "const") set)
-    ≡ settle_all out (member_pointer_end (parameters (types_in ts) true flags) set returned)
+    ≡ add_all out (member_pointer_end (parameters (types_in ts) true flags) set returned)
 unfolding member_pointer_end
 settled-member_pointer_end out out1 ts set flags returned e =
     let ps : List Piece = parameters (types_in ts) true flags in
@@ -147,5 +149,5 @@ settled-member_pointer_end out out1 ts set flags returned e =
     let end : List Piece = text (codes ")") ∷ [] in
     let later : List Piece = ps ++ (end ++ (returned ++ const)) in
     settled_three out1 (ps ++ end) returned const
-    ∙ ap (settle_all out1) (append_assoc (ps ++ end) returned const ∙ append_assoc ps end (returned ++ const))
-    ∙ ap (λ x. settle_all x later) e ∙ sym (settle_all-first out (text (codes ")(")) later)
+    ∙ ap (add_all out1) (append_assoc (ps ++ end) returned const ∙ append_assoc ps end (returned ++ const))
+    ∙ ap (λ x. add_all x later) e ∙ sym (add_all-first out (text (codes ")(")) later)

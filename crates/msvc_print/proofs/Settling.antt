@@ -1,29 +1,30 @@
 -- Pieces settle one after the other.
-use Rattle.std.proofs.Common.{◌≡◌, ℕ, List, [], ◌∷◌, ◌++◌, ap, refl, sym, ◌∙◌}
+use Rattle.std.proofs.Common.{◌≡◌, List, [], ◌∷◌, ◌++◌, ap, refl, sym, ◌∙◌}
 use Rattle.std.proofs.lemmas.Grind.{fold-append}
-use Rattle.msvc_print.specs.Pieces.{Piece, settle, settle_all}
+use Rattle.msvc_print.specs.Limited.{LimitedText, add, add_all}
+use Rattle.msvc_print.specs.Pieces.{Piece}
 
-pub settle_all-none : (out : List ℕ) → settle_all out [] ≡ out
-unfolding settle_all
-settle_all-none out = refl
+pub add_all-none : (out : LimitedText) → add_all out [] ≡ out
+unfolding add_all
+add_all-none out = refl
 
-pub settle_all-first : (out : List ℕ) (piece : Piece) (later : List Piece) → settle_all out (piece ∷ later)
-    ≡ settle_all (settle_all out (piece ∷ [])) later
-unfolding settle_all
-settle_all-first out piece later = refl
+pub add_all-first : (out : LimitedText) (piece : Piece) (later : List Piece) → add_all out (piece ∷ later)
+    ≡ add_all (add_all out (piece ∷ [])) later
+unfolding add_all
+add_all-first out piece later = refl
 
-pub settle_all-append : (out : List ℕ) (xs ys : List Piece) → settle_all out (xs ++ ys)
-    ≡ settle_all (settle_all out xs) ys
-unfolding settle_all
-settle_all-append out xs ys = fold-append settle out xs ys
+pub add_all-append : (out : LimitedText) (xs ys : List Piece) → add_all out (xs ++ ys)
+    ≡ add_all (add_all out xs) ys
+unfolding add_all
+add_all-append out xs ys = fold-append add out xs ys
 
-pub settled_two : (out out1 out2 : List ℕ) (xs ys : List Piece) → out1 ≡ settle_all out xs →
-    out2 ≡ settle_all out1 ys → out2 ≡ settle_all out (xs ++ ys)
-settled_two out out1 out2 xs ys e e' = e' ∙ ap (λ text. settle_all text ys) e ∙ sym (settle_all-append out xs ys)
+pub settled_two : (out out1 out2 : LimitedText) (xs ys : List Piece) → out1 ≡ add_all out xs →
+    out2 ≡ add_all out1 ys → out2 ≡ add_all out (xs ++ ys)
+settled_two out out1 out2 xs ys e e' = e' ∙ ap (λ text. add_all text ys) e ∙ sym (add_all-append out xs ys)
 
-pub settled_three : (out : List ℕ) (xs ys zs : List Piece) →
-    settle_all (settle_all (settle_all out xs) ys) zs ≡ settle_all out ((xs ++ ys) ++ zs)
+pub settled_three : (out : LimitedText) (xs ys zs : List Piece) →
+    add_all (add_all (add_all out xs) ys) zs ≡ add_all out ((xs ++ ys) ++ zs)
 settled_three out xs ys zs =
-    sym (settle_all-append out (xs ++ ys) zs ∙ ap (λ text. settle_all text zs) (settle_all-append out xs ys))
+    sym (add_all-append out (xs ++ ys) zs ∙ ap (λ text. add_all text zs) (add_all-append out xs ys))
 
-pub ruleset settling = (settle_all-none, settle_all-first, settle_all-append)
+pub ruleset settling = (add_all-none, add_all-first, add_all-append)

@@ -1,6 +1,7 @@
 pub use Rattle.msvc_nodes.specs.NodeView
 pub mod Flags
 pub mod Pieces
+pub mod Limited
 pub mod Words
 pub mod Operators
 pub mod Functions

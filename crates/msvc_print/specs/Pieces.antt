@@ -1,5 +1,5 @@
 -- The pieces of a text, and the text that they settle to.
-use Rattle.std.specs.Prelude.{ℕ, List, [], ◌∷◌, ◌++◌, ◌-◌, ◌≡◌, Bool, cond, not, ◌==◌, ◌||◌, fold, length, slice_index}
+use Rattle.std.specs.Prelude.{ℕ, List, [], ◌∷◌, ◌++◌, ◌-◌, Bool, cond, not, ◌==◌, ◌||◌, fold, length, slice_index}
 use Rattle.std.specs.Char.{is_ascii_alphabetic}
 use Rattle.msvc_print.specs.declared.text.Space.{Space}
 use Rattle.msvc_print.specs.declared.text.Space.TheVariants.{AfterPointer, AfterReference, AfterWord, UnlessOpen}
@@ -52,10 +52,6 @@ settle before (space s) = cond (is_written_after s (last_byte before)) (before +
 -- a text with the pieces after it, from the left
 unfoldable pub settle_all : List ℕ → List Piece → List ℕ
 settle_all before pieces = fold settle before pieces
-
--- these pieces were written after what was there
-abbrev pub Writes : List Piece → List ℕ → List ℕ → Type 0
-Writes pieces out out' = out' ≡ settle_all out pieces
 
 abbrev pub resolve : List Piece → List ℕ
 resolve pieces = settle_all [] pieces

@@ -9,7 +9,8 @@ use Rattle.msvc_print.specs.Declaration.{name_pieces, parameters, scope_prefix}
 use Rattle.msvc_print.specs.Functions.{calling, function_qualifiers}
 use Rattle.msvc_print.specs.Halves.{after, before}
 use Rattle.msvc_print.specs.Operators.{spaced}
-use Rattle.msvc_print.specs.Pieces.{Piece, text, space, settle_all}
+use Rattle.msvc_print.specs.Limited.{LimitedText, add_all}
+use Rattle.msvc_print.specs.Pieces.{Piece, text, space}
 use Rattle.msvc_print.specs.Weights.{name_weight, scope_weight, type_weight, types_weight}
 use Rattle.msvc_print.specs.SymbolNodes.{class_pieces_of, class_weight_of, symbol_name_of, symbol_weight_of}
 use Rattle.msvc_print.specs.SymbolNodes.{type_or_none}
@@ -78,21 +79,21 @@ item_weight (Before t pointed) = type_weight (type_of t.now)
 item_weight (After t pointed) = type_weight (type_of t.now)
 
 -- the text once all work on the stack, the last item first, is written after what is there
-unfoldable pub finished : List Item → List ℕ → ℕ → List ℕ
+unfoldable pub finished : List Item → LimitedText → ℕ → LimitedText
 finished [] out flags = out
-finished (item ∷ above) out flags = settle_all (finished above out flags) (item_pieces item flags)
+finished (item ∷ above) out flags = add_all (finished above out flags) (item_pieces item flags)
 
 unfoldable pub work : List Item → ℕ
 work [] = 0
 work (item ∷ above) = item_weight item + work above
 
 -- a step printed these pieces: wrote some, and left the rest on the stack
-abbrev pub Prints : List Piece → ℕ → List Item → List ℕ → List Item → List ℕ → Type 0
-Prints pieces flags stack out stack' out' = finished stack' out' flags ≡ finished stack (settle_all out pieces) flags
+abbrev pub Prints : List Piece → ℕ → List Item → LimitedText → List Item → LimitedText → Type 0
+Prints pieces flags stack out stack' out' = finished stack' out' flags ≡ finished stack (add_all out pieces) flags
 
 -- pushes stand for these pieces, whatever is written before them
 abbrev pub Pushes : List Piece → ℕ → List Item → List Item → Type 0
-Pushes pieces flags stack stack' = (out : List ℕ) → Prints pieces flags stack out stack' out
+Pushes pieces flags stack stack' = (out : LimitedText) → Prints pieces flags stack out stack' out
 
 -- pushes added work of this weight at most
 abbrev pub AddsAtMost : ℕ → List Item → List Item → Type 0

@@ -2,11 +2,11 @@
 
 ghost use Rattle.std.specs.Prelude.{◌≡◌, OnOk};
 ghost use Rattle.msvc_print.specs.Functions as spec;
-ghost use Rattle.msvc_print.specs.Pieces.{Writes};
+ghost use Rattle.msvc_print.specs.Limited.{Writes};
 ghost use Rattle.msvc_print.specs.Work.{end_pieces};
 
 use crate::item::ListEnd;
-use crate::text::{Space, write_opening, write_qualifier, write_space, write_text};
+use crate::text::{Space, Text, write_opening, write_qualifier, write_space, write_text};
 use bitflags::Flags;
 use msvc_nodes::flags::{DemangleFlags, FuncClass, StorageClass};
 use msvc_nodes::kinds::CallingConv;
@@ -29,11 +29,11 @@ fn convention_word<'t>(convention: CallingConv) -> &'t [u8]
 /// Writes the word of a calling convention. NO_MS_KEYWORDS drops it.
 #[tactic(auto, using(crate::proofs::Settling::settling), unfolding(crate::specs::Functions::convention_pieces))]
 fn write_convention(
-    out: &mut Vec<u8>,
+    out: &mut Text,
     convention: CallingConv,
     flags: DemangleFlags,
 ) -> Result<(), AllocError>
-    ensures { OnOk result (Writes (spec.convention_pieces convention flags.0) out.old.items out.new.items) }
+    ensures { OnOk result (Writes (spec.convention_pieces convention flags.0) out.old out.new) }
 {
     if flags.contains(DemangleFlags::NO_MS_KEYWORDS) {
         return Ok(());
@@ -45,12 +45,12 @@ fn write_convention(
 /// Writes the parenthesis before the mark of a pointer to a function, and the calling convention.
 #[tactic(auto, using(crate::proofs::Settling::settling), unfolding(crate::specs::Functions::calling))]
 pub fn write_calling(
-    out: &mut Vec<u8>,
+    out: &mut Text,
     pointed: bool,
     convention: CallingConv,
     flags: DemangleFlags,
 ) -> Result<(), AllocError>
-    ensures { OnOk result (Writes (spec.calling pointed convention flags.0) out.old.items out.new.items) }
+    ensures { OnOk result (Writes (spec.calling pointed convention flags.0) out.old out.new) }
 {
     write_opening(out, pointed)?;
     write_space(out, Space::UnlessOpen)?;
@@ -59,14 +59,14 @@ pub fn write_calling(
 }
 
 /// Writes a word of a member function, if its bit is set.
-#[tactic(auto, unfolding(crate::specs::Pieces::settle_all))]
+#[tactic(auto, unfolding(crate::specs::Limited::add_all))]
 fn write_member_word(
-    out: &mut Vec<u8>,
+    out: &mut Text,
     bit: FuncClass,
     word: &[u8],
     class: FuncClass,
 ) -> Result<(), AllocError>
-    ensures { OnOk result (Writes (spec.member_word bit.0 word.now class.0) out.old.items out.new.items) }
+    ensures { OnOk result (Writes (spec.member_word bit.0 word.now class.0) out.old out.new) }
 {
     if class.contains(bit) {
         write_text(out, word)?;
@@ -77,11 +77,11 @@ fn write_member_word(
 /// Writes who may call a member function. NO_ACCESS_SPECIFIERS drops it.
 #[tactic(auto, using(crate::proofs::Settling::settling), unfolding(crate::specs::Functions::access_words))]
 fn write_access_words(
-    out: &mut Vec<u8>,
+    out: &mut Text,
     class: FuncClass,
     flags: DemangleFlags,
 ) -> Result<(), AllocError>
-    ensures { OnOk result (Writes (spec.access_words class.0 flags.0) out.old.items out.new.items) }
+    ensures { OnOk result (Writes (spec.access_words class.0 flags.0) out.old out.new) }
 {
     if flags.contains(DemangleFlags::NO_ACCESS_SPECIFIERS) {
         return Ok(());
@@ -95,11 +95,11 @@ fn write_access_words(
 /// Writes `static` and `virtual` of a member function. NO_MEMBER_TYPE drops them.
 #[tactic(auto, using(crate::proofs::Settling::settling), unfolding(crate::specs::Functions::kind_words))]
 fn write_kind_words(
-    out: &mut Vec<u8>,
+    out: &mut Text,
     class: FuncClass,
     flags: DemangleFlags,
 ) -> Result<(), AllocError>
-    ensures { OnOk result (Writes (spec.kind_words class.0 flags.0) out.old.items out.new.items) }
+    ensures { OnOk result (Writes (spec.kind_words class.0 flags.0) out.old out.new) }
 {
     if flags.contains(DemangleFlags::NO_MEMBER_TYPE) {
         return Ok(());
@@ -112,11 +112,11 @@ fn write_kind_words(
 /// Writes the words of a member function.
 #[tactic(auto, using(crate::proofs::Settling::settling), unfolding(crate::specs::Functions::member_words))]
 fn write_member_words(
-    out: &mut Vec<u8>,
+    out: &mut Text,
     class: FuncClass,
     flags: DemangleFlags,
 ) -> Result<(), AllocError>
-    ensures { OnOk result (Writes (spec.member_words class.0 flags.0) out.old.items out.new.items) }
+    ensures { OnOk result (Writes (spec.member_words class.0 flags.0) out.old out.new) }
 {
     write_member_word(out, FuncClass::THUNK, b"[thunk]: ", class)?;
     write_access_words(out, class, flags)?;
@@ -127,12 +127,12 @@ fn write_member_words(
 /// Writes the words of a member function, unless it is pointed to.
 #[tactic(auto, using(crate::proofs::Settling::settling), unfolding(crate::specs::Functions::member_start))]
 pub fn write_member_start(
-    out: &mut Vec<u8>,
+    out: &mut Text,
     pointed: bool,
     class: FuncClass,
     flags: DemangleFlags,
 ) -> Result<(), AllocError>
-    ensures { OnOk result (Writes (spec.member_start pointed class.0 flags.0) out.old.items out.new.items) }
+    ensures { OnOk result (Writes (spec.member_start pointed class.0 flags.0) out.old out.new) }
 {
     if !pointed {
         write_member_words(out, class, flags)?;
@@ -143,11 +143,11 @@ pub fn write_member_start(
 /// Writes `__ptr64`, if its bit is set and WITH_PTR64 shows it.
 #[tactic(auto, using(crate::proofs::Settling::settling), unfolding(crate::specs::Functions::wide_qualifier))]
 fn write_wide_qualifier(
-    out: &mut Vec<u8>,
+    out: &mut Text,
     set: StorageClass,
     flags: DemangleFlags,
 ) -> Result<(), AllocError>
-    ensures { OnOk result (Writes (spec.wide_qualifier set.0 flags.0) out.old.items out.new.items) }
+    ensures { OnOk result (Writes (spec.wide_qualifier set.0 flags.0) out.old out.new) }
 {
     if flags.contains(DemangleFlags::WITH_PTR64) {
         write_qualifier(
@@ -163,11 +163,11 @@ fn write_wide_qualifier(
 
 /// Writes the qualifiers of a function itself whose bits are set.
 fn write_each_function_qualifier(
-    out: &mut Vec<u8>,
+    out: &mut Text,
     set: StorageClass,
     flags: DemangleFlags,
 ) -> Result<(), AllocError>
-    ensures { OnOk result (Writes (spec.each_function_qualifier set.0 flags.0) out.old.items out.new.items) }
+    ensures { OnOk result (Writes (spec.each_function_qualifier set.0 flags.0) out.old out.new) }
 {
     if set.is_empty() {
         return Ok(());
@@ -185,11 +185,11 @@ fn write_each_function_qualifier(
 /// Writes the qualifiers of a function itself. Both bits of NO_THISTYPE together drop them.
 #[tactic(auto, using(crate::proofs::Settling::settling), unfolding(crate::specs::Functions::function_qualifiers))]
 fn write_function_qualifiers(
-    out: &mut Vec<u8>,
+    out: &mut Text,
     set: StorageClass,
     flags: DemangleFlags,
 ) -> Result<(), AllocError>
-    ensures { OnOk result (Writes (spec.function_qualifiers set.0 flags.0) out.old.items out.new.items) }
+    ensures { OnOk result (Writes (spec.function_qualifiers set.0 flags.0) out.old out.new) }
 {
     if flags.contains(DemangleFlags::NO_THISTYPE) {
         return Ok(());
@@ -200,12 +200,8 @@ fn write_function_qualifiers(
 
 /// Writes the end of a list of types.
 #[tactic(auto, using(crate::proofs::Settling::settling))]
-pub fn write_list_end(
-    out: &mut Vec<u8>,
-    end: ListEnd,
-    flags: DemangleFlags,
-) -> Result<(), AllocError>
-    ensures { OnOk result (Writes (end_pieces end flags.0) out.old.items out.new.items) }
+pub fn write_list_end(out: &mut Text, end: ListEnd, flags: DemangleFlags) -> Result<(), AllocError>
+    ensures { OnOk result (Writes (end_pieces end flags.0) out.old out.new) }
 {
     match end {
         ListEnd::Round(set) => {
@@ -222,20 +218,16 @@ pub fn write_list_end(
 
 /// Writes the comma before a parameter that is not the first.
 #[tactic(auto, using(crate::proofs::Settling::settling), unfolding(crate::specs::Functions::separator))]
-pub fn write_separator(
-    out: &mut Vec<u8>,
-    first: bool,
-    flags: DemangleFlags,
-) -> Result<(), AllocError>
-    ensures { OnOk result (Writes (spec.separator first flags.0) out.old.items out.new.items) }
+pub fn write_separator(out: &mut Text, first: bool, flags: DemangleFlags) -> Result<(), AllocError>
+    ensures { OnOk result (Writes (spec.separator first flags.0) out.old out.new) }
 {
     if first {
         return Ok(());
     }
-    if flags.contains(DemangleFlags::SPACE_AFTER_COMMA) {
-        write_text(out, b", ")?;
+    let comma: &[u8] = if flags.contains(DemangleFlags::SPACE_AFTER_COMMA) {
+        b", "
     } else {
-        write_text(out, b",")?;
-    }
-    Ok(())
+        b","
+    };
+    write_text(out, comma)
 }

@@ -16,4 +16,5 @@ mod text;
 mod types;
 mod words;
 
-pub use printer::{print, print_within, stack_room, stack_room_within, text_of};
+pub use printer::{print, print_within, stack_room, stack_room_within};
+pub use text::{Text, text_of};

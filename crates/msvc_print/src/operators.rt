@@ -5,10 +5,10 @@ ghost use Rattle.msvc_nodes.specs.Trees.{operator};
 ghost use Rattle.msvc_nodes.specs.NodeView.{name_of};
 ghost use Rattle.msvc_print.specs.Operators.{base_class_pieces, guard_number, guard_pieces, guard_word, listed};
 ghost use Rattle.msvc_print.specs.Operators.{name_kind, operator_word, spaced};
-ghost use Rattle.msvc_print.specs.Pieces.{settle_all};
+ghost use Rattle.msvc_print.specs.Limited.{add_all};
 
 use crate::function_types::write_separator;
-use crate::text::{Space, write_number, write_space, write_text};
+use crate::text::{Space, Text, write_number, write_space, write_text};
 use msvc_nodes::flags::DemangleFlags;
 use msvc_nodes::kinds::{Guard, PlainOperator};
 use msvc_nodes::nodes::{BaseClass, Name};
@@ -59,8 +59,8 @@ pub fn name_kind<'a, 'b>(name: &'b Name<'a, 'b>) -> NameKind
 
 /// Writes fixed words after the space that operators begin with.
 #[tactic(auto, using(crate::proofs::Settling::settling))]
-pub fn write_spaced(out: &mut Vec<u8>, word: &[u8]) -> Result<(), AllocError>
-    ensures { OnOk result (out.new.items ≡ settle_all out.old.items (spaced word.now)) }
+pub fn write_spaced(out: &mut Text, word: &[u8]) -> Result<(), AllocError>
+    ensures { OnOk result (out.new ≡ add_all out.old (spaced word.now)) }
 {
     write_space(out, Space::AfterPointer)?;
     write_text(out, word)
@@ -68,8 +68,8 @@ pub fn write_spaced(out: &mut Vec<u8>, word: &[u8]) -> Result<(), AllocError>
 
 /// Writes the number of a guard, if it has one.
 #[tactic(auto, using(crate::proofs::Settling::settling), unfolding(crate::specs::Operators::guard_number))]
-fn write_guard_number(out: &mut Vec<u8>, number: Option<u32>) -> Result<(), AllocError>
-    ensures { OnOk result (out.new.items ≡ settle_all out.old.items (guard_number number)) }
+fn write_guard_number(out: &mut Text, number: Option<u32>) -> Result<(), AllocError>
+    ensures { OnOk result (out.new ≡ add_all out.old (guard_number number)) }
 {
     match number {
         Some(index) => {
@@ -92,8 +92,8 @@ fn guard_word<'t>(guard: Guard) -> &'t [u8]
 
 /// Writes the guard of a static variable.
 #[tactic(auto, using(crate::proofs::Settling::settling), unfolding(crate::specs::Operators::guard_pieces))]
-pub fn write_guard(out: &mut Vec<u8>, guard: Guard, number: Option<u32>) -> Result<(), AllocError>
-    ensures { OnOk result (out.new.items ≡ settle_all out.old.items (guard_pieces guard number)) }
+pub fn write_guard(out: &mut Text, guard: Guard, number: Option<u32>) -> Result<(), AllocError>
+    ensures { OnOk result (out.new ≡ add_all out.old (guard_pieces guard number)) }
 {
     write_spaced(out, guard_word(guard))?;
     write_guard_number(out, number)
@@ -101,8 +101,8 @@ pub fn write_guard(out: &mut Vec<u8>, guard: Guard, number: Option<u32>) -> Resu
 
 /// Writes a comma and a number.
 #[tactic(auto, using(crate::proofs::Settling::settling))]
-fn write_listed(out: &mut Vec<u8>, number: i32, flags: DemangleFlags) -> Result<(), AllocError>
-    ensures { OnOk result (out.new.items ≡ settle_all out.old.items (listed number flags.0)) }
+fn write_listed(out: &mut Text, number: i32, flags: DemangleFlags) -> Result<(), AllocError>
+    ensures { OnOk result (out.new ≡ add_all out.old (listed number flags.0)) }
 {
     write_separator(out, false, flags)?;
     write_number(out, number)
@@ -111,11 +111,11 @@ fn write_listed(out: &mut Vec<u8>, number: i32, flags: DemangleFlags) -> Result<
 /// Writes the place of a base class in an object, as run-time type information names it.
 #[tactic(auto, using(crate::proofs::Settling::settling), unfolding(crate::specs::Operators::base_class_pieces))]
 pub fn write_base_class(
-    out: &mut Vec<u8>,
+    out: &mut Text,
     class: &BaseClass,
     flags: DemangleFlags,
 ) -> Result<(), AllocError>
-    ensures { OnOk result (out.new.items ≡ settle_all out.old.items
+    ensures { OnOk result (out.new ≡ add_all out.old
         (base_class_pieces class.now.member class.now.pointer class.now.entry class.now.attributes flags.0)) }
 {
     write_spaced(out, b"`RTTI Base Class Descriptor at (")?;

@@ -1,8 +1,6 @@
-//! The printer's loop over its stack, one step for each item; the room that the stack takes; and its bytes as a text.
+//! The printer's loop over its stack, one step for each item, and the room that the stack takes.
 
-ghost use Rattle.std.specs.Prelude.{◌≡◌, ◌≤◌, ◌^◌, OnOk, IfOk, string_bytes};
-ghost use Rattle.std.specs.Str.{IsUtf8};
-ghost use Rattle.std.specs.Str.Lossy.{utf8_lossy};
+ghost use Rattle.std.specs.Prelude.{◌≡◌, ◌≤◌, ◌^◌, OnOk, IfOk, Some};
 ghost use Rattle.msvc_nodes.specs.NodeView.{typed_symbol_of};
 ghost use Rattle.msvc_print.specs.Declaration.{declaration};
 ghost use Rattle.msvc_print.specs.Within.{IsPrintedWithin};
@@ -14,12 +12,12 @@ use crate::operators::write_spaced;
 use crate::qualified_names::{
     print_class, print_name, print_scope, print_symbol, push_typed_symbol,
 };
-use crate::text::{write_mark, write_qualifiers, write_text};
+use crate::text::{Text, write_mark, write_qualifiers, write_text};
 use crate::types::{print_after, print_before, print_parameters, write_level};
 use bumpalo::Bump;
 use msvc_nodes::flags::DemangleFlags;
 use msvc_nodes::nodes::TypedSymbol;
-use std::alloc::{AllocError, Global};
+use std::alloc::AllocError;
 
 /// Items that the stack has room for before it grows: more than most symbols need.
 const FIRST_ITEMS: usize = 32;
@@ -63,12 +61,12 @@ pub fn stack_room_within(symbol_bytes: usize, nodes: usize) -> usize
 #[tactic(auto, using(crate::proofs::Stack::pushes))]
 fn step<'a, 'b>(
     stack: &mut Vec<Item<'a, 'b>, &'b Bump>,
-    out: &mut Vec<u8>,
+    out: &mut Text,
     item: Item<'a, 'b>,
     flags: DemangleFlags,
 ) -> Result<(), AllocError>
     ensures text { OnOk result (Prints (item_pieces item.entry flags.0) flags.0
-        stack.old.items out.old.items stack.new.items out.new.items) }
+        stack.old.items out.old stack.new.items out.new) }
     ensures lighter { OnOk result (Lightens (item_weight item.entry) stack.old.items stack.new.items) }
 {
     match item {
@@ -90,44 +88,45 @@ fn step<'a, 'b>(
     }
 }
 
-/// Prints the items of the stack, the last first, until none is left or `out` has more than `most` bytes, and returns
-/// whether none is left.
+/// Prints the items of the stack, the last first, until none is left or `out` is not whole.
 fn empty<'a, 'b>(
     stack: &mut Vec<Item<'a, 'b>, &'b Bump>,
-    out: &mut Vec<u8>,
+    out: &mut Text,
     flags: DemangleFlags,
-    most: usize,
-) -> Result<bool, AllocError>
-    ensures { IfOk result (λ ended.
-        IsPrintedWithin most (finished stack.old.items out.old.items flags.0) ended out.new.items) }
+) -> Result<(), AllocError>
+    ensures { OnOk result (out.new ≡ finished stack.old.items out.old flags.0) }
 {
-    'items: while out.len() <= most {
+    'items: while out.is_whole() {
         let Some(item) = stack.pop() else {
-            return Ok(true);
+            return Ok(());
         };
         step(stack, out, item, flags)?;
     }
-    Ok(false)
+    Ok(())
 }
 
-/// Replaces the bytes of `out` with the declaration of `symbol` under `flags`. The stack of the printer is in `arena`.
+/// Replaces the text of `out` with the declaration of `symbol` under `flags`. The stack of the printer is in `arena`.
 ///
 /// Fails only if memory is refused; `out` is then unspecified.
 pub fn print<'a, 'b>(
     arena: &'b Bump,
     symbol: &'b TypedSymbol<'a, 'b>,
     flags: DemangleFlags,
-    out: &mut Vec<u8>,
+    out: &mut Text,
 ) -> Result<(), AllocError>
-    ensures { OnOk result (out.new.items ≡ declaration (typed_symbol_of symbol.now) flags.0) }
+    ensures { OnOk result (out.new.text ≡ Some (declaration (typed_symbol_of symbol.now) flags.0)) }
 {
-    // No list of bytes is longer than this.
-    print_within(arena, symbol, flags, usize::MAX, out)?;
-    Ok(())
+    if print_within(arena, symbol, flags, usize::MAX, out)? {
+        Ok(())
+    } else {
+        // No memory has room for so many bytes.
+        Err(AllocError)
+    }
 }
 
 /// Prints as [`print`] does, if the declaration has at most `most` bytes, and returns whether it has. If it is longer,
-/// printing ends with the piece that exceeds `most` bytes, and `out` has the bytes up to there.
+/// `out` is not whole: a piece that would exceed `most` bytes is not written, and printing ends after the step that it
+/// is a part of.
 ///
 /// Fails only if memory is refused; `out` is then unspecified.
 pub fn print_within<'a, 'b>(
@@ -135,26 +134,14 @@ pub fn print_within<'a, 'b>(
     symbol: &'b TypedSymbol<'a, 'b>,
     flags: DemangleFlags,
     most: usize,
-    out: &mut Vec<u8>,
+    out: &mut Text,
 ) -> Result<bool, AllocError>
     ensures { IfOk result (λ within.
-        IsPrintedWithin most (declaration (typed_symbol_of symbol.now) flags.0) within out.new.items) }
+        IsPrintedWithin most (declaration (typed_symbol_of symbol.now) flags.0) within out.new.text) }
 {
-    out.clear();
+    out.clear(most);
     let mut stack = Vec::with_capacity(arena, FIRST_ITEMS)?;
     push_typed_symbol(&mut stack, symbol, flags)?;
-    empty(&mut stack, out, flags, most)
-}
-
-/// Converts the bytes of a declaration to a text. Each piece that is not UTF-8 becomes U+FFFD.
-///
-/// Allocates only if the bytes are not UTF-8, and fails only if memory is refused.
-pub fn text_of(alloc: Global, bytes: Vec<u8>) -> Result<String, AllocError>
-    ensures whole { IfOk result (λ text. IsUtf8 bytes.items → string_bytes text ≡ bytes.items) }
-    ensures lossy { IfOk result (λ text. string_bytes text ≡ utf8_lossy bytes.items) }
-{
-    match String::from_utf8(bytes) {
-        Ok(text) => Ok(text),
-        Err(refused) => String::from_utf8_lossy(alloc, refused.as_bytes()),
-    }
+    empty(&mut stack, out, flags)?;
+    Ok(out.is_whole())
 }

@@ -9,7 +9,8 @@ ghost use Rattle.msvc_nodes.specs.declared.kinds.Spelling.TheVariants as spellin
 ghost use Rattle.msvc_print.specs.Declaration as spec;
 ghost use Rattle.msvc_print.specs.Halves.{after, before};
 ghost use Rattle.msvc_print.specs.Operators.{spaced};
-ghost use Rattle.msvc_print.specs.Pieces.{Writes, settle_all, space, text};
+ghost use Rattle.msvc_print.specs.Limited.{Writes, add_all};
+ghost use Rattle.msvc_print.specs.Pieces.{space, text};
 ghost use Rattle.msvc_print.specs.Sides.{alone, kept_left, kept_right};
 ghost use Rattle.msvc_print.specs.SymbolNodes.{class_pieces_of, class_weight_of, symbol_as_of, symbol_name_of};
 ghost use Rattle.msvc_print.specs.SymbolNodes.{symbol_pieces_of, symbol_weight_of, type_or_none};
@@ -22,7 +23,7 @@ use crate::item::{Item, ListEnd, Types, push};
 use crate::operators::{
     NameKind, name_kind, operator_word, write_base_class, write_guard, write_spaced,
 };
-use crate::text::{Space, name_space, write_number, write_space, write_text};
+use crate::text::{Space, Text, name_space, write_number, write_space, write_text};
 use bitflags::Flags;
 use bumpalo::Bump;
 use msvc_nodes::flags::DemangleFlags;
@@ -32,13 +33,13 @@ use std::alloc::AllocError;
 /// Writes bytes between two words.
 #[tactic(auto, using(crate::proofs::Settling::settling))]
 fn write_between(
-    out: &mut Vec<u8>,
+    out: &mut Text,
     opening: &[u8],
     bytes: &[u8],
     closing: &[u8],
 ) -> Result<(), AllocError>
     ensures { OnOk result (Writes (text opening.now ∷ text bytes.now ∷ text closing.now ∷ [])
-        out.old.items out.new.items) }
+        out.old out.new) }
 {
     write_text(out, opening)?;
     write_text(out, bytes)?;
@@ -47,26 +48,26 @@ fn write_between(
 
 /// Writes the name of an interface, in its brackets.
 #[tactic(auto, using(crate::proofs::Settling::settling))]
-fn write_interface(out: &mut Vec<u8>, bytes: &[u8]) -> Result<(), AllocError>
-    ensures { OnOk result (Writes (spec.spelled_name spelling_kind.Interface bytes.now) out.old.items out.new.items) }
+fn write_interface(out: &mut Text, bytes: &[u8]) -> Result<(), AllocError>
+    ensures { OnOk result (Writes (spec.spelled_name spelling_kind.Interface bytes.now) out.old out.new) }
 {
     write_between(out, b"[", bytes, b"]")
 }
 
 /// Writes the digits that stand for a name, between their marks.
 #[tactic(auto, using(crate::proofs::Settling::settling))]
-fn write_md5(out: &mut Vec<u8>, bytes: &[u8]) -> Result<(), AllocError>
-    ensures { OnOk result (Writes (spec.spelled_name spelling_kind.Md5 bytes.now) out.old.items out.new.items) }
+fn write_md5(out: &mut Text, bytes: &[u8]) -> Result<(), AllocError>
+    ensures { OnOk result (Writes (spec.spelled_name spelling_kind.Md5 bytes.now) out.old out.new) }
 {
     write_between(out, b"??@", bytes, b"@")
 }
 
 /// Writes a name if it is spelled, and returns whether it is.
 #[tactic(auto, unfolding(crate::specs::Declaration::name_pieces, msvc_nodes::specs::NodeView::name_of))]
-fn write_if_spelled<'a, 'b>(out: &mut Vec<u8>, name: &'b Name<'a, 'b>) -> Result<bool, AllocError>
+fn write_if_spelled<'a, 'b>(out: &mut Text, name: &'b Name<'a, 'b>) -> Result<bool, AllocError>
     ensures spelled { IfOk result (λ is. is ≡ true → (of_symbol : Bool) (flags : ℕ) →
-        Writes (spec.name_pieces (name_of name.now) of_symbol flags) out.old.items out.new.items) }
-    ensures other { IfOk result (λ is. is ≡ false → out.new.items ≡ out.old.items) }
+        Writes (spec.name_pieces (name_of name.now) of_symbol flags) out.old out.new) }
+    ensures other { IfOk result (λ is. is ≡ false → out.new ≡ out.old) }
 {
     match name {
         Name::Source(bytes) => {
@@ -88,13 +89,13 @@ fn write_if_spelled<'a, 'b>(out: &mut Vec<u8>, name: &'b Name<'a, 'b>) -> Result
 /// Writes the outermost names of a scope, as long as they are spelled, each with `::` after it. Returns how many names
 /// are left.
 fn write_spelled_names<'a, 'b>(
-    out: &mut Vec<u8>,
+    out: &mut Text,
     names: &'b [&'b Name<'a, 'b>],
 ) -> Result<usize, AllocError>
     ensures fits { IfOk result (λ left. left ≤ length names.now) }
     ensures text { IfOk result (λ left. (flags : ℕ) →
-        settle_all out.new.items (spec.scope_prefix (names_in (take left names.now)) flags)
-        ≡ settle_all out.old.items (spec.scope_prefix (names_in names.now) flags)) }
+        add_all out.new (spec.scope_prefix (names_in (take left names.now)) flags)
+        ≡ add_all out.old (spec.scope_prefix (names_in names.now) flags)) }
 {
     let mut left = names.len();
     while left > 0 {
@@ -109,8 +110,8 @@ fn write_spelled_names<'a, 'b>(
 
 /// Writes the number that parts local names, in quotes.
 #[tactic(auto, using(crate::proofs::Settling::settling))]
-fn write_discriminator(out: &mut Vec<u8>, number: i32) -> Result<(), AllocError>
-    ensures { OnOk result (Writes (spec.quoted (text (signed_decimal number) ∷ [])) out.old.items out.new.items) }
+fn write_discriminator(out: &mut Text, number: i32) -> Result<(), AllocError>
+    ensures { OnOk result (Writes (spec.quoted (text (signed_decimal number) ∷ [])) out.old out.new) }
 {
     write_text(out, b"`")?;
     write_number(out, number)?;
@@ -118,8 +119,8 @@ fn write_discriminator(out: &mut Vec<u8>, number: i32) -> Result<(), AllocError>
 }
 
 /// Writes the name of an anonymous namespace.
-fn write_anonymous(out: &mut Vec<u8>) -> Result<(), AllocError>
-    ensures { OnOk result (Writes (text (codes "`anonymous namespace'") ∷ []) out.old.items out.new.items) }
+fn write_anonymous(out: &mut Text) -> Result<(), AllocError>
+    ensures { OnOk result (Writes (text (codes "`anonymous namespace'") ∷ []) out.old out.new) }
 {
     write_text(out, b"`anonymous namespace'")
 }
@@ -180,13 +181,13 @@ pub fn push_typed_symbol<'a, 'b>(
 #[tactic(auto, using(crate::proofs::Stack::pushes), unfolding(crate::specs::Declaration::quoted_unless))]
 fn print_nested<'a, 'b>(
     stack: &mut Vec<Item<'a, 'b>, &'b Bump>,
-    out: &mut Vec<u8>,
+    out: &mut Text,
     tree: &'b TypedSymbol<'a, 'b>,
     of_symbol: bool,
     flags: DemangleFlags,
 ) -> Result<(), AllocError>
     ensures text { OnOk result (Prints (spec.quoted_unless of_symbol (symbol_pieces_of tree.now flags.0)) flags.0
-        stack.old.items out.old.items stack.new.items out.new.items) }
+        stack.old.items out.old stack.new.items out.new) }
     ensures lighter { OnOk result (Lightens (3 + typed_symbol_weight_of tree.now) stack.old.items stack.new.items) }
 {
     if of_symbol {
@@ -203,14 +204,14 @@ fn print_nested<'a, 'b>(
 #[tactic(auto, using(crate::proofs::Halves::pushed_left))]
 fn print_descriptor<'a, 'b>(
     stack: &mut Vec<Item<'a, 'b>, &'b Bump>,
-    out: &mut Vec<u8>,
+    out: &mut Text,
     described: &'b Type<'a, 'b>,
     flags: DemangleFlags,
 ) -> Result<(), AllocError>
     ensures text { OnOk result (Prints (space AfterPointer
         ∷ ((spec.grown (type_of described.now) false alone flags.0).left
         ++ text (codes "::`RTTI Type Descriptor'") ∷ [])) flags.0
-        stack.old.items out.old.items stack.new.items out.new.items) }
+        stack.old.items out.old stack.new.items out.new) }
     ensures lighter { OnOk result (Lightens (3 + type_weight (type_of described.now))
         stack.old.items stack.new.items) }
 {
@@ -223,14 +224,14 @@ fn print_descriptor<'a, 'b>(
 #[tactic(auto, using(crate::proofs::Stack::pushes))]
 fn print_template<'a, 'b>(
     stack: &mut Vec<Item<'a, 'b>, &'b Bump>,
-    out: &mut Vec<u8>,
+    out: &mut Text,
     name: &'b Name<'a, 'b>,
     arguments: &'b [&'b Type<'a, 'b>],
     flags: DemangleFlags,
 ) -> Result<(), AllocError>
     ensures text { OnOk result (Prints (spec.name_pieces (name_of name.now) false flags.0
         ++ spec.angled (spec.parameters (types_in arguments.now) true flags.0)) flags.0
-        stack.old.items out.old.items stack.new.items out.new.items) }
+        stack.old.items out.old stack.new.items out.new) }
     ensures lighter { OnOk result (Lightens (3 + name_weight (name_of name.now) + types_weight (types_in arguments.now))
         stack.old.items stack.new.items) }
 {
@@ -248,13 +249,13 @@ fn print_template<'a, 'b>(
 #[tactic(auto, using(crate::proofs::Nodes::printed), unfolding(crate::specs::Declaration::name_pieces, crate::specs::Weights::name_weight, msvc_nodes::specs::NodeView::name_of))]
 pub fn print_name<'a, 'b>(
     stack: &mut Vec<Item<'a, 'b>, &'b Bump>,
-    out: &mut Vec<u8>,
+    out: &mut Text,
     name: &'b Name<'a, 'b>,
     of_symbol: bool,
     flags: DemangleFlags,
 ) -> Result<(), AllocError>
     ensures text { OnOk result (Prints (spec.name_pieces (name_of name.now) of_symbol flags.0) flags.0
-        stack.old.items out.old.items stack.new.items out.new.items) }
+        stack.old.items out.old stack.new.items out.new) }
     ensures lighter { OnOk result (Lightens (name_weight (name_of name.now)) stack.old.items stack.new.items) }
 {
     match name {
@@ -278,12 +279,12 @@ pub fn print_name<'a, 'b>(
 /// Prints the names of a scope, the outermost first, each with `::` after it.
 pub fn print_scope<'a, 'b>(
     stack: &mut Vec<Item<'a, 'b>, &'b Bump>,
-    out: &mut Vec<u8>,
+    out: &mut Text,
     names: &'b [&'b Name<'a, 'b>],
     flags: DemangleFlags,
 ) -> Result<(), AllocError>
     ensures text { OnOk result (Prints (spec.scope_prefix (names_in names.now) flags.0) flags.0
-        stack.old.items out.old.items stack.new.items out.new.items) }
+        stack.old.items out.old stack.new.items out.new) }
     ensures lighter { OnOk result (Lightens (scope_weight (names_in names.now)) stack.old.items stack.new.items) }
 {
     let left = write_spelled_names(out, names)?;
@@ -306,14 +307,14 @@ pub fn print_scope<'a, 'b>(
 /// are spelled, as most are.
 fn print_in_scope<'a, 'b>(
     stack: &mut Vec<Item<'a, 'b>, &'b Bump>,
-    out: &mut Vec<u8>,
+    out: &mut Text,
     names: &'b [&'b Name<'a, 'b>],
     name: &'b Name<'a, 'b>,
     flags: DemangleFlags,
 ) -> Result<(), AllocError>
     ensures text { OnOk result (Prints
         (spec.scope_prefix (names_in names.now) flags.0 ++ spec.name_pieces (name_of name.now) true flags.0) flags.0
-        stack.old.items out.old.items stack.new.items out.new.items) }
+        stack.old.items out.old stack.new.items out.new) }
     ensures lighter { OnOk result (Lightens (1 + scope_weight (names_in names.now) + name_weight (name_of name.now))
         stack.old.items stack.new.items) }
 {
@@ -335,12 +336,12 @@ fn print_in_scope<'a, 'b>(
 /// Prints the names of a scope, the outermost first, with `::` between them.
 pub fn print_path<'a, 'b>(
     stack: &mut Vec<Item<'a, 'b>, &'b Bump>,
-    out: &mut Vec<u8>,
+    out: &mut Text,
     names: &'b [&'b Name<'a, 'b>],
     flags: DemangleFlags,
 ) -> Result<(), AllocError>
     ensures text { OnOk result (Prints (spec.scope_path (names_in names.now) flags.0) flags.0
-        stack.old.items out.old.items stack.new.items out.new.items) }
+        stack.old.items out.old stack.new.items out.new) }
     ensures lighter { OnOk result (Lightens (scope_weight (names_in names.now)) stack.old.items stack.new.items) }
 {
     match names {
@@ -442,8 +443,8 @@ fn push_base_table<'a, 'b>(
 }
 
 /// Writes the name of a literal operator.
-fn write_literal(out: &mut Vec<u8>) -> Result<(), AllocError>
-    ensures { OnOk result (Writes (spaced (codes "operator \"\"")) out.old.items out.new.items) }
+fn write_literal(out: &mut Text) -> Result<(), AllocError>
+    ensures { OnOk result (Writes (spaced (codes "operator \"\"")) out.old out.new) }
 {
     write_spaced(out, b"operator \"\"")
 }
@@ -452,14 +453,14 @@ fn write_literal(out: &mut Vec<u8>) -> Result<(), AllocError>
 #[tactic(auto, using(crate::proofs::Stack::pushes), unfolding(crate::specs::Operators::scoped))]
 fn print_symbol_as<'a, 'b>(
     stack: &mut Vec<Item<'a, 'b>, &'b Bump>,
-    out: &mut Vec<u8>,
+    out: &mut Text,
     symbol: &'b Symbol<'a, 'b>,
     symbol_type: Option<&'b Type<'a, 'b>>,
     kind: NameKind,
     flags: DemangleFlags,
 ) -> Result<(), AllocError>
     ensures text { OnOk result (Prints (symbol_as_of kind symbol.now (type_or_none symbol_type.entry) flags.0) flags.0
-        stack.old.items out.old.items stack.new.items out.new.items) }
+        stack.old.items out.old stack.new.items out.new) }
     ensures lighter { OnOk result (Lightens (symbol_weight_of symbol.now (type_or_none symbol_type.entry))
         stack.old.items stack.new.items) }
 {
@@ -492,13 +493,13 @@ fn print_symbol_as<'a, 'b>(
 /// Prints a symbol's name in its scope.
 pub fn print_symbol<'a, 'b>(
     stack: &mut Vec<Item<'a, 'b>, &'b Bump>,
-    out: &mut Vec<u8>,
+    out: &mut Text,
     symbol: &'b Symbol<'a, 'b>,
     symbol_type: Option<&'b Type<'a, 'b>>,
     flags: DemangleFlags,
 ) -> Result<(), AllocError>
     ensures text { OnOk result (Prints (symbol_name_of symbol.now (type_or_none symbol_type.entry) flags.0) flags.0
-        stack.old.items out.old.items stack.new.items out.new.items) }
+        stack.old.items out.old stack.new.items out.new) }
     ensures lighter { OnOk result (Lightens (symbol_weight_of symbol.now (type_or_none symbol_type.entry))
         stack.old.items stack.new.items) }
 {
@@ -510,13 +511,13 @@ pub fn print_symbol<'a, 'b>(
 #[tactic(auto, using(crate::proofs::Stack::pushes))]
 pub fn print_class<'a, 'b>(
     stack: &mut Vec<Item<'a, 'b>, &'b Bump>,
-    out: &mut Vec<u8>,
+    out: &mut Text,
     class: &'b Symbol<'a, 'b>,
     flags: DemangleFlags,
 ) -> Result<(), AllocError>
     ensures text { OnOk result (Prints
         (class_pieces_of class.now flags.0) flags.0
-        stack.old.items out.old.items stack.new.items out.new.items) }
+        stack.old.items out.old stack.new.items out.new) }
     ensures lighter { OnOk result (Lightens (class_weight_of class.now) stack.old.items stack.new.items) }
 {
     write_space(out, Space::AfterPointer)?;

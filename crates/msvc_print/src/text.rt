@@ -1,13 +1,108 @@
-//! Writes pieces of a text. Whether a space is written depends on the byte before it.
+//! Texts under a limit of bytes, and the pieces that are written to them. Whether a space is written depends on the
+//! byte before it.
 
-ghost use Rattle.std.specs.Prelude.{◌≡◌, ◌∷◌, [], OnOk};
-ghost use Rattle.msvc_print.specs.Pieces.{Writes, is_written_after, last_byte, space, text};
+ghost use Rattle.std.specs.Prelude.{◌≡◌, ◌∷◌, [], ℕ, List, Some, OnOk, IfOk, is_some, string_bytes};
+ghost use Rattle.std.specs.Str.{IsUtf8};
+ghost use Rattle.std.specs.Str.Lossy.{utf8_lossy};
+ghost use Rattle.msvc_print.specs.Limited.{Writes, empty_within};
+ghost use Rattle.msvc_print.specs.Pieces.{is_written_after, last_byte, space, text};
 ghost use Rattle.msvc_print.specs.Words as spec;
 
 use bitflags::Flags;
 use itoa::{Buffer, Integer};
 use msvc_nodes::flags::{DemangleFlags, StorageClass};
-use std::alloc::AllocError;
+use std::alloc::{AllocError, Global};
+use std::marker::Model;
+
+/// A text under a limit of bytes. A piece that would exceed the limit is left out, whatever its length, and the text is
+/// not whole from then on: its bytes are unspecified, and at most as many as the limit.
+#[derive(Drop)]
+pub struct Text {
+    bytes: Vec<u8>,
+    most: usize,
+    whole: bool,
+}
+
+impl Model for Text {
+    ghost use Rattle.std.specs.Prelude.{◌≤◌, length};
+    ghost use Rattle.msvc_print.specs.Limited.{LimitedText, limited};
+
+    ghost Value = { LimitedText };
+
+    ghost view = { λ t. limited t.most t.whole t.bytes.items };
+
+    ghost invariant = { λ t. length t.bytes.items ≤ t.most };
+}
+
+impl Text {
+    /// Makes an empty text without a limit. Requests no memory.
+    pub fn new(alloc: Global) -> Text
+        ensures { result ≡ empty_within usize.MAX }
+    {
+        Text {
+            bytes: Vec::new(alloc),
+            most: usize::MAX,
+            whole: true,
+        }
+    }
+
+    /// Requests memory for `additional` more bytes, whatever the limit. Changes no byte.
+    ///
+    /// Fails only if memory is refused.
+    pub fn try_reserve(&mut self, additional: usize) -> Result<(), AllocError>
+        ensures { self.new ≡ self.old }
+    {
+        self.bytes.reserve(additional)
+    }
+
+    /// Makes the text empty and whole, with a limit of `most` bytes. Keeps its memory.
+    pub fn clear(&mut self, most: usize)
+        ensures { self.new ≡ empty_within most }
+    {
+        self.bytes.clear();
+        self.most = most;
+        self.whole = true;
+    }
+
+    /// Returns whether no piece was left out.
+    pub fn is_whole(&self) -> bool
+        ensures { result ≡ is_some self.now.text }
+    {
+        self.whole
+    }
+
+    /// Returns the bytes of the text, which are unspecified if it is not whole.
+    pub fn as_bytes(&self) -> &[u8]
+        ensures { (bytes : List ℕ) → self.now.text ≡ Some bytes → result.now ≡ bytes }
+    {
+        self.bytes.as_slice()
+    }
+
+    /// Converts a whole text that is UTF-8 to a string, without a check and without a copy.
+    pub fn into_string(self) -> String
+        requires { (bytes : List ℕ) × (self.text ≡ Some bytes) × IsUtf8 bytes }
+        ensures { self.text ≡ Some (string_bytes result) }
+    {
+        let Text { bytes, .. } = self;
+        unsafe { String::from_utf8_unchecked(bytes) }
+    }
+}
+
+/// Converts a whole text to a string. Each piece that is not UTF-8 becomes U+FFFD.
+///
+/// Allocates only if the bytes are not UTF-8, and fails only if memory is refused.
+pub fn text_of(alloc: Global, declared: Text) -> Result<String, AllocError>
+    ensures whole { IfOk result (λ text. (bytes : List ℕ) → declared.text ≡ Some bytes → IsUtf8 bytes →
+        string_bytes text ≡ bytes) }
+    ensures lossy { IfOk result (λ text. (bytes : List ℕ) → declared.text ≡ Some bytes →
+        string_bytes text ≡ utf8_lossy bytes) }
+{
+    let Text { bytes, .. } = declared;
+    match String::from_utf8(bytes) {
+        Ok(text) => Ok(text),
+        Err(refused) => String::from_utf8_lossy(alloc, refused.as_bytes()),
+    }
+}
 
 /// The bytes after which a space is written.
 #[derive(Clone, Copy)]
@@ -52,22 +147,29 @@ fn last_byte(bytes: &[u8]) -> u8
 }
 
 /// Writes a space, if one is written after the last byte of `out`.
-#[tactic(auto, unfolding(crate::specs::Pieces::settle_all))]
-pub fn write_space(out: &mut Vec<u8>, kind: Space) -> Result<(), AllocError>
-    ensures { OnOk result (Writes (space kind ∷ []) out.old.items out.new.items) }
+pub fn write_space(out: &mut Text, kind: Space) -> Result<(), AllocError>
+    ensures { OnOk result (Writes (space kind ∷ []) out.old out.new) }
 {
-    if kind.is_written_after(last_byte(out)) {
-        out.push(b' ')?;
+    if !kind.is_written_after(last_byte(&out.bytes)) {
+        return Ok(());
     }
+    if out.bytes.len() == out.most {
+        out.whole = false;
+        return Ok(());
+    }
+    out.bytes.push(b' ')?;
     Ok(())
 }
 
 /// Writes bytes as they are.
-#[tactic(auto, unfolding(crate::specs::Pieces::settle_all))]
-pub fn write_text(out: &mut Vec<u8>, bytes: &[u8]) -> Result<(), AllocError>
-    ensures { OnOk result (Writes (text bytes.now ∷ []) out.old.items out.new.items) }
+pub fn write_text(out: &mut Text, bytes: &[u8]) -> Result<(), AllocError>
+    ensures { OnOk result (Writes (text bytes.now ∷ []) out.old out.new) }
 {
-    out.extend_from_slice(bytes)?;
+    if bytes.len() > out.most - out.bytes.len() {
+        out.whole = false;
+        return Ok(());
+    }
+    out.bytes.extend_from_slice(bytes)?;
     Ok(())
 }
 
@@ -94,15 +196,15 @@ fn qualifier_space(flags: DemangleFlags) -> Space
 }
 
 /// Writes a space and a qualifier, if its bit is set.
-#[tactic(auto, unfolding(crate::specs::Pieces::settle_all))]
+#[tactic(auto, unfolding(crate::specs::Limited::add_all))]
 pub fn write_qualifier(
-    out: &mut Vec<u8>,
+    out: &mut Text,
     kind: Space,
     bit: StorageClass,
     word: &[u8],
     set: StorageClass,
 ) -> Result<(), AllocError>
-    ensures { OnOk result (Writes (spec.qualifier kind bit.0 word.now set.0) out.old.items out.new.items) }
+    ensures { OnOk result (Writes (spec.qualifier kind bit.0 word.now set.0) out.old out.new) }
 {
     if set.contains(bit) {
         write_space(out, kind)?;
@@ -113,11 +215,11 @@ pub fn write_qualifier(
 
 /// Writes `const` and `volatile`, if their bits are set.
 pub fn write_qualifiers(
-    out: &mut Vec<u8>,
+    out: &mut Text,
     set: StorageClass,
     flags: DemangleFlags,
 ) -> Result<(), AllocError>
-    ensures { OnOk result (Writes (spec.qualifiers set.0 flags.0) out.old.items out.new.items) }
+    ensures { OnOk result (Writes (spec.qualifiers set.0 flags.0) out.old out.new) }
 {
     if set.is_empty() {
         return Ok(());
@@ -131,12 +233,12 @@ pub fn write_qualifiers(
 /// Writes the space before the mark of a pointer or a reference, and the mark with its qualifiers.
 #[tactic(auto, using(crate::proofs::Settling::settling), unfolding(crate::specs::Words::marked))]
 pub fn write_mark(
-    out: &mut Vec<u8>,
+    out: &mut Text,
     word: &[u8],
     set: StorageClass,
     flags: DemangleFlags,
 ) -> Result<(), AllocError>
-    ensures { OnOk result (Writes (spec.marked word.now set.0 flags.0) out.old.items out.new.items) }
+    ensures { OnOk result (Writes (spec.marked word.now set.0 flags.0) out.old out.new) }
 {
     write_mark_space(out, flags)?;
     write_text(out, word)?;
@@ -145,9 +247,9 @@ pub fn write_mark(
 }
 
 /// Writes the space before the mark of a pointer or a reference.
-#[tactic(auto, unfolding(crate::specs::Pieces::settle_all))]
-fn write_mark_space(out: &mut Vec<u8>, flags: DemangleFlags) -> Result<(), AllocError>
-    ensures { OnOk result (Writes (spec.mark_space flags.0) out.old.items out.new.items) }
+#[tactic(auto, unfolding(crate::specs::Limited::add_all))]
+fn write_mark_space(out: &mut Text, flags: DemangleFlags) -> Result<(), AllocError>
+    ensures { OnOk result (Writes (spec.mark_space flags.0) out.old out.new) }
 {
     if !flags.contains(DemangleFlags::HUG_TYPE) {
         write_space(out, Space::AfterPointer)?;
@@ -158,9 +260,9 @@ fn write_mark_space(out: &mut Vec<u8>, flags: DemangleFlags) -> Result<(), Alloc
 }
 
 /// Writes the parenthesis before the mark of a pointer, if the type is pointed to.
-#[tactic(auto, unfolding(crate::specs::Pieces::settle_all, crate::specs::Words::opening))]
-pub fn write_opening(out: &mut Vec<u8>, pointed: bool) -> Result<(), AllocError>
-    ensures { OnOk result (Writes (spec.opening pointed) out.old.items out.new.items) }
+#[tactic(auto, unfolding(crate::specs::Limited::add_all, crate::specs::Words::opening))]
+pub fn write_opening(out: &mut Text, pointed: bool) -> Result<(), AllocError>
+    ensures { OnOk result (Writes (spec.opening pointed) out.old out.new) }
 {
     if pointed {
         write_space(out, Space::AfterPointer)?;
@@ -170,9 +272,9 @@ pub fn write_opening(out: &mut Vec<u8>, pointed: bool) -> Result<(), AllocError>
 }
 
 /// Writes the parenthesis that closes that of [`write_opening`], if the type is pointed to.
-#[tactic(auto, unfolding(crate::specs::Pieces::settle_all, crate::specs::Words::closing))]
-pub fn write_closing(out: &mut Vec<u8>, pointed: bool) -> Result<(), AllocError>
-    ensures { OnOk result (Writes (spec.closing pointed) out.old.items out.new.items) }
+#[tactic(auto, unfolding(crate::specs::Limited::add_all, crate::specs::Words::closing))]
+pub fn write_closing(out: &mut Text, pointed: bool) -> Result<(), AllocError>
+    ensures { OnOk result (Writes (spec.closing pointed) out.old out.new) }
 {
     if pointed {
         write_text(out, b")")?;
@@ -181,9 +283,9 @@ pub fn write_closing(out: &mut Vec<u8>, pointed: bool) -> Result<(), AllocError>
 }
 
 /// Writes a number in decimal, with a minus if it is negative.
-#[tactic(auto, unfolding(crate::specs::Pieces::settle_all))]
-pub fn write_number<I: Integer>(out: &mut Vec<u8>, number: I) -> Result<(), AllocError>
-    ensures { OnOk result (Writes (text (I.text number) ∷ []) out.old.items out.new.items) }
+#[tactic(auto, unfolding(crate::specs::Limited::add_all))]
+pub fn write_number<I: Integer>(out: &mut Text, number: I) -> Result<(), AllocError>
+    ensures { OnOk result (Writes (text (I.text number) ∷ []) out.old out.new) }
 {
     let mut buffer = Buffer::new();
     write_text(out, buffer.format(number).as_bytes())?;

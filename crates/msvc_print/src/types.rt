@@ -8,7 +8,8 @@ ghost use Rattle.msvc_nodes.specs.declared.kinds.Table.TheVariants.{Functions};
 ghost use Rattle.msvc_print.specs.Declaration as spec;
 ghost use Rattle.msvc_print.specs.Functions.{calling, function_qualifier};
 ghost use Rattle.msvc_print.specs.Halves.{after, before, function_end, member_pointer_end};
-ghost use Rattle.msvc_print.specs.Pieces.{Writes, text};
+ghost use Rattle.msvc_print.specs.Limited.{Writes};
+ghost use Rattle.msvc_print.specs.Pieces.{text};
 ghost use Rattle.msvc_print.specs.SymbolNodes.{no_type, symbol_name_of, symbol_weight_of};
 ghost use Rattle.msvc_print.specs.Weights.{scope_weight, type_weight, types_weight};
 ghost use Rattle.msvc_print.specs.Words.{closing, opening, qualifiers, variable_word};
@@ -17,7 +18,7 @@ ghost use Rattle.msvc_print.specs.Work.{AddsAtMost, Lightens, Prints, Pushes, re
 use crate::function_types::{write_calling, write_list_end, write_member_start, write_separator};
 use crate::item::{Item, ListEnd, Types, push};
 use crate::qualified_names::{print_path, print_symbol};
-use crate::text::{write_closing, write_number, write_opening, write_qualifiers, write_text};
+use crate::text::{Text, write_closing, write_number, write_opening, write_qualifiers, write_text};
 use crate::words::{base_word, mark_word, tag_word, variable_word};
 use bitflags::Flags;
 use bumpalo::Bump;
@@ -30,13 +31,13 @@ use std::alloc::AllocError;
 #[tactic(auto, using(crate::proofs::Nodes::printed), unfolding(crate::specs::Halves::before, crate::specs::Weights::type_weight, msvc_nodes::specs::NodeView::type_of))]
 pub fn print_before<'a, 'b>(
     stack: &mut Vec<Item<'a, 'b>, &'b Bump>,
-    out: &mut Vec<u8>,
+    out: &mut Text,
     t: &'b Type<'a, 'b>,
     pointed: bool,
     flags: DemangleFlags,
 ) -> Result<(), AllocError>
     ensures text { OnOk result (Prints (before (type_of t.now) pointed flags.0) flags.0
-        stack.old.items out.old.items stack.new.items out.new.items) }
+        stack.old.items out.old stack.new.items out.new) }
     ensures lighter { OnOk result (Lightens (type_weight (type_of t.now)) stack.old.items stack.new.items) }
 {
     match t {
@@ -73,12 +74,12 @@ pub fn print_before<'a, 'b>(
 /// Writes a type that has nothing in it.
 #[tactic(auto, using(crate::proofs::Settling::settling), unfolding(crate::specs::Halves::before))]
 fn write_plain(
-    out: &mut Vec<u8>,
+    out: &mut Text,
     kind: PlainType,
     pointed: bool,
     flags: DemangleFlags,
 ) -> Result<(), AllocError>
-    ensures { OnOk result (Writes (before (plain kind) pointed flags.0) out.old.items out.new.items) }
+    ensures { OnOk result (Writes (before (plain kind) pointed flags.0) out.old out.new) }
 {
     match kind {
         PlainType::Variadic => write_text(out, b"..."),
@@ -92,13 +93,13 @@ fn write_plain(
 /// Writes a type that has one number in it.
 #[tactic(auto, using(crate::proofs::Settling::settling), unfolding(crate::specs::Halves::before))]
 fn write_numbered(
-    out: &mut Vec<u8>,
+    out: &mut Text,
     kind: NumberedType,
     number: i32,
     pointed: bool,
     flags: DemangleFlags,
 ) -> Result<(), AllocError>
-    ensures { OnOk result (Writes (before (numbered kind number) pointed flags.0) out.old.items out.new.items) }
+    ensures { OnOk result (Writes (before (numbered kind number) pointed flags.0) out.old out.new) }
 {
     match kind {
         NumberedType::Constant => write_number(out, number),
@@ -111,13 +112,13 @@ fn write_numbered(
 #[tactic(auto, using(crate::proofs::Nodes::printed), unfolding(crate::specs::Halves::before, crate::specs::Weights::type_weight, msvc_nodes::specs::NodeView::type_of))]
 fn print_inner<'a, 'b>(
     stack: &mut Vec<Item<'a, 'b>, &'b Bump>,
-    out: &mut Vec<u8>,
+    out: &mut Text,
     t: &'b Type<'a, 'b>,
     pointed: bool,
     flags: DemangleFlags,
 ) -> Result<(), AllocError>
     ensures text { OnOk result (Prints (before (type_of t.now) pointed flags.0) flags.0
-        stack.old.items out.old.items stack.new.items out.new.items) }
+        stack.old.items out.old stack.new.items out.new) }
     ensures lighter { OnOk result (AddsAtMost (type_weight (type_of t.now)) stack.old.items stack.new.items) }
 {
     match t {
@@ -134,14 +135,14 @@ fn print_inner<'a, 'b>(
 #[tactic(auto, using(crate::proofs::Stack::pushes))]
 fn print_function<'a, 'b>(
     stack: &mut Vec<Item<'a, 'b>, &'b Bump>,
-    out: &mut Vec<u8>,
+    out: &mut Text,
     function: &'b Function<'a, 'b>,
     pointed: bool,
     flags: DemangleFlags,
 ) -> Result<(), AllocError>
     ensures text { OnOk result (Prints (before (type_of function.now.returned.now) false flags.0
         ++ calling pointed function.now.convention flags.0) flags.0
-        stack.old.items out.old.items stack.new.items out.new.items) }
+        stack.old.items out.old stack.new.items out.new) }
     ensures lighter { OnOk result (Lightens (2 + type_weight (type_of function.now.returned.now))
         stack.old.items stack.new.items) }
 {
@@ -153,14 +154,14 @@ fn print_function<'a, 'b>(
 #[tactic(auto, using(crate::proofs::Stack::pushes))]
 fn print_variable<'a, 'b>(
     stack: &mut Vec<Item<'a, 'b>, &'b Bump>,
-    out: &mut Vec<u8>,
+    out: &mut Text,
     inner: &'b Type<'a, 'b>,
     kind: VarStorageKind,
     set: StorageClass,
     flags: DemangleFlags,
 ) -> Result<(), AllocError>
     ensures text { OnOk result (Prints (text (variable_word kind) ∷ (before (type_of inner.now) false flags.0
-        ++ qualifiers set.0 flags.0)) flags.0 stack.old.items out.old.items stack.new.items out.new.items) }
+        ++ qualifiers set.0 flags.0)) flags.0 stack.old.items out.old stack.new.items out.new) }
     ensures lighter { OnOk result (Lightens (3 + type_weight (type_of inner.now)) stack.old.items stack.new.items) }
 {
     write_text(out, variable_word(kind))?;
@@ -172,13 +173,13 @@ fn print_variable<'a, 'b>(
 #[tactic(auto, using(crate::proofs::Nodes::printed), unfolding(crate::specs::Halves::after, crate::specs::Weights::type_weight, msvc_nodes::specs::NodeView::type_of))]
 pub fn print_after<'a, 'b>(
     stack: &mut Vec<Item<'a, 'b>, &'b Bump>,
-    out: &mut Vec<u8>,
+    out: &mut Text,
     t: &'b Type<'a, 'b>,
     pointed: bool,
     flags: DemangleFlags,
 ) -> Result<(), AllocError>
     ensures text { OnOk result (Prints (after (type_of t.now) pointed flags.0) flags.0
-        stack.old.items out.old.items stack.new.items out.new.items) }
+        stack.old.items out.old stack.new.items out.new) }
     ensures lighter { OnOk result (Lightens (type_weight (type_of t.now)) stack.old.items stack.new.items) }
 {
     match t {
@@ -259,7 +260,7 @@ fn push_after<'a, 'b>(
 #[tactic(auto, using(crate::proofs::Stack::pushes))]
 fn print_function_end<'a, 'b>(
     stack: &mut Vec<Item<'a, 'b>, &'b Bump>,
-    out: &mut Vec<u8>,
+    out: &mut Text,
     function: &'b Function<'a, 'b>,
     pointed: bool,
     flags: DemangleFlags,
@@ -267,7 +268,7 @@ fn print_function_end<'a, 'b>(
     ensures text { OnOk result (Prints (function_end pointed
         (spec.parameters (types_in function.now.parameters.now) true flags.0) function.now.qualifiers.0
         flags.0 (after (type_of function.now.returned.now) false flags.0)) flags.0
-        stack.old.items out.old.items stack.new.items out.new.items) }
+        stack.old.items out.old stack.new.items out.new) }
     ensures lighter { OnOk result (Lightens (3 + types_weight (types_in function.now.parameters.now)
         + type_weight (type_of function.now.returned.now)) stack.old.items stack.new.items) }
 {
@@ -306,14 +307,14 @@ fn push_const<'a, 'b>(
 #[tactic(auto, using(crate::proofs::Stack::pushes))]
 fn print_member_pointer_end<'a, 'b>(
     stack: &mut Vec<Item<'a, 'b>, &'b Bump>,
-    out: &mut Vec<u8>,
+    out: &mut Text,
     function: &'b Function<'a, 'b>,
     flags: DemangleFlags,
 ) -> Result<(), AllocError>
     ensures text { OnOk result (Prints (member_pointer_end
         (spec.parameters (types_in function.now.parameters.now) true flags.0) function.now.qualifiers.0
         (after (type_of function.now.returned.now) false flags.0)) flags.0
-        stack.old.items out.old.items stack.new.items out.new.items) }
+        stack.old.items out.old stack.new.items out.new) }
     ensures lighter { OnOk result (Lightens (3 + types_weight (types_in function.now.parameters.now)
         + type_weight (type_of function.now.returned.now)) stack.old.items stack.new.items) }
 {
@@ -328,14 +329,14 @@ fn print_member_pointer_end<'a, 'b>(
 #[tactic(auto, using(crate::proofs::Stack::pushes), unfolding(crate::specs::Declaration::table_end))]
 fn print_table_end<'a, 'b>(
     stack: &mut Vec<Item<'a, 'b>, &'b Bump>,
-    out: &mut Vec<u8>,
+    out: &mut Text,
     table: Table,
     names: &'b [&'b Name<'a, 'b>],
     flags: DemangleFlags,
 ) -> Result<(), AllocError>
     ensures text { OnOk result (Prints
         (spec.table_end table (names_in names.now) (spec.scope_path (names_in names.now) flags.0)) flags.0
-        stack.old.items out.old.items stack.new.items out.new.items) }
+        stack.old.items out.old stack.new.items out.new) }
     ensures lighter { OnOk result (Lightens (3 + scope_weight (names_in names.now)) stack.old.items stack.new.items) }
 {
     match table {
@@ -350,13 +351,13 @@ fn print_table_end<'a, 'b>(
 /// Prints the scope that a table of virtual functions is for, if it is for one.
 fn print_for<'a, 'b>(
     stack: &mut Vec<Item<'a, 'b>, &'b Bump>,
-    out: &mut Vec<u8>,
+    out: &mut Text,
     names: &'b [&'b Name<'a, 'b>],
     flags: DemangleFlags,
 ) -> Result<(), AllocError>
     ensures text { OnOk result (Prints (spec.table_end Functions (names_in names.now)
         (spec.scope_path (names_in names.now) flags.0)) flags.0
-        stack.old.items out.old.items stack.new.items out.new.items) }
+        stack.old.items out.old stack.new.items out.new) }
     ensures lighter { OnOk result (Lightens (3 + scope_weight (names_in names.now)) stack.old.items stack.new.items) }
 {
     match names {
@@ -390,14 +391,14 @@ fn is_empty_pack<'a, 'b>(t: &'b Type<'a, 'b>) -> bool
 /// Prints the types of a list, with a comma before each but the first, and what stands after them.
 pub fn print_parameters<'a, 'b>(
     stack: &mut Vec<Item<'a, 'b>, &'b Bump>,
-    out: &mut Vec<u8>,
+    out: &mut Text,
     types: &'b [&'b Type<'a, 'b>],
     first: bool,
     end: ListEnd,
     flags: DemangleFlags,
 ) -> Result<(), AllocError>
     ensures text { OnOk result (Prints (rest_of_parameters types.now first end flags.0) flags.0
-        stack.old.items out.old.items stack.new.items out.new.items) }
+        stack.old.items out.old stack.new.items out.new) }
     ensures lighter { OnOk result (Lightens (types_weight (types_in types.now)) stack.old.items stack.new.items) }
 {
     match types {
@@ -421,13 +422,14 @@ pub fn print_parameters<'a, 'b>(
 
 /// Writes a word and qualifiers.
 #[tactic(auto, using(crate::proofs::Settling::settling))]
+#[inline(always)]
 fn write_word(
-    out: &mut Vec<u8>,
+    out: &mut Text,
     word: &[u8],
     set: StorageClass,
     flags: DemangleFlags,
 ) -> Result<(), AllocError>
-    ensures { OnOk result (Writes (text word.now ∷ qualifiers set.0 flags.0) out.old.items out.new.items) }
+    ensures { OnOk result (Writes (text word.now ∷ qualifiers set.0 flags.0) out.old out.new) }
 {
     write_text(out, word)?;
     write_qualifiers(out, set, flags)
@@ -452,7 +454,7 @@ fn push_qualifiers<'a, 'b>(
 #[tactic(auto, using(crate::proofs::Stack::pushes))]
 fn print_tagged<'a, 'b>(
     stack: &mut Vec<Item<'a, 'b>, &'b Bump>,
-    out: &mut Vec<u8>,
+    out: &mut Text,
     word: &[u8],
     symbol: &'b Symbol<'a, 'b>,
     set: StorageClass,
@@ -460,7 +462,7 @@ fn print_tagged<'a, 'b>(
 ) -> Result<(), AllocError>
     ensures text { OnOk result (Prints
         (text word.now ∷ (symbol_name_of symbol.now no_type flags.0 ++ qualifiers set.0 flags.0)) flags.0
-        stack.old.items out.old.items stack.new.items out.new.items) }
+        stack.old.items out.old stack.new.items out.new) }
     ensures lighter { OnOk result (Lightens (3 + symbol_weight_of symbol.now no_type)
         stack.old.items stack.new.items) }
 {
@@ -472,9 +474,9 @@ fn print_tagged<'a, 'b>(
 
 /// Writes the type of a thread-safe static guard.
 #[tactic(auto, using(crate::proofs::Settling::settling))]
-fn write_guarded(out: &mut Vec<u8>, number: i32) -> Result<(), AllocError>
+fn write_guarded(out: &mut Text, number: i32) -> Result<(), AllocError>
     ensures { OnOk result (Writes (text (codes "TSS") ∷ text (signed_decimal number) ∷ [])
-        out.old.items out.new.items) }
+        out.old out.new) }
 {
     write_text(out, b"TSS")?;
     write_number(out, number)
@@ -482,12 +484,12 @@ fn write_guarded(out: &mut Vec<u8>, number: i32) -> Result<(), AllocError>
 
 /// Writes what a thunk into a table of virtual functions has before its name.
 fn write_thunk(
-    out: &mut Vec<u8>,
+    out: &mut Text,
     convention: CallingConv,
     flags: DemangleFlags,
 ) -> Result<(), AllocError>
     ensures { OnOk result (Writes (text (codes "[thunk]: ") ∷ calling false convention flags.0)
-        out.old.items out.new.items) }
+        out.old out.new) }
 {
     write_text(out, b"[thunk]: ")?;
     write_calling(out, false, convention, flags)?;
@@ -496,8 +498,8 @@ fn write_thunk(
 
 /// Writes what a thunk has after its name: the offset in the table, in bytes, and the memory model.
 #[tactic(auto, using(crate::proofs::Settling::settling))]
-fn write_thunk_end(out: &mut Vec<u8>, number: i32, flags: DemangleFlags) -> Result<(), AllocError>
-    ensures { OnOk result (Writes (spec.thunk_end number flags.0) out.old.items out.new.items) }
+fn write_thunk_end(out: &mut Text, number: i32, flags: DemangleFlags) -> Result<(), AllocError>
+    ensures { OnOk result (Writes (spec.thunk_end number flags.0) out.old out.new) }
 {
     write_text(out, b"{")?;
     write_number(out, number)?;
@@ -507,10 +509,10 @@ fn write_thunk_end(out: &mut Vec<u8>, number: i32, flags: DemangleFlags) -> Resu
 
 /// Writes a template parameter by its number.
 #[tactic(auto, using(crate::proofs::Settling::settling))]
-fn write_template_parameter(out: &mut Vec<u8>, number: i32) -> Result<(), AllocError>
+fn write_template_parameter(out: &mut Text, number: i32) -> Result<(), AllocError>
     ensures { OnOk result (Writes
         (text (codes "`template-parameter") ∷ text (signed_decimal number) ∷ text (codes "'") ∷ [])
-        out.old.items out.new.items) }
+        out.old out.new) }
 {
     write_text(out, b"`template-parameter")?;
     write_number(out, number)?;
@@ -519,8 +521,8 @@ fn write_template_parameter(out: &mut Vec<u8>, number: i32) -> Result<(), AllocE
 
 /// Writes the parenthesis after the name of a pointer to an array, and the length of the array.
 #[tactic(auto, using(crate::proofs::Stack::pushes))]
-fn write_length(out: &mut Vec<u8>, length: i32, pointed: bool) -> Result<(), AllocError>
-    ensures { OnOk result (Writes (closing pointed ++ spec.length_pieces length) out.old.items out.new.items) }
+fn write_length(out: &mut Text, length: i32, pointed: bool) -> Result<(), AllocError>
+    ensures { OnOk result (Writes (closing pointed ++ spec.length_pieces length) out.old out.new) }
 {
     write_closing(out, pointed)?;
     write_text(out, b"[")?;
@@ -531,12 +533,12 @@ fn write_length(out: &mut Vec<u8>, length: i32, pointed: bool) -> Result<(), All
 /// Writes the qualifiers of an array, and the parenthesis before the mark of a pointer to it.
 #[tactic(auto, using(crate::proofs::Stack::pushes))]
 pub fn write_level(
-    out: &mut Vec<u8>,
+    out: &mut Text,
     set: StorageClass,
     pointed: bool,
     flags: DemangleFlags,
 ) -> Result<(), AllocError>
-    ensures { OnOk result (Writes (qualifiers set.0 flags.0 ++ opening pointed) out.old.items out.new.items) }
+    ensures { OnOk result (Writes (qualifiers set.0 flags.0 ++ opening pointed) out.old out.new) }
 {
     write_qualifiers(out, set, flags)?;
     write_opening(out, pointed)

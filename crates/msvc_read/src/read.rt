@@ -100,8 +100,8 @@ pub fn parse_within<'a>(
     }
 }
 
-/// Reads the symbol that `input` begins with, and returns it as nodes in `arena`: [`parse`] makes its tree of these.
-/// The names borrow from `input`. A part that stands twice in the symbol is shared.
+/// Reads the symbol that `input` begins with. Returns it as nodes in `arena`, and its length in bytes. [`parse`] makes its
+/// tree of these nodes. The names borrow from `input`. A part that stands twice in the symbol is shared.
 ///
 /// # Errors
 ///
@@ -110,19 +110,19 @@ pub fn read_symbol<'a, 'b>(
     alloc: Global,
     arena: &'b Bump,
     input: &'a str,
-) -> Result<TypedSymbol<'a, 'b>, Error>
-    ensures parsed { IfOk result (λ r. spec.IsParsed input.now (typed_symbol_of r)) }
+) -> Result<(TypedSymbol<'a, 'b>, usize), Error>
+    ensures parsed { IfOk result (λ r. spec.IsParsed input.now (typed_symbol_of r.0)) }
+    ensures length { IfOk result (λ r. spec.IsSymbolLength r.1 input.now) }
     ensures rejected { IfErr result (λ e. spec.IsRejected input.now e) }
     ensures laws { spec.GrammarLaws input.now }
 {
     match read_nodes(arena, input, Unlimited) {
-        Ok((symbol, _)) => Ok(symbol),
+        Ok((symbol, bytes)) => Ok((symbol, bytes)),
         Err(refusal) => Err(refusal.error(alloc, input.as_bytes())),
     }
 }
 
-/// Reads the symbol that `input` begins with, if its tree has at most `nodes` nodes. Returns it as nodes in `arena`,
-/// and its length in bytes. [`parse_within`] makes its tree of these nodes.
+/// Reads the symbol that `input` begins with, as [`read_symbol`] does, if its tree has at most `nodes` nodes.
 ///
 /// # Errors
 ///

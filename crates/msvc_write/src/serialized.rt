@@ -1,6 +1,6 @@
 //! The declaration of an owned tree.
 
-ghost use Rattle.std.specs.Prelude.{◌≡◌, IfOk, IfErr, string_bytes};
+ghost use Rattle.std.specs.Prelude.{◌≡◌, IfOk, IfErr, Some, string_bytes};
 ghost use Rattle.msvc_nodes.specs.declared.error.ErrorRepr.TheVariants.{Memory};
 ghost use Rattle.msvc_tree.specs.View.{tree_of};
 ghost use Rattle.msvc_print.specs.Declaration.{declaration};
@@ -8,7 +8,7 @@ ghost use Rattle.msvc_write.specs.Serialized.{IsTextOf};
 
 use msvc_nodes::error::Error;
 use msvc_nodes::flags::DemangleFlags;
-use msvc_print::{print, text_of};
+use msvc_print::{Text, print, text_of};
 use msvc_tree::to_nodes::{arena_for_nodes, tree_to_nodes};
 use msvc_tree::tree::ParseResult;
 use std::alloc::{AllocError, Global};
@@ -16,17 +16,18 @@ use std::alloc::{AllocError, Global};
 /// Bytes that a declaration has room for before it grows: more than most need.
 const FIRST_BYTES: usize = 128;
 
-/// Returns the bytes of the declaration of a tree.
+/// Prints the declaration of a tree to a text without a limit.
 fn declared(
     alloc: Global,
     input: &ParseResult<'_>,
     flags: DemangleFlags,
-) -> Result<Vec<u8>, AllocError>
-    ensures { IfOk result (λ out. out.items ≡ declaration (tree_of input.now) flags.0) }
+) -> Result<Text, AllocError>
+    ensures { IfOk result (λ out. out.text ≡ Some (declaration (tree_of input.now) flags.0)) }
 {
     let arena = arena_for_nodes(alloc)?;
     let symbol = tree_to_nodes(&arena, input)?;
-    let mut out = Vec::with_capacity(alloc, FIRST_BYTES)?;
+    let mut out = Text::new(alloc);
+    out.try_reserve(FIRST_BYTES)?;
     print(&arena, &symbol, flags, &mut out)?;
     Ok(out)
 }
@@ -43,7 +44,7 @@ pub fn serialize(
     ensures text { IfOk result (λ text. IsTextOf (tree_of input.now) flags.0 (string_bytes text)) }
     ensures memory { IfErr result (λ e. e ≡ Memory) }
 {
-    let bytes = declared(alloc, input, flags)?;
-    let text = text_of(alloc, bytes)?;
+    let out = declared(alloc, input, flags)?;
+    let text = text_of(alloc, out)?;
     Ok(text)
 }

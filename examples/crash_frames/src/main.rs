@@ -1,16 +1,16 @@
 //! Prints the frames of a crash report, with each symbol of Microsoft's compiler as its name alone: of
 //! `game!?run@Engine@game@@QEAAXXZ+0x42` it prints `game!game::Engine::run+0x42`. All else stays as it came.
 //!
-//! A report is untrusted: so a symbol whose tree has more than 1,000 nodes stays as it came too, before more is read of
-//! it.
+//! A report is untrusted. So a symbol with more nodes, or a name with more bytes, than the default limits allow stays as it
+//! came too.
 #![tactic(auto)]
 
-use msvc_demangler::{DemangleFlags, Flags, demangle_within, symbol_length_within};
+use msvc_demangler::{
+    DEFAULT_BYTE_LIMIT, DEFAULT_NODE_LIMIT, DemangleFlags, Flags, demangle_within,
+    symbol_length_within,
+};
 use std::alloc::{AllocError, Global};
 use std::io::{self, BufRead, BufReader, BufWriter, Write};
-
-/// How many nodes the tree of a symbol has at most.
-const MOST_NODES: usize = 1_000;
 
 fn main(rt: HostRuntime) -> io::Result<()> {
     let input = BufReader::new(rt.alloc(), rt.reader())?;
@@ -49,7 +49,7 @@ fn named(alloc: Global, line: &str) -> Result<Option<Frame<'_>>, AllocError> {
     let Some((before, symbol)) = line.split_at_checked(start) else {
         return Ok(None);
     };
-    let length = match symbol_length_within(alloc, symbol, MOST_NODES) {
+    let length = match symbol_length_within(alloc, symbol, DEFAULT_NODE_LIMIT) {
         Ok(length) => length,
         Err(refusal) if refusal.is_out_of_memory() => return Err(AllocError),
         Err(_) => return Ok(None),
@@ -58,7 +58,7 @@ fn named(alloc: Global, line: &str) -> Result<Option<Frame<'_>>, AllocError> {
         return Ok(None);
     };
     let flags = DemangleFlags::llvm().union(DemangleFlags::NAME_ONLY);
-    match demangle_within(alloc, symbol, flags, MOST_NODES) {
+    match demangle_within(alloc, symbol, flags, DEFAULT_NODE_LIMIT, DEFAULT_BYTE_LIMIT) {
         Ok(name) => Ok(Some(Frame {
             before,
             name,

@@ -11,8 +11,8 @@ returns-in_err-put_all-in-Ok-clause-text g c =
     rw (p.1, p.2) (
       [],
       Appends-nil _,
-      WritesPart-nothing _ _ _ _ (c.answer.new.room.text.items ++ 10 ∷ [])
-          (c.answer.new.room.text.items, c.in-Ok.ensures.declared, refl) e,
+      WritesPart-nothing _ _ _ _ (c.in-Ok.ensures.declared.0 ++ 10 ∷ [])
+          (c.in-Ok.ensures.declared.0, c.in-Ok.ensures.declared.2, refl) e,
     )
 
 pub returns-in_err-report-in-Err-clause-text : goal.returns-in_err-report-in-Err-clause-text

@@ -2,7 +2,7 @@ use Rattle.std.proofs.Common.{◌≡◌, ap, sym, ◌∙◌, false, rules}
 use Rattle.msvc_print.proofs.Dropped.{access_words-kept}
 use Rattle.msvc_print.proofs.Settling.{settled_two}
 use Rattle.msvc_print.specs.Flags.{has, no_access_specifiers}
-use Rattle.msvc_print.specs.Pieces.{settle_all}
+use Rattle.msvc_print.specs.Limited.{add_all}
 use Rattle.msvc_print.proofs.function_types.write_access_words.Goals as goal
 
 pub returns : goal.returns
@@ -10,4 +10,4 @@ returns c =
     let is : has c.args.flags.0 no_access_specifiers ≡ false = search rules in
     settled_two _ _ _ _ _ c.in_ok-write_member_word.ensures
     (settled_two _ _ _ _ _ c.in_ok-write_member_word-2.ensures c.in_ok-write_member_word-3.ensures)
-    ∙ ap (settle_all c.args.out.now.items) (sym (access_words-kept _ _ is))
+    ∙ ap (add_all c.args.out.now) (sym (access_words-kept _ _ is))

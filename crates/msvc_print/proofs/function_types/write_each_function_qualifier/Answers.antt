@@ -1,16 +1,16 @@
 use Rattle.std.proofs.Common.{ap, sym, ◌∙◌, rules, ◌≡◌}
 use Rattle.msvc_print.proofs.Dropped.{each_function_qualifier-none}
-use Rattle.msvc_print.proofs.Settling.{settle_all-none, settled_two}
+use Rattle.msvc_print.proofs.Settling.{add_all-none, settled_two}
 use Rattle.msvc_print.specs.Functions.{each_function_qualifier}
-use Rattle.msvc_print.specs.Pieces.{settle_all}
+use Rattle.msvc_print.specs.Limited.{add_all}
 use Rattle.msvc_print.proofs.function_types.write_each_function_qualifier.Goals as goal
 
 -- no bit is set
 pub returns-then-is_empty : goal.returns-then-is_empty
 returns-then-is_empty c =
     let none : c.args.set.0 ≡ 0 = search rules in
-    sym (ap (λ set. settle_all c.args.out.now.items (each_function_qualifier set c.args.flags.0)) none
-    ∙ ap (settle_all c.args.out.now.items) (each_function_qualifier-none c.args.flags.0) ∙ settle_all-none _)
+    sym (ap (λ set. add_all c.args.out.now (each_function_qualifier set c.args.flags.0)) none
+    ∙ ap (add_all c.args.out.now) (each_function_qualifier-none c.args.flags.0) ∙ add_all-none _)
 
 pub returns : goal.returns
 unfolding each_function_qualifier

@@ -1,7 +1,7 @@
-use Rattle.std.proofs.Common.{◌≡◌, [], ap, length, sym, ◌∙◌, arith, rules}
-use Rattle.msvc_print.proofs.Longer.{finished-longer}
+use Rattle.std.proofs.Common.{◌≡◌, [], sym, ◌∙◌, arith, rules, false, is_some}
+use Rattle.msvc_print.proofs.Longer.{finished-not_whole}
 use Rattle.msvc_print.proofs.Stack.{pushed_one, work_one}
-use Rattle.msvc_print.proofs.PrinterLoop.{finished-none, printed-longer, printed-whole}
+use Rattle.msvc_print.proofs.PrinterLoop.{finished-none}
 use Rattle.msvc_print.proofs.printer.empty.Goals as goal
 
 pub items-smaller : goal.items-smaller
@@ -14,11 +14,9 @@ items-preserved c = c.in_ok-step.ensures.text ∙ sym (pushed_one _ _ _ _ _ c.in
 pub returns-in_default : goal.returns-in_default
 returns-in_default c =
     let empty : c.items.stack.items ≡ [] = search rules in
-    printed-whole _ _ _ (sym (finished-none _ _ _ empty) ∙ c.items.invariant)
-    (omega (arith, c.items.out.ok.0, c.len.ensures, c.items-test.true))
+    sym (finished-none _ _ _ empty) ∙ c.items.invariant
 
 pub returns : goal.returns
 returns c =
-    let grown = finished-longer c.items.stack.items c.items.out.items c.args.flags.0 in
-    printed-longer _ _ _ (omega (arith, c.items.out.ok.0, c.len.ensures, c.items-test.false))
-    (omega (arith, grown, ap length c.items.invariant))
+    let left_out : is_some c.items.out.text ≡ false = search rules in
+    finished-not_whole c.items.stack.items c.items.out c.args.flags.0 left_out ∙ c.items.invariant

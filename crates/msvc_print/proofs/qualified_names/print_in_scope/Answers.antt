@@ -1,10 +1,10 @@
 use Rattle.std.proofs.Common.{true, ap, sym, ◌∙◌, arith}
 use Rattle.msvc_nodes.specs.NodeView.{name_of}
 use Rattle.msvc_print.specs.Declaration.{name_pieces}
-use Rattle.msvc_print.specs.Pieces.{settle_all}
+use Rattle.msvc_print.specs.Limited.{add_all}
 use Rattle.msvc_print.specs.Work.{finished}
 use Rattle.msvc_print.proofs.Names.{scope_weight-fewer, written-all}
-use Rattle.msvc_print.proofs.Settling.{settle_all-append}
+use Rattle.msvc_print.proofs.Settling.{add_all-append}
 use Rattle.msvc_print.proofs.Stack.{pushed_one, work_one}
 use Rattle.msvc_print.proofs.qualified_names.print_in_scope.Goals as goal
 
@@ -12,19 +12,19 @@ pub returns-then-left-eq0-clause-text : goal.returns-then-left-eq0-clause-text
 returns-then-left-eq0-clause-text c =
     let name = name_pieces (name_of c.args.name.now) true c.args.flags.0 in
     c.in_ok-print_name.ensures.text
-    ∙ ap (λ x. finished c.args.stack.now.items (settle_all x name) c.args.flags.0)
-    (written-all c.args.names.now _ c.args.flags.0 c.args.out.now.items _ c.if-left-eq0.true
+    ∙ ap (λ x. finished c.args.stack.now.items (add_all x name) c.args.flags.0)
+    (written-all c.args.names.now _ c.args.flags.0 c.args.out.now _ c.if-left-eq0.true
     (c.in_ok-left.ensures.text c.args.flags.0))
-    ∙ ap (λ x. finished c.args.stack.now.items x c.args.flags.0) (sym (settle_all-append c.args.out.now.items _ name))
+    ∙ ap (λ x. finished c.args.stack.now.items x c.args.flags.0) (sym (add_all-append c.args.out.now _ name))
 
 pub returns-clause-text : goal.returns-clause-text
 returns-clause-text c =
     let name = name_pieces (name_of c.args.name.now) true c.args.flags.0 in
     pushed_one _ _ _ _ _ c.in_ok-push-2.ensures
     ∙ pushed_one _ _ _ _ _ c.in_ok-push.ensures
-    ∙ ap (λ x. finished c.args.stack.now.items (settle_all x name) c.args.flags.0)
+    ∙ ap (λ x. finished c.args.stack.now.items (add_all x name) c.args.flags.0)
     (c.in_ok-left.ensures.text c.args.flags.0)
-    ∙ ap (λ x. finished c.args.stack.now.items x c.args.flags.0) (sym (settle_all-append c.args.out.now.items _ name))
+    ∙ ap (λ x. finished c.args.stack.now.items x c.args.flags.0) (sym (add_all-append c.args.out.now _ name))
 
 pub returns-clause-lighter : goal.returns-clause-lighter
 returns-clause-lighter c = omega (

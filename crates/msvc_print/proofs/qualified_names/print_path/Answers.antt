@@ -1,9 +1,9 @@
 use Rattle.std.proofs.Common.{ap, sym, ◌∙◌, arith}
 use Rattle.msvc_print.specs.Declaration.{scope_path, scope_pieces}
-use Rattle.msvc_print.specs.Pieces.{settle_all}
+use Rattle.msvc_print.specs.Limited.{add_all}
 use Rattle.msvc_print.specs.Work.{finished}
 use Rattle.msvc_print.proofs.Names.{names_in-first, names_in-none, scope_weight-positive, work-first}
-use Rattle.msvc_print.proofs.Settling.{settle_all-append}
+use Rattle.msvc_print.proofs.Settling.{add_all-append}
 use Rattle.msvc_print.proofs.Stack.{printed_none, pushed_one}
 use Rattle.msvc_print.proofs.qualified_names.print_path.Goals as goal
 
@@ -20,7 +20,7 @@ unfolding scope_pieces
 returns-in_ok-print_scope-in-len1-up-clause-text c =
     c.in_ok-print_scope-in-len1-up.ensures.text ∙ pushed_one _ _ _ _ _ c.in_ok-push-in-len1-up.ensures
     ∙ ap (λ x. finished c.args.stack.now.items x c.args.flags.0)
-    (sym (settle_all-append c.args.out.now.items _ _) ∙ ap (settle_all c.args.out.now.items)
+    (sym (add_all-append c.args.out.now _ _) ∙ ap (add_all c.args.out.now)
     (sym (ap (λ ns. scope_path ns c.args.flags.0) (names_in-first _ _ c.in-len1-up.len_at_least))))
 
 pub returns-in_ok-print_scope-in-len1-up-clause-lighter : goal.returns-in_ok-print_scope-in-len1-up-clause-lighter

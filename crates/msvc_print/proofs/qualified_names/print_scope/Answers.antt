@@ -1,7 +1,7 @@
 use Rattle.std.proofs.Common.{◌<◌, take, ap, sym, ◌∙◌, arith}
 use Rattle.msvc_nodes.specs.NodeView.{names_in}
 use Rattle.msvc_print.specs.Declaration.{scope_prefix}
-use Rattle.msvc_print.specs.Pieces.{settle_all}
+use Rattle.msvc_print.specs.Limited.{add_all}
 use Rattle.msvc_print.specs.Work.{finished}
 use Rattle.msvc_print.proofs.Names.{lightened-last, scope_prefix-left, scope_prefix-none, scope_weight-fewer}
 use Rattle.msvc_print.proofs.Names.{scope_weight-positive}
@@ -26,7 +26,7 @@ returns-clause-text c =
     ∙ pushed_one _ _ _ _ _ c.in_ok-push-2.ensures
     ∙ pushed_one _ _ _ _ _ c.in_ok-push.ensures
     ∙ ap (λ x. finished c.args.stack.now.items x c.args.flags.0)
-    (settled_three _ _ _ _ ∙ ap (settle_all c.write_spelled_names.new.out.items)
+    (settled_three _ _ _ _ ∙ ap (add_all c.write_spelled_names.new.out)
     (sym (scope_prefix-left c.args.names.now _ c.in_ok-left.left c.args.flags.0 some c.in_ok-left.ensures.fits))
     ∙ c.in_ok-left.ensures.text c.args.flags.0)
 

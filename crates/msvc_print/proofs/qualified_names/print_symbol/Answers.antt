@@ -11,6 +11,6 @@ returns-clause-text c =
     let s = c.args.symbol.now in
     subst (λ kind. OnOk c.print_symbol_as.result
     (Prints (symbol_as kind (name_of s.name.now) (names_in s.scope.now) (type_or_none c.args.symbol_type)
-    c.args.flags.0) c.args.flags.0 c.args.stack.now.items c.args.out.now.items c.print_symbol_as.new.stack.items
-    c.print_symbol_as.new.out.items))
+    c.args.flags.0) c.args.flags.0 c.args.stack.now.items c.args.out.now c.print_symbol_as.new.stack.items
+    c.print_symbol_as.new.out))
     c.name_kind-kind.ensures c.print_symbol_as.ensures.text

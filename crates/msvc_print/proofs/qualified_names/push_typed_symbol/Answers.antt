@@ -1,7 +1,7 @@
 use Rattle.std.proofs.Common.{ap, sym, ◌∙◌, arith}
 use Rattle.msvc_nodes.specs.NodeView.{type_of}
 use Rattle.msvc_print.proofs.Halves.{symbol_pieces-halves}
-use Rattle.msvc_print.proofs.Settling.{settle_all-append}
+use Rattle.msvc_print.proofs.Settling.{add_all-append}
 use Rattle.msvc_print.proofs.Stack.{pushed_one, same_pieces, work_one}
 use Rattle.msvc_print.specs.Work.{finished}
 use Rattle.msvc_print.proofs.qualified_names.push_typed_symbol.Goals as goal
@@ -11,7 +11,7 @@ returns-clause-text c =
     λ out. c.in_ok-push_left.ensures.text out ∙ pushed_one _ _ _ _ _ c.in_ok-push.ensures
     ∙ c.in_ok-push_right.ensures.text _
     ∙ ap (λ x. finished c.args.stack.now.items x c.args.flags.0)
-    (sym (settle_all-append out _ _ ∙ settle_all-append _ _ _))
+    (sym (add_all-append out _ _ ∙ add_all-append _ _ _))
     ∙ same_pieces _ out _ _ _ (sym (symbol_pieces-halves _ _ (type_of c.args.tree.now.symbol_type.now) c.args.flags.0))
 
 pub returns-clause-lighter : goal.returns-clause-lighter

@@ -5,7 +5,7 @@ use Rattle.msvc_nodes.proofs.NodeViews.{type_of-MemberPointer, type_of-Table}
 use Rattle.msvc_print.proofs.Parameters.{settled-array}
 use Rattle.msvc_print.proofs.Stack.{same_pieces}
 use Rattle.msvc_print.specs.Halves.{after}
-use Rattle.msvc_print.specs.Pieces.{settle_all}
+use Rattle.msvc_print.specs.Limited.{add_all}
 use Rattle.msvc_print.specs.Weights.{type_weight}
 use Rattle.msvc_print.specs.Work.{Lightens, Prints, finished}
 use Rattle.msvc_print.proofs.types.print_after.Goals as goal
@@ -14,11 +14,11 @@ pub returns-in_ok-push_after-in-Array-clause-text : goal.returns-in_ok-push_afte
 unfolding type_of
 returns-in_ok-push_after-in-Array-clause-text c =
     let w = c.in-Array in
-    let out = c.args.out.now.items in
+    let out = c.args.out.now in
     c.in_ok-push_after-in-Array.ensures.text _ ∙ ap (λ x. finished c.args.stack.now.items x c.args.flags.0)
     (settled-array out _ c.args.pointed _ w.length (type_of w.inner.now) w.field-1.0 c.args.flags.0
     c.in_ok-write_length-in-Array.ensures (search rules)
-    ∙ sym (ap (λ t. settle_all out (after (type_of t) c.args.pointed c.args.flags.0)) w.is))
+    ∙ sym (ap (λ t. add_all out (after (type_of t) c.args.pointed c.args.flags.0)) w.is))
 
 pub returns-in_ok-print_member_pointer_end-in-MemberPointer-clause-text :
     goal.returns-in_ok-print_member_pointer_end-in-MemberPointer-clause-text
@@ -45,8 +45,8 @@ unfolding after
 returns-in-Table-clause-text c =
     let w = c.in-Table in
     subst (λ t. OnOk c.print_table_end.result (Prints (after t c.args.pointed c.args.flags.0) c.args.flags.0
-    c.args.stack.now.items c.args.out.now.items c.print_table_end.new.stack.items
-    c.print_table_end.new.out.items))
+    c.args.stack.now.items c.args.out.now c.print_table_end.new.stack.items
+    c.print_table_end.new.out))
     (sym (ap type_of w.is ∙ type_of-Table w.table w.field-1 w.scope)) c.print_table_end.ensures.text
 
 pub returns-in-Table-clause-lighter : goal.returns-in-Table-clause-lighter

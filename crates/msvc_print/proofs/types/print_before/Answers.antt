@@ -12,7 +12,7 @@ unfolding before
 returns-in-Tagged-clause-text c =
     let w = c.in-Tagged in
     subst (λ t. OnOk c.print_tagged.result (Prints (before t c.args.pointed c.args.flags.0) c.args.flags.0
-    c.args.stack.now.items c.args.out.now.items c.print_tagged.new.stack.items c.print_tagged.new.out.items))
+    c.args.stack.now.items c.args.out.now c.print_tagged.new.stack.items c.print_tagged.new.out))
     (sym (ap type_of w.is ∙ type_of-Tagged w.tag w.set w.symbol))
     (rw (sym c.tag_word.ensures) c.print_tagged.ensures.text)
 

@@ -2,10 +2,11 @@ use Rattle.std.proofs.Common.{◌∷◌, ◌++◌, [], ap, sym, ◌∙◌, arith
 use Rattle.msvc_nodes.specs.NodeView.{names_in}
 use Rattle.msvc_nodes.specs.declared.kinds.Table.TheVariants.{Functions}
 use Rattle.msvc_print.specs.Declaration.{scope_path, table_end}
-use Rattle.msvc_print.specs.Pieces.{settle_all, text}
+use Rattle.msvc_print.specs.Limited.{add_all}
+use Rattle.msvc_print.specs.Pieces.{text}
 use Rattle.msvc_print.specs.Work.{finished}
 use Rattle.msvc_print.proofs.Names.{names_in-none, table_end-some}
-use Rattle.msvc_print.proofs.Settling.{settle_all-append, settle_all-first}
+use Rattle.msvc_print.proofs.Settling.{add_all-append, add_all-first}
 use Rattle.msvc_print.proofs.Stack.{printed_none, pushed_one, work_one}
 use Rattle.msvc_print.proofs.types.print_for.Goals as goal
 
@@ -20,10 +21,10 @@ returns-in_ok-print_path-in-len1-up-clause-text c =
     let path = scope_path (names_in c.args.names.now) c.args.flags.0 in
     c.in_ok-print_path-in-len1-up.ensures.text ∙ pushed_one _ _ _ _ _ c.in_ok-push-in-len1-up.ensures
     ∙ ap (λ x. finished c.args.stack.now.items x c.args.flags.0)
-    (sym (settle_all-append c.write_text.new.out.items path (text (codes "'}") ∷ []))
-    ∙ ap (λ x. settle_all x (path ++ text (codes "'}") ∷ [])) c.in_ok-write_text-in-len1-up.ensures
-    ∙ sym (settle_all-first c.args.out.now.items (text (codes "{for `")) (path ++ text (codes "'}") ∷ []))
-    ∙ ap (settle_all c.args.out.now.items)
+    (sym (add_all-append c.write_text.new.out path (text (codes "'}") ∷ []))
+    ∙ ap (λ x. add_all x (path ++ text (codes "'}") ∷ [])) c.in_ok-write_text-in-len1-up.ensures
+    ∙ sym (add_all-first c.args.out.now (text (codes "{for `")) (path ++ text (codes "'}") ∷ []))
+    ∙ ap (add_all c.args.out.now)
     (sym (table_end-some c.args.names.now path c.in-len1-up.len_at_least)))
 
 pub returns-in_ok-print_path-in-len1-up-clause-lighter : goal.returns-in_ok-print_path-in-len1-up-clause-lighter

@@ -11,7 +11,7 @@ unfolding before
 returns-in_ok-print_tagged-in-Tagged-clause-text c =
     let w = c.in-Tagged in
     subst (λ t. Prints (before t c.args.pointed c.args.flags.0) c.args.flags.0 c.args.stack.now.items
-    c.args.out.now.items c.print_tagged.new.stack.items c.print_tagged.new.out.items)
+    c.args.out.now c.print_tagged.new.stack.items c.print_tagged.new.out)
     (sym (ap type_of w.is ∙ type_of-Tagged w.tag w.set w.symbol))
     (rw (sym c.tag_word.ensures) c.in_ok-print_tagged-in-Tagged.ensures.text)
 

@@ -2,14 +2,14 @@ use Rattle.std.proofs.Common.{arith, ap, sym, ◌∙◌}
 use Rattle.msvc_print.proofs.Parameters.{lightened-first, rest-dropped, rest-end, rest-kept, settled_four}
 use Rattle.msvc_print.proofs.Parameters.{types_weight-positive, types_weight-rest}
 use Rattle.msvc_print.proofs.Stack.{pushed_one, same_pieces, work_one}
-use Rattle.msvc_print.specs.Pieces.{settle_all}
+use Rattle.msvc_print.specs.Limited.{add_all}
 use Rattle.msvc_print.specs.Work.{finished}
 use Rattle.msvc_print.proofs.types.print_parameters.Goals as goal
 
 pub returns-in_ok-write_list_end-in-empty-clause-text : goal.returns-in_ok-write_list_end-in-empty-clause-text
 returns-in_ok-write_list_end-in-empty-clause-text c =
     ap (λ x. finished c.args.stack.now.items x c.args.flags.0) (c.in_ok-write_list_end-in-empty.ensures
-    ∙ ap (settle_all c.args.out.now.items)
+    ∙ ap (add_all c.args.out.now)
     (sym (rest-end _ c.args.first c.args.end c.args.flags.0 c.in-empty.len_below)))
 
 pub returns-in_ok-write_list_end-in-empty-clause-lighter : goal.returns-in_ok-write_list_end-in-empty-clause-lighter
@@ -34,7 +34,7 @@ returns-in_ok-print_before-in-len1-up-clause-text c =
     ∙ pushed_one _ _ _ _ _ c.in_ok-push-in-len1-up-2.ensures
     ∙ ap (λ x. finished c.args.stack.now.items x c.args.flags.0)
     (settled_four _ _ _ _ _ _ c.in_ok-write_separator-in-len1-up.ensures
-    ∙ ap (settle_all c.args.out.now.items)
+    ∙ ap (add_all c.args.out.now)
     (sym (rest-kept c.args.types.now _ c.args.first c.args.end c.args.flags.0 c.in-len1-up.len_at_least
     (sym c.is_empty_pack.ensures ∙ c.if-is_empty_pack.false))))
 

@@ -1,5 +1,4 @@
-use Rattle.std.proofs.Common.{◌∙◌, ap, subst, sym}
-use Rattle.std.specs.Str.{IsUtf8}
+use Rattle.std.proofs.Common.{◌∙◌, ap}
 use Rattle.std.specs.Str.Lossy.{utf8_lossy}
 use Rattle.msvc_tree.specs.View.{tree_of}
 use Rattle.msvc_print.proofs.Laws.{name_only-asks-no-type, other_bits-change-nothing}
@@ -10,10 +9,10 @@ pub returns-clause-text : goal.returns-clause-text
 returns-clause-text c =
     let s = tree_of c.args.input.now in
     let flags = c.args.flags.0 in
-    let same = c.in_ok-bytes.ensures in
-    let lossy = c.in_ok-text.ensures.lossy ∙ ap utf8_lossy same in
+    let same = c.in_ok-out.ensures in
+    let lossy = c.in_ok-text.ensures.lossy _ same in
     record {
-      declared = λ utf8. c.in_ok-text.ensures.whole (subst IsUtf8 (sym same) (declaration-utf8 s flags utf8)) ∙ same;
+      declared = λ utf8. c.in_ok-text.ensures.whole _ same (declaration-utf8 s flags utf8);
       lossy = lossy;
       other_bits = λ other agree. lossy ∙ ap utf8_lossy (other_bits-change-nothing s flags other agree);
       name_only = λ only no_conversion other. lossy

@@ -1,0 +1,59 @@
+-- Where a word begins, and what a scan keeps of it.
+use Rattle.std.proofs.Common.{◌≡◌, ◌∷◌, [], ◌∙◌, ℕ, List, Bool, true, false, cond, refl, sym, ap}
+use Rattle.std.specs.Prelude.{◌==◌, ◌&&◌, ◌||◌, not}
+use Rattle.std.proofs.lemmas.List.Sums.{take_while-cons}
+use Rattle.msvc_demangler.specs.Filtered.{IsFilteredFrom, Part, nothing, replaced, stays}
+use Rattle.msvc_demangler.specs.Scans.{AreRest, Keeps}
+use Rattle.msvc_demangler.specs.Words.{blocks_start, has_question_mark, is_of_word, is_start, word_before}
+use Rattle.msvc_demangler.specs.declared.words.Scan.{Scan}
+
+or_swapped : (a b : Bool) → a || b ≡ (b || a) && true
+or_swapped true true = refl
+or_swapped true false = refl
+or_swapped false true = refl
+or_swapped false false = refl
+
+and_false : (a : Bool) → false ≡ a && false
+and_false true = refl
+and_false false = refl
+
+-- whether a word that goes on has had a `?`
+pub seen-more : (b : ℕ) (passed : List ℕ) → has_question_mark (word_before (b ∷ passed))
+    ≡ (has_question_mark (word_before passed) || b == 63) && is_of_word b
+seen-more b passed = ap has_question_mark (take_while-cons is_of_word b passed) ∙ at (is_of_word b)
+  where
+    at : (w : Bool) → has_question_mark (cond w (b ∷ word_before passed) [])
+        ≡ (has_question_mark (word_before passed) || b == 63) && w
+    at true = or_swapped (b == 63) (has_question_mark (word_before passed))
+    at false = and_false (has_question_mark (word_before passed) || b == 63)
+
+pub Keeps-more : (scan after : Scan) (b last : ℕ) (passed : List ℕ)
+    → after.seen_question_mark ≡ ((scan.seen_question_mark || b == 63) && is_of_word b) → after.last ≡ b
+    → Keeps scan last passed → Keeps after last (b ∷ passed)
+Keeps-more scan after b last passed seen before so = record {
+  seen = seen ∙ ap (λ s. (s || b == 63) && is_of_word b) so.seen ∙ sym (seen-more b passed);
+  before = before;
+}
+
+-- a scan tells a start
+pub start-kept : (scan : Scan) (b last : ℕ) (passed : List ℕ) → Keeps scan last passed
+    → (b == 63 && not (scan.seen_question_mark || blocks_start scan.last)) ≡ is_start last passed b
+start-kept scan b last passed so =
+    ap (λ s. b == 63 && not (s || blocks_start scan.last)) so.seen
+    ∙ ap (λ l. b == 63 && not (has_question_mark (word_before passed) || blocks_start l)) so.before
+
+-- of the bytes passed no more than this matters
+pub parts-kept : (flags : ℕ) (scan : Scan) {last : ℕ} {passed left : List ℕ} {parts : List Part}
+    → Keeps scan last passed → IsFilteredFrom flags last passed left parts → AreRest flags scan left parts
+parts-kept flags scan so nothing other more also = nothing
+parts-kept flags scan {last = last} {passed = passed} so (stays {b = b} none rest) other more also =
+    let same = sym (start-kept scan b last passed so) ∙ start-kept scan b other more also in
+    stays (λ start. none (same ∙ start))
+    (parts-kept flags (next b) (Keeps-more scan (next b) b last passed refl refl so)
+    rest other (b ∷ more) (Keeps-more scan (next b) b other more refl refl also))
+  where
+    next : ℕ → Scan
+    next b = record { seen_question_mark = (scan.seen_question_mark || b == 63) && is_of_word b; last = b }
+parts-kept flags scan {last = last} {passed = passed} so (replaced {b = b} start is rest) other more also =
+    let same = sym (start-kept scan b last passed so) ∙ start-kept scan b other more also in
+    replaced (sym same ∙ start) is rest

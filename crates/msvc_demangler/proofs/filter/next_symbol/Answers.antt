@@ -1,0 +1,26 @@
+use Rattle.std.proofs.Common.{arith}
+use Rattle.msvc_demangler.proofs.Within.{first-of, parts-found, parts-stays, parts-start}
+use Rattle.msvc_demangler.proofs.Written.{to_end}
+use Rattle.msvc_demangler.proofs.filter.next_symbol.Goals as goal
+
+pub bytes-init : goal.bytes-init
+bytes-init c =
+    (omega arith, parts-start c.args.flags.0 c.args.scan.now c.args.left.now c.args.until)
+
+pub bytes-preserved : goal.bytes-preserved
+bytes-preserved c =
+    let left = c.args.left.now in
+    let at = c.bytes.at in
+    let none = rw (c.in-None.is, to_end left at, first-of left at) at c.in_ok-bytes.ensures.none in (
+      omega arith,
+      parts-stays c.args.flags.0 _ c.bytes.scan _ left c.args.until at c.bytes.invariant.1 (omega arith) (omega arith)
+          none c.after.ensures,
+    )
+
+pub returns-in-Some-clause-some : goal.returns-in-Some-clause-some
+returns-in-Some-clause-some c =
+    let left = c.args.left.now in
+    let at = c.bytes.at in
+    let some = rw (c.in-Some.is, to_end left at, first-of left at) at c.in_ok-bytes.ensures.some in
+    parts-found c.args.flags.0 _ c.bytes.scan _ left c.args.until at c.in-Some.bytes _ c.bytes.invariant.1 (omega arith)
+    (omega arith) some.0 some.1 c.new.ensures
