@@ -117,7 +117,7 @@ pub fn read_symbol<'a, 'b>(
     ensures laws { spec.GrammarLaws input.now }
 {
     match read_nodes(arena, input, Unlimited) {
-        Ok((symbol, bytes)) => Ok((symbol, bytes)),
+        Ok((symbol, length)) => Ok((symbol, length)),
         Err(refusal) => Err(refusal.error(alloc, input.as_bytes())),
     }
 }
