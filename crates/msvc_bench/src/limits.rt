@@ -12,8 +12,8 @@ mod tests {
     /// No limit.
     const ANY: usize = usize::MAX;
 
-    /// A symbol of four nodes, of which the last begins at byte 9. The grammar reads 10 of its bytes, and its
-    /// declaration has 6.
+    /// The symbol of all rows: four nodes, the last from byte 9 on, 10 bytes that the grammar reads, and a declaration
+    /// of 6 bytes.
     const SYMBOL: &str = "?x@@3PEAHEA";
 
     /// The error for a limit: the limit, and the offset.

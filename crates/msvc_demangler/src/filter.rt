@@ -20,7 +20,7 @@ ghost use Rattle.msvc_demangler.specs.Words.{is_start};
 use crate::output::put_all;
 use crate::room::Room;
 use crate::watched::{Fault, Taken, Watched};
-use crate::words::{Scan, candidate, continues, symbol_extent, utf8_front};
+use crate::words::{MOST_LOOKED_AT, Scan, candidate, continues, symbol_extent, utf8_front};
 use crate::{DEFAULT_BYTE_LIMIT, DEFAULT_NODE_LIMIT};
 use msvc_nodes::error::Error;
 use msvc_nodes::flags::DemangleFlags;
@@ -29,9 +29,6 @@ use std::io::{BufRead, Write};
 
 /// The most bytes of a line that are held before a piece of the line is written.
 const MOST_HELD: usize = 65_536;
-
-/// Bytes from a start on that decide whether a symbol begins there: those of a candidate, and two more.
-const MOST_LOOKED_AT: usize = 4098;
 
 /// Copies `input` to `out`, with each symbol in it replaced by its declaration under `flags`. All other bytes stay as
 /// they are.
@@ -141,7 +138,7 @@ fn put_rest<W: Write>(
     }
 }
 
-/// What [`filter_slice`] made of a text.
+/// The result of [`filter_slice`].
 #[derive(Clone, Copy)]
 pub struct Filtered {
     /// Bytes of the whole filtered text, whether they fitted or not.
@@ -153,12 +150,12 @@ pub struct Filtered {
 /// Writes `text` into `out` with each symbol in it replaced by its declaration under `flags`: as much as fits, in whole
 /// characters of declarations. Bytes of `out` after these are unchanged.
 ///
-/// Requests memory for the symbols only, not for the text.
+/// Requests memory for symbols, and none for the text.
 ///
 /// # Errors
 ///
-/// Fails if memory is refused, or if the filtered text has more bytes than a `usize` counts. The contents of `out` are
-/// unspecified then.
+/// Fails if an allocation fails, or if the filtered text has more bytes than a `usize` counts. The contents of `out`
+/// are unspecified then.
 pub fn filter_slice(
     alloc: Global,
     text: &[u8],
@@ -306,7 +303,7 @@ fn filter_piece(
     Ok(at)
 }
 
-/// Where a symbol is.
+/// The place of a symbol in a text.
 #[derive(Clone, Copy)]
 struct Found {
     /// Bytes before the symbol.

@@ -69,9 +69,9 @@ pub fn demangle(alloc: Global, input: &str, flags: DemangleFlags) -> Result<Stri
 }
 
 /// Returns the declaration of the symbol that `input` begins with, as [`demangle`] does, if its tree has at most
-/// `nodes` nodes and its declaration at most `bytes` bytes. Each name and each type in a tree is a node, at every depth.
-/// `usize::MAX` is no limit, and leaves the other limit in force. [`DEFAULT_NODE_LIMIT`] and [`DEFAULT_BYTE_LIMIT`]
-/// suit symbols that are not trusted.
+/// `nodes` nodes and its declaration at most `bytes` bytes. Each name and each type in a tree is a node, at every
+/// depth. `usize::MAX` is no limit, and leaves the other limit in force. [`DEFAULT_NODE_LIMIT`] and
+/// [`DEFAULT_BYTE_LIMIT`] suit symbols that are not trusted.
 ///
 /// Together the limits bound the memory that a call takes, whatever the length of `input`. They and, linearly, the
 /// length of `input` bound its time.

@@ -11,6 +11,9 @@ use std::str::from_utf8;
 /// The most bytes of a candidate: the longest name that Microsoft's compiler gives.
 const MOST_BYTES: usize = 4096;
 
+/// Bytes from a start on that decide whether a symbol begins there: those of a candidate, and two after it.
+pub(crate) const MOST_LOOKED_AT: usize = MOST_BYTES + 2;
+
 /// Returns whether a byte is of a word.
 fn is_of_word(byte: u8) -> bool
     ensures { result ≡ is_of_word byte }

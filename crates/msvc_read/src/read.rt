@@ -100,8 +100,8 @@ pub fn parse_within<'a>(
     }
 }
 
-/// Reads the symbol that `input` begins with. Returns it as nodes in `arena`, and its length in bytes. [`parse`] makes its
-/// tree of these nodes. The names borrow from `input`. A part that stands twice in the symbol is shared.
+/// Reads the symbol that `input` begins with. Returns it as nodes in `arena`, and its length in bytes. [`parse`] makes
+/// its tree of these nodes. The names borrow from `input`. A part that stands twice in the symbol is shared.
 ///
 /// # Errors
 ///
