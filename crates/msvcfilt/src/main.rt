@@ -12,13 +12,14 @@ mod streams;
 
 use clap::Command;
 use msvc_demangler::{DemangleFlags, Fault, Watched, filter_text};
+use msvc_streams::{Input, Shared};
 use std::alloc::Global;
 use std::cell::RefCell;
 use std::fs::File;
 use std::io::{BufReader, BufWriter, ErrorKind, Read, Write};
 use std::process::ExitCode;
 use std::{env, io};
-use streams::{Input, Output, Text};
+use streams::Output;
 
 /// Bytes that are read, or written, at once.
 const BUFFER_LENGTH: usize = 64 * 1024;
@@ -137,7 +138,7 @@ fn filter<R: Read + Drop>(
         return Err(Fault::Memory);
     };
     let mut input = Watched::new(Input::new(held, output));
-    let done = filter_text(alloc, &mut input, &mut Watched::new(Text(output)), flags);
+    let done = filter_text(alloc, &mut input, &mut Watched::new(Shared(output)), flags);
     if input.into_inner().flush_failed {
         Err(Fault::Write)
     } else {

@@ -10,11 +10,12 @@
 mod streams;
 
 use msvc_demangler::{Fault, Watched, undname_run};
+use msvc_streams::{Input, Shared};
 use std::cell::RefCell;
 use std::env;
 use std::io::{self, BufReader, BufWriter, ErrorKind, Write};
 use std::process::ExitCode;
-use streams::{Answers, Input, Outputs, Remarks};
+use streams::{Outputs, Remarks};
 
 /// Bytes that are read, or written, at once.
 const BUFFER_LENGTH: usize = 64 * 1024;
@@ -58,22 +59,22 @@ fn failure(rt: &HostRuntime, fault: Fault) -> ExitCode {
 
 /// Runs over the standard streams, and flushes the outputs, also after a fault.
 fn run(rt: &HostRuntime, words: &[String]) -> Result<(), Fault> {
-    let outputs = Outputs {
-        answers: RefCell::new(writer(rt, rt.stdout())?),
-        remarks: RefCell::new(writer(rt, rt.stderr())?),
-    };
+    let outputs = RefCell::new(Outputs {
+        answers: writer(rt, rt.stdout())?,
+        remarks: writer(rt, rt.stderr())?,
+    });
     let done = answer(rt, words, &outputs);
-    let flushed = outputs.flush().map_err(|_| Fault::Write);
+    let flushed = outputs.into_inner().flush().map_err(|_| Fault::Write);
     done.and(flushed)
 }
 
 /// Answers the symbols among the words or, if there are none, those of standard input.
-fn answer(rt: &HostRuntime, words: &[String], outputs: &Outputs) -> Result<(), Fault> {
+fn answer(rt: &HostRuntime, words: &[String], outputs: &RefCell<Outputs>) -> Result<(), Fault> {
     let Ok(held) = BufReader::with_capacity(rt.alloc(), BUFFER_LENGTH, rt.stdin()) else {
         return Err(Fault::Memory);
     };
     let mut input = Watched::new(Input::new(held, outputs));
-    let mut out = Watched::new(Answers(outputs));
+    let mut out = Watched::new(Shared(outputs));
     let mut err = Watched::new(Remarks(outputs));
     let done = undname_run(rt.alloc(), words, &mut input, &mut out, &mut err);
     if input.into_inner().flush_failed {
