@@ -82,18 +82,53 @@ impl<'b, T: Copy> Stack<'b, T> {
     }
 
     /// Copies the part in use into the arena and drops it, or returns nothing if memory runs out.
+    #[inline(always)]
     pub fn end_in(&mut self, arena: &'b Bump, from: usize) -> Option<List<'b, T>>
         requires { from ≤ length (outer self.old) }
         ensures items { IfSome result (λ list. list.items.now ≡ here self.old) }
         ensures here { IfSome result (λ _. here self.new ≡ drop from (outer self.old)) }
         ensures outer { IfSome result (λ _. outer self.new ≡ take from (outer self.old)) }
     {
-        match arena.try_alloc_slice_copy(self.items()) {
-            Ok(list) => {
-                self.end(from);
-                Some(List { items: list })
-            }
+        let list = copied(arena, self.items())?;
+        self.end(from);
+        Some(list)
+    }
+}
+
+/// Copies items into the arena, or returns nothing if memory runs out. A few, as most lists have, are stored as one
+/// value.
+#[inline(always)]
+fn copied<'b, T: Copy>(arena: &'b Bump, items: &[T]) -> Option<List<'b, T>>
+    ensures { IfSome result (λ list. list.items.now ≡ items.now) }
+{
+    match items {
+        [] => Some(List { items: &[] }),
+        [one] => match arena.try_alloc([*one]) {
+            Ok(list) => Some(List { items: list }),
             Err(_) => None,
-        }
+        },
+        [one, two] => match arena.try_alloc([*one, *two]) {
+            Ok(list) => Some(List { items: list }),
+            Err(_) => None,
+        },
+        [one, two, three] => match arena.try_alloc([*one, *two, *three]) {
+            Ok(list) => Some(List { items: list }),
+            Err(_) => None,
+        },
+        _ => match copied_slice(arena, items) {
+            Some(list) => Some(List { items: list.items }),
+            None => None,
+        },
+    }
+}
+
+/// Copies any number of items into the arena, or returns nothing if memory runs out.
+#[inline(never)]
+fn copied_slice<'b, T: Copy>(arena: &'b Bump, items: &[T]) -> Option<List<'b, T>>
+    ensures { IfSome result (λ list. list.items.now ≡ items.now) }
+{
+    match arena.try_alloc_slice_copy(items) {
+        Ok(list) => Some(List { items: list }),
+        Err(_) => None,
     }
 }
