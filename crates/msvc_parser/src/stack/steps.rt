@@ -1,7 +1,8 @@
 //! Operations on a `Stack`. The struct stands in another file, since a ghost field may not cite definitions about its
 //! own struct.
 
-ghost use Rattle.std.specs.Prelude.{◌≡◌, ◌≤◌, ◌++◌, ◌∷◌, [], drop, IfOk, IfSome, length, slice_get, take};
+ghost use Rattle.std.specs.Prelude.{◌≡◌, ◌≤◌, ◌<◌, ◌++◌, ◌∷◌, [], drop, IfOk, IfSome, length, slice_get, take};
+ghost use Rattle.std.specs.Prelude.{vec_capacity, vec_len};
 ghost use Rattle.msvc_parser.specs.Stack.{here, outer};
 
 use crate::stack::Stack;
@@ -9,7 +10,7 @@ use bumpalo::Bump;
 use msvc_nodes::list::List;
 use std::alloc::AllocError;
 
-/// Capacity that the first item allocates.
+/// How many items a list has room for at first. It is the least by which a list grows.
 const FIRST_ITEMS: usize = 16;
 
 impl<'b, T: Copy> Stack<'b, T> {
@@ -49,14 +50,15 @@ impl<'b, T: Copy> Stack<'b, T> {
     }
 
     /// Appends an item.
+    #[inline(always)]
     pub fn push(&mut self, item: T) -> Result<(), AllocError>
         ensures here { IfOk result (λ _. here self.new ≡ here self.old ++ item ∷ []) }
         ensures outer { IfOk result (λ _. outer self.new ≡ outer self.old) }
     {
-        if self.items.capacity() == 0 {
-            self.items.try_reserve(FIRST_ITEMS)?;
+        if self.items.len() >= self.items.capacity() {
+            make_room(&mut self.items)?;
         }
-        self.items.push(item)?;
+        self.items.push_reserved(item);
         Ok(())
     }
 
@@ -93,6 +95,16 @@ impl<'b, T: Copy> Stack<'b, T> {
         self.end(from);
         Some(list)
     }
+}
+
+/// Makes room for more items in a full list.
+#[cold]
+#[inline(never)]
+fn make_room<'b, T: Copy>(items: &mut Vec<T, &'b Bump>) -> Result<(), AllocError>
+    ensures items { items.new.items ≡ items.old.items }
+    ensures room { IfOk result (λ _. vec_len items.new < vec_capacity items.new) }
+{
+    items.try_reserve(FIRST_ITEMS)
 }
 
 /// Copies items into the arena, or returns nothing if memory runs out. A few, as most lists have, are stored as one
