@@ -1,9 +1,13 @@
 -- What a search for a byte finds is its first position.
 use Rattle.std.proofs.Common.{◌≡◌, ◌<◌, ℕ, List, Bool, true, false, cond, length, Option, Some, None, refl, sym, ap}
-use Rattle.std.proofs.Common.{◌∙◌, arith, ltb}
-use Rattle.std.proofs.lemmas.Bool.{ltb-true, ltb-false}
-use Rattle.std.proofs.lemmas.List.Sums.{fails_before_first, passes_at_first}
+use Rattle.std.proofs.Common.{◌∙◌, ◌+◌, ◌-◌, ◌≤◌, arith, drop, eqb, ltb, not, take}
+use Rattle.std.proofs.lemmas.Bool.{eq-eqb, lt-ltb, le-ltb, ltb-true, ltb-false, ne_eqb}
+use Rattle.std.proofs.lemmas.List.{length-drop, take_all}
+use Rattle.std.proofs.lemmas.List.Folds.{prefix_len-append}
+use Rattle.std.proofs.lemmas.List.Sums.{fails_before_first, passes_at_first, prefix_len-le-length}
+use Rattle.std.proofs.lemmas.Simd.{chunk-drop, length-chunk}
 use Rattle.std.specs.List.{position, position_or_len}
+use Rattle.std.specs.Option.{option_map}
 use Rattle.memchr.specs.Find.{IsFirstByte, is_byte}
 
 pub first-position : (byte : ℕ) (bytes : List ℕ) (r : Option ℕ) → IsFirstByte (is_byte byte) bytes r →
@@ -33,3 +37,64 @@ first-position byte bytes r h = at r h (ltb n (length bytes)) refl
     at (Some k) h false e =
         let after : k < n = omega (arith, h.0.high, ltb-false n (length bytes) e) in
         let no : true ≡ false = sym h.1 ∙ fails_before_first (is_byte byte) bytes k 0 after in cc
+
+-- A search of the first 16 bytes, and of those after them.
+
+block_length : (bytes : List ℕ) → 16 ≤ length bytes → length (take 16 bytes) ≡ 16
+block_length bytes h = length-chunk 0 16 bytes h
+
+split : (p : ℕ → Bool) (bytes : List ℕ) → position_or_len p bytes
+    ≡ cond (eqb (position_or_len p (take 16 bytes)) (length (take 16 bytes)))
+    (length (take 16 bytes) + position_or_len p (drop 16 bytes)) (position_or_len p (take 16 bytes))
+split p bytes =
+    ap (position_or_len p) (chunk-drop 0 16 bytes)
+    ∙ prefix_len-append (λ x. not (p x)) (take 16 bytes) (drop 16 bytes)
+
+pub in_block : (p : ℕ → Bool) (bytes : List ℕ) → 16 ≤ length bytes → position_or_len p (take 16 bytes) < 16
+    → Some (position_or_len p (take 16 bytes)) ≡ position p bytes
+in_block p bytes h less =
+    let n : ℕ = position_or_len p (take 16 bytes) in
+    let other : n ≡ length (take 16 bytes) → ⊥ = λ e. omega (arith, e, less, block_length bytes h) in
+    let same : position_or_len p bytes ≡ n
+    = split p bytes
+    ∙ ap (λ b. cond b (length (take 16 bytes) + position_or_len p (drop 16 bytes)) n)
+    (ne_eqb n (length (take 16 bytes)) other) in
+    sym (ap (λ k. cond (ltb k (length bytes)) (Some k) None) same
+    ∙ ap (λ b. cond b (Some n) None) (lt-ltb n (length bytes) (omega (arith, less, h))))
+
+pub after_block : (p : ℕ → Bool) (bytes : List ℕ) → 16 ≤ length bytes → (position_or_len p (take 16 bytes) < 16 → ⊥)
+    → option_map (λ n. 16 + n) (position p (take (length bytes - 16) (drop 16 bytes))) ≡ position p bytes
+after_block p bytes h none =
+    ap (λ left. option_map (λ n. 16 + n) (position p left))
+    (take_all (length bytes - 16) (drop 16 bytes) (omega (arith, left)))
+    ∙ go (ltb m (length (drop 16 bytes))) refl
+  where
+    m : ℕ
+    m = position_or_len p (drop 16 bytes)
+
+    long : length (take 16 bytes) ≡ 16
+    long = block_length bytes h
+
+    whole : position_or_len p (take 16 bytes) ≡ length (take 16 bytes)
+    whole =
+        omega (arith, long, none, prefix_len-le-length (λ x. not (p x)) (take 16 bytes))
+
+    same : position_or_len p bytes ≡ 16 + m
+    same =
+        split p bytes
+        ∙ ap (λ b. cond b (length (take 16 bytes) + m) (position_or_len p (take 16 bytes))) (eq-eqb _ _ whole)
+        ∙ ap (λ k. k + m) long
+
+    left : length (drop 16 bytes) + 16 ≡ length bytes
+    left = omega (arith, length-drop 16 bytes, h)
+
+    ends : (b : Bool) → ltb (16 + m) (length bytes) ≡ b → cond b (Some (16 + m)) None ≡ position p bytes
+    ends b e = ap (λ b. cond b (Some (16 + m)) None) (sym e)
+        ∙ sym (ap (λ k. cond (ltb k (length bytes)) (Some k) None) same)
+
+    go : (b : Bool) → ltb m (length (drop 16 bytes)) ≡ b
+        → option_map (λ n. 16 + n) (cond b (Some m) None) ≡ position p bytes
+    go true e =
+        ends true (lt-ltb (16 + m) (length bytes) (omega (arith, left, ltb-true m (length (drop 16 bytes)) e)))
+    go false e =
+        ends false (le-ltb (16 + m) (length bytes) (omega (arith, left, ltb-false m (length (drop 16 bytes)) e)))
