@@ -133,6 +133,19 @@ impl<'a, 'b, L: Limit> Parser<'a, 'b, L> {
         self.memorize_name(name, L::one())
     }
 
+    /// Does what [`Parser::memorized_name`] does, all of it in the caller's own code. So only a function outside the
+    /// cycle of readers may call it.
+    #[inline(always)]
+    pub fn entered_name(&mut self, name: Name<'a, 'b>) -> Result<&'b Name<'a, 'b>, Refused>
+        requires { name_count L.weight (name_of name) ≡ L.weight }
+        ensures value { ReadsAs name_at self.old self.new result
+            (λ left s. with_value (Some (name_of name.entry)) left (remember_name (name_of name.entry) s)) }
+        ensures stays { Stays self.old self.new result }
+    {
+        let name = self.put_name(name)?;
+        self.enter_name(name, L::one())
+    }
+
     /// Memorizes a name that has `nodes` nodes, and returns it.
     #[inline(never)]
     pub fn memorize_name(
@@ -140,6 +153,17 @@ impl<'a, 'b, L: Limit> Parser<'a, 'b, L> {
         name: &'b Name<'a, 'b>,
         nodes: L,
     ) -> Result<&'b Name<'a, 'b>, Refused>
+        requires { L.made nodes ≡ name_count L.weight (name_of name.now) }
+        ensures value { ReadsAs name_at self.old self.new result
+            (λ left s. with_value (Some (name_of name.now)) left (remember_name (name_of name.now) s)) }
+        ensures stays { Stays self.old self.new result }
+    {
+        self.enter_name(name, nodes)
+    }
+
+    /// Does what [`Parser::memorize_name`] does, in the caller's own code.
+    #[inline(always)]
+    fn enter_name(&mut self, name: &'b Name<'a, 'b>, nodes: L) -> Result<&'b Name<'a, 'b>, Refused>
         requires { L.made nodes ≡ name_count L.weight (name_of name.now) }
         ensures value { ReadsAs name_at self.old self.new result
             (λ left s. with_value (Some (name_of name.now)) left (remember_name (name_of name.now) s)) }
@@ -260,6 +284,7 @@ impl<'a, 'b, L: Limit> Parser<'a, 'b, L> {
 }
 
 /// Returns whether an equal name is in the list.
+#[inline(always)]
 fn is_known_name<'a, 'b, L: Limit>(
     names: &[MemorizedName<'a, 'b, L>],
     name: &'b Name<'a, 'b>,

@@ -69,7 +69,7 @@ pub fn new_source_name<'a, 'b, L: Limit>(
 {
     parser.count_node()?;
     let text = source_name(parser)?;
-    parser.memorized_name(Name::Source(text))
+    parser.entered_name(Name::Source(text))
 }
 
 /// Memorizes a template name that has `nodes` nodes, unless `templates` says not to, and returns it.
