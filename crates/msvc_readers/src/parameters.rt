@@ -125,6 +125,7 @@ pub fn list_type<'a, 'b, L: Limit>(
 }
 
 /// Copies the listed types into the arena and ends their part of the list.
+#[inline(always)]
 pub fn listed_types<'a, 'b, L: Limit>(
     parser: &mut Parser<'a, 'b, L>,
     checkpoint: usize,

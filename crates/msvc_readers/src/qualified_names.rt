@@ -110,6 +110,7 @@ pub fn list_name<'a, 'b, L: Limit>(
 }
 
 /// Copies the listed names into the arena and ends their part of the list.
+#[inline(always)]
 pub fn listed_names<'a, 'b, L: Limit>(
     parser: &mut Parser<'a, 'b, L>,
     checkpoint: usize,

@@ -208,6 +208,7 @@ pub fn table<'a, 'b, L: Limit>(
 
 /// Stores the table of a class, whose scope is on the list.
 #[tactic(auto, using(msvc_parser::proofs::Nodes::views))]
+#[inline(never)]
 pub fn put_table<'a, 'b, L: Limit>(
     parser: &mut Parser<'a, 'b, L>,
     kind: Table,
