@@ -6,6 +6,7 @@ use Rattle.msvc_print.specs.Limited.{LimitedText, add_all, limited, settle_withi
 use Rattle.msvc_print.specs.Pieces.{Piece, blank, is_written_after, last_byte, settle, settle_all, space, text}
 use Rattle.msvc_print.specs.Work.{finished, item_pieces}
 use Rattle.msvc_print.specs.declared.item.Item.{Item}
+use Rattle.msvc_print.specs.declared.text.Space.{Space}
 
 settle-longer : (before : List ℕ) (piece : Piece) → length before ≤ length (settle before piece)
 settle-longer before (text bytes) = omega (arith, length-append before bytes)
@@ -49,6 +50,29 @@ unfolding add_all settle_within
 left_out most true before piece more =
     ap (λ t. record { most = most; text = t }) (sym (within-exceeds most (settle before piece) more))
 left_out most false before piece more = refl
+
+-- a space that is not written after this byte, the last of the text
+pub unspaced : (most : ℕ) (out : Option (List ℕ)) (kind : Space) (byte : ℕ) →
+    ((bytes : List ℕ) → out ≡ Some bytes → byte ≡ last_byte bytes) →
+    ((bytes : List ℕ) → out ≡ Some bytes → length bytes ≤ most) → is_written_after kind byte ≡ false →
+    record { most = most; text = out } ≡ add_all (record { most = most; text = out }) (space kind ∷ [])
+unfolding add_all settle_within
+unspaced most None kind byte last fits not = refl
+unspaced most (Some bytes) kind byte last fits not =
+    let is : is_written_after kind (last_byte bytes) ≡ false
+    = ap (is_written_after kind) (sym (last bytes refl)) ∙ not in
+    added most true bytes bytes (space kind) (ap (λ b. cond b (bytes ++ blank ∷ []) bytes) is) (fits bytes refl)
+
+-- a space that is written after it
+pub spaced : (most : ℕ) (out : Option (List ℕ)) (kind : Space) (byte : ℕ) →
+    ((bytes : List ℕ) → out ≡ Some bytes → byte ≡ last_byte bytes) → is_written_after kind byte ≡ true →
+    add_all (record { most = most; text = out }) (text (blank ∷ []) ∷ [])
+    ≡ add_all (record { most = most; text = out }) (space kind ∷ [])
+unfolding add_all settle_within
+spaced most None kind byte last is = refl
+spaced most (Some bytes) kind byte last is =
+    ap (λ b. record { most = most; text = within most (cond b (bytes ++ blank ∷ []) bytes) })
+    (sym (ap (is_written_after kind) (sym (last bytes refl)) ∙ is))
 
 -- a text that is not whole stays so
 add_all-left_out : (most : ℕ) (pieces : List Piece) →

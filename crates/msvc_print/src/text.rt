@@ -1,7 +1,8 @@
 //! Texts under a limit of bytes, and the pieces that are written to them. Whether a space is written depends on the
 //! byte before it.
 
-ghost use Rattle.std.specs.Prelude.{◌≡◌, ◌∷◌, [], ℕ, List, Some, OnOk, IfOk, is_some, string_bytes};
+ghost use Rattle.std.specs.Prelude.{◌≡◌, ◌≤◌, ◌+◌, ◌∷◌, ◌++◌, [], ℕ, List, Some, OnOk, IfOk, is_some};
+ghost use Rattle.std.specs.Prelude.{length, string_bytes, take};
 ghost use Rattle.std.specs.Str.{IsUtf8};
 ghost use Rattle.std.specs.Str.Lossy.{utf8_lossy};
 ghost use Rattle.msvc_print.specs.Limited.{Writes, empty_within};
@@ -14,24 +15,32 @@ use msvc_nodes::flags::{DemangleFlags, StorageClass};
 use std::alloc::{AllocError, Global};
 use std::marker::Model;
 
+/// Bytes that are filled at first, if there is memory for them: more than most declarations have.
+const FIRST_FILLED: usize = 1024;
+
 /// A text under a limit of bytes. A piece that would exceed the limit is left out, whatever its length, and the text is
 /// not whole from then on: its bytes are unspecified, and at most as many as the limit.
 #[derive(Drop)]
 pub struct Text {
+    /// What was written, and then bytes that are filled already, so that a write only copies.
     bytes: Vec<u8>,
+    /// How many bytes were written.
+    written: usize,
+    /// How many more bytes are filled and within the limit.
+    room: usize,
     most: usize,
     whole: bool,
 }
 
 impl Model for Text {
-    ghost use Rattle.std.specs.Prelude.{◌≤◌, length};
+    ghost use Rattle.std.specs.Prelude.{◌+◌, ◌≤◌, length, take};
     ghost use Rattle.msvc_print.specs.Limited.{LimitedText, limited};
 
     ghost Value = { LimitedText };
 
-    ghost view = { λ t. limited t.most t.whole t.bytes.items };
+    ghost view = { λ t. limited t.most t.whole (take t.written t.bytes.items) };
 
-    ghost invariant = { λ t. length t.bytes.items ≤ t.most };
+    ghost invariant = { λ t. (t.written + t.room ≤ length t.bytes.items) × (t.written + t.room ≤ t.most) };
 }
 
 impl Text {
@@ -41,6 +50,8 @@ impl Text {
     {
         Text {
             bytes: Vec::new(alloc),
+            written: 0,
+            room: 0,
             most: usize::MAX,
             whole: true,
         }
@@ -52,14 +63,16 @@ impl Text {
     pub fn try_reserve(&mut self, additional: usize) -> Result<(), AllocError>
         ensures { self.new ≡ self.old }
     {
-        self.bytes.reserve(additional)
+        let filled = self.bytes.len() - self.written;
+        self.bytes.reserve(additional.saturating_sub(filled))
     }
 
     /// Makes the text empty and whole, with a limit of `most` bytes. Keeps its memory.
     pub fn clear(&mut self, most: usize)
         ensures { self.new ≡ empty_within most }
     {
-        self.bytes.clear();
+        self.written = 0;
+        self.room = self.bytes.len().min(most);
         self.most = most;
         self.whole = true;
     }
@@ -75,7 +88,29 @@ impl Text {
     pub fn as_bytes(&self) -> &[u8]
         ensures { (bytes : List ℕ) → self.now.text ≡ Some bytes → result.now ≡ bytes }
     {
-        self.bytes.as_slice()
+        &self.bytes[..self.written]
+    }
+
+    /// Returns the last byte, or 0 if there is none.
+    fn last_byte(&self) -> u8
+        ensures last { (bytes : List ℕ) → self.now.text ≡ Some bytes → result ≡ last_byte bytes }
+        ensures fits { (bytes : List ℕ) → self.now.text ≡ Some bytes → length bytes ≤ self.now.most }
+    {
+        if self.written == 0 {
+            0
+        } else {
+            self.bytes[self.written - 1]
+        }
+    }
+
+    /// Returns what was written, without a copy.
+    fn into_bytes(self) -> Vec<u8>
+        ensures { (bytes : List ℕ) → self.text ≡ Some bytes → result.items ≡ bytes }
+    {
+        let Text { bytes, written, .. } = self;
+        let mut bytes = bytes;
+        bytes.truncate(written);
+        bytes
     }
 
     /// Converts a whole text that is UTF-8 to a string, without a check and without a copy.
@@ -83,7 +118,7 @@ impl Text {
         requires { (bytes : List ℕ) × (self.text ≡ Some bytes) × IsUtf8 bytes }
         ensures { self.text ≡ Some (string_bytes result) }
     {
-        let Text { bytes, .. } = self;
+        let bytes = self.into_bytes();
         unsafe { String::from_utf8_unchecked(bytes) }
     }
 }
@@ -97,8 +132,7 @@ pub fn text_of(alloc: Global, declared: Text) -> Result<String, AllocError>
     ensures lossy { IfOk result (λ text. (bytes : List ℕ) → declared.text ≡ Some bytes →
         string_bytes text ≡ utf8_lossy bytes) }
 {
-    let Text { bytes, .. } = declared;
-    match String::from_utf8(bytes) {
+    match String::from_utf8(declared.into_bytes()) {
         Ok(text) => Ok(text),
         Err(refused) => String::from_utf8_lossy(alloc, refused.as_bytes()),
     }
@@ -135,41 +169,71 @@ impl Space {
     }
 }
 
-/// Returns the last byte, or 0 if there is none.
-fn last_byte(bytes: &[u8]) -> u8
-    ensures { result ≡ last_byte bytes.now }
+/// Copies `piece` into `bytes` from index `at`.
+#[inline(always)]
+fn copy_at(bytes: &mut [u8], at: usize, piece: &[u8])
+    requires { at + length piece.now ≤ length bytes.old }
+    ensures start { take (at + length piece.now) bytes.new ≡ take at bytes.old ++ piece.now }
+    ensures len { length bytes.new ≡ length bytes.old }
 {
-    if bytes.is_empty() {
-        0
-    } else {
-        bytes[bytes.len() - 1]
-    }
+    bytes[at..at + piece.len()].copy_from_slice(piece);
 }
 
-/// Writes a space, if one is written after the last byte of `out`.
-pub fn write_space(out: &mut Text, kind: Space) -> Result<(), AllocError>
-    ensures { OnOk result (Writes (space kind ∷ []) out.old out.new) }
+/// Fills at least `needed` bytes, and at most `most` bytes unless more are needed. Requests memory only if there is none
+/// for the bytes that are needed.
+fn fill(bytes: &mut Vec<u8>, needed: usize, most: usize) -> Result<(), AllocError>
+    ensures kept { take (length bytes.old.items) bytes.new.items ≡ bytes.old.items }
+    ensures filled { OnOk result (needed ≤ length bytes.new.items) }
 {
-    if !kind.is_written_after(last_byte(&out.bytes)) {
-        return Ok(());
-    }
-    if out.bytes.len() == out.most {
+    let filled = bytes.len();
+    bytes.reserve(needed.saturating_sub(filled))?;
+    let ahead = filled.saturating_mul(2).max(FIRST_FILLED);
+    let ahead = ahead.min(bytes.capacity()).min(most);
+    bytes.resize(filled.max(needed).max(ahead), 0)?;
+    Ok(())
+}
+
+/// Writes bytes as they are, by filling more bytes, if the limit allows them.
+#[cold]
+#[inline(never)]
+fn write_text_beyond(out: &mut Text, bytes: &[u8]) -> Result<(), AllocError>
+    ensures { OnOk result (Writes (text bytes.now ∷ []) out.old out.new) }
+{
+    if bytes.len() > out.most - out.written {
         out.whole = false;
         return Ok(());
     }
-    out.bytes.push(b' ')?;
+    let end = out.written + bytes.len();
+    fill(&mut out.bytes, end, out.most)?;
+    copy_at(&mut out.bytes, out.written, bytes);
+    out.written = end;
+    out.room = out.bytes.len().min(out.most) - end;
     Ok(())
 }
 
 /// Writes bytes as they are.
+#[inline(always)]
 pub fn write_text(out: &mut Text, bytes: &[u8]) -> Result<(), AllocError>
     ensures { OnOk result (Writes (text bytes.now ∷ []) out.old out.new) }
 {
-    if bytes.len() > out.most - out.bytes.len() {
-        out.whole = false;
+    if bytes.len() > out.room {
+        return write_text_beyond(out, bytes);
+    }
+    copy_at(&mut out.bytes, out.written, bytes);
+    out.written += bytes.len();
+    out.room -= bytes.len();
+    Ok(())
+}
+
+/// Writes a space, if one is written after the last byte of `out`.
+#[inline(always)]
+pub fn write_space(out: &mut Text, kind: Space) -> Result<(), AllocError>
+    ensures { OnOk result (Writes (space kind ∷ []) out.old out.new) }
+{
+    if !kind.is_written_after(out.last_byte()) {
         return Ok(());
     }
-    out.bytes.extend_from_slice(bytes)?;
+    write_text(out, b" ")?;
     Ok(())
 }
 

@@ -1,24 +1,21 @@
-use Rattle.std.proofs.Common.{◌∷◌, [], ◌≤◌, length, rules, arith, ap, sym, ◌∙◌, length-append}
-use Rattle.msvc_print.proofs.Longer.{added, left_out}
-use Rattle.msvc_print.specs.Limited.{add_all}
+use Rattle.std.proofs.Common.{◌∷◌, [], ◌≤◌, ◌+◌, length, take, rules, arith, ◌≡◌, ap, ◌∙◌, length-take}
+use Rattle.std.proofs.lemmas.List.{with_items_is}
+use Rattle.std.specs.Vec.{with_items}
+use Rattle.msvc_print.proofs.Longer.{added}
+use Rattle.msvc_print.specs.Limited.{add_all, limited}
 use Rattle.msvc_print.specs.Pieces.{text}
 use Rattle.msvc_print.proofs.text.write_text.Goals as goal
 
-pub returns-then-bytes-out : goal.returns-then-bytes-out
-returns-then-bytes-out c =
-    let before = c.out.inside.bytes.items in
-    left_out _ c.out.inside.whole before (text c.args.bytes.now) (omega (
-      arith,
-      c.if-bytes-out.true,
-      c.len.ensures,
-      c.out.inside.bytes.ok.0,
-      length-append before c.args.bytes.now,
-    ))
-    ∙ ap (λ t. add_all t (text c.args.bytes.now ∷ [])) c.out.view_is
-
 pub returns : goal.returns
 returns c =
-    let before = c.out.inside.bytes.items in
-    let fits : length c.extend_from_slice.new.self.items ≤ c.out.inside.most = search rules in
-    added _ _ before _ (text c.args.bytes.now) (sym c.in_ok-extend_from_slice.ensures.items) fits
+    let fields = c.out.inside in
+    let before = take fields.written fields.bytes.items in
+    let end = fields.written + length c.args.bytes.now in
+    let after = take end c.copy_at.new.bytes in
+    let fits : length after ≤ fields.most
+    = omega (arith, length-take end c.copy_at.new.bytes) in
+    let items : (with_items fields.bytes c.copy_at.new.bytes).items ≡ c.copy_at.new.bytes
+    = with_items_is fields.bytes c.copy_at.new.bytes (search rules) in
+    ap (λ b. limited fields.most fields.whole (take end b)) items
+    ∙ added _ _ before after (text c.args.bytes.now) (search rules) fits
     ∙ ap (λ t. add_all t (text c.args.bytes.now ∷ [])) c.out.view_is
