@@ -1,4 +1,5 @@
 pub mod Settling
+pub mod Copies
 pub mod Halves
 pub mod Stack
 pub mod Dropped

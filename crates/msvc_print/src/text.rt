@@ -1,7 +1,7 @@
 //! Texts under a limit of bytes, and the pieces that are written to them. Whether a space is written depends on the
 //! byte before it.
 
-ghost use Rattle.std.specs.Prelude.{◌≡◌, ◌≤◌, ◌+◌, ◌∷◌, ◌++◌, [], ℕ, List, Some, OnOk, IfOk, is_some};
+ghost use Rattle.std.specs.Prelude.{◌≡◌, ◌<◌, ◌≤◌, ◌+◌, ◌∷◌, ◌++◌, [], ℕ, List, Some, OnOk, IfOk, is_some};
 ghost use Rattle.std.specs.Prelude.{length, string_bytes, take};
 ghost use Rattle.std.specs.Str.{IsUtf8};
 ghost use Rattle.std.specs.Str.Lossy.{utf8_lossy};
@@ -14,6 +14,7 @@ use itoa::{Buffer, Integer};
 use msvc_nodes::flags::{DemangleFlags, StorageClass};
 use std::alloc::{AllocError, Global};
 use std::marker::Model;
+use std::simd::Simd;
 
 /// Bytes that are filled at first, if there is memory for them: more than most declarations have.
 const FIRST_FILLED: usize = 1024;
@@ -169,14 +170,74 @@ impl Space {
     }
 }
 
-/// Copies `piece` into `bytes` from index `at`.
+/// Copies the first `N` bytes of `piece` into `bytes` from index `at`.
+#[inline(always)]
+fn copy_front<const N: usize>(bytes: &mut [u8], at: usize, piece: &[u8])
+    requires { (N ≤ length piece.now) × (at + N ≤ length bytes.old) }
+    ensures start { take (at + N) bytes.new ≡ take at bytes.old ++ take N piece.now }
+    ensures len { length bytes.new ≡ length bytes.old }
+{
+    Simd::<u8, N>::from_slice(piece).copy_to_slice(&mut bytes[at..]);
+}
+
+/// Copies a piece of `N` to twice `N` bytes into `bytes` from index `at`: its first `N` bytes, and its last.
+#[inline(always)]
+fn copy_ends<const N: usize>(bytes: &mut [u8], at: usize, piece: &[u8])
+    requires fits { at + length piece.now ≤ length bytes.old }
+    requires covers { (N ≤ length piece.now) × (length piece.now ≤ N + N) }
+    ensures start { take (at + length piece.now) bytes.new ≡ take at bytes.old ++ piece.now }
+    ensures len { length bytes.new ≡ length bytes.old }
+{
+    let last = piece.len() - N;
+    copy_front::<N>(bytes, at, piece);
+    copy_front::<N>(bytes, at + last, &piece[last..]);
+}
+
+/// Copies `piece`, which is long, into `bytes` from index `at`.
+#[inline(never)]
+fn copy_long(bytes: &mut [u8], at: usize, piece: &[u8])
+    requires { at + length piece.now ≤ length bytes.old }
+    ensures start { take (at + length piece.now) bytes.new ≡ take at bytes.old ++ piece.now }
+    ensures len { length bytes.new ≡ length bytes.old }
+{
+    bytes[at..at + piece.len()].copy_from_slice(piece);
+}
+
+/// Copies `piece`, of fewer than 8 bytes, into `bytes` from index `at`.
+#[inline(always)]
+fn copy_short(bytes: &mut [u8], at: usize, piece: &[u8])
+    requires fits { at + length piece.now ≤ length bytes.old }
+    requires short { length piece.now < 8 }
+    ensures start { take (at + length piece.now) bytes.new ≡ take at bytes.old ++ piece.now }
+    ensures len { length bytes.new ≡ length bytes.old }
+{
+    let len = piece.len();
+    if len >= 4 {
+        copy_ends::<4>(bytes, at, piece);
+    } else if len >= 2 {
+        copy_ends::<2>(bytes, at, piece);
+    } else if len == 1 {
+        copy_front::<1>(bytes, at, piece);
+    }
+}
+
+/// Copies `piece` into `bytes` from index `at`. Most pieces are of at most 32 bytes, for which no call is needed.
 #[inline(always)]
 fn copy_at(bytes: &mut [u8], at: usize, piece: &[u8])
     requires { at + length piece.now ≤ length bytes.old }
     ensures start { take (at + length piece.now) bytes.new ≡ take at bytes.old ++ piece.now }
     ensures len { length bytes.new ≡ length bytes.old }
 {
-    bytes[at..at + piece.len()].copy_from_slice(piece);
+    let len = piece.len();
+    if len < 8 {
+        copy_short(bytes, at, piece);
+    } else if len < 16 {
+        copy_ends::<8>(bytes, at, piece);
+    } else if len <= 32 {
+        copy_ends::<16>(bytes, at, piece);
+    } else {
+        copy_long(bytes, at, piece);
+    }
 }
 
 /// Fills at least `needed` bytes, and at most `most` bytes unless more are needed. Requests memory only if there is none
