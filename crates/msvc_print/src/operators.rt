@@ -110,6 +110,7 @@ fn write_listed(out: &mut Text, number: i32, flags: DemangleFlags) -> Result<(),
 
 /// Writes the place of a base class in an object, as run-time type information names it.
 #[tactic(auto, using(crate::proofs::Settling::settling), unfolding(crate::specs::Operators::base_class_pieces))]
+#[cold]
 pub fn write_base_class(
     out: &mut Text,
     class: &BaseClass,

@@ -48,6 +48,7 @@ fn write_between(
 
 /// Writes the name of an interface, in its brackets.
 #[tactic(auto, using(crate::proofs::Settling::settling))]
+#[cold]
 fn write_interface(out: &mut Text, bytes: &[u8]) -> Result<(), AllocError>
     ensures { OnOk result (Writes (spec.spelled_name spelling_kind.Interface bytes.now) out.old out.new) }
 {
@@ -56,6 +57,7 @@ fn write_interface(out: &mut Text, bytes: &[u8]) -> Result<(), AllocError>
 
 /// Writes the digits that stand for a name, between their marks.
 #[tactic(auto, using(crate::proofs::Settling::settling))]
+#[cold]
 fn write_md5(out: &mut Text, bytes: &[u8]) -> Result<(), AllocError>
     ensures { OnOk result (Writes (spec.spelled_name spelling_kind.Md5 bytes.now) out.old out.new) }
 {
@@ -64,6 +66,7 @@ fn write_md5(out: &mut Text, bytes: &[u8]) -> Result<(), AllocError>
 
 /// Writes a name if it is spelled, and returns whether it is.
 #[tactic(auto, unfolding(crate::specs::Declaration::name_pieces, msvc_nodes::specs::NodeView::name_of))]
+#[inline(always)]
 fn write_if_spelled<'a, 'b>(out: &mut Text, name: &'b Name<'a, 'b>) -> Result<bool, AllocError>
     ensures spelled { IfOk result (λ is. is ≡ true → (of_symbol : Bool) (flags : ℕ) →
         Writes (spec.name_pieces (name_of name.now) of_symbol flags) out.old out.new) }
@@ -202,6 +205,7 @@ fn print_nested<'a, 'b>(
 
 /// Prints the descriptor of a type.
 #[tactic(auto, using(crate::proofs::Halves::pushed_left))]
+#[cold]
 fn print_descriptor<'a, 'b>(
     stack: &mut Vec<Item<'a, 'b>, &'b Bump>,
     out: &mut Text,

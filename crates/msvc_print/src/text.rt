@@ -322,6 +322,7 @@ fn qualifier_space(flags: DemangleFlags) -> Space
 
 /// Writes a space and a qualifier, if its bit is set.
 #[tactic(auto, unfolding(crate::specs::Limited::add_all))]
+#[inline(always)]
 pub fn write_qualifier(
     out: &mut Text,
     kind: Space,
@@ -339,6 +340,7 @@ pub fn write_qualifier(
 }
 
 /// Writes `const` and `volatile`, if their bits are set.
+#[inline(always)]
 pub fn write_qualifiers(
     out: &mut Text,
     set: StorageClass,
@@ -349,6 +351,17 @@ pub fn write_qualifiers(
     if set.is_empty() {
         return Ok(());
     }
+    write_set_qualifiers(out, set, flags)
+}
+
+/// Writes `const` and `volatile`, if their bits are set.
+fn write_set_qualifiers(
+    out: &mut Text,
+    set: StorageClass,
+    flags: DemangleFlags,
+) -> Result<(), AllocError>
+    ensures { OnOk result (Writes (spec.qualifiers set.0 flags.0) out.old out.new) }
+{
     let kind = qualifier_space(flags);
     write_qualifier(out, kind, StorageClass::CONST, b"const", set)?;
     write_qualifier(out, kind, StorageClass::VOLATILE, b"volatile", set)?;
