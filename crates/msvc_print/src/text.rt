@@ -27,9 +27,10 @@ pub struct Text {
     bytes: Vec<u8>,
     /// How many bytes were written.
     written: usize,
-    /// How many more bytes are filled and within the limit.
-    room: usize,
     most: usize,
+    /// How many more bytes are filled and within the limit. It is kept apart from `written`: side by side, both are
+    /// changed as one value of 16 bytes, and a write waits until the one before has stored both halves.
+    room: usize,
     whole: bool,
 }
 
