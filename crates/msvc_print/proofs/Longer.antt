@@ -75,7 +75,7 @@ spaced most (Some bytes) kind byte last is =
     (sym (ap (is_written_after kind) (sym (last bytes refl)) ∙ is))
 
 -- a text that is not whole stays so
-add_all-left_out : (most : ℕ) (pieces : List Piece) →
+pub add_all-left_out : (most : ℕ) (pieces : List Piece) →
     add_all (record { most = most; text = None }) pieces ≡ record { most = most; text = None }
 unfolding add_all settle_within
 add_all-left_out most [] = refl
@@ -89,7 +89,7 @@ finished-left_out most (item ∷ above) flags =
     ap (λ t. add_all t (item_pieces item flags)) (finished-left_out most above flags)
     ∙ add_all-left_out most (item_pieces item flags)
 
-none_left : (o : Option (List ℕ)) → is_some o ≡ false → o ≡ None
+pub none_left : (o : Option (List ℕ)) → is_some o ≡ false → o ≡ None
 none_left None e = refl
 none_left (Some bytes) e = absurd (cc)
 

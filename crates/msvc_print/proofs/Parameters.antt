@@ -1,32 +1,25 @@
 -- What lists of parameters print, by their parts.
-use Rattle.std.proofs.Common.{◌≡◌, ℕ, ℤ, suc, ◌+◌, ◌-◌, ◌<◌, ◌≤◌, List, [], ◌∷◌, ◌++◌, Bool, true, false, cond, length}
-use Rattle.std.proofs.Common.{get_or, drop, take, refl, ap, sym, ◌∙◌, arith, codes}
+use Rattle.std.proofs.Common.{◌≡◌, ℕ, ℤ, zero, suc, ◌+◌, ◌-◌, ◌<◌, ◌≤◌, List, [], ◌∷◌, ◌++◌, Bool, true, false, length}
+use Rattle.std.proofs.Common.{get_or, drop, take, ap, sym, ◌∙◌, arith, codes}
 use Rattle.std.proofs.lemmas.List.{append_assoc, take_all}
-use Rattle.msvc_nodes.specs.Trees.{TypeTree, TypeTrees, array, no_types, types}
+use Rattle.msvc_nodes.specs.Trees.{TypeTree, array, types}
 use Rattle.std.specs.Borrow.{Bor}
 use Rattle.msvc_nodes.specs.NodeView.{type_of, types_in}
 use Rattle.msvc_nodes.specs.declared.flags.StorageClass.{StorageClass}
 use Rattle.msvc_nodes.specs.declared.nodes.Type.{«Type»}
 use Rattle.msvc_print.proofs.Settling.{add_all-append, add_all-first, settled_three}
-use Rattle.msvc_print.proofs.Halves.{around-halves}
-use Rattle.msvc_print.specs.Declaration.{grown, is_empty_pack, length_pieces, parameters}
-use Rattle.msvc_print.specs.Functions.{function_qualifier, function_qualifiers, separator}
-use Rattle.msvc_print.specs.Halves.{after, before, function_end, member_pointer_end}
+use Rattle.msvc_print.specs.Declaration.{length_pieces, parameters}
+use Rattle.msvc_print.specs.Functions.{function_qualifier, function_qualifiers}
+use Rattle.msvc_print.specs.Halves.{after, function_end, member_pointer_end}
 use Rattle.msvc_print.specs.Limited.{LimitedText, add_all}
 use Rattle.msvc_print.specs.Pieces.{Piece, text}
 use Rattle.msvc_print.specs.Weights.{type_weight, types_weight}
-use Rattle.msvc_print.specs.Sides.{alone, around}
 use Rattle.msvc_print.specs.Words.{closing}
-use Rattle.msvc_print.specs.Work.{Lightens, end_pieces, rest_of_parameters, work}
+use Rattle.msvc_print.specs.Work.{Lightens, rest_of_parameters, work}
 use Rattle.msvc_print.specs.declared.item.Item.{Item}
-use Rattle.msvc_print.specs.declared.item.ListEnd.{ListEnd}
 use Rattle.msvc_print.specs.declared.item.ListEnd.TheVariants.{Round, Bare}
 
--- a list is empty, or it is its first type and the rest
-types_in-none : (ts : List (Bor «Type»)) → length ts < 1 → types_in ts ≡ no_types
-types_in-none [] none = refl
-types_in-none (x ∷ xs) none = absurd (omega arith)
-
+-- a list is its first type and the rest
 types_in-first : (ts : List (Bor «Type»)) (d : Bor «Type») → 1 ≤ length ts →
     types_in ts ≡ types (type_of (get_or ts 0 d).now) (types_in (take (length ts - 1) (drop 1 ts)))
 types_in-first [] d some = absurd (omega arith)
@@ -41,72 +34,25 @@ types_weight-first : (ts : List (Bor «Type»)) (d : Bor «Type») → 1 ≤ len
 unfolding types_weight
 types_weight-first ts d some = ap types_weight (types_in-first ts d some)
 
--- the rest of a list weighs less
-pub types_weight-rest : (ts : List (Bor «Type»)) → 1 ≤ length ts →
-    types_weight (types_in (take (length ts - 1) (drop 1 ts))) < types_weight (types_in ts)
-types_weight-rest [] some = absurd (omega arith)
-types_weight-rest (x ∷ xs) some = omega (arith, types_weight-first (x ∷ xs) x some)
-
 -- the first type is printed on both sides of nothing
-pub lightened-first : (ts : List (Bor «Type»)) (d : Bor «Type») (s s' s'' : List Item) → 1 ≤ length ts →
-    Lightens (type_weight (type_of (get_or ts 0 d).now)) s' s'' →
-    work s' ≤ type_weight (type_of (get_or ts 0 d).now) + work s →
-    work s'' + types_weight (types_in (take (length ts - 1) (drop 1 ts))) < types_weight (types_in ts) + work s
-lightened-first ts d s s' s'' some h h' = omega (arith, types_weight-first ts d some)
+pub lightened-first : (ts : List (Bor «Type»)) (d : Bor «Type») (s s' : List Item) → 1 ≤ length ts →
+    Lightens (type_weight (type_of (get_or ts 0 d).now) + type_weight (type_of (get_or ts 0 d).now)) s s' →
+    work s' + types_weight (types_in (take (length ts - 1) (drop 1 ts))) < types_weight (types_in ts) + work s
+lightened-first ts d s s' some h = omega (arith, types_weight-first ts d some)
+
+-- fewer types weigh no more
+pub types_weight-fewer : (ts : List (Bor «Type»)) (k : ℕ) →
+    types_weight (types_in (drop k ts)) ≤ types_weight (types_in ts)
+unfolding types_weight
+types_weight-fewer [] zero = omega arith
+types_weight-fewer [] (suc k) = omega arith
+types_weight-fewer (x ∷ xs) zero = omega arith
+types_weight-fewer (x ∷ xs) (suc k) = omega (arith, types_weight-fewer xs k)
 
 pub types_weight-positive : (ts : List (Bor «Type»)) → 0 < types_weight (types_in ts)
 unfolding types_weight
 types_weight-positive [] = omega arith
 types_weight-positive (x ∷ xs) = omega arith
-
--- what stands after the last type of a list
-pub rest-end : (ts : List (Bor «Type»)) (first : Bool) (end : ListEnd) (flags : ℕ) → length ts < 1 →
-    rest_of_parameters ts first end flags ≡ end_pieces end flags
-unfolding parameters
-rest-end ts first end flags none =
-    ap (λ us. parameters us first flags ++ end_pieces end flags) (types_in-none ts none)
-
--- an empty pack is passed over
-pub rest-dropped : (ts : List (Bor «Type»)) (d : Bor «Type») (first : Bool) (end : ListEnd) (flags : ℕ) →
-    1 ≤ length ts → is_empty_pack (type_of (get_or ts 0 d).now) ≡ true →
-    rest_of_parameters ts first end flags
-    ≡ rest_of_parameters (take (length ts - 1) (drop 1 ts)) first end flags
-unfolding parameters
-rest-dropped ts d first end flags some pack =
-    let t : TypeTree = type_of (get_or ts 0 d).now in
-    let us : TypeTrees = types_in (take (length ts - 1) (drop 1 ts)) in
-    ap (λ us. parameters us first flags ++ end_pieces end flags) (types_in-first ts d some)
-    ∙ ap (λ b. cond b (parameters us first flags) (separator first flags ++ (around (grown t false alone flags) []
-    ++ parameters us false flags)) ++ end_pieces end flags) pack
-
--- any other type is printed on both sides of nothing, and then the rest
-pub rest-kept : (ts : List (Bor «Type»)) (d : Bor «Type») (first : Bool) (end : ListEnd) (flags : ℕ) →
-    1 ≤ length ts → is_empty_pack (type_of (get_or ts 0 d).now) ≡ false →
-    rest_of_parameters ts first end flags
-    ≡ separator first flags ++ (before (type_of (get_or ts 0 d).now) false flags
-    ++ (after (type_of (get_or ts 0 d).now) false flags
-    ++ rest_of_parameters (take (length ts - 1) (drop 1 ts)) false end flags))
-unfolding parameters
-rest-kept ts d first end flags some kept =
-    let t : TypeTree = type_of (get_or ts 0 d).now in
-    let us : TypeTrees = types_in (take (length ts - 1) (drop 1 ts)) in
-    let last : List Piece = end_pieces end flags in
-    let s : List Piece = separator first flags in
-    let b : List Piece = before t false flags in
-    let a : List Piece = after t false flags in
-    let later : List Piece = parameters us false flags in
-    let whole : List Piece = around (grown t false alone flags) [] in
-    ap (λ us. parameters us first flags ++ last) (types_in-first ts d some)
-    ∙ ap (λ c. cond c (parameters us first flags) (s ++ (whole ++ later)) ++ last) kept
-    ∙ ap (λ x. (s ++ x) ++ last) (ap (λ x. x ++ later) (around-halves t [] flags) ∙ append_assoc b a later)
-    ∙ append_assoc s (b ++ (a ++ later)) last
-    ∙ ap (λ ps. s ++ ps) (append_assoc b (a ++ later) last ∙ ap (λ ps. b ++ ps) (append_assoc a later last))
-
-pub settled_four : (out out1 : LimitedText) (a b c d : List Piece) → out1 ≡ add_all out a →
-    add_all (add_all (add_all out1 b) c) d ≡ add_all out (a ++ (b ++ (c ++ d)))
-settled_four out out1 a b c d e =
-    sym (add_all-append (add_all out1 b) c d) ∙ sym (add_all-append out1 b (c ++ d))
-    ∙ ap (λ x. add_all x (b ++ (c ++ d))) e ∙ sym (add_all-append out a (b ++ (c ++ d)))
 
 -- after the length of a level of an array stands what is after its elements
 pub settled-array : (out out1 : LimitedText) (pointed : Bool) (m n : ℤ) (t : TypeTree) (q flags : ℕ) →

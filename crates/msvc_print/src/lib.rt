@@ -4,9 +4,10 @@
 //! grammar or owned trees.
 //!
 //! A symbol goes through `printer`, the loop over the stack of `item`; each step is a function of `qualified_names` or
-//! `types`; these call `function_types`, `operators` and `words`; and `text` writes the bytes.
+//! `types`; these call `flat`, `function_types`, `operators` and `words`; and `text` writes the bytes.
 #![tactic(auto)]
 
+mod flat;
 mod function_types;
 mod item;
 mod operators;

@@ -12,9 +12,10 @@ ghost use Rattle.msvc_print.specs.Limited.{Writes};
 ghost use Rattle.msvc_print.specs.Pieces.{text};
 ghost use Rattle.msvc_print.specs.SymbolNodes.{no_type, symbol_name_of, symbol_weight_of};
 ghost use Rattle.msvc_print.specs.Weights.{scope_weight, type_weight, types_weight};
-ghost use Rattle.msvc_print.specs.Words.{closing, opening, qualifiers, variable_word};
+ghost use Rattle.msvc_print.specs.Words.{closing, marked, opening, qualifiers, variable_word};
 ghost use Rattle.msvc_print.specs.Work.{AddsAtMost, Lightens, Prints, Pushes, rest_of_parameters};
 
+use crate::flat::{write_flat, write_flat_pointer, write_flat_types, write_later_calling};
 use crate::function_types::{write_calling, write_list_end, write_member_start, write_separator};
 use crate::item::{Item, ListEnd, Types, push};
 use crate::qualified_names::{print_path, print_symbol};
@@ -49,8 +50,7 @@ pub fn print_before<'a, 'b>(
         Type::Numbered(kind, number) => write_numbered(out, *kind, *number, pointed, flags),
         Type::ConstantString(_) => Ok(()),
         Type::Pointing(mark, set, inner) => {
-            push(stack, Item::Mark(mark_word(*mark), *set))?;
-            print_inner(stack, out, *inner, true, flags)
+            print_pointer(stack, out, mark_word(*mark), *set, *inner, flags)
         }
         Type::Array(_, set, inner) => {
             push(stack, Item::ArrayLevel(*set, pointed))?;
@@ -92,7 +92,7 @@ fn write_plain(
 
 /// Writes a type that has one number in it.
 #[tactic(auto, using(crate::proofs::Settling::settling), unfolding(crate::specs::Halves::before))]
-fn write_numbered(
+pub fn write_numbered(
     out: &mut Text,
     kind: NumberedType,
     number: i32,
@@ -131,6 +131,27 @@ fn print_inner<'a, 'b>(
     }
 }
 
+/// Prints what a pointer or a reference has before the name.
+#[tactic(auto, using(crate::proofs::Stack::pushes))]
+fn print_pointer<'a, 'b>(
+    stack: &mut Vec<Item<'a, 'b>, &'b Bump>,
+    out: &mut Text,
+    word: &'b [u8],
+    set: StorageClass,
+    inner: &'b Type<'a, 'b>,
+    flags: DemangleFlags,
+) -> Result<(), AllocError>
+    ensures text { OnOk result (Prints (before (type_of inner.now) true flags.0 ++ marked word.now set.0 flags.0)
+        flags.0 stack.old.items out.old stack.new.items out.new) }
+    ensures lighter { OnOk result (Lightens (2 + type_weight (type_of inner.now)) stack.old.items stack.new.items) }
+{
+    if write_flat_pointer(out, word, set, inner, flags)? {
+        return Ok(());
+    }
+    push(stack, Item::Mark(word, set))?;
+    print_inner(stack, out, inner, true, flags)
+}
+
 /// Prints what a function has before its name.
 #[tactic(auto, using(crate::proofs::Stack::pushes))]
 fn print_function<'a, 'b>(
@@ -146,6 +167,9 @@ fn print_function<'a, 'b>(
     ensures lighter { OnOk result (Lightens (2 + type_weight (type_of function.now.returned.now))
         stack.old.items stack.new.items) }
 {
+    if write_flat(out, function.returned, flags)? {
+        return write_later_calling(out, pointed, function.convention, flags);
+    }
     push(stack, Item::Calling(pointed, function.convention))?;
     print_inner(stack, out, function.returned, false, flags)
 }
@@ -373,7 +397,7 @@ fn print_for<'a, 'b>(
 
 /// Returns whether a type is a pack without parameters.
 #[tactic(auto, unfolding(crate::specs::Declaration::is_empty_pack, msvc_nodes::specs::NodeView::type_of))]
-fn is_empty_pack<'a, 'b>(t: &'b Type<'a, 'b>) -> bool
+pub fn is_empty_pack<'a, 'b>(t: &'b Type<'a, 'b>) -> bool
     ensures { result ≡ spec.is_empty_pack (type_of t.now) }
 {
     match t {
@@ -401,20 +425,44 @@ pub fn print_parameters<'a, 'b>(
         stack.old.items out.old stack.new.items out.new) }
     ensures lighter { OnOk result (Lightens (types_weight (types_in types.now)) stack.old.items stack.new.items) }
 {
-    match types {
+    let at = write_flat_types(out, types, first, flags)?;
+    if !out.is_whole() {
+        return Ok(());
+    }
+    match &types[at..] {
         [] => {
             write_list_end(out, end, flags)?;
             Ok(())
         }
         [t, later @ ..] => {
-            if is_empty_pack(*t) {
-                push(stack, Item::Parameters(Types { types: later }, first, end))?;
-                return Ok(());
-            }
-            write_separator(out, first, flags)?;
             push(stack, Item::Parameters(Types { types: later }, false, end))?;
-            push_after(stack, *t, false, flags)?;
-            print_before(stack, out, *t, false, flags)?;
+            print_parameter(stack, out, *t, flags)?;
+            Ok(())
+        }
+    }
+}
+
+/// Prints a type on both sides of nothing.
+fn print_parameter<'a, 'b>(
+    stack: &mut Vec<Item<'a, 'b>, &'b Bump>,
+    out: &mut Text,
+    t: &'b Type<'a, 'b>,
+    flags: DemangleFlags,
+) -> Result<(), AllocError>
+    ensures text { OnOk result (Prints
+        (before (type_of t.now) false flags.0 ++ after (type_of t.now) false flags.0) flags.0
+        stack.old.items out.old stack.new.items out.new) }
+    ensures lighter { OnOk result (Lightens (type_weight (type_of t.now) + type_weight (type_of t.now))
+        stack.old.items stack.new.items) }
+{
+    match t {
+        Type::Tagged(tag, set, symbol) => {
+            print_tagged(stack, out, tag_word(*tag, flags), *symbol, *set, flags)?;
+            Ok(())
+        }
+        _ => {
+            push_after(stack, t, false, flags)?;
+            print_before(stack, out, t, false, flags)?;
             Ok(())
         }
     }
@@ -423,7 +471,7 @@ pub fn print_parameters<'a, 'b>(
 /// Writes a word and qualifiers.
 #[tactic(auto, using(crate::proofs::Settling::settling))]
 #[inline(always)]
-fn write_word(
+pub fn write_word(
     out: &mut Text,
     word: &[u8],
     set: StorageClass,
