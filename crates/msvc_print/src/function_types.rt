@@ -1,6 +1,6 @@
 //! Writes what the declaration of a function has beside its types: words, calling conventions, qualifiers, commas.
 
-ghost use Rattle.std.specs.Prelude.{◌≡◌, OnOk};
+ghost use Rattle.std.specs.Prelude.{false, ◌≡◌, OnOk};
 ghost use Rattle.msvc_print.specs.Functions as spec;
 ghost use Rattle.msvc_print.specs.Limited.{Writes};
 ghost use Rattle.msvc_print.specs.Work.{end_pieces};
@@ -216,18 +216,26 @@ pub fn write_list_end(out: &mut Text, end: ListEnd, flags: DemangleFlags) -> Res
     }
 }
 
+/// Writes the comma between two parameters. Each word is a constant, which is stored without a call.
+#[tactic(auto, using(crate::proofs::Settling::settling), unfolding(crate::specs::Functions::separator))]
+fn write_comma(out: &mut Text, flags: DemangleFlags) -> Result<(), AllocError>
+    ensures { OnOk result (Writes (spec.separator false flags.0) out.old out.new) }
+{
+    if flags.contains(DemangleFlags::SPACE_AFTER_COMMA) {
+        write_text(out, b", ")
+    } else {
+        write_text(out, b",")
+    }
+}
+
 /// Writes the comma before a parameter that is not the first.
 #[tactic(auto, using(crate::proofs::Settling::settling), unfolding(crate::specs::Functions::separator))]
+#[inline(always)]
 pub fn write_separator(out: &mut Text, first: bool, flags: DemangleFlags) -> Result<(), AllocError>
     ensures { OnOk result (Writes (spec.separator first flags.0) out.old out.new) }
 {
     if first {
         return Ok(());
     }
-    let comma: &[u8] = if flags.contains(DemangleFlags::SPACE_AFTER_COMMA) {
-        b", "
-    } else {
-        b","
-    };
-    write_text(out, comma)
+    write_comma(out, flags)
 }
