@@ -1,5 +1,6 @@
 pub mod Demangled
 pub mod Filled
+pub mod FirstByte
 pub mod Fronts
 pub mod Going
 pub mod Joined

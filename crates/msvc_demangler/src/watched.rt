@@ -8,6 +8,7 @@ ghost use Rattle.msvc_demangler.specs.Faults.{SetsFailureFlag, failure_flag, no_
 ghost use Rattle.msvc_demangler.specs.Streams.{Stream};
 ghost use Rattle.msvc_demangler.specs.Taking.{IsCut, TakenAs};
 
+use memchr::memchr;
 use std::io::{BufRead, Write};
 use std::marker::Model;
 
@@ -111,15 +112,10 @@ fn cut(shown: &[u8]) -> (usize, Taken)
     ensures taken { IsCut result.1 (take result.0 shown.now) }
     ensures end { result.1 ≡ Taken.End → shown.now ≡ [] }
 {
-    for i in 0..shown.len() {
-        if shown[i] == b'\n' {
-            return (i + 1, Taken::Line);
-        }
-    }
-    if shown.is_empty() {
-        (0, Taken::End)
-    } else {
-        (shown.len(), Taken::Part)
+    match memchr(b'\n', shown) {
+        Some(at) => (at + 1, Taken::Line),
+        None if shown.is_empty() => (0, Taken::End),
+        None => (shown.len(), Taken::Part),
     }
 }
 
