@@ -1,10 +1,13 @@
 -- Where a word begins, and what a scan keeps of it.
-use Rattle.std.proofs.Common.{◌≡◌, ◌∷◌, [], ◌∙◌, ℕ, List, Bool, true, false, cond, refl, sym, ap}
+use Rattle.std.proofs.Common.{◌≡◌, ◌≢◌, ◌<◌, ◌-◌, ◌∷◌, [], ◌∙◌, ℕ, List, Bool, true, false, cond, refl, sym, ap, suc}
+use Rattle.std.proofs.Common.{arith, get_or, length, ne_eqb}
+use Rattle.std.specs.List.{list_all}
 use Rattle.std.specs.Prelude.{◌==◌, ◌&&◌, ◌||◌, not}
+use Rattle.std.proofs.lemmas.List.Elements.{All-head, All-tail}
 use Rattle.std.proofs.lemmas.List.Sums.{take_while-cons}
 use Rattle.msvc_demangler.specs.Filtered.{IsFilteredFrom, Part, nothing, replaced, stays}
-use Rattle.msvc_demangler.specs.Scans.{AreRest, Keeps}
-use Rattle.msvc_demangler.specs.Words.{blocks_start, has_question_mark, is_of_word, is_start, word_before}
+use Rattle.msvc_demangler.specs.Scans.{AreRest, IsPlain, Keeps, past}
+use Rattle.msvc_demangler.specs.Words.{blocks_start, byte_before, has_question_mark, is_of_word, is_start, word_before}
 use Rattle.msvc_demangler.specs.declared.words.Scan.{Scan}
 
 or_swapped : (a b : Bool) → a || b ≡ (b || a) && true
@@ -33,6 +36,43 @@ pub Keeps-more : (scan after : Scan) (b last : ℕ) (passed : List ℕ)
 Keeps-more scan after b last passed seen before so = record {
   seen = seen ∙ ap (λ s. (s || b == 63) && is_of_word b) so.seen ∙ sym (seen-more b passed);
   before = before;
+}
+
+and-false_left : (h w e : Bool) → ((h || false) && w) && e ≡ h && (w && e)
+and-false_left true true e = refl
+and-false_left true false e = refl
+and-false_left false w e = refl
+
+-- where more bytes have no `?`
+seen-past : (bytes passed : List ℕ) → IsPlain bytes → has_question_mark (word_before (past bytes passed))
+    ≡ has_question_mark (word_before passed) && list_all is_of_word bytes
+seen-past [] passed plain = and_true (has_question_mark (word_before passed))
+  where
+    and_true : (a : Bool) → a ≡ a && true
+    and_true true = refl
+    and_true false = refl
+seen-past (b ∷ bytes) passed plain =
+    let none = ne_eqb b 63 (All-head (λ b. b ≢ 63) b bytes plain) in
+    let before = has_question_mark (word_before passed) in
+    let all = list_all is_of_word bytes in
+    seen-past bytes (b ∷ passed) (All-tail (λ b. b ≢ 63) b bytes plain)
+    ∙ ap (λ s. s && all) (seen-more b passed ∙ ap (λ q. (before || q) && is_of_word b) none)
+    ∙ and-false_left before (is_of_word b) all
+
+before-past : (last : ℕ) (bytes passed : List ℕ) → 0 < length bytes
+    → byte_before last (past bytes passed) ≡ get_or bytes (length bytes - 1) 0
+before-past last [] passed some = absurd (omega arith)
+before-past last (b ∷ []) passed some = refl
+before-past last (b ∷ c ∷ bytes) passed some =
+    let next : suc (length (c ∷ bytes) - 1) ≡ length (b ∷ c ∷ bytes) - 1 = omega arith in
+    before-past last (c ∷ bytes) (b ∷ passed) (omega arith) ∙ ap (λ i. get_or (b ∷ c ∷ bytes) i 0) next
+
+pub Keeps-past : (scan after : Scan) (bytes : List ℕ) (last : ℕ) (passed : List ℕ) → 0 < length bytes → IsPlain bytes
+    → after.seen_question_mark ≡ (scan.seen_question_mark && list_all is_of_word bytes)
+    → after.last ≡ get_or bytes (length bytes - 1) 0 → Keeps scan last passed → Keeps after last (past bytes passed)
+Keeps-past scan after bytes last passed some plain seen before so = record {
+  seen = seen ∙ ap (λ s. s && list_all is_of_word bytes) so.seen ∙ sym (seen-past bytes passed plain);
+  before = before ∙ sym (before-past last bytes passed some);
 }
 
 -- a scan tells a start

@@ -1,15 +1,20 @@
 -- The parts of some bytes, on their way.
 use Rattle.std.proofs.Common.{◌≡◌, ◌≤◌, ◌<◌, ◌+◌, ◌-◌, ◌++◌, ◌∷◌, [], ◌∙◌, inl, inr, ℕ, List, true, false, Option, map}
 use Rattle.std.proofs.Common.{length, take, drop, get_or, refl, sym, ap, subst, arith, add-one}
-use Rattle.std.proofs.Common.{append_assoc, append-nil, drop-cons, length-drop}
+use Rattle.std.proofs.Common.{append_assoc, append-nil, drop-cons, length-drop, length-take}
+use Rattle.std.proofs.Common.{◌≢◌, ne_eqb}
+use Rattle.std.proofs.Math.Seq.{take-add}
 use Rattle.std.proofs.lemmas.Bool.{or_parts}
-use Rattle.std.proofs.lemmas.List.{drop-append-le, drop-drop, get_or-drop, get_or_append_left, map-append, take_more}
+use Rattle.std.proofs.lemmas.List.{drop-append-le, drop-drop, get_or-drop, get_or_append_left, map-append, take-take}
+use Rattle.std.proofs.lemmas.List.{take_more}
+use Rattle.std.proofs.lemmas.List.Elements.{All-head, All-tail}
+use Rattle.std.proofs.lemmas.Simd.{chunk-drop}
 use Rattle.std.specs.List.{list_any}
 use Rattle.std.specs.Prelude.{◌==◌, ◌&&◌, ◌||◌, not}
 use Rattle.msvc_demangler.specs.Filtered.{IsFilteredFrom, IsNoSymbol, IsSymbol, Part, declared, kept}
 use Rattle.msvc_demangler.specs.Filtered.{nothing, replaced, stays, text_of_parts}
-use Rattle.msvc_demangler.specs.Scans.{ArePartsUpTo, AreRest, IsDecided, IsFound, IsSymbolShown, Keeps}
-use Rattle.msvc_demangler.specs.Scans.{most_looked_at}
+use Rattle.msvc_demangler.specs.Scans.{ArePartsUpTo, AreRest, IsDecided, IsFound, IsPlain, IsSymbolShown, Keeps}
+use Rattle.msvc_demangler.specs.Scans.{most_looked_at, past}
 use Rattle.msvc_demangler.specs.Words.{blocks_start, byte_before, has_question_mark, is_start, word_before}
 use Rattle.msvc_demangler.specs.declared.words.Scan.{Scan}
 use Rattle.msvc_demangler.proofs.Local.{no_symbol-more, symbol-more}
@@ -53,6 +58,55 @@ kept-more left at rest inside =
     sym (append_assoc (map kept (take at left)) (kept (get_or left at 0) ∷ []) rest)
     ∙ ap (λ l. l ++ rest) (sym (map-append kept (take at left) (get_or left at 0 ∷ []))
     ∙ ap (map kept) (sym (take_more left at 0 inside)))
+
+-- where no `?` is, no symbol starts
+no_start : (last : ℕ) (passed : List ℕ) (b : ℕ) → (b == 63) ≡ false → is_start last passed b ≡ true → ⊥
+no_start last passed b is starts =
+    let blocked = has_question_mark (word_before passed) || blocks_start (byte_before last passed) in
+    let no : false && not blocked ≡ true = subst (λ t. t && not blocked ≡ true) is starts in cc
+
+plain-parts : (flags last : ℕ) (passed run left : List ℕ) (rest : List Part) → IsPlain run
+    → IsFilteredFrom flags last (past run passed) left rest
+    → IsFilteredFrom flags last passed (run ++ left) (map kept run ++ rest)
+plain-parts flags last passed [] left rest plain h = h
+plain-parts flags last passed (b ∷ run) left rest plain h =
+    let none = ne_eqb b 63 (All-head (λ b. b ≢ 63) b run plain) in
+    stays (λ starts. absurd (no_start last passed b none starts))
+    (plain-parts flags last (b ∷ passed) run left rest (All-tail (λ b. b ≢ 63) b run plain) h)
+
+-- bytes without a `?` stay
+pub parts-plain : (flags : ℕ) (scan now after : Scan) (left : List ℕ) (until at end : ℕ)
+    → ArePartsUpTo flags scan left until (map kept (take at left)) at now → at ≤ end → end ≤ length left
+    → IsPlain (take (end - at) (drop at left))
+    → ((last : ℕ) (passed : List ℕ) → Keeps now last passed
+    → Keeps after last (past (take (end - at) (drop at left)) passed))
+    → ArePartsUpTo flags scan left until (map kept (take end left)) end after
+parts-plain flags scan now after left until at end so order within plain keeps more rest decided h =
+    let run = take (end - at) (drop at left) in
+    let count : at + (end - at) ≡ end = omega arith in
+    let front : take at left ++ run ≡ take end left =
+    sym (take-add at (end - at) left) ∙ ap (λ n. take n left) count in
+    let past_run : drop at left ++ more ≡ run ++ (drop end left ++ more) =
+    ap (λ l. l ++ more) (chunk-drop at (end - at) left ∙ ap (λ n. run ++ drop n left) count)
+    ∙ append_assoc run (drop end left) more in
+    let parts : map kept (take at left) ++ (map kept run ++ rest) ≡ map kept (take end left) ++ rest =
+    sym (append_assoc (map kept (take at left)) (map kept run) rest)
+    ∙ ap (λ l. l ++ rest) (sym (map-append kept (take at left) run) ∙ ap (map kept) front) in
+    subst (AreRest flags scan (left ++ more)) parts
+    (so more (map kept run ++ rest) decided (λ last passed k.
+    subst (λ l. IsFilteredFrom flags last passed l (map kept run ++ rest)) (sym past_run)
+    (plain-parts flags last passed run (drop end left ++ more) rest plain (h last (past run passed)
+    (keeps last passed k)))))
+
+-- the bytes before the first `?` of a part
+pub plain-run : (left : List ℕ) (at count until : ℕ) → count ≤ length (take (until - at) (drop at left))
+    → IsPlain (take count (take (until - at) (drop at left))) → IsPlain (take (at + count - at) (drop at left))
+plain-run left at count until within plain =
+    let here : at + count - at ≡ count = omega arith in
+    let long = length-take (until - at) (drop at left) in
+    let enough : count ≤ until - at = omega (arith, long, within) in
+    let same = take-take count (until - at) (drop at left) enough ∙ ap (λ n. take n (drop at left)) (sym here) in
+    subst IsPlain same plain
 
 -- a byte stays
 pub parts-stays : (flags : ℕ) (scan now after : Scan) (left : List ℕ) (until at : ℕ)
@@ -145,12 +199,8 @@ pub without_question_mark : (flags : ℕ) (last : ℕ) (passed left : List ℕ) 
 without_question_mark flags last passed [] none = nothing
 without_question_mark flags last passed (b ∷ bs) none =
     let parts = or_parts (b == 63) (list_any (λ c. c == 63) bs) none in
-    stays (λ starts. absurd (never b parts.0 starts)) (without_question_mark flags last (b ∷ passed) bs parts.1)
-  where
-    never : (b : ℕ) → (b == 63) ≡ false → is_start last passed b ≡ true → ⊥
-    never b is starts =
-        let blocked = has_question_mark (word_before passed) || blocks_start (byte_before last passed) in
-        let no : false && not blocked ≡ true = subst (λ t. t && not blocked ≡ true) is starts in cc
+    stays (λ starts. absurd (no_start last passed b parts.0 starts))
+    (without_question_mark flags last (b ∷ passed) bs parts.1)
 
 pub first-of : (left : List ℕ) (at : ℕ) → get_or (drop at left) 0 0 ≡ get_or left at 0
 first-of left at = get_or-drop at left 0 0 ∙ ap (λ i. get_or left i 0) (let e : at + 0 ≡ at = omega arith in e)

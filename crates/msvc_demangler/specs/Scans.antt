@@ -1,5 +1,6 @@
 -- What the filter's scan keeps of the bytes before a place, and what it has found.
-use Rattle.std.specs.Prelude.{ℕ, List, [], ◌∷◌, ◌+◌, ◌++◌, ◌≡◌, ◌≤◌, ◌<◌, ◌⊎◌, Option, Some, drop, length, map, take}
+use Rattle.std.specs.Prelude.{ℕ, List, [], ◌∷◌, ◌+◌, ◌++◌, ◌≡◌, ◌≢◌, ◌≤◌, ◌<◌, ◌⊎◌, All, Option, Some}
+use Rattle.std.specs.Prelude.{drop, length, map, take}
 use Rattle.msvc_demangler.specs.Filtered.{IsFilteredFrom, IsSymbol, Part, declared, kept, text_of_parts}
 use Rattle.msvc_demangler.specs.Runs.{most_held}
 use Rattle.msvc_demangler.specs.Words.{byte_before, has_question_mark, word_before}
@@ -9,6 +10,15 @@ use Rattle.msvc_demangler.specs.declared.words.Scan.{Scan}
 pub record Keeps (scan : Scan) (last : ℕ) (passed : List ℕ) : Type 0 where
   pub seen : scan.seen_question_mark ≡ has_question_mark (word_before passed)
   pub before : scan.last ≡ byte_before last passed
+
+-- no byte is a `?`
+abbrev pub IsPlain : List ℕ → Type 0
+IsPlain bytes = All (λ b. b ≢ 63) bytes
+
+-- the bytes passed, last first, after some more
+abbrev pub past : (bytes passed : List ℕ) → List ℕ
+past [] passed = passed
+past (b ∷ bytes) passed = past bytes (b ∷ passed)
 
 -- the parts of the bytes left, whatever bytes were passed of which the scan keeps this
 abbrev pub AreRest : ℕ → Scan → List ℕ → List Part → Type 0

@@ -20,7 +20,9 @@ ghost use Rattle.msvc_demangler.specs.Words.{is_start};
 use crate::output::put_all;
 use crate::room::Room;
 use crate::watched::{Fault, Taken, Watched};
-use crate::words::{MOST_LOOKED_AT, Scan, candidate, continues, symbol_extent, utf8_front};
+use crate::words::{
+    MOST_LOOKED_AT, Scan, candidate, continues, plain_len, symbol_extent, utf8_front,
+};
 use crate::{DEFAULT_BYTE_LIMIT, DEFAULT_NODE_LIMIT};
 use msvc_nodes::error::Error;
 use msvc_nodes::flags::DemangleFlags;
@@ -329,6 +331,13 @@ fn next_symbol(
 {
     let mut at = 0;
     'bytes: while at < until {
+        if left[at] != b'?' {
+            // No symbol starts before the next `?`.
+            let end = at + plain_len(&left[at..until]);
+            *scan = scan.pass(&left[at..end]);
+            at = end;
+            continue;
+        }
         match symbol_at(room, &left[at..], *scan, flags)? {
             Some(bytes) => {
                 *scan = Scan::new(left[at + bytes - 1]);

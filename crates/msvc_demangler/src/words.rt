@@ -1,11 +1,13 @@
 //! Where a symbol may stand in a text: words, their starts, and the candidates that begin there.
 
 ghost use Rattle.std.specs.Prelude.{◌&&◌, ◌∷◌, ◌==◌, ◌||◌, ◌≡◌, ◌≤◌, ◌<◌, ℕ, List, [], drop, length, take};
-ghost use Rattle.std.specs.List.{take_while};
+ghost use Rattle.std.specs.Prelude.{slice_index};
+ghost use Rattle.std.specs.List.{list_all, take_while};
 ghost use Rattle.msvc_demangler.specs.Words.{blocks_start, candidate, continues, ends_word, is_left_over};
-ghost use Rattle.msvc_demangler.specs.Scans.{Keeps};
+ghost use Rattle.msvc_demangler.specs.Scans.{IsPlain, Keeps, past};
 ghost use Rattle.msvc_demangler.specs.Words.{is_of_word, is_start, is_visible, most_bytes, symbol_extent, utf8_front};
 
+use memchr::memchr;
 use std::str::from_utf8;
 
 /// The most bytes of a candidate: the longest name that Microsoft's compiler gives.
@@ -64,6 +66,18 @@ impl Scan {
             last: byte,
         }
     }
+
+    /// Moves past bytes without a `?`, all of which stay.
+    pub(crate) fn pass(self, bytes: &[u8]) -> Scan
+        requires some { 0 < length bytes.now }
+        requires plain { IsPlain bytes.now }
+        ensures { (last : ℕ) (passed : List ℕ) → Keeps self last passed → Keeps result last (past bytes.now passed) }
+    {
+        Scan {
+            seen_question_mark: self.seen_question_mark && are_of_word(bytes),
+            last: bytes[bytes.len() - 1],
+        }
+    }
 }
 
 /// Returns whether the word that continues after a byte has had a `?`.
@@ -71,6 +85,27 @@ fn sees_question_mark(seen_question_mark: bool, byte: u8) -> bool
     ensures { result ≡ (seen_question_mark || byte == 63) && is_of_word byte }
 {
     (seen_question_mark || byte == b'?') && is_of_word(byte)
+}
+
+/// Returns whether all bytes are of a word.
+fn are_of_word(bytes: &[u8]) -> bool
+    ensures { result ≡ list_all is_of_word bytes.now }
+{
+    'bytes: for i in 0..bytes.len() {
+        if !is_of_word(bytes[i]) {
+            return false;
+        }
+    }
+    true
+}
+
+/// Counts the bytes before the first `?`, or all if there is none.
+pub(crate) fn plain_len(bytes: &[u8]) -> usize
+    ensures bound { result ≤ length bytes.now }
+    ensures plain { IsPlain (take result bytes.now) }
+    ensures end { result < length bytes.now → slice_index bytes.now result ≡ 63 }
+{
+    memchr(b'?', bytes).unwrap_or(bytes.len())
 }
 
 /// Returns the bytes that may be a symbol at a start.

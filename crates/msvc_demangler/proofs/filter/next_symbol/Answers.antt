@@ -1,11 +1,29 @@
-use Rattle.std.proofs.Common.{arith}
-use Rattle.msvc_demangler.proofs.Within.{first-of, parts-found, parts-stays, parts-start}
+use Rattle.std.proofs.Common.{◌+◌, ◌-◌, arith, drop, length-take}
+use Rattle.msvc_demangler.proofs.Within.{first-of, parts-found, parts-plain, parts-stays, parts-start, plain-run}
 use Rattle.msvc_demangler.proofs.Written.{to_end}
 use Rattle.msvc_demangler.proofs.filter.next_symbol.Goals as goal
 
 pub bytes-init : goal.bytes-init
 bytes-init c =
     (omega arith, parts-start c.args.flags.0 c.args.scan.now c.args.left.now c.args.until)
+
+pub pass-requires-clause-plain : goal.pass-requires-clause-plain
+pass-requires-clause-plain c =
+    let run = c.plain_len.ensures in
+    plain-run c.args.left.now c.bytes.at c.plain_len.result c.args.until run.bound run.plain
+
+pub bytes-preserved-then-left-at-ne63 : goal.bytes-preserved-then-left-at-ne63
+bytes-preserved-then-left-at-ne63 c =
+    let left = c.args.left.now in
+    let at = c.bytes.at in
+    let count = c.plain_len.result in
+    let run = c.plain_len.ensures in
+    let plain = plain-run left at count c.args.until run.bound run.plain in
+    let long = length-take (c.args.until - at) (drop at left) in (
+      omega (arith, run.bound, long),
+      parts-plain c.args.flags.0 _ c.bytes.scan _ left c.args.until at (at + count) c.bytes.invariant.1 (omega arith)
+          (omega (arith, run.bound, long)) plain c.pass.ensures,
+    )
 
 pub bytes-preserved : goal.bytes-preserved
 bytes-preserved c =
