@@ -1,7 +1,9 @@
 //! `undname` over one symbol and over lines, from a reader to writers.
 
-ghost use Rattle.std.specs.Prelude.{◌≡◌, ◌≢◌, ◌∷◌, ℕ, List, [], Some, IfErr, IfOk, OnOk, OnSome};
+ghost use Rattle.std.specs.Prelude.{◌≡◌, ◌≢◌, ◌∷◌, ◌++◌, ℕ, List, [], Some, IfErr, IfOk, IfSome, OnOk, OnSome, codes};
+ghost use Rattle.std.specs.Prelude.{string_bytes};
 ghost use Rattle.std.specs.Io.KnownBytes.{Appends, Consumes, IsAtEnd};
+ghost use Rattle.msvc_nodes.specs.Errors.{error_text};
 ghost use Rattle.msvc_nodes.specs.declared.error.ErrorRepr.TheVariants.{Memory};
 ghost use Rattle.msvc_demangler.specs.Answers.{IsAnswer, IsLineText, IsText};
 ghost use Rattle.msvc_demangler.specs.Lines.{line_of};
@@ -16,9 +18,12 @@ use msvc_nodes::error::Error;
 use msvc_nodes::flags::DemangleFlags;
 use msvc_print::print;
 use msvc_read::read_symbol;
-use std::alloc::Global;
+use std::alloc::{AllocError, Global};
 use std::io::{BufRead, Write};
 use std::str::from_utf8;
+
+/// Bytes that the line of an error has room for before it grows. Few errors of symbols take more.
+const ERROR_TEXT: usize = 256;
 
 /// Demangles one symbol: writes its declaration and a line feed to `out`. If the symbol is rejected, writes the error
 /// to `err`, and then the symbol itself and a line feed to `out`. If `verbose`, writes the symbol's tree to `err`
@@ -93,10 +98,20 @@ fn answer(room: &mut Room, symbol: &str, verbose: bool, tree: &mut String) -> Re
 fn report<E: Write>(alloc: Global, error: &Error, err: &mut Watched<E>) -> Result<(), Fault>
     ensures marks { SetsFailureFlag result no_stream no_stream (failure_flag err.old err.new) }
 {
-    match format!(in alloc; "error: {error}\n") {
+    match error_line(alloc, error) {
         Ok(text) => put_all(err, text.as_bytes()),
         Err(_) => Err(Fault::Memory),
     }
+}
+
+/// Makes the line that says why a symbol was rejected.
+fn error_line(alloc: Global, error: &Error) -> Result<String, AllocError>
+    ensures { IfOk result (λ line. IfSome (error_text error.now) (λ text.
+        string_bytes line ≡ codes "error: " ++ (text ++ codes "\n"))) }
+{
+    let mut line = String::with_capacity(alloc, ERROR_TEXT)?;
+    write!(line, "error: {error}\n")?;
+    Ok(line)
 }
 
 /// Demangles each line of `input`, to its end, as [`undname_one`] does. Lines that are not UTF-8 are skipped.
