@@ -18,7 +18,7 @@ mod tests {
     }
 
     /// Texts, and what they become.
-    const TEXTS: [(&[u8], &[u8]); 17] = [
+    const TEXTS: [(&[u8], &[u8]); 19] = [
         (b"", b""),
         (b"\n\r\n\0", b"\n\r\n\0"),
         (b"?x@@3HA", b"int x"),
@@ -67,6 +67,16 @@ mod tests {
         (b"?<f>@@3HA?x", b"int <f>?x"),
         (b"?\xC3\xA9@@3HA\xFF?x@@3HA", b"int \xC3\xA9\xFFint x"),
         (b"?\xFF@@3HA ?f\x7F@@3HA", b"?\xFF@@3HA ?f\x7F@@3HA"),
+        // A word with a `?` goes on over letters, and ends at the first byte that is of no word.
+        (
+            b"a?bc$d_0@?x@@3HA a?bc$d-?x@@3HA a?b cd-e?x@@3HA a?b c-?x@@3HA",
+            b"a?bc$d_0@?x@@3HA a?bc$d-int x a?b cd-e?x@@3HA a?b c-int x",
+        ),
+        // Candidates that end at the 16th byte and at the 17th.
+        (
+            b"?aaaaaaaaaaaaaa\x7F@@3HA ?aaaaaaaaaaaaaa\x1F@@3HA ?aaaaaaaaaaaaaaa\x7F@@3HA ?aaaaaaaaaa@@3HA ?b@@3HA",
+            b"?aaaaaaaaaaaaaa\x7F@@3HA ?aaaaaaaaaaaaaa\x1F@@3HA ?aaaaaaaaaaaaaaa\x7F@@3HA int aaaaaaaaaa int b",
+        ),
     ];
 
     #[test]
