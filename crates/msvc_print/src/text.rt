@@ -16,8 +16,9 @@ use std::alloc::{AllocError, Global};
 use std::marker::Model;
 use std::simd::Simd;
 
-/// Bytes that are filled at first, if there is memory for them: more than most declarations have.
-const FIRST_FILLED: usize = 1024;
+/// What stands behind a text until it is written over. Not all bytes are alike, so that the compiler copies them, and
+/// calls no `memset`: callers from C need not have it.
+const FILLING: [[u8; 2]; 512] = [*b"._"; 512];
 
 /// A text under a limit of bytes. A piece that would exceed the limit is left out, whatever its length, and the text is
 /// not whole from then on: its bytes are unspecified, and at most as many as the limit.
@@ -28,8 +29,8 @@ pub struct Text {
     /// How many bytes were written.
     written: usize,
     most: usize,
-    /// How many more bytes are filled and within the limit. It is kept apart from `written`: side by side, both are
-    /// changed as one value of 16 bytes, and a write waits until the one before has stored both halves.
+    /// How many more bytes are filled and within the limit. `most` stands between it and `written`: side by side, both
+    /// were changed as one value of 16 bytes, and a write waited until the one before had stored both halves.
     room: usize,
     whole: bool,
 }
@@ -241,21 +242,22 @@ fn copy_at(bytes: &mut [u8], at: usize, piece: &[u8])
     }
 }
 
-/// Fills at least `needed` bytes, and at most `most` bytes unless more are needed. Requests memory only if there is none
-/// for the bytes that are needed.
-fn fill(bytes: &mut Vec<u8>, needed: usize, most: usize) -> Result<(), AllocError>
+/// Fills bytes behind a text, at most `most` and no more than there is memory for. Returns how many.
+fn fill_ahead(bytes: &mut Vec<u8>, most: usize) -> usize
     ensures kept { take (length bytes.old.items) bytes.new.items ≡ bytes.old.items }
-    ensures filled { OnOk result (needed ≤ length bytes.new.items) }
+    ensures filled { length bytes.old.items + result ≤ length bytes.new.items }
+    ensures fits { result ≤ most }
 {
-    let filled = bytes.len();
-    bytes.reserve(needed.saturating_sub(filled))?;
-    let ahead = filled.saturating_mul(2).max(FIRST_FILLED);
-    let ahead = ahead.min(bytes.capacity()).min(most);
-    bytes.resize(filled.max(needed).max(ahead), 0)?;
-    Ok(())
+    let filling = FILLING.as_flattened();
+    let free = bytes.capacity().saturating_sub(bytes.len());
+    let count = free.min(filling.len()).min(most);
+    match bytes.extend_from_slice(&filling[..count]) {
+        Ok(()) => count,
+        Err(_) => 0,
+    }
 }
 
-/// Writes bytes as they are, by filling more bytes, if the limit allows them.
+/// Writes bytes as they are, behind those that were written, if the limit allows them.
 #[cold]
 #[inline(never)]
 fn write_text_beyond(out: &mut Text, bytes: &[u8]) -> Result<(), AllocError>
@@ -265,11 +267,11 @@ fn write_text_beyond(out: &mut Text, bytes: &[u8]) -> Result<(), AllocError>
         out.whole = false;
         return Ok(());
     }
-    let end = out.written + bytes.len();
-    fill(&mut out.bytes, end, out.most)?;
-    copy_at(&mut out.bytes, out.written, bytes);
-    out.written = end;
-    out.room = out.bytes.len().min(out.most) - end;
+    out.room = 0;
+    out.bytes.truncate(out.written);
+    out.bytes.extend_from_slice(bytes)?;
+    out.written += bytes.len();
+    out.room = fill_ahead(&mut out.bytes, out.most - out.written);
     Ok(())
 }
 
@@ -355,7 +357,7 @@ pub fn write_qualifiers(
     write_set_qualifiers(out, set, flags)
 }
 
-/// Writes `const` and `volatile`, if their bits are set.
+/// Writes `const` and `volatile`, of which one bit or both are set.
 fn write_set_qualifiers(
     out: &mut Text,
     set: StorageClass,
