@@ -112,6 +112,10 @@ fn cut(shown: &[u8]) -> (usize, Taken)
     ensures taken { IsCut result.1 (take result.0 shown.now) }
     ensures end { result.1 ≡ Taken.End → shown.now ≡ [] }
 {
+    // An empty line needs no search.
+    if let [b'\n', ..] = shown {
+        return (1, Taken::Line);
+    }
     match memchr(b'\n', shown) {
         Some(at) => (at + 1, Taken::Line),
         None if shown.is_empty() => (0, Taken::End),

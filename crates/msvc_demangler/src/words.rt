@@ -106,7 +106,11 @@ pub(crate) fn plain_len(bytes: &[u8]) -> usize
     ensures plain { IsPlain (take result bytes.now) }
     ensures end { result < length bytes.now → slice_index bytes.now result ≡ 63 }
 {
-    memchr(b'?', bytes).unwrap_or(bytes.len())
+    match bytes {
+        // One byte between two of them needs no search.
+        [first, b'?', ..] if *first != b'?' => 1,
+        _ => memchr(b'?', bytes).unwrap_or(bytes.len()),
+    }
 }
 
 /// Returns the bytes that may be a symbol at a start.
