@@ -104,7 +104,7 @@ fn report<E: Write>(alloc: Global, error: &Error, err: &mut Watched<E>) -> Resul
     }
 }
 
-/// Makes the line that says why a symbol was rejected.
+/// Returns the line that is written for a rejected symbol: its error and a line feed.
 fn error_line(alloc: Global, error: &Error) -> Result<String, AllocError>
     ensures { IfOk result (λ line. IfSome (error_text error.now) (λ text.
         string_bytes line ≡ codes "error: " ++ (text ++ codes "\n"))) }

@@ -68,7 +68,7 @@ impl Scan {
         }
     }
 
-    /// Moves past bytes without a `?`, all of which stay.
+    /// Returns the scan after some bytes without a `?`, all of which stay.
     pub(crate) fn pass(self, bytes: &[u8]) -> Scan
         requires some { 0 < length bytes.now }
         requires plain { IsPlain bytes.now }
@@ -133,7 +133,7 @@ fn visible_len(left: &[u8]) -> usize
     len
 }
 
-/// Counts the bytes at the front, up to `most`, in blocks of 16 of which all are visible.
+/// Returns how many bytes at the front are visible, in whole blocks of 16 bytes and at most `most`.
 fn visible_blocks(left: &[u8], most: usize) -> usize
     requires { most ≤ length left.now }
     ensures bound { result ≤ most }

@@ -133,8 +133,8 @@ impl<'a, 'b, L: Limit> Parser<'a, 'b, L> {
         self.memorize_name(name, L::one())
     }
 
-    /// Does what [`Parser::memorized_name`] does, all of it in the caller's own code. So only a function outside the
-    /// cycle of readers may call it.
+    /// Stores and memorizes a name as [`Parser::memorized_name`] does, inlined into its caller. Only functions outside
+    /// the cycle of readers call it, since it takes more stack.
     #[inline(always)]
     pub fn entered_name(&mut self, name: Name<'a, 'b>) -> Result<&'b Name<'a, 'b>, Refused>
         requires { name_count L.weight (name_of name) ≡ L.weight }
@@ -161,7 +161,7 @@ impl<'a, 'b, L: Limit> Parser<'a, 'b, L> {
         self.enter_name(name, nodes)
     }
 
-    /// Does what [`Parser::memorize_name`] does, in the caller's own code.
+    /// Memorizes a name as [`Parser::memorize_name`] does, inlined into its caller.
     #[inline(always)]
     fn enter_name(&mut self, name: &'b Name<'a, 'b>, nodes: L) -> Result<&'b Name<'a, 'b>, Refused>
         requires { L.made nodes ≡ name_count L.weight (name_of name.now) }

@@ -16,15 +16,15 @@ use std::alloc::{AllocError, Global};
 use std::marker::Model;
 use std::simd::Simd;
 
-/// What stands behind a text until it is written over. Not all bytes are alike, so that the compiler copies them, and
-/// calls no `memset`: callers from C need not have it.
+/// Fills the memory behind a text until more is written there. Its bytes differ, so that the compiler copies them and
+/// does not call `memset`, which the C library is not documented to need.
 const FILLING: [[u8; 2]; 512] = [*b"._"; 512];
 
 /// A text under a limit of bytes. A piece that would exceed the limit is left out, whatever its length, and the text is
 /// not whole from then on: its bytes are unspecified, and at most as many as the limit.
 #[derive(Drop)]
 pub struct Text {
-    /// What was written, and then bytes that are filled already, so that a write only copies.
+    /// Holds the bytes that were written, and then bytes that are filled already, so that a write only copies.
     bytes: Vec<u8>,
     /// How many bytes were written.
     written: usize,

@@ -97,7 +97,7 @@ impl<'b, T: Copy> Stack<'b, T> {
     }
 }
 
-/// Makes room for more items in a full list.
+/// Requests memory for more items of a full list.
 #[cold]
 #[inline(never)]
 fn make_room<'b, T: Copy>(items: &mut Vec<T, &'b Bump>) -> Result<(), AllocError>
@@ -107,8 +107,8 @@ fn make_room<'b, T: Copy>(items: &mut Vec<T, &'b Bump>) -> Result<(), AllocError
     items.try_reserve(FIRST_ITEMS)
 }
 
-/// Copies items into the arena, or returns nothing if memory runs out. A few, as most lists have, are stored as one
-/// value.
+/// Copies items into the arena, or returns nothing if memory runs out. Up to three, as most lists have, are stored as
+/// one value. A longer list is taken apart and put together again, so that all arms return in registers.
 #[inline(always)]
 fn copied<'b, T: Copy>(arena: &'b Bump, items: &[T]) -> Option<List<'b, T>>
     ensures { IfSome result (λ list. list.items.now ≡ items.now) }

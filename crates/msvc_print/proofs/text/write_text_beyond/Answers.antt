@@ -31,9 +31,9 @@ returns c =
     let longer = c.extend_from_slice.new.self.items in
     let appended : longer ≡ before ++ piece
     = c.in_ok-extend_from_slice.ensures.items ∙ ap (λ b. b ++ piece) c.truncate.ensures.items in
+    let whole = length-take-le fields.written fields.bytes.items (omega (arith, c.out.invariant.0)) in
     let long : length longer ≡ end
-    = ap length appended ∙ length-append before piece
-    ∙ ap (λ n. n + length piece) (length-take-le fields.written fields.bytes.items (omega (arith, c.out.invariant.0))) in
+    = ap length appended ∙ length-append before piece ∙ ap (λ n. n + length piece) whole in
     let is_after : after ≡ before ++ piece
     = ap (λ n. take n filled) (sym long) ∙ c.fill_ahead-out-inside.ensures.kept ∙ appended in
     added _ _ before after (text piece) (sym is_after) fits
