@@ -183,7 +183,7 @@ pub(crate) fn names_to_nodes<'a, 'b>(
 {
     let mut nodes = Vec::with_capacity(arena, tree.names.len())?;
     for name in &tree.names {
-        nodes.push(name_to_nodes(arena, name)?)?;
+        nodes.push_reserved(name_to_nodes(arena, name)?);
     }
     Ok(List {
         items: into_bump_slice(nodes),
@@ -201,7 +201,7 @@ pub(crate) fn types_to_nodes<'a, 'b>(
 {
     let mut nodes = Vec::with_capacity(arena, tree.types.len())?;
     for item in &tree.types {
-        nodes.push(type_to_nodes(arena, item)?)?;
+        nodes.push_reserved(type_to_nodes(arena, item)?);
     }
     Ok(List {
         items: into_bump_slice(nodes),

@@ -11,7 +11,7 @@ ghost use Rattle.msvc_nodes.specs.Trees.{anonymous, base_class_descriptor};
 ghost use Rattle.msvc_tree.specs.View.{name_of, type_of, scope_of, params_of, tree_of};
 
 use crate::kinds::{base_type, guard_operator, numbered_type, plain_operator, plain_type};
-use crate::made::{boxed_made, push_made};
+use crate::made::{boxed_made, put_made};
 use crate::parts::{
     array_made, constant_string_made, function_made, member_function_made, member_pointer_made,
     nested_made, pointing_made, symbol_made, table_made, tagged_made, template_made,
@@ -159,7 +159,7 @@ pub(crate) fn names_to_tree<'a, 'b>(
 {
     let mut made = Vec::with_capacity(alloc, names.len())?;
     for name in names {
-        push_made(&mut made, name_to_tree(alloc, *name))?;
+        put_made(&mut made, name_to_tree(alloc, *name))?;
     }
     Ok(NameSequence { names: made })
 }
@@ -175,7 +175,7 @@ pub(crate) fn types_to_tree<'a, 'b>(
 {
     let mut made = Vec::with_capacity(alloc, types.len())?;
     for item in types {
-        push_made(&mut made, type_to_tree(alloc, *item))?;
+        put_made(&mut made, type_to_tree(alloc, *item))?;
     }
     Ok(Params { types: made })
 }

@@ -22,7 +22,7 @@ names_to_nodes-name_to_nodes-requires t c =
 pub names_to_nodes-returns : goal.names_to_nodes-returns
 names_to_nodes-returns t c =
     sym (names-from_map c.args.tree.now.names.items c.into_bump_slice.result.now
-    (sym (ap (map name_at) c.into_bump_slice.ensures ∙ c.loop-name.invariant
+    (sym (ap (map name_at) c.into_bump_slice.ensures ∙ c.loop-name.invariant.0
     ∙ ap (map name_of) (take_all c.loop-name.name-index c.deref-name-items.result.now (search (rules, arith))
     ∙ c.deref-name-items.ensures.value))))
 
@@ -41,6 +41,6 @@ types_to_nodes-type_to_nodes-requires t c =
 pub types_to_nodes-returns : goal.types_to_nodes-returns
 types_to_nodes-returns t c =
     sym (types-from_map c.args.tree.now.types.items c.into_bump_slice.result.now
-    (sym (ap (map type_at) c.into_bump_slice.ensures ∙ c.loop-item.invariant
+    (sym (ap (map type_at) c.into_bump_slice.ensures ∙ c.loop-item.invariant.0
     ∙ ap (map type_of) (take_all c.loop-item.item-index c.deref-item-items.result.now (search (rules, arith))
     ∙ c.deref-item-items.ensures.value))))

@@ -1,4 +1,4 @@
-use Rattle.std.proofs.Common.{◌≡◌, ◌+◌, ◌*◌, map, take}
+use Rattle.std.proofs.Common.{◌≡◌, ◌≤◌, ◌+◌, ◌*◌, length, map, take, vec_capacity, vec_len}
 use Rattle.msvc_nodes.specs.NodeView.{name_at, type_at}
 use Rattle.msvc_nodes.specs.Sizes.{name_size, names_size, type_size, types_size}
 use Rattle.msvc_tree.specs.View.{name_of, operator_of, type_of, scope_of, params_of}
@@ -28,7 +28,9 @@ decreases-tree_to_nodes l =
     + type_size (type_of l.tree.now.symbol_type)) + 2
 
 abbrev pub invariant-names_to_nodes-loop-name : goal.invariant-names_to_nodes-loop-name
-invariant-names_to_nodes-loop-name l = map name_at l.nodes.items ≡ map name_of (take l.name-index l.name-items)
+invariant-names_to_nodes-loop-name l = (map name_at l.nodes.items ≡ map name_of (take l.name-index l.name-items))
+    × (vec_len l.nodes ≡ l.name-index) × (length l.name-items ≤ vec_capacity l.nodes)
 
 abbrev pub invariant-types_to_nodes-loop-item : goal.invariant-types_to_nodes-loop-item
-invariant-types_to_nodes-loop-item l = map type_at l.nodes.items ≡ map type_of (take l.item-index l.item-items)
+invariant-types_to_nodes-loop-item l = (map type_at l.nodes.items ≡ map type_of (take l.item-index l.item-items))
+    × (vec_len l.nodes ≡ l.item-index) × (length l.item-items ≤ vec_capacity l.nodes)

@@ -34,10 +34,13 @@ names_to_tree-name_to_tree-requires t c =
 
 pub names_to_tree-loop-name-preserved : goal.names_to_tree-loop-name-preserved
 names_to_tree-loop-name-preserved t c =
-    let x = slice_index_or c.args.names.now c.loop-name.name-index no_name in
-    pushed-seen _ name_of _ _ _ _ (name_at x) c.in_ok-push_made.ensures c.name_to_tree.ensures
-    ∙ ap (λ ns. ns ++ name_at x ∷ []) c.loop-name.invariant
-    ∙ sym (map_more name_at c.args.names.now c.loop-name.name-index no_name (omega arith))
+    let x = slice_index_or c.args.names.now c.loop-name.name-index no_name in (
+      pushed-seen name_of _ _ _ (name_at x) c.in_ok-put_made.ensures.items c.name_to_tree.ensures
+          ∙ ap (λ ns. ns ++ name_at x ∷ []) c.loop-name.invariant.0
+          ∙ sym (map_more name_at c.args.names.now c.loop-name.name-index no_name (omega arith)),
+      omega (arith, c.in_ok-put_made.ensures.len),
+      omega arith,
+    )
 
 pub types_to_tree-type_to_tree-requires : goal.types_to_tree-type_to_tree-requires
 types_to_tree-type_to_tree-requires t c =
@@ -48,19 +51,22 @@ types_to_tree-type_to_tree-requires t c =
 
 pub types_to_tree-loop-item-preserved : goal.types_to_tree-loop-item-preserved
 types_to_tree-loop-item-preserved t c =
-    let x = slice_index_or c.args.types.now c.loop-item.item-index no_type in
-    pushed-seen _ type_of _ _ _ _ (type_at x) c.in_ok-push_made.ensures c.type_to_tree.ensures
-    ∙ ap (λ ts. ts ++ type_at x ∷ []) c.loop-item.invariant
-    ∙ sym (map_more type_at c.args.types.now c.loop-item.item-index no_type (omega arith))
+    let x = slice_index_or c.args.types.now c.loop-item.item-index no_type in (
+      pushed-seen type_of _ _ _ (type_at x) c.in_ok-put_made.ensures.items c.type_to_tree.ensures
+          ∙ ap (λ ts. ts ++ type_at x ∷ []) c.loop-item.invariant.0
+          ∙ sym (map_more type_at c.args.types.now c.loop-item.item-index no_type (omega arith)),
+      omega (arith, c.in_ok-put_made.ensures.len),
+      omega arith,
+    )
 
 pub names_to_tree-returns : goal.names_to_tree-returns
 names_to_tree-returns t c =
-    names-from_map c.loop-name.made.items c.args.names.now (c.loop-name.invariant
+    names-from_map c.loop-name.made.items c.args.names.now (c.loop-name.invariant.0
     ∙ ap (map name_at) (take_all c.loop-name.name-index c.args.names.now (search (rules, arith))))
 
 pub types_to_tree-returns : goal.types_to_tree-returns
 types_to_tree-returns t c =
-    types-from_map c.loop-item.made.items c.args.types.now (c.loop-item.invariant
+    types-from_map c.loop-item.made.items c.args.types.now (c.loop-item.invariant.0
     ∙ ap (map type_at) (take_all c.loop-item.item-index c.args.types.now (search (rules, arith))))
 
 pub type_to_tree-symbol_to_tree-requires : goal.type_to_tree-symbol_to_tree-requires

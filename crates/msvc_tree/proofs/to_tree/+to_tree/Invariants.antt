@@ -1,4 +1,4 @@
-use Rattle.std.proofs.Common.{◌≡◌, ◌+◌, ◌*◌, map, take}
+use Rattle.std.proofs.Common.{◌≡◌, ◌≤◌, ◌+◌, ◌*◌, length, map, take, vec_capacity, vec_len}
 use Rattle.msvc_nodes.specs.NodeView.{name_at, type_at, name_of, type_of, names_in, types_in}
 use Rattle.msvc_nodes.specs.Sizes.{name_size, names_size, type_size, types_size}
 use Rattle.msvc_tree.specs.View.{name_of as tree_name, type_of as tree_type}
@@ -29,7 +29,9 @@ decreases-nodes_to_tree l =
     + type_size (type_of l.whole.now.symbol_type.now)) + 1
 
 abbrev pub invariant-names_to_tree-loop-name : goal.invariant-names_to_tree-loop-name
-invariant-names_to_tree-loop-name l = map tree_name l.made.items ≡ map name_at (take l.name-index l.names)
+invariant-names_to_tree-loop-name l = (map tree_name l.made.items ≡ map name_at (take l.name-index l.names))
+    × (vec_len l.made ≡ l.name-index) × (length l.names ≤ vec_capacity l.made)
 
 abbrev pub invariant-types_to_tree-loop-item : goal.invariant-types_to_tree-loop-item
-invariant-types_to_tree-loop-item l = map tree_type l.made.items ≡ map type_at (take l.item-index l.types)
+invariant-types_to_tree-loop-item l = (map tree_type l.made.items ≡ map type_at (take l.item-index l.types))
+    × (vec_len l.made ≡ l.item-index) × (length l.types ≤ vec_capacity l.made)
