@@ -66,9 +66,25 @@ pub(crate) fn symbol_to_nodes<'a, 'b>(
     })
 }
 
-/// Converts a name to a node.
+/// Converts a name to a node: one of the source at once, any other by a call.
 #[cycle(to_nodes)]
+#[inline(never)]
 pub(crate) fn name_to_nodes<'a, 'b>(
+    arena: &'b Bump,
+    tree: &'b Name<'a>,
+) -> Result<&'b nodes::Name<'a, 'b>, AllocError>
+    ensures { IfOk result (λ n. node_name n.now ≡ name_of tree.now) }
+{
+    match tree {
+        Name::NonTemplate(text) => put_name(arena, nodes::Name::Source(*text)),
+        _ => any_name_to_nodes(arena, tree),
+    }
+}
+
+/// Converts any name to a node.
+#[cycle(to_nodes)]
+#[inline(never)]
+fn any_name_to_nodes<'a, 'b>(
     arena: &'b Bump,
     tree: &'b Name<'a>,
 ) -> Result<&'b nodes::Name<'a, 'b>, AllocError>

@@ -51,9 +51,25 @@ pub(crate) fn symbol_to_tree<'a, 'b>(
     )
 }
 
-/// Converts a name.
+/// Converts a name: one of the source where this is called, any other by a call.
 #[cycle(to_tree)]
+#[inline(always)]
 pub(crate) fn name_to_tree<'a, 'b>(
+    alloc: Global,
+    name: &'b nodes::Name<'a, 'b>,
+) -> Result<Name<'a>, AllocError>
+    ensures { IfOk result (λ n. name_of n ≡ node_name name.now) }
+{
+    match name {
+        nodes::Name::Source(text) => Ok(Name::NonTemplate(*text)),
+        _ => any_name_to_tree(alloc, name),
+    }
+}
+
+/// Converts any name.
+#[cycle(to_tree)]
+#[inline(never)]
+fn any_name_to_tree<'a, 'b>(
     alloc: Global,
     name: &'b nodes::Name<'a, 'b>,
 ) -> Result<Name<'a>, AllocError>

@@ -1,6 +1,6 @@
 use Rattle.std.proofs.Common.{◌≡◌, ◌<◌, rules, get_or, sym, ap, ◌∙◌, subst, map, arith}
 use Rattle.std.proofs.lemmas.List.{take_all}
-use Rattle.msvc_nodes.specs.NodeView.{name_at, type_at}
+use Rattle.msvc_nodes.specs.NodeView.{name_at, type_at, name_of as node_name}
 use Rattle.msvc_nodes.specs.Sizes.{name_size, names_size, type_size, types_size}
 use Rattle.msvc_tree.specs.View.{name_of, type_of, scope_of, params_of}
 use Rattle.msvc_tree.proofs.Lists.{names_in-size, types_in-size}
@@ -44,3 +44,7 @@ types_to_nodes-returns t c =
     (sym (ap (map type_at) c.into_bump_slice.ensures ∙ c.loop-item.invariant.0
     ∙ ap (map type_of) (take_all c.loop-item.item-index c.deref-item-items.result.now (search (rules, arith))
     ∙ c.deref-item-items.ensures.value))))
+
+pub name_to_nodes-returns-in-NonTemplate : goal.name_to_nodes-returns-in-NonTemplate
+unfolding node_name name_of
+name_to_nodes-returns-in-NonTemplate t c = rw c.in-NonTemplate.is c.put_name.ensures

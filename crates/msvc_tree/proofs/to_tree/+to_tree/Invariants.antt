@@ -5,7 +5,10 @@ use Rattle.msvc_tree.specs.View.{name_of as tree_name, type_of as tree_type}
 use Rattle.msvc_tree.proofs.to_tree.+to_tree.Given as goal
 
 abbrev pub decreases-name_to_tree : goal.decreases-name_to_tree
-decreases-name_to_tree l = 3 * name_size (name_of l.name.now)
+decreases-name_to_tree l = 3 * name_size (name_of l.name.now) + 1
+
+abbrev pub decreases-any_name_to_tree : goal.decreases-any_name_to_tree
+decreases-any_name_to_tree l = 3 * name_size (name_of l.name.now)
 
 abbrev pub decreases-type_to_tree : goal.decreases-type_to_tree
 decreases-type_to_tree l = 3 * type_size (type_of l.node.now)
@@ -21,7 +24,7 @@ decreases-types_to_tree l = 3 * types_size (types_in l.types.now)
 
 abbrev pub decreases-symbol_to_tree : goal.decreases-symbol_to_tree
 decreases-symbol_to_tree l =
-    3 * (name_size (name_of l.symbol.now.name.now) + names_size (names_in l.symbol.now.scope.now)) + 1
+    3 * (name_size (name_of l.symbol.now.name.now) + names_size (names_in l.symbol.now.scope.now)) + 2
 
 abbrev pub decreases-nodes_to_tree : goal.decreases-nodes_to_tree
 decreases-nodes_to_tree l =
