@@ -56,6 +56,11 @@ pub scope_prefix-none : (ns : List (Bor Name)) (flags : ℕ) → scope_prefix (n
 unfolding scope_pieces
 scope_prefix-none ns flags = refl
 
+pub scope_prefix-empty : (ns : List (Bor Name)) (flags : ℕ) → length ns < 1 → scope_prefix (names_in ns) flags ≡ []
+unfolding scope_pieces
+scope_prefix-empty [] flags none = refl
+scope_prefix-empty (x ∷ xs) flags none = absurd (omega arith)
+
 -- where no name is left, all of the scope is written
 pub written-all : (ns : List (Bor Name)) (k flags : ℕ) (out out1 : LimitedText) → k ≡ 0 →
     add_all out1 (scope_prefix (names_in (take k ns)) flags) ≡ add_all out (scope_prefix (names_in ns) flags) →

@@ -280,6 +280,49 @@ pub fn print_name<'a, 'b>(
     }
 }
 
+/// Pushes the names of a scope, if it has any.
+#[inline(always)]
+fn push_scope<'a, 'b>(
+    stack: &mut Vec<Item<'a, 'b>, &'b Bump>,
+    names: &'b [&'b Name<'a, 'b>],
+) -> Result<(), AllocError>
+    ensures text { OnOk result ((flags : ℕ) →
+        Pushes (spec.scope_prefix (names_in names.now) flags) flags stack.old.items stack.new.items) }
+    ensures lighter { OnOk result (AddsAtMost (scope_weight (names_in names.now)) stack.old.items stack.new.items) }
+{
+    match names {
+        [] => Ok(()),
+        [_, ..] => {
+            push(stack, Item::Scope(Scope { names }))?;
+            Ok(())
+        }
+    }
+}
+
+/// Prints the first `left` names of a scope, the outermost first, each with `::` after it.
+#[inline(always)]
+fn print_left_names<'a, 'b>(
+    stack: &mut Vec<Item<'a, 'b>, &'b Bump>,
+    out: &mut Text,
+    names: &'b [&'b Name<'a, 'b>],
+    left: usize,
+    flags: DemangleFlags,
+) -> Result<(), AllocError>
+    requires { left ≤ length names.now }
+    ensures text { OnOk result (Prints (spec.scope_prefix (names_in (take left names.now)) flags.0) flags.0
+        stack.old.items out.old stack.new.items out.new) }
+    ensures lighter { OnOk result (Lightens (scope_weight (names_in names.now)) stack.old.items stack.new.items) }
+{
+    if left == 0 {
+        return Ok(());
+    }
+    let last = left - 1;
+    push_scope(stack, &names[..last])?;
+    push(stack, Item::Text(b"::"))?;
+    print_name(stack, out, names[last], false, flags)?;
+    Ok(())
+}
+
 /// Prints the names of a scope, the outermost first, each with `::` after it.
 pub fn print_scope<'a, 'b>(
     stack: &mut Vec<Item<'a, 'b>, &'b Bump>,
@@ -292,18 +335,7 @@ pub fn print_scope<'a, 'b>(
     ensures lighter { OnOk result (Lightens (scope_weight (names_in names.now)) stack.old.items stack.new.items) }
 {
     let left = write_spelled_names(out, names)?;
-    if left == 0 {
-        return Ok(());
-    }
-    let last = left - 1;
-    push(
-        stack,
-        Item::Scope(Scope {
-            names: &names[..last],
-        }),
-    )?;
-    push(stack, Item::Text(b"::"))?;
-    print_name(stack, out, names[last], false, flags)?;
+    print_left_names(stack, out, names, left, flags)?;
     Ok(())
 }
 
@@ -328,12 +360,7 @@ fn print_in_scope<'a, 'b>(
         return Ok(());
     }
     push(stack, Item::Name(name, true))?;
-    push(
-        stack,
-        Item::Scope(Scope {
-            names: &names[..left],
-        }),
-    )?;
+    print_left_names(stack, out, names, left, flags)?;
     Ok(())
 }
 

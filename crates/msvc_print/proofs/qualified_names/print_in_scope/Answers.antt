@@ -3,7 +3,7 @@ use Rattle.msvc_nodes.specs.NodeView.{name_of}
 use Rattle.msvc_print.specs.Declaration.{name_pieces}
 use Rattle.msvc_print.specs.Limited.{add_all}
 use Rattle.msvc_print.specs.Work.{finished}
-use Rattle.msvc_print.proofs.Names.{scope_weight-fewer, written-all}
+use Rattle.msvc_print.proofs.Names.{written-all}
 use Rattle.msvc_print.proofs.Settling.{add_all-append}
 use Rattle.msvc_print.proofs.Stack.{pushed_one, work_one}
 use Rattle.msvc_print.proofs.qualified_names.print_in_scope.Goals as goal
@@ -20,7 +20,7 @@ returns-then-left-eq0-clause-text c =
 pub returns-clause-text : goal.returns-clause-text
 returns-clause-text c =
     let name = name_pieces (name_of c.args.name.now) true c.args.flags.0 in
-    pushed_one _ _ _ _ _ c.in_ok-push-2.ensures
+    c.in_ok-print_left_names.ensures.text
     ∙ pushed_one _ _ _ _ _ c.in_ok-push.ensures
     ∙ ap (λ x. finished c.args.stack.now.items (add_all x name) c.args.flags.0)
     (c.in_ok-left.ensures.text c.args.flags.0)
@@ -29,7 +29,6 @@ returns-clause-text c =
 pub returns-clause-lighter : goal.returns-clause-lighter
 returns-clause-lighter c = omega (
   arith,
-  work_one _ _ _ c.in_ok-push-2.ensures,
   work_one _ _ _ c.in_ok-push.ensures,
-  scope_weight-fewer c.args.names.now c.in_ok-left.left,
+  c.in_ok-print_left_names.ensures.lighter,
 )
