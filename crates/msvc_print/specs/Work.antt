@@ -59,7 +59,7 @@ item_pieces (Qualifiers set) flags = qualifiers set.0 flags
 item_pieces (Mark word set) flags = marked word.now set.0 flags
 item_pieces (ArrayLevel set pointed) flags = qualifiers set.0 flags ++ opening pointed
 item_pieces (Calling pointed convention) flags = calling pointed convention flags
-item_pieces (Parameters left first end) flags = rest_of_parameters left.types.now first end flags
+item_pieces (Parameters list) flags = rest_of_parameters list.types.now list.first list.end flags
 item_pieces (Before t pointed) flags = before (type_of t.now) pointed flags
 item_pieces (After t pointed) flags = after (type_of t.now) pointed flags
 
@@ -74,7 +74,7 @@ item_weight (Qualifiers set) = 1
 item_weight (Mark word set) = 1
 item_weight (ArrayLevel set pointed) = 1
 item_weight (Calling pointed convention) = 1
-item_weight (Parameters left first end) = types_weight (types_in left.types.now)
+item_weight (Parameters list) = types_weight (types_in list.types.now)
 item_weight (Before t pointed) = type_weight (type_of t.now)
 item_weight (After t pointed) = type_weight (type_of t.now)
 

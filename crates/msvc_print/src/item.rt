@@ -1,6 +1,7 @@
 //! The items of the printer's stack: what is left to print.
 
-ghost use Rattle.std.specs.Prelude.{◌≡◌, ◌++◌, ◌∷◌, [], OnOk};
+ghost use Rattle.std.specs.Prelude.{◌≡◌, ◌++◌, ◌∷◌, [], IfNone, IfSome, OnOk};
+ghost use Rattle.msvc_print.specs.declared.item.Item.TheVariants.{Parameters};
 
 use bumpalo::Bump;
 use msvc_nodes::flags::StorageClass;
@@ -19,10 +20,13 @@ pub enum ListEnd {
     Angle,
 }
 
-/// Types of a list.
+/// The types that are left of a list, and what stands after the last.
 #[derive(Clone, Copy)]
-pub struct Types<'a, 'b> {
+pub struct TypeList<'a, 'b> {
     pub types: &'b [&'b Type<'a, 'b>],
+    /// Whether none was printed yet.
+    pub first: bool,
+    pub end: ListEnd,
 }
 
 /// A part of a declaration that is left to print. It borrows the nodes that it names.
@@ -48,8 +52,8 @@ pub enum Item<'a, 'b> {
     ArrayLevel(StorageClass, bool),
     /// The calling convention of a function, and the parenthesis before the mark of a pointer to it.
     Calling(bool, CallingConv),
-    /// The types that are left of a list, and what stands after the last. The flag says whether none was printed yet.
-    Parameters(Types<'a, 'b>, bool, ListEnd),
+    /// The types that are left of a list, and what stands after the last.
+    Parameters(TypeList<'a, 'b>),
     /// What a type has before the name. The flag says whether it stands directly under a pointer or a reference.
     Before(&'b Type<'a, 'b>, bool),
     /// What a type has after the name.
@@ -65,4 +69,18 @@ pub fn push<'a, 'b>(
 {
     stack.push(item)?;
     Ok(())
+}
+
+/// Pops the last item, if it is what is left of a list. Returns the list.
+#[inline(always)]
+pub fn pop_list<'a, 'b>(stack: &mut Vec<Item<'a, 'b>, &'b Bump>) -> Option<TypeList<'a, 'b>>
+    ensures list { IfSome result (λ list. stack.old.items ≡ stack.new.items ++ Parameters list ∷ []) }
+    ensures other { IfNone result (stack.new.items ≡ stack.old.items) }
+{
+    let Some(Item::Parameters(list)) = stack.last() else {
+        return None;
+    };
+    let list = *list;
+    stack.pop();
+    Some(list)
 }

@@ -80,8 +80,8 @@ fn step<'a, 'b>(
         Item::Mark(word, set) => write_mark(out, word, set, flags),
         Item::ArrayLevel(set, pointed) => write_level(out, set, pointed, flags),
         Item::Calling(pointed, convention) => write_calling(out, pointed, convention, flags),
-        Item::Parameters(left, first, end) => {
-            print_parameters(stack, out, left.types, first, end, flags)
+        Item::Parameters(list) => {
+            print_parameters(stack, out, list.types, list.first, list.end, flags)
         }
         Item::Before(t, pointed) => print_before(stack, out, t, pointed, flags),
         Item::After(t, pointed) => print_after(stack, out, t, pointed, flags),

@@ -19,7 +19,7 @@ ghost use Rattle.msvc_print.specs.Weights.{name_weight, scope_weight, type_weigh
 ghost use Rattle.msvc_print.specs.Work.{AddsAtMost, Lightens, Prints, Pushes, member_return};
 ghost use Rattle.msvc_print.specs.declared.text.Space.TheVariants.{AfterPointer};
 
-use crate::item::{Item, ListEnd, Types, push};
+use crate::item::{Item, ListEnd, TypeList, push};
 use crate::operators::{
     NameKind, name_kind, operator_word, write_base_class, write_guard, write_spaced,
 };
@@ -239,7 +239,11 @@ fn print_template<'a, 'b>(
     ensures lighter { OnOk result (Lightens (3 + name_weight (name_of name.now) + types_weight (types_in arguments.now))
         stack.old.items stack.new.items) }
 {
-    let list = Item::Parameters(Types { types: arguments }, true, ListEnd::Angle);
+    let list = Item::Parameters(TypeList {
+        types: arguments,
+        first: true,
+        end: ListEnd::Angle,
+    });
     if write_if_spelled(out, name)? {
         write_text(out, b"<")?;
         return push(stack, list);

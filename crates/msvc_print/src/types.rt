@@ -17,7 +17,7 @@ ghost use Rattle.msvc_print.specs.Work.{AddsAtMost, Lightens, Prints, Pushes, re
 
 use crate::flat::{write_flat, write_flat_pointer, write_flat_types, write_later_calling};
 use crate::function_types::{write_calling, write_list_end, write_member_start, write_separator};
-use crate::item::{Item, ListEnd, Types, push};
+use crate::item::{Item, ListEnd, TypeList, pop_list, push};
 use crate::qualified_names::{print_path, print_symbol};
 use crate::text::{Text, write_closing, write_number, write_opening, write_qualifiers, write_text};
 use crate::words::{base_word, mark_word, tag_word, variable_word};
@@ -412,8 +412,10 @@ pub fn is_empty_pack<'a, 'b>(t: &'b Type<'a, 'b>) -> bool
     }
 }
 
-/// Prints the types of a list, with a comma before each but the first, and what stands after them.
-pub fn print_parameters<'a, 'b>(
+/// Prints the types of a list up to the first one that is not flat, with a comma before each but the first, and what
+/// stands after the last. Pushes the rest.
+#[inline(always)]
+fn print_list<'a, 'b>(
     stack: &mut Vec<Item<'a, 'b>, &'b Bump>,
     out: &mut Text,
     types: &'b [&'b Type<'a, 'b>],
@@ -435,11 +437,41 @@ pub fn print_parameters<'a, 'b>(
             Ok(())
         }
         [t, later @ ..] => {
-            push(stack, Item::Parameters(Types { types: later }, false, end))?;
+            let left = TypeList {
+                types: later,
+                first: false,
+                end,
+            };
+            push(stack, Item::Parameters(left))?;
             print_parameter(stack, out, *t, flags)?;
             Ok(())
         }
     }
+}
+
+/// Prints the types of a list, with a comma before each but the first, and what stands after them. Goes on with the
+/// lists that are then the last items of the stack.
+pub fn print_parameters<'a, 'b>(
+    stack: &mut Vec<Item<'a, 'b>, &'b Bump>,
+    out: &mut Text,
+    types: &'b [&'b Type<'a, 'b>],
+    first: bool,
+    end: ListEnd,
+    flags: DemangleFlags,
+) -> Result<(), AllocError>
+    ensures text { OnOk result (Prints (rest_of_parameters types.now first end flags.0) flags.0
+        stack.old.items out.old stack.new.items out.new) }
+    ensures lighter { OnOk result (Lightens (types_weight (types_in types.now)) stack.old.items stack.new.items) }
+{
+    let mut list = TypeList { types, first, end };
+    'lists: while out.is_whole() {
+        print_list(stack, out, list.types, list.first, list.end, flags)?;
+        let Some(next) = pop_list(stack) else {
+            return Ok(());
+        };
+        list = next;
+    }
+    Ok(())
 }
 
 /// Prints a type on both sides of nothing.

@@ -1,44 +1,30 @@
-use Rattle.std.proofs.Common.{◌≡◌, false, is_some, arith, ap, ◌∙◌, rules}
-use Rattle.msvc_print.proofs.FlatTypes.{add_all-not_whole, rest-begun, rest-written, types-left, written-rest}
-use Rattle.msvc_print.proofs.Parameters.{lightened-first, types_weight-fewer, types_weight-positive}
-use Rattle.msvc_print.proofs.Stack.{pushed_one, work_one}
-use Rattle.msvc_nodes.specs.NodeView.{types_in}
-use Rattle.msvc_print.specs.Weights.{types_weight}
+use Rattle.std.proofs.Common.{◌≡◌, false, is_some, arith, ap, sym, ◌∙◌, rules}
 use Rattle.msvc_print.specs.Work.{finished}
+use Rattle.msvc_print.proofs.FlatTypes.{add_all-not_whole}
+use Rattle.msvc_print.proofs.Parameters.{types_weight-positive}
+use Rattle.msvc_print.proofs.Stack.{pushed_one, work_one}
 use Rattle.msvc_print.proofs.types.print_parameters.Goals as goal
 
+pub lists-smaller : goal.lists-smaller
+lists-smaller c = omega (arith, c.in_ok-print_list.ensures.lighter, work_one _ _ _ c.in-Some.ensures.list)
+
+pub lists-preserved : goal.lists-preserved
+lists-preserved c = record {
+  text = sym (pushed_one _ _ _ _ _ c.in-Some.ensures.list) ∙ c.in_ok-print_list.ensures.text ∙ c.lists.invariant.text;
+  lighter = omega (
+    arith,
+    c.in_ok-print_list.ensures.lighter,
+    c.lists.invariant.lighter,
+    work_one _ _ _ c.in-Some.ensures.list,
+  );
+}
+
 -- a piece was left out
-pub returns-then-not-is_whole-clause-text : goal.returns-then-not-is_whole-clause-text
-returns-then-not-is_whole-clause-text c =
-    let left_out : is_some c.write_flat_types.new.out.text ≡ false = search rules in
-    ap (λ x. finished c.args.stack.now.items x c.args.flags.0) (add_all-not_whole _ _ left_out
-    ∙ written-rest c.args.types.now c.in_ok-at.at _ c.args.end c.args.flags.0 _ _ c.in_ok-at.ensures.text)
+pub returns-clause-text : goal.returns-clause-text
+returns-clause-text c =
+    let left_out : is_some c.lists.out.text ≡ false = search rules in
+    ap (λ x. finished c.lists.stack.items x c.args.flags.0) (add_all-not_whole _ _ left_out) ∙ c.lists.invariant.text
 
-pub returns-then-not-is_whole-clause-lighter : goal.returns-then-not-is_whole-clause-lighter
-returns-then-not-is_whole-clause-lighter c = omega (arith, types_weight-positive c.args.types.now)
-
-pub returns-in_ok-write_list_end-in-empty-clause-text : goal.returns-in_ok-write_list_end-in-empty-clause-text
-returns-in_ok-write_list_end-in-empty-clause-text c =
-    ap (λ x. finished c.args.stack.now.items x c.args.flags.0) (c.in_ok-write_list_end-in-empty.ensures
-    ∙ rest-written _ _ _ _ c.in-empty.len_below
-    ∙ written-rest c.args.types.now c.in_ok-at.at _ c.args.end c.args.flags.0 _ _ c.in_ok-at.ensures.text)
-
-pub returns-in_ok-write_list_end-in-empty-clause-lighter : goal.returns-in_ok-write_list_end-in-empty-clause-lighter
-returns-in_ok-write_list_end-in-empty-clause-lighter c = omega (arith, types_weight-positive c.args.types.now)
-
-pub returns-in_ok-print_parameter-in-len1-up-clause-text : goal.returns-in_ok-print_parameter-in-len1-up-clause-text
-returns-in_ok-print_parameter-in-len1-up-clause-text c =
-    c.in_ok-print_parameter-in-len1-up.ensures.text ∙ pushed_one _ _ _ _ _ c.in_ok-push-in-len1-up.ensures
-    ∙ ap (λ x. finished c.args.stack.now.items x c.args.flags.0)
-    (rest-begun _ _ c.args.end c.args.flags.0 _ c.in-len1-up.len_at_least
-    ∙ written-rest c.args.types.now c.in_ok-at.at _ c.args.end c.args.flags.0 _ _ c.in_ok-at.ensures.text)
-
-pub returns-in_ok-print_parameter-in-len1-up-clause-lighter :
-    goal.returns-in_ok-print_parameter-in-len1-up-clause-lighter
-returns-in_ok-print_parameter-in-len1-up-clause-lighter c = omega (
-  arith,
-  work_one _ _ _ c.in_ok-push-in-len1-up.ensures,
-  lightened-first _ _ _ _ c.in-len1-up.len_at_least c.in_ok-print_parameter-in-len1-up.ensures.lighter,
-  ap (λ ts. types_weight (types_in ts)) (types-left c.args.types.now c.in_ok-at.at),
-  types_weight-fewer c.args.types.now c.in_ok-at.at,
-)
+pub returns-clause-lighter : goal.returns-clause-lighter
+returns-clause-lighter c =
+    omega (arith, c.lists.invariant.lighter, types_weight-positive c.lists.list.types.now)
