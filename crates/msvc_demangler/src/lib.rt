@@ -27,6 +27,7 @@ pub use lines::{undname_lines, undname_one};
 pub use msvc_nodes::error::{Error, ErrorRepr, Limit};
 use msvc_nodes::error::{TOO_LONG, parse_error};
 pub use msvc_nodes::flags::{DemangleFlags, FuncClass, StorageClass};
+use msvc_print::Text;
 pub use msvc_read::{
     BackReference, back_references, parse, parse_prefix, parse_within, symbol_length,
     symbol_length_within,
@@ -35,7 +36,7 @@ pub use msvc_tree::tree::{
     CallingConv, Name, NameSequence, Operator, Params, ParseResult, Symbol, Type, VarStorageKind,
 };
 pub use msvc_write::serialize;
-use room::Room;
+use room::demangle_once;
 pub use run::undname_run;
 use std::alloc::Global;
 use std::borrow::CowStr;
@@ -92,11 +93,11 @@ pub fn demangle_within(
     ensures rejected { IfErr result (λ e. IsRefusedUnder (limits_of nodes bytes) input.now flags.0 e) }
     ensures hashes { IfOk result (λ text. HashesAreShown input.now (string_bytes text)) }
 {
-    let mut room = Room::new(alloc);
-    match room.demangle(input, flags, nodes, bytes) {
+    let mut text = Text::new(alloc);
+    match demangle_once(alloc, &mut text, input, flags, nodes, bytes) {
         Ok(printed) => {
             if printed.whole {
-                Ok(room.text.into_string())
+                Ok(text.into_string())
             } else {
                 Err(too_long(alloc, input, printed.read))
             }

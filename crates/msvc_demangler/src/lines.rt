@@ -12,7 +12,7 @@ ghost use Rattle.msvc_demangler.specs.Runs.{Writes, WritesLines};
 
 use crate::debug::write_tree;
 use crate::output::{put_all, put_line};
-use crate::room::Room;
+use crate::room::{Room, clear_text_for};
 use crate::watched::{Fault, Taken, Watched};
 use msvc_nodes::error::Error;
 use msvc_nodes::flags::DemangleFlags;
@@ -87,6 +87,7 @@ fn answer(room: &mut Room, symbol: &str, verbose: bool, tree: &mut String) -> Re
             if verbose {
                 write_tree(room.alloc, &read, tree)?;
             }
+            clear_text_for(&mut room.text, symbol)?;
             print(&room.arena, &read, DemangleFlags::llvm(), &mut room.text)?;
             Ok(())
         }

@@ -1,5 +1,5 @@
 //! The memory that symbols are demangled in: an arena, and the text of a declaration. Both are kept from one symbol to
-//! the next. Every call that demangles one symbol does so here.
+//! the next, or made for one. Every call that demangles one symbol does so here.
 
 ghost use Rattle.std.specs.Prelude.{IfErr, IfOk};
 ghost use Rattle.msvc_nodes.specs.NodeView.{typed_symbol_of};
@@ -11,8 +11,8 @@ use bumpalo::Bump;
 use msvc_nodes::error::Error;
 use msvc_nodes::flags::DemangleFlags;
 use msvc_nodes::nodes::TypedSymbol;
-use msvc_print::{Text, print_within, stack_room_within};
-use msvc_read::{read_symbol, read_symbol_within, room_within};
+use msvc_print::{Text, print_within, stack_room, stack_room_within};
+use msvc_read::{read_symbol, read_symbol_within, room_for, room_within};
 use std::alloc::{AllocError, Global};
 
 /// Bytes that a declaration has room for before it grows, for each byte of its symbol: few names need more.
@@ -77,42 +77,103 @@ impl Room {
         ensures rejected { IfErr result (λ e. IsRejectedUnder (limit_of_number nodes) input.now e) }
     {
         self.clear_for(input, nodes)?;
-        match read(self.alloc, &self.arena, input, nodes) {
-            Ok((symbol, read)) => {
-                let whole = print_within(&self.arena, &symbol, flags, bytes, &mut self.text)?;
-                if !whole && bytes == usize::MAX {
-                    // No memory has room for so many bytes.
-                    return Err(Error::from(AllocError));
-                }
-                Ok(Printed { read, whole })
-            }
-            Err(error) => Err(error),
-        }
+        demangle_in(
+            self.alloc,
+            &self.arena,
+            &mut self.text,
+            input,
+            flags,
+            nodes,
+            bytes,
+        )
     }
 
-    /// Empties the room, and makes it large enough to read and to print a symbol of at most `nodes` nodes. Requests no
+    /// Empties the arena, and makes it large enough to read and to print a symbol of at most `nodes` nodes. Requests no
     /// memory for a text that doesn't begin with `?`.
     pub(crate) fn clear_for(&mut self, input: &str, nodes: usize) -> Result<(), AllocError> {
         // An arena that some list was not given back to stays as it is, and can still be used.
         let _ = self.arena.reset();
-        if !input.starts_with('?') {
-            return Ok(());
-        }
-        let stack = stack_room_within(input.len(), nodes);
-        let bytes = room_within(input, nodes)
-            .saturating_add(stack)
-            .min(MOST_ROOM);
+        let bytes = arena_bytes(input, nodes);
         if self.began < bytes {
             self.arena = Bump::try_with_capacity(self.alloc, bytes)?;
             self.began = bytes;
         }
-        self.text.clear(usize::MAX);
-        let text = input
-            .len()
-            .saturating_mul(TEXT_OF_A_BYTE)
-            .saturating_add(TEXT_AT_FIRST);
-        self.text.try_reserve(text.min(MOST_TEXT))
+        Ok(())
     }
+}
+
+/// Does what [`Room::demangle`] does, in an arena that is made for this symbol, and prints the declaration to `text`.
+#[inline(always)]
+pub(crate) fn demangle_once(
+    alloc: Global,
+    text: &mut Text,
+    input: &str,
+    flags: DemangleFlags,
+    nodes: usize,
+    bytes: usize,
+) -> Result<Printed, Error>
+    ensures printed { IfOk result (λ p.
+        IsPrinted (limits_of nodes bytes) input.now flags.0 p.read p.whole text.new.text) }
+    ensures rejected { IfErr result (λ e. IsRejectedUnder (limit_of_number nodes) input.now e) }
+{
+    let arena = Bump::try_with_capacity(alloc, arena_bytes(input, nodes))?;
+    demangle_in(alloc, &arena, text, input, flags, nodes, bytes)
+}
+
+/// Does what [`Room::demangle`] does, in an arena that is empty and large enough, and prints the declaration to `text`.
+#[inline(always)]
+fn demangle_in(
+    alloc: Global,
+    arena: &Bump,
+    text: &mut Text,
+    input: &str,
+    flags: DemangleFlags,
+    nodes: usize,
+    bytes: usize,
+) -> Result<Printed, Error>
+    ensures printed { IfOk result (λ p.
+        IsPrinted (limits_of nodes bytes) input.now flags.0 p.read p.whole text.new.text) }
+    ensures rejected { IfErr result (λ e. IsRejectedUnder (limit_of_number nodes) input.now e) }
+{
+    match read(alloc, arena, input, nodes) {
+        Ok((symbol, read)) => {
+            clear_text_for(text, input)?;
+            let whole = print_within(arena, &symbol, flags, bytes, text)?;
+            if !whole && bytes == usize::MAX {
+                // No memory has room for so many bytes.
+                return Err(Error::from(AllocError));
+            }
+            Ok(Printed { read, whole })
+        }
+        Err(error) => Err(error),
+    }
+}
+
+/// Empties a text, and makes it large enough for the declarations of most symbols that are as long as `input`.
+#[inline(always)]
+pub(crate) fn clear_text_for(text: &mut Text, input: &str) -> Result<(), AllocError> {
+    text.clear(usize::MAX);
+    let bytes = input
+        .len()
+        .saturating_mul(TEXT_OF_A_BYTE)
+        .saturating_add(TEXT_AT_FIRST);
+    text.try_reserve(bytes.min(MOST_TEXT))
+}
+
+/// Returns how many bytes of an arena it takes to read and to print a symbol of at most `nodes` nodes: none if `input`
+/// doesn't begin with `?`.
+#[inline(always)]
+fn arena_bytes(input: &str, nodes: usize) -> usize {
+    let [b'?', ..] = input.as_bytes() else {
+        return 0;
+    };
+    let (tree, stack) = if nodes == usize::MAX {
+        (room_for(input), stack_room(input.len()))
+    } else {
+        let stack = stack_room_within(input.len(), nodes);
+        (room_within(input, nodes), stack)
+    };
+    tree.saturating_add(stack).min(MOST_ROOM)
 }
 
 /// Reads the symbol that `input` begins with as nodes in `arena`, if it has at most `nodes` nodes, and returns it and
