@@ -19,7 +19,7 @@ ghost use Rattle.msvc_demangler.specs.Words.{is_start};
 
 use crate::output::put_all;
 use crate::room::Room;
-use crate::watched::{Fault, Taken, Watched};
+use crate::watched::{Fault, Taken, Watched, cut};
 use crate::words::{
     MOST_LOOKED_AT, Scan, candidate, continues, plain_len, symbol_extent, utf8_front,
 };
@@ -61,8 +61,24 @@ pub fn filter_text<R: BufRead, W: Write>(
     let mut text = Vec::new(alloc);
     let mut piece = Vec::new(alloc);
     let mut scan = Scan::new(b'\n');
-    'pieces: for polls in 0..u64::MAX {
-        match input.take(polls, &mut piece)? {
+    'pieces: for _ in 0..u64::MAX {
+        let Ok(shown) = input.show() else {
+            return Err(input.fail());
+        };
+        let (end, taken) = cut(shown);
+        if piece.is_empty() && matches!(taken, Taken::Line) {
+            // A line that the reader shows whole is not copied.
+            let put = put_rest(&mut room, &mut text, &shown[..end], scan, out, flags);
+            input.consume(end);
+            put?;
+            scan = Scan::new(b'\n');
+            continue;
+        }
+        if piece.extend_from_slice(&shown[..end]).is_err() {
+            return Err(Fault::Memory);
+        }
+        input.consume(end);
+        match taken {
             Taken::Part => put_settled(&mut room, &mut text, &mut piece, &mut scan, out, flags)?,
             Taken::Line => {
                 put_rest(&mut room, &mut text, &piece, scan, out, flags)?;
@@ -72,10 +88,7 @@ pub fn filter_text<R: BufRead, W: Write>(
             Taken::End => return put_rest(&mut room, &mut text, &piece, scan, out, flags),
         }
     }
-    match input.take(u64::MAX, &mut piece) {
-        Ok(_) => Ok(()),
-        Err(fault) => Err(fault),
-    }
+    Err(input.fail())
 }
 
 /// Writes what is settled of a line whose end has not come, if more bytes of it are held than [`MOST_HELD`], and leaves

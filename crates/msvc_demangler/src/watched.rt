@@ -1,15 +1,18 @@
-//! Streams that are watched: whether a call on a reader or a writer has failed. `take` and `put` are the only calls
-//! that move bytes, and the only ones that set the failure flag of a stream.
+//! Streams that are watched: whether a call on a reader or a writer has failed. Only `take`, `consume` and `put` move
+//! bytes, and only `take`, `fail` and `put` set the failure flag of a stream.
 
-ghost use Rattle.std.specs.Prelude.{◌≡◌, ◌+◌, ◌≤◌, ◌<◌, ◌^◌, ◌-◌, ◌++◌, ℕ, List, [], Err, IfErr, IfOk, OnErr, OnSome};
-ghost use Rattle.std.specs.Prelude.{false, length, take};
+ghost use Rattle.std.specs.Prelude.{◌≡◌, ◌+◌, ◌≤◌, ◌<◌, ◌^◌, ◌-◌, ◌++◌, ℕ, List, [], Err, IfErr, IfOk, IfSome};
+ghost use Rattle.std.specs.Prelude.{OnErr, OnSome, false, length, take, true};
+ghost use Rattle.std.specs.Borrow.{sem};
+ghost use Rattle.std.specs.Io.{StartsWith};
+ghost use Rattle.std.specs.Io.BufRead.{DropsConsumable, FillKeeps, Rests};
 ghost use Rattle.std.specs.Io.KnownBytes.{Appends, Consumes, IsAtEnd, Keeps};
+ghost use Rattle.msvc_demangler.specs.contracts.watched.Watched.{the_row};
 ghost use Rattle.msvc_demangler.specs.Faults.{SetsFailureFlag, failure_flag, no_stream};
-ghost use Rattle.msvc_demangler.specs.Streams.{Stream};
 ghost use Rattle.msvc_demangler.specs.Taking.{IsCut, TakenAs};
 
 use memchr::memchr;
-use std::io::{BufRead, Write};
+use std::io::{self, BufRead, Write};
 use std::marker::Model;
 
 /// Why a run ended before its work was done.
@@ -42,6 +45,8 @@ pub(crate) enum Taken {
 }
 
 impl<T> Model for Watched<T> {
+    ghost use Rattle.msvc_demangler.specs.Streams.{Stream};
+
     ghost Value = { Stream T };
 
     ghost view = { λ w. record { stream = w.stream; failed = w.failed } };
@@ -76,6 +81,38 @@ impl<T> Watched<T> {
 }
 
 impl<R: BufRead> Watched<R> {
+    /// Polls the reader once, and returns the bytes that it shows: none only at its end. Takes none of them.
+    #[inline(always)]
+    pub(crate) fn show(&mut self) -> io::Result<&[u8]>
+        ensures front { IfSome (R.remaining self.old.stream) (λ xs. IfOk result (λ s. StartsWith xs s.now)) }
+        ensures end { IfSome (R.remaining self.old.stream) (λ xs. IfOk result (λ s. length s.now ≡ 0 → xs ≡ [])) }
+        ensures* after_borrow { sem 𝓛 (Rests (the_row R.row) self.entry (λ new.
+            FillKeeps (R.remaining self.old.stream) (R.remaining new.stream) (R.consumable_len new.stream) result
+            × (new.failed ≡ self.old.failed))) }
+    {
+        self.stream.fill_buf()
+    }
+
+    /// Returns the fault of a reader that has failed.
+    pub(crate) fn fail(&mut self) -> Fault
+        ensures fault { result ≡ Fault.Read }
+        ensures failed { self.new.failed ≡ true }
+        ensures stream { self.new.stream ≡ self.old.stream }
+    {
+        self.failed = true;
+        Fault::Read
+    }
+
+    /// Takes so many of the bytes that the reader shows.
+    #[inline(always)]
+    pub(crate) fn consume(&mut self, count: usize)
+        ensures bytes { DropsConsumable (R.remaining self.old.stream) (R.remaining self.new.stream)
+            (R.consumable_len self.old.stream) count }
+        ensures failed { self.new.failed ≡ self.old.failed }
+    {
+        self.stream.consume(count);
+    }
+
     /// Polls the reader once, and appends the bytes that it takes to `bytes`: up to a line feed, or all that the reader
     /// shows. The reader was polled `polls` times before; 2^64 - 1 times are too many, and count as a failure.
     ///
@@ -107,7 +144,8 @@ impl<R: BufRead> Watched<R> {
 }
 
 /// Finds how many of the bytes shown are taken at once, and what they are.
-fn cut(shown: &[u8]) -> (usize, Taken)
+#[inline(always)]
+pub(crate) fn cut(shown: &[u8]) -> (usize, Taken)
     ensures bound { result.0 ≤ length shown.now }
     ensures taken { IsCut result.1 (take result.0 shown.now) }
     ensures end { result.1 ≡ Taken.End → shown.now ≡ [] }
