@@ -36,9 +36,10 @@ const MOST_HELD: usize = 65_536;
 /// they are.
 ///
 /// A line of at most 65,536 bytes is read whole, then filtered, then written, so that a fault leaves no part of it
-/// behind, unless a write fails. Of a longer line pieces are written as they come, so that a line of any length takes
-/// no more memory. At each start at most 4,096 bytes are read as a symbol, of at most 10,000 nodes, and at most 65,536
-/// bytes are printed; so the time is linear in the bytes.
+/// behind, unless a write fails. A line that the reader shows whole is consumed once it is written, also where that
+/// failed. Of a longer line pieces are written as they come, so that a line of any length takes no more memory. At each
+/// start at most 4,096 bytes are read as a symbol, of at most 10,000 nodes, and at most 65,536 bytes are printed; so
+/// the time is linear in the bytes.
 ///
 /// # Errors
 ///

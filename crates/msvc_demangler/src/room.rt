@@ -32,7 +32,7 @@ const MOST_ROOM: usize = 1 << 20;
 pub(crate) struct Printed {
     /// Bytes of the input that the symbol takes.
     pub(crate) read: usize,
-    /// Whether the declaration is within its limit. Only then is it the room's text.
+    /// Whether the declaration is within its limit. Only then is it the text.
     pub(crate) whole: bool,
 }
 
