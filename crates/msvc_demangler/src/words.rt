@@ -68,7 +68,7 @@ impl Scan {
         }
     }
 
-    /// Returns the scan after some bytes without a `?`, all of which stay.
+    /// Returns the scan after `bytes`, which have no `?` and are copied as they are.
     pub(crate) fn pass(self, bytes: &[u8]) -> Scan
         requires some { 0 < length bytes.now }
         requires plain { IsPlain bytes.now }
