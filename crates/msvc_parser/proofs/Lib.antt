@@ -1,4 +1,5 @@
 pub mod Choices
+pub mod FirstByte
 pub mod FunctionSteps
 pub mod GuardSteps
 pub mod NameSteps

@@ -1,14 +1,13 @@
 //! Names, scopes and templates, and the table of names that they are added to.
 
-ghost use Rattle.std.specs.List.{position_or_len};
 ghost use Rattle.std.specs.Option.{option_map};
 ghost use Rattle.std.specs.Prelude.{◌≡◌, ◌≤◌, ◌<◌, ◌++◌, ◌∷◌, [], codes, IfErr, IfOk, IfSome, length, map, Some};
-ghost use Rattle.std.specs.Prelude.{◌==◌, string_bytes, take};
+ghost use Rattle.std.specs.Prelude.{string_bytes};
 ghost use Rattle.msvc_nodes.specs.NodeView.{name_at, name_of, type_at, typed_symbol_of};
 ghost use Rattle.msvc_nodes.specs.Trees.{discriminator, nested, template, type_trees};
 ghost use Rattle.msvc_grammar.specs.Counts.{name_count};
 ghost use Rattle.msvc_grammar.specs.Grammar.{new_interface, new_source_name, template_inside, template_kept};
-ghost use Rattle.msvc_grammar.specs.Letters.{at_sign, hexadecimal_codes};
+ghost use Rattle.msvc_grammar.specs.Letters.{hexadecimal_codes};
 ghost use Rattle.msvc_grammar.specs.Reads.{and_then, in_node, letter_here, read, read_name, with_value};
 ghost use Rattle.msvc_grammar.specs.Rules as rules;
 ghost use Rattle.msvc_parser.specs.Parser.{cut_at, Eats, frame_of, is_of_symbol, kept_name, name_length, names_at};
@@ -20,7 +19,6 @@ use crate::parameters::{listed_types, parameters};
 use crate::special_names::special_name;
 use crate::symbols::symbol_body;
 use bumpalo::Bump;
-use memchr::memchr;
 use msvc_nodes::list::List;
 use msvc_nodes::nodes::{Name, Symbol, Template, TypedSymbol};
 use msvc_parser::forms::TemplateNames;
@@ -28,10 +26,7 @@ use msvc_parser::letters;
 use msvc_parser::limit::Limit;
 use msvc_parser::parser::Parser;
 use msvc_parser::refusal::{Message, Refusal, Refused};
-use std::simd::prelude::*;
-
-/// How many bytes are searched for an `@` at once.
-const BLOCK: usize = 16;
+use msvc_parser::source_names::name_length;
 
 /// Reads `SOURCE_NAME = {byte} "@"`: the bytes up to the next `@`, possibly none.
 #[inline(always)]
@@ -424,38 +419,4 @@ pub fn put_symbol<'a, 'b, L: Limit>(
 {
     let scope = listed_names(parser, checkpoint)?.items;
     parser.put(Symbol { name, scope })
-}
-
-/// Returns how many bytes precede the first `@`. Most names end among the first bytes, which are tested at once.
-#[tactic(auto, unfolding(msvc_parser::specs::Parser::name_length))]
-fn name_length(bytes: &[u8]) -> Option<usize>
-    ensures value { result ≡ name_length bytes.now }
-    ensures inside { IfSome result (λ n. n < length bytes.now) }
-{
-    if bytes.len() < BLOCK {
-        return memchr(b'@', bytes);
-    }
-    let before = bytes_before_at(bytes);
-    if before < BLOCK {
-        return Some(before);
-    }
-    match memchr(b'@', &bytes[BLOCK..]) {
-        Some(index) => Some(BLOCK + index),
-        None => None,
-    }
-}
-
-/// Returns how many of the first bytes precede an `@`: all of them if none is one.
-#[inline(always)]
-fn bytes_before_at(bytes: &[u8]) -> usize
-    requires { 16 ≤ length bytes.now }
-    ensures { result ≡ position_or_len (λ b. b == at_sign) (take 16 bytes.now) }
-{
-    let marks = u8x16::from_slice(bytes)
-        .simd_eq(u8x16::splat(b'@'))
-        .to_bitmask();
-    if marks == 0 {
-        return BLOCK;
-    }
-    marks.trailing_zeros() as usize
 }

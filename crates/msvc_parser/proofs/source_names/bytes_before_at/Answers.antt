@@ -2,7 +2,7 @@ use Rattle.std.proofs.Common.{ap, ◌∙◌, arith, eqb, take, w8}
 use Rattle.std.proofs.lemmas.Simd.{bitmask_splat, length-chunk, trailing_mask_l}
 use lib.Count.{count_trailing_zeros}
 use Rattle.msvc_grammar.specs.Letters.{at_sign}
-use Rattle.msvc_readers.proofs.qualified_names.bytes_before_at.Goals as goal
+use Rattle.msvc_parser.proofs.source_names.bytes_before_at.Goals as goal
 
 -- the lowest bit that is set is the first lane that is an @
 pub returns : goal.returns

@@ -2,8 +2,8 @@ use Rattle.std.proofs.Common.{◌+◌, ◌∙◌, ◌==◌, ap, arith, sym}
 use Rattle.std.specs.Option.{option_map}
 use Rattle.msvc_grammar.specs.Letters.{at_sign}
 use Rattle.msvc_parser.specs.Parser.{name_length}
-use Rattle.msvc_readers.proofs.FirstByte.{after_block, first-position}
-use Rattle.msvc_readers.proofs.qualified_names.name_length.Goals as goal
+use Rattle.msvc_parser.proofs.FirstByte.{after_block, first-position}
+use Rattle.msvc_parser.proofs.source_names.name_length.Goals as goal
 
 -- a text of fewer bytes is searched by memchr alone
 pub returns-then-bytes-lt-BLOCK-clause-value : goal.returns-then-bytes-lt-BLOCK-clause-value
