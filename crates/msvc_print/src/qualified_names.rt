@@ -344,7 +344,7 @@ fn push_scope<'a, 'b>(
 
 /// Prints the first `left` names of a scope, the outermost first, each with `::` after it.
 #[inline(always)]
-fn print_left_names<'a, 'b>(
+fn print_remaining_names<'a, 'b>(
     stack: &mut Vec<Item<'a, 'b>, &'b Bump>,
     out: &mut Text,
     names: &'b [&'b Name<'a, 'b>],
@@ -378,7 +378,7 @@ pub fn print_scope<'a, 'b>(
     ensures lighter { OnOk result (Lightens (scope_weight (names_in names.now)) stack.old.items stack.new.items) }
 {
     let left = write_spelled_names(out, names)?;
-    print_left_names(stack, out, names, left, flags)?;
+    print_remaining_names(stack, out, names, left, flags)?;
     Ok(())
 }
 
@@ -402,8 +402,11 @@ fn print_in_scope<'a, 'b>(
         print_name(stack, out, name, true, flags)?;
         return Ok(());
     }
+    if !out.is_whole() {
+        return Ok(());
+    }
     push(stack, Item::Name(name, true))?;
-    print_left_names(stack, out, names, left, flags)?;
+    print_remaining_names(stack, out, names, left, flags)?;
     Ok(())
 }
 

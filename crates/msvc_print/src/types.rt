@@ -167,6 +167,9 @@ fn print_function<'a, 'b>(
     ensures lighter { OnOk result (Lightens (2 + type_weight (type_of function.now.returned.now))
         stack.old.items stack.new.items) }
 {
+    if !out.is_whole() {
+        return Ok(());
+    }
     if write_flat(out, function.returned, flags)? {
         return write_later_calling(out, pointed, function.convention, flags);
     }
@@ -412,8 +415,8 @@ pub fn is_empty_pack<'a, 'b>(t: &'b Type<'a, 'b>) -> bool
     }
 }
 
-/// Prints the types of a list up to the first one that is not flat, with a comma before each but the first, and what
-/// stands after the last. Pushes the rest.
+/// Prints the flat types that a list begins with, with a comma before each but the first. If one that is not flat
+/// follows, begins to print it and pushes the rest; else prints what stands after the last.
 #[inline(always)]
 fn print_list<'a, 'b>(
     stack: &mut Vec<Item<'a, 'b>, &'b Bump>,

@@ -1,8 +1,9 @@
-use Rattle.std.proofs.Common.{true, ap, sym, ◌∙◌, arith}
+use Rattle.std.proofs.Common.{◌≡◌, false, is_some, true, ap, sym, ◌∙◌, arith, rules}
 use Rattle.msvc_nodes.specs.NodeView.{name_of}
 use Rattle.msvc_print.specs.Declaration.{name_pieces}
 use Rattle.msvc_print.specs.Limited.{add_all}
 use Rattle.msvc_print.specs.Work.{finished}
+use Rattle.msvc_print.proofs.FlatTypes.{add_all-not_whole}
 use Rattle.msvc_print.proofs.Names.{written-all}
 use Rattle.msvc_print.proofs.Settling.{add_all-append}
 use Rattle.msvc_print.proofs.Stack.{pushed_one, work_one}
@@ -17,10 +18,20 @@ returns-then-left-eq0-clause-text c =
     (c.in_ok-left.ensures.text c.args.flags.0))
     ∙ ap (λ x. finished c.args.stack.now.items x c.args.flags.0) (sym (add_all-append c.args.out.now _ name))
 
+-- a piece was left out
+pub returns-then-not-is_whole-clause-text : goal.returns-then-not-is_whole-clause-text
+returns-then-not-is_whole-clause-text c =
+    let name = name_pieces (name_of c.args.name.now) true c.args.flags.0 in
+    let left_out : is_some c.write_spelled_names.new.out.text ≡ false = search rules in
+    ap (λ x. finished c.args.stack.now.items x c.args.flags.0)
+    (add_all-not_whole _ name left_out
+    ∙ ap (λ x. add_all x name) (add_all-not_whole _ _ left_out ∙ c.in_ok-left.ensures.text c.args.flags.0)
+    ∙ sym (add_all-append c.args.out.now _ name))
+
 pub returns-clause-text : goal.returns-clause-text
 returns-clause-text c =
     let name = name_pieces (name_of c.args.name.now) true c.args.flags.0 in
-    c.in_ok-print_left_names.ensures.text
+    c.in_ok-print_remaining_names.ensures.text
     ∙ pushed_one _ _ _ _ _ c.in_ok-push.ensures
     ∙ ap (λ x. finished c.args.stack.now.items (add_all x name) c.args.flags.0)
     (c.in_ok-left.ensures.text c.args.flags.0)
@@ -30,5 +41,5 @@ pub returns-clause-lighter : goal.returns-clause-lighter
 returns-clause-lighter c = omega (
   arith,
   work_one _ _ _ c.in_ok-push.ensures,
-  c.in_ok-print_left_names.ensures.lighter,
+  c.in_ok-print_remaining_names.ensures.lighter,
 )

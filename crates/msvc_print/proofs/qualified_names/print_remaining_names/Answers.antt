@@ -7,7 +7,7 @@ use Rattle.msvc_print.proofs.Names.{lightened-last, scope_prefix-left, scope_pre
 use Rattle.msvc_print.proofs.Names.{scope_weight-positive}
 use Rattle.msvc_print.proofs.Settling.{settled_three}
 use Rattle.msvc_print.proofs.Stack.{printed_none, pushed_one, work_one}
-use Rattle.msvc_print.proofs.qualified_names.print_left_names.Goals as goal
+use Rattle.msvc_print.proofs.qualified_names.print_remaining_names.Goals as goal
 
 pub returns-then-left-eq0-clause-text : goal.returns-then-left-eq0-clause-text
 returns-then-left-eq0-clause-text c =

@@ -1,0 +1,10 @@
+use Rattle.std.proofs.Common.{◌≡◌, false, is_some, ap, rules}
+use Rattle.msvc_print.proofs.FlatTypes.{add_all-not_whole}
+use Rattle.msvc_print.specs.Work.{finished}
+use Rattle.msvc_print.proofs.types.print_function.Goals as goal
+
+-- a piece was left out
+pub returns-then-not-is_whole-clause-text : goal.returns-then-not-is_whole-clause-text
+returns-then-not-is_whole-clause-text c =
+    let left_out : is_some c.args.out.now.text ≡ false = search rules in
+    ap (λ x. finished c.args.stack.now.items x c.args.flags.0) (add_all-not_whole _ _ left_out)
