@@ -203,13 +203,21 @@ mod tests {
         (done, (marked.0, marked.1, late), input.bytes, out.taken)
     }
 
+    /// From 2 bytes at a time on, the reader shows some lines whole and others in parts.
     #[test]
-    fn single_bytes(rt: HostRuntime) {
-        let (done, marks, left, text) = run_over(rt.alloc(), 1, Failing::never(), Failing::never());
-        assert_eq!(rt; done, Ok(()));
-        assert_eq!(rt; marks, (false, false, 0));
-        assert!(rt; left.is_empty());
-        assert_eq!(rt; text.as_slice(), TEXT);
+    fn few_bytes_at_a_time(rt: HostRuntime) {
+        for most in 1..=LINES.len() {
+            let (done, marks, left, text) = run_over(
+                rt.alloc(),
+                most,
+                Failing::never(),
+                Failing::never(),
+            );
+            assert_eq!(rt; done, Ok(()));
+            assert_eq!(rt; marks, (false, false, 0));
+            assert!(rt; left.is_empty());
+            assert_eq!(rt; text.as_slice(), TEXT, "{most} at a time");
+        }
     }
 
     #[test]
