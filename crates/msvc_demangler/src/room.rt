@@ -120,7 +120,8 @@ pub(crate) fn demangle_once(
     demangle_in(alloc, &arena, text, input, flags, nodes, bytes)
 }
 
-/// Does what [`Room::demangle`] does, in an arena that is empty and large enough, and prints the declaration to `text`.
+/// Reads a symbol and prints its declaration to `text`, as [`Room::demangle`] says, in an arena that is empty and large
+/// enough.
 #[inline(always)]
 fn demangle_in(
     alloc: Global,

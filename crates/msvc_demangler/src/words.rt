@@ -14,6 +14,9 @@ use std::str::from_utf8;
 /// The most bytes of a candidate: the longest name that Microsoft's compiler gives.
 const MOST_BYTES: usize = 4096;
 
+/// How many bytes are tested at once.
+const BLOCK: usize = 16;
+
 /// Bytes from a start on that decide whether a symbol begins there: those of a candidate, and two after it.
 pub(crate) const MOST_LOOKED_AT: usize = MOST_BYTES + 2;
 
@@ -133,20 +136,20 @@ fn visible_len(left: &[u8]) -> usize
     len
 }
 
-/// Returns how many bytes at the front are visible, in whole blocks of 16 bytes and at most `most`.
+/// Returns how many bytes at the front are visible, in whole blocks and at most `most`.
 fn visible_blocks(left: &[u8], most: usize) -> usize
     requires { most ≤ length left.now }
     ensures bound { result ≤ most }
     ensures visible { (k : ℕ) → k < result → is_visible (slice_index left.now k) ≡ true }
 {
     let mut len = 0;
-    'visible: while most - len >= 16 && is_visible_block(left, len) {
-        len += 16;
+    'visible: while most - len >= BLOCK && is_visible_block(left, len) {
+        len += BLOCK;
     }
     len
 }
 
-/// Returns whether the 16 bytes from a place on are visible.
+/// Returns whether the bytes of the block at a place are visible.
 fn is_visible_block(left: &[u8], at: usize) -> bool
     requires { at + 16 ≤ length left.now }
     ensures { result ≡ true → (k : ℕ) → at ≤ k → k < at + 16 → is_visible (slice_index left.now k) ≡ true }
