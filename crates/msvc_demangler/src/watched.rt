@@ -1,5 +1,5 @@
-//! Streams that are watched: whether a call on a reader or a writer has failed. Only `take`, `consume` and `put` move
-//! bytes, and only `take`, `fail` and `put` set the failure flag of a stream.
+//! Streams that are watched: whether a call on a reader or a writer has failed. Only `consume` and `put` move bytes, and
+//! only `fail` and `put` set the failure flag of a stream.
 
 ghost use Rattle.std.specs.Prelude.{◌≡◌, ◌+◌, ◌≤◌, ◌<◌, ◌^◌, ◌-◌, ◌++◌, ℕ, List, [], Err, IfErr, IfOk, IfSome};
 ghost use Rattle.std.specs.Prelude.{OnErr, OnSome, false, length, take, true};
@@ -127,18 +127,16 @@ impl<R: BufRead> Watched<R> {
         ensures too_many { polls ≡ 2 ^ 64 - 1 → result ≡ Err Fault.Read }
     {
         if polls == u64::MAX {
-            self.failed = true;
-            return Err(Fault::Read);
+            return Err(self.fail());
         }
-        let Ok(shown) = self.stream.fill_buf() else {
-            self.failed = true;
-            return Err(Fault::Read);
+        let Ok(shown) = self.show() else {
+            return Err(self.fail());
         };
         let (end, taken) = cut(shown);
         if bytes.extend_from_slice(&shown[..end]).is_err() {
             return Err(Fault::Memory);
         }
-        self.stream.consume(end);
+        self.consume(end);
         Ok(taken)
     }
 }

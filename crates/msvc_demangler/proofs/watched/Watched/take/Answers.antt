@@ -5,11 +5,8 @@ use Rattle.msvc_demangler.proofs.watched.Watched.take.Goals as goal
 
 pub returns-clause-end : goal.returns-clause-end
 returns-clause-end g c = λ is_end.
-    let rested = c.fill_buf.follows.lender-at-none in
-    let filled =
-    subst (FillKeeps _ (g.R.Read.remaining rested) (g.R.BufRead.consumable_len rested)) c.in-Ok.is
-    c.fill_buf.follows.holds-at-none in
+    let filled = subst (FillKeeps _ _ _) c.in-Ok.is c.show.follows.holds-at-none.0 in
     let moved =
     Consumes_shown _ _ _ _ c.in-Ok.shown.now c.cut-end.result.0 c.cut-end.ensures.bound c.in-Ok.ensures.front
     c.in-Ok.ensures.end filled.0 filled.1 c.consume.ensures.bytes in
-    rw (← c.self.view_is) (moved.1 (ap length (c.cut-end.ensures.end is_end)))
+    moved.1 (ap length (c.cut-end.ensures.end is_end))
