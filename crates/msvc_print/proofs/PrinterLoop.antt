@@ -8,20 +8,20 @@ use Rattle.msvc_print.specs.Declaration.{declaration}
 use Rattle.msvc_print.specs.Limited.{LimitedText, add_all, empty_within, within}
 use Rattle.msvc_print.specs.SymbolNodes.{symbol_pieces_of}
 use Rattle.msvc_print.specs.Within.{IsPrintedWithin}
-use Rattle.msvc_print.specs.Work.{Prints, finished}
+use Rattle.msvc_print.specs.Work.{finished, Pushes}
 use Rattle.msvc_print.specs.declared.item.Item.{Item}
 
 pub finished-none : (stack : List Item) (out : LimitedText) (flags : ℕ) → stack ≡ [] → finished stack out flags ≡ out
 unfolding finished
 finished-none stack out flags e = ap (λ s. finished s out flags) e
 
--- a symbol that is printed alone, once it is finished
-pub printed_typed_symbol : (t : TypedSymbol) (flags most : ℕ) (s s1 : List Item) (out out1 out2 : LimitedText) →
-    s ≡ [] → out ≡ empty_within most → Prints (symbol_pieces_of t flags) flags s out s1 out1 →
-    out2 ≡ finished s1 out1 flags → out2.text ≡ within most (declaration (typed_symbol_of t) flags)
+-- a symbol that is pushed alone, once it is finished
+pub printed_typed_symbol : (t : TypedSymbol) (flags most : ℕ) (s s1 : List Item) (out out1 : LimitedText) → s ≡ [] →
+    out ≡ empty_within most → Pushes (symbol_pieces_of t flags) flags s s1 → out1 ≡ finished s1 out flags →
+    out1.text ≡ within most (declaration (typed_symbol_of t) flags)
 unfolding declaration
-printed_typed_symbol t flags most s s1 out out1 out2 none empty printed done =
-    ap (λ x. x.text) (done ∙ printed ∙ finished-none s _ flags none
+printed_typed_symbol t flags most s s1 out out1 none empty pushed done =
+    ap (λ x. x.text) (done ∙ pushed out ∙ finished-none s _ flags none
     ∙ ap (λ x. add_all x (symbol_pieces_of t flags)) empty)
     ∙ add_all-within most [] (symbol_pieces_of t flags) (omega arith)
 

@@ -10,7 +10,7 @@ use crate::function_types::write_calling;
 use crate::item::Item;
 use crate::operators::write_spaced;
 use crate::qualified_names::{
-    print_class, print_name, print_scope, print_symbol, print_typed_symbol,
+    print_class, print_name, print_scope, print_symbol, push_typed_symbol,
 };
 use crate::text::{Text, write_mark, write_qualifiers, write_text};
 use crate::types::{print_after, print_before, print_parameters, write_level};
@@ -141,7 +141,7 @@ pub fn print_within<'a, 'b>(
 {
     out.clear(most);
     let mut stack = Vec::with_capacity(arena, FIRST_ITEMS)?;
-    print_typed_symbol(&mut stack, out, symbol, flags)?;
+    push_typed_symbol(&mut stack, symbol, flags)?;
     empty(&mut stack, out, flags)?;
     Ok(out.is_whole())
 }

@@ -24,7 +24,6 @@ use crate::operators::{
     NameKind, name_kind, operator_word, write_base_class, write_guard, write_spaced,
 };
 use crate::text::{Space, Text, name_space, write_number, write_space, write_text};
-use crate::types::print_before;
 use bitflags::Flags;
 use bumpalo::Bump;
 use msvc_nodes::flags::DemangleFlags;
@@ -167,7 +166,7 @@ fn push_left<'a, 'b>(
 
 /// Pushes a symbol with its type: the name between what the type has before and after it.
 #[tactic(auto, using(crate::proofs::Stack::pushes))]
-fn push_typed_symbol<'a, 'b>(
+pub fn push_typed_symbol<'a, 'b>(
     stack: &mut Vec<Item<'a, 'b>, &'b Bump>,
     tree: &'b TypedSymbol<'a, 'b>,
     flags: DemangleFlags,
@@ -179,43 +178,6 @@ fn push_typed_symbol<'a, 'b>(
     push_right(stack, tree.symbol_type, flags)?;
     push(stack, Item::Symbol(&tree.symbol, Some(tree.symbol_type)))?;
     push_left(stack, tree.symbol_type, flags)?;
-    Ok(())
-}
-
-/// Prints what a symbol has before its name. NAME_ONLY and NO_FUNCTION_RETURNS drop it.
-fn print_left<'a, 'b>(
-    stack: &mut Vec<Item<'a, 'b>, &'b Bump>,
-    out: &mut Text,
-    t: &'b Type<'a, 'b>,
-    flags: DemangleFlags,
-) -> Result<(), AllocError>
-    ensures { OnOk result (Prints (kept_left (before (type_of t.now) false flags.0) flags.0) flags.0
-        stack.old.items out.old stack.new.items out.new) }
-{
-    let name_only = flags.contains(DemangleFlags::NAME_ONLY);
-    if name_only {
-        return Ok(());
-    }
-    if !flags.contains(DemangleFlags::NO_FUNCTION_RETURNS) {
-        print_before(stack, out, t, false, flags)?;
-    }
-    Ok(())
-}
-
-/// Prints what a symbol with its type has before the name, and pushes the rest.
-#[inline(always)]
-pub fn print_typed_symbol<'a, 'b>(
-    stack: &mut Vec<Item<'a, 'b>, &'b Bump>,
-    out: &mut Text,
-    tree: &'b TypedSymbol<'a, 'b>,
-    flags: DemangleFlags,
-) -> Result<(), AllocError>
-    ensures { OnOk result (Prints (symbol_pieces_of tree.now flags.0) flags.0
-        stack.old.items out.old stack.new.items out.new) }
-{
-    push_right(stack, tree.symbol_type, flags)?;
-    push(stack, Item::Symbol(&tree.symbol, Some(tree.symbol_type)))?;
-    print_left(stack, out, tree.symbol_type, flags)?;
     Ok(())
 }
 
