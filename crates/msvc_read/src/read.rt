@@ -106,7 +106,6 @@ pub fn parse_within<'a>(
 /// # Errors
 ///
 /// Fails where [`parse`] does, with the same error.
-#[inline(always)]
 pub fn read_symbol<'a, 'b>(
     alloc: Global,
     arena: &'b Bump,
