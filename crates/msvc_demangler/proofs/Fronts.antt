@@ -1,7 +1,6 @@
 -- How much of some bytes a candidate has.
 use Rattle.std.proofs.Common.{ℕ, List, length, take, get_or, ◌≡◌, ◌≤◌, ◌<◌, ◌∙◌, Bool, true, false, nat_lt, refl, sym}
-use Rattle.std.proofs.Common.{ap, eqb, leb}
-use Rattle.std.proofs.lemmas.Bool.Decides.{nat_tests}
+use Rattle.std.proofs.Common.{ap}
 use Rattle.std.proofs.Common.{arith, take_all, length-take}
 use Rattle.std.proofs.lemmas.Bool.{ltb-false, ltb-true}
 use Rattle.std.proofs.lemmas.List.{take-take}
@@ -42,7 +41,3 @@ visible-front left len within most seen end = go (nat_lt len most_bytes) refl
             let yes = seen (prefix_len is_visible left) (omega arith) in
             let never : true ≡ false = sym yes ∙ no in absurd (cc)
         at false f = ltb-false (prefix_len is_visible left) most_bytes f
-
--- neither a blank nor a delete character
-pub visible-of : (b : ℕ) → leb b 32 ≡ false → eqb b 127 ≡ false → is_visible b ≡ true
-visible-of b blank delete = grind (arith, nat_tests)

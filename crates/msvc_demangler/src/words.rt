@@ -1,21 +1,17 @@
 //! Where a symbol may stand in a text: words, their starts, and the candidates that begin there.
 
-ghost use Rattle.std.specs.Prelude.{◌&&◌, ◌∷◌, ◌+◌, ◌==◌, ◌||◌, ◌≡◌, ◌≤◌, ◌<◌, ℕ, List, [], drop, length, take};
-ghost use Rattle.std.specs.Prelude.{slice_index, true};
+ghost use Rattle.std.specs.Prelude.{◌&&◌, ◌∷◌, ◌==◌, ◌||◌, ◌≡◌, ◌≤◌, ◌<◌, ℕ, List, [], drop, length, take};
+ghost use Rattle.std.specs.Prelude.{slice_index};
 ghost use Rattle.std.specs.List.{list_all, take_while};
 ghost use Rattle.msvc_demangler.specs.Words.{blocks_start, candidate, continues, ends_word, is_left_over};
 ghost use Rattle.msvc_demangler.specs.Scans.{IsPlain, Keeps, past};
 ghost use Rattle.msvc_demangler.specs.Words.{is_of_word, is_start, is_visible, most_bytes, symbol_extent, utf8_front};
 
 use memchr::memchr;
-use std::simd::prelude::*;
 use std::str::from_utf8;
 
 /// The most bytes of a candidate: the longest name that Microsoft's compiler gives.
 const MOST_BYTES: usize = 4096;
-
-/// How many bytes are tested at once.
-const BLOCK: usize = 16;
 
 /// Bytes from a start on that decide whether a symbol begins there: those of a candidate, and two after it.
 pub(crate) const MOST_LOOKED_AT: usize = MOST_BYTES + 2;
@@ -129,35 +125,11 @@ fn visible_len(left: &[u8]) -> usize
     ensures visible { take result left.now ≡ take most_bytes (take_while is_visible left.now) }
 {
     let most = left.len().min(MOST_BYTES);
-    let mut len = visible_blocks(left, most);
+    let mut len = 0;
     'visible: while len < most && is_visible(left[len]) {
         len += 1;
     }
     len
-}
-
-/// Returns how many bytes at the front are visible, in whole blocks and at most `most`.
-fn visible_blocks(left: &[u8], most: usize) -> usize
-    requires { most ≤ length left.now }
-    ensures bound { result ≤ most }
-    ensures visible { (k : ℕ) → k < result → is_visible (slice_index left.now k) ≡ true }
-{
-    let mut len = 0;
-    'visible: while most - len >= BLOCK && is_visible_block(left, len) {
-        len += BLOCK;
-    }
-    len
-}
-
-/// Returns whether the bytes of the block at a place are visible.
-fn is_visible_block(left: &[u8], at: usize) -> bool
-    requires { at + 16 ≤ length left.now }
-    ensures { result ≡ true → (k : ℕ) → at ≤ k → k < at + 16 → is_visible (slice_index left.now k) ≡ true }
-{
-    let block = u8x16::from_slice(&left[at..]);
-    let blank = block.simd_le(u8x16::splat(b' ')).to_bitmask();
-    let delete = block.simd_eq(u8x16::splat(0x7F)).to_bitmask();
-    blank == 0 && delete == 0
 }
 
 /// Returns whether a byte is neither a space nor a control character.
