@@ -91,7 +91,6 @@ fn write_if_spelled<'a, 'b>(out: &mut Text, name: &'b Name<'a, 'b>) -> Result<bo
 
 /// Writes the outermost names of a scope, as long as they are spelled, each with `::` after it. Returns how many names
 /// are left.
-#[inline(always)]
 fn write_spelled_names<'a, 'b>(
     out: &mut Text,
     names: &'b [&'b Name<'a, 'b>],

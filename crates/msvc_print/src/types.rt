@@ -535,7 +535,6 @@ fn push_qualifiers<'a, 'b>(
 
 /// Prints a word, a name in its scope, and qualifiers.
 #[tactic(auto, using(crate::proofs::Stack::pushes))]
-#[inline(always)]
 fn print_tagged<'a, 'b>(
     stack: &mut Vec<Item<'a, 'b>, &'b Bump>,
     out: &mut Text,
