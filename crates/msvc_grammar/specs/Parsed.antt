@@ -1,10 +1,12 @@
 -- The contract of the calls that read a whole text: what holds of a tree that was read, of the grammar whatever a call
 -- returns, and of an error.
-use Rattle.std.specs.Prelude.{ℕ, List, codes}
+use Rattle.std.specs.Prelude.{ℕ, List, ◌≢◌, Some, codes}
 use Rattle.std.specs.Str.{IsCharBoundary, IsUtf8}
 use Rattle.msvc_nodes.specs.EachName.{EachName}
+use Rattle.msvc_nodes.specs.Errors.{limit_of}
 use Rattle.msvc_nodes.specs.Trees.{SymbolTree}
 use Rattle.msvc_nodes.specs.declared.error.ErrorRepr.{ErrorRepr}
+use Rattle.msvc_nodes.specs.declared.error.Limit.TheVariants.{Bytes}
 use Rattle.msvc_grammar.specs.Hashes.{HashesAreRead, HashesStand}
 use Rattle.msvc_grammar.specs.Laws.{HasOneTree, TablesAreHandedBack, TypesAreLocal}
 use Rattle.msvc_grammar.specs.Parts.{NamesAreParts}
@@ -52,6 +54,8 @@ pub record IsRejected (text : List ℕ) (e : ErrorRepr) : Type 0 where
   pub begins : (begins_with (codes "?") text → ⊥) → IsRefusalAt text 0 e
   -- a text that begins with a hash is rejected only out of memory
   pub hashes : HashesAreRead text e
+  -- the message is not that of a declaration that is too long
+  pub limit : limit_of e ≢ Some Bytes
 
 -- Reading the text fails with this error, where at most so many nodes are allowed.
 pub record IsRejectedWithin (nodes : ℕ) (text : List ℕ) (e : ErrorRepr) : Type 0 where
@@ -59,6 +63,8 @@ pub record IsRejectedWithin (nodes : ℕ) (text : List ℕ) (e : ErrorRepr) : Ty
   pub refused : IsRefusedWithin nodes text e
   -- a text without a question mark at its beginning is rejected at offset 0
   pub begins : (begins_with (codes "?") text → ⊥) → IsRefusalAt text 0 e
+  -- the message is not that of a declaration that is too long
+  pub limit : limit_of e ≢ Some Bytes
 
 -- The symbol at the beginning of the text takes this many bytes.
 pub record IsSymbolLength (bytes : ℕ) (text : List ℕ) : Type 0 where

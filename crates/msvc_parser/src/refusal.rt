@@ -1,5 +1,9 @@
 //! Errors inside the parser. They are a few numbers, and become an error with a text only when they leave the reader.
 
+ghost use Rattle.std.specs.Prelude.{◌≢◌, IfOk, Some};
+ghost use Rattle.std.specs.Cow.{cow_str_bytes};
+ghost use Rattle.msvc_nodes.specs.Errors.{message_limit};
+ghost use Rattle.msvc_nodes.specs.declared.error.Limit.TheVariants.{Bytes};
 ghost use Rattle.msvc_parser.specs.Errors.{IsErrorOf};
 
 use msvc_nodes::error::{Error, TOO_MANY_NODES, parse_error};
@@ -43,7 +47,9 @@ pub enum Message {
 
 impl Message {
     /// Returns the text of the message. Only a text with a number in it is allocated.
-    fn text(self, alloc: Global) -> Result<CowStr<'static>, AllocError> {
+    fn text(self, alloc: Global) -> Result<CowStr<'static>, AllocError>
+        ensures { IfOk result (λ text. message_limit (cow_str_bytes text) ≢ Some Bytes) }
+    {
         let text = match self {
             Message::NoQuestionMark => "does not start with b'?'",
             Message::EndOfInput => "unexpected end of input",

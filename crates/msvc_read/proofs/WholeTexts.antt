@@ -1,14 +1,15 @@
 -- Reads a whole text: what is read is the one tree that the grammar derives, and where nothing is read it derives none.
 use Rattle.std.proofs.Common.{ℕ, List, [], ◌++◌, length, length-append, take, Option, Some, None, Result, Err, ◌≡◌, ◌≤◌}
-use Rattle.std.proofs.Common.{◌-◌, refl}
+use Rattle.std.proofs.Common.{◌-◌, ◌≢◌, refl}
 use Rattle.std.proofs.Common.{sym, ap, ◌∙◌, subst, arith}
 use Rattle.std.specs.Option.{option_map}
 use Rattle.std.specs.Prelude.{codes}
 use Rattle.std.specs.Str.{IsCharBoundary, IsUtf8}
-use Rattle.msvc_nodes.specs.Errors.{context_of}
+use Rattle.msvc_nodes.specs.Errors.{context_of, limit_of}
 use Rattle.msvc_nodes.specs.Trees.{SymbolTree}
 use Rattle.msvc_nodes.specs.declared.error.ErrorRepr.{ErrorRepr}
 use Rattle.msvc_nodes.specs.declared.error.ErrorRepr.TheVariants as error
+use Rattle.msvc_nodes.specs.declared.error.Limit.TheVariants.{Bytes}
 use Rattle.std.proofs.lemmas.Str.{IsCharBoundary-at_seam}
 use Rattle.std.proofs.Math.Seq.{take-append_seam}
 use Rattle.msvc_grammar.proofs.Hashes.{hashes-read, hashes-stand}
@@ -172,7 +173,12 @@ at_refused text left (error.FromUtf8 m) none h = absurd h
 error-refused : (text : List ℕ) (r : Refusal) (e : ErrorRepr) → Refuses r (symbol_read text) → IsErrorOf r text e
     → IsRefusedRightly text e
 error-refused text refusal.Memory e h is = subst (λ (x : ErrorRepr). IsRefusedRightly text x) (sym is) tt
-error-refused text (refusal.Unread message left) e h is = at_refused text left e (read-none text h) is
+error-refused text (refusal.Unread message left) e h is = at_refused text left e (read-none text h) is.0
+
+-- and its message is not that of a declaration that is too long
+error-limit : (text : List ℕ) (r : Refusal) (e : ErrorRepr) → IsErrorOf r text e → limit_of e ≢ Some Bytes
+error-limit text refusal.Memory e is = λ bytes. let no : None ≡ Some Bytes = sym (ap limit_of is) ∙ bytes in absurd (cc)
+error-limit text (refusal.Unread message left) e is = is.1
 
 -- a text that doesn't begin with a question mark is refused at its beginning
 refused-at-once : {A : Type 0} (text : List ℕ) (r : Refusal) (e : ErrorRepr)
@@ -185,7 +191,7 @@ refused-at-once text r e start is never = go (after (codes "?") text) refl
     go None k =
         let same : r ≡ refusal.Unread message.NoQuestionMark (length text) = let whole = start k in cc in
         let here : length text - length text ≡ 0 = omega arith in
-        subst (λ n. IsRefusalAt text n e) here (subst (λ x. IsErrorOf x text e) same is)
+        subst (λ n. IsRefusalAt text n e) here (subst (λ x. IsErrorOf x text e) same is).0
     go (Some rest) k = absurd (never (rest, after-is (codes "?") text rest k))
 
 pub rejected : {A : Type 0} (text : List ℕ) (r : Refusal) (e : ErrorRepr) → Refuses r (symbol_read text)
@@ -198,6 +204,7 @@ rejected text r e h start is =
       refused = refused;
       begins = refused-at-once text r e start is;
       hashes = hashes-read text e refused;
+      limit = error-limit text r e is;
     }
 
 -- With a limit
@@ -246,7 +253,7 @@ error-refused-within : (most : ℕ) (text : List ℕ) (r : Refusal) (e : ErrorRe
 error-refused-within most text refusal.Memory e h is =
     subst (λ (x : ErrorRepr). IsRefusedWithin most text x) (sym is) tt
 error-refused-within most text (refusal.Unread message left) e h is =
-    at_refused_within most text left e (within-none most text h) is
+    at_refused_within most text left e (within-none most text h) is.0
 
 pub rejected-within : {A : Type 0} (most : ℕ) (text : List ℕ) (r : Refusal) (e : ErrorRepr)
     → Refuses r (symbol_within most text)
@@ -254,7 +261,11 @@ pub rejected-within : {A : Type 0} (most : ℕ) (text : List ℕ) (r : Refusal) 
     → ◌≡◌ {A = Result A Refusal} (Err r) (Err (refusal.Unread message.NoQuestionMark (length text))))
     → IsErrorOf r text e → IsRejectedWithin most text e
 rejected-within most text r e h start is =
-    record { refused = error-refused-within most text r e h is; begins = refused-at-once text r e start is }
+    record {
+      refused = error-refused-within most text r e h is;
+      begins = refused-at-once text r e start is;
+      limit = error-limit text r e is;
+    }
 
 -- The number alone
 
