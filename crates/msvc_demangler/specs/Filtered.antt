@@ -61,6 +61,11 @@ pub data IsFilteredFrom (flags : ℕ) : (last : ℕ) (passed left : List ℕ) �
 abbrev pub AreParts : ℕ → List ℕ → List Part → Type 0
 AreParts flags bytes parts = IsFilteredFrom flags 10 [] bytes parts
 
+-- and no other parts are that
+abbrev pub AreOnlyParts : ℕ → List ℕ → List Part → Type 0
+AreOnlyParts flags bytes parts =
+    AreParts flags bytes parts × ((others : List Part) → AreParts flags bytes others → others ≡ parts)
+
 -- a text that the filter makes of some bytes
 abbrev pub IsFilteredText : ℕ → List ℕ → List ℕ → Type 0
 IsFilteredText flags bytes text = (parts : List Part) × AreParts flags bytes parts × (text ≡ text_of_parts parts)

@@ -26,8 +26,10 @@ pub use Rattle.msvc_nodes.specs.EachName
 pub use Rattle.msvc_nodes.specs.Errors
 pub use Rattle.msvc_nodes.specs.Trees
 pub use Rattle.msvc_nodes.specs.declared.error.ErrorRepr
+pub use Rattle.msvc_nodes.specs.declared.error.Limit
 pub use Rattle.msvc_parser.specs.Parser
 pub use Rattle.msvc_print.specs.Declaration
 pub use Rattle.msvc_print.specs.Laws as PrintLaws
+pub use Rattle.msvc_tree.specs.Equality
 pub use Rattle.msvc_tree.specs.View
 pub use Rattle.msvc_write.specs.Serialized

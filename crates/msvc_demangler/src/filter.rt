@@ -10,8 +10,8 @@ ghost use Rattle.msvc_grammar.specs.Parsed.{IsParsed, IsRejectedWithin, IsSymbol
 ghost use Rattle.msvc_print.specs.Declaration.{declaration};
 ghost use Rattle.msvc_demangler.specs.Faults.{SetsFailureFlag, failure_flag, no_stream};
 ghost use Rattle.msvc_demangler.specs.Fillings.{IsFilling, space_after};
-ghost use Rattle.msvc_demangler.specs.Filtered.{AreParts, IsNoSymbol, Part, declared, fitting, kept, most_declared};
-ghost use Rattle.msvc_demangler.specs.Filtered.{most_nodes, text_of_parts};
+ghost use Rattle.msvc_demangler.specs.Filtered.{AreOnlyParts, IsNoSymbol, Part, declared, fitting, kept};
+ghost use Rattle.msvc_demangler.specs.Filtered.{most_declared, most_nodes, text_of_parts};
 ghost use Rattle.msvc_demangler.specs.Runs.{Writes, WritesFiltered, WritesPart};
 ghost use Rattle.msvc_demangler.specs.Scans.{ArePartsUpTo, IsFilteredUpTo, IsFound, IsPut, IsPutOf, IsRestText};
 ghost use Rattle.msvc_demangler.specs.Scans.{IsSymbolShown, Keeps};
@@ -178,7 +178,7 @@ pub fn filter_slice(
     flags: DemangleFlags,
     out: &mut [u8],
 ) -> Result<Filtered, AllocError>
-    ensures text { IfOk result (λ f. (parts : List Part) × AreParts flags.0 text.now parts
+    ensures text { IfOk result (λ f. (parts : List Part) × AreOnlyParts flags.0 text.now parts
         × (f.length ≡ length (text_of_parts parts)) × (f.written ≡ length (fitting (length out.old) parts))
         × (out.new ≡ fitting (length out.old) parts ++ drop (length (fitting (length out.old) parts)) out.old)) }
 {

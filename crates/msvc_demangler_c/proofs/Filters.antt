@@ -6,7 +6,7 @@ use Rattle.std.proofs.lemmas.Bool.{eqb-true, leb-true}
 use Rattle.std.proofs.lemmas.Str.{utf8_valid_len_le}
 use Rattle.std.specs.Prelude.{◌==◌, if◌then◌else◌, nat_le}
 use Rattle.std.specs.Str.Lossy.{utf8_valid_len}
-use Rattle.msvc_demangler.specs.Filtered.{AreParts, Part, declared, fitting, kept, text_of_parts}
+use Rattle.msvc_demangler.specs.Filtered.{AreOnlyParts, Part, declared, fitting, kept, text_of_parts}
 use Rattle.msvc_demangler.specs.Words.{utf8_front}
 use Rattle.msvc_demangler_c.proofs.Cuts.{one_more, set-copied}
 use Rattle.msvc_demangler_c.specs.Buffers.{ArePartsWritten}
@@ -88,10 +88,10 @@ kept-length front old room same =
     ∙ ap length (take-append-drop room old)
 
 pub filtered-into : (flags bits : ℕ) (text old new : List ℕ) (parts : List Part) (count : ℕ) → bits ≡ flags
-    → AreParts bits text parts → count ≡ length (text_of_parts parts) → ArePartsWritten parts old new
+    → AreOnlyParts bits text parts → count ≡ length (text_of_parts parts) → ArePartsWritten parts old new
     → IsFilteredInto flags text old new 0 count
 filtered-into flags bits text old new parts count same are is written =
-    let Are : ℕ → Type 0 = λ n. AreParts n text parts in
+    let Are : ℕ → Type 0 = λ n. AreOnlyParts n text parts in
     let Into : ℕ → Type 0 = λ n. IsFilteredInto flags text old new 0 n in
     subst Into (sym is) (filtered (subst Are same are) written)
 

@@ -7,7 +7,7 @@ use Rattle.msvc_demangler.specs.Counts.{node_count}
 use Rattle.msvc_demangler.specs.Declaration.{declaration}
 use Rattle.msvc_demangler.specs.Demangled.{IsDeclaredWithin}
 use Rattle.msvc_demangler.specs.Errors.{context_of, message_limit}
-use Rattle.msvc_demangler.specs.Filtered.{AreParts, Part, text_of_parts}
+use Rattle.msvc_demangler.specs.Filtered.{AreOnlyParts, Part, text_of_parts}
 use Rattle.msvc_nodes.specs.declared.error.Limit.{Limit}
 use Rattle.msvc_nodes.specs.declared.error.Limit.TheVariants.{Nodes, Bytes}
 use Rattle.msvc_demangler.specs.Limits.{IsBeyond, IsWithin, Limits}
@@ -110,7 +110,7 @@ pub data IsMeasured (limits : Limits) (symbol : List ℕ) : (status offset bytes
 -- What the filter makes of a text, and what it writes into a buffer: the status and the length.
 pub data IsFilteredInto (flags : ℕ) (text old new : List ℕ) : (status length : ℕ) → Type 0 where
   -- OK
-  filtered : {parts : List Part} → AreParts flags text parts → ArePartsWritten parts old new
+  filtered : {parts : List Part} → AreOnlyParts flags text parts → ArePartsWritten parts old new
       → IsFilteredInto flags text old new 0 (length (text_of_parts parts))
   -- OUT_OF_MEMORY: the bytes after the text and its NUL are any
   not_filtered : (others : List ℕ) → length others ≡ length old → IsWritten out_of_memory_text others new

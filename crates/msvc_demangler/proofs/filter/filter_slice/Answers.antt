@@ -1,10 +1,10 @@
 use Rattle.std.proofs.Common.{◌≡◌, ◌+◌, ◌-◌, ◌++◌, ◌∷◌, [], ◌∙◌, append_assoc, arith, ap, drop, length, length-drop}
-use Rattle.std.proofs.Common.{map, refl, subst, take}
+use Rattle.std.proofs.Common.{List, map, refl, subst, take}
 use Rattle.msvc_demangler.specs.Fillings.{IsFilling}
-use Rattle.msvc_demangler.specs.Filtered.{declared, kept}
+use Rattle.msvc_demangler.specs.Filtered.{AreParts, Part, declared, kept}
 use Rattle.msvc_demangler.specs.Scans.{ArePartsUpTo}
 use Rattle.msvc_demangler.proofs.Filled.{Filling-end, Filling-length, Filling-start}
-use Rattle.msvc_demangler.proofs.Replaced.{Keeps-fresh, fresh}
+use Rattle.msvc_demangler.proofs.Replaced.{Keeps-fresh, fresh, parts-only}
 use Rattle.msvc_demangler.proofs.Starts.{parts-kept}
 use Rattle.msvc_demangler.proofs.Within.{parts-all, parts-further}
 use Rattle.msvc_demangler.proofs.Written.{to_end}
@@ -79,4 +79,7 @@ returns c =
     let all = parts-all c.args.flags.0 (fresh 10) c.symbols.scan text (length text) c.symbols.at so.1.0 so.1.2
     c.symbols-test.false in
     let end = Filling-end c.args.out.now so.1.0 c.symbols.filling c.symbols.out so.1.1 in
-    record { text = (so.1.0, all 10 [] (Keeps-fresh 10), so.1.1.length_is, end.0, end.1) }
+    let are = all 10 [] (Keeps-fresh 10) in
+    let only : (others : List Part) → AreParts c.args.flags.0 text others → others ≡ so.1.0 =
+    λ others more. parts-only c.args.flags.0 10 [] text so.1.0 others are more in
+    record { text = (so.1.0, (are, only), so.1.1.length_is, end.0, end.1) }
