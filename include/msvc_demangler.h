@@ -131,8 +131,9 @@ MSVC_DEMANGLER_ASSERT(offsetof(struct msvc_demangler_result, length) == 16);
    TOO_MANY_NODES  more nodes than allowed (offset: 9, remaining: "EA")        where reading stopped
    TOO_LONG        longer than allowed (offset: 10, remaining: "")             where the symbol ends
 
-   The texts of INVALID, TOO_MANY_NODES and TOO_LONG are examples, and may change. An input that is no symbol, as
-   "main", is no failure of the program: print the input itself if the status is not OK.
+   The texts of INVALID, TOO_MANY_NODES and TOO_LONG are examples, and may change; no status has the message of another
+   one. An input that is no symbol, as "main", is no failure of the program: print the input itself if the status is
+   not OK.
 
        const char symbol[] = "?f@@YAXH@Z and more";
        char text[256];

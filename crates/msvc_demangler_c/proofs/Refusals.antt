@@ -1,24 +1,22 @@
 -- What C sees of an error of the library is right of the symbol.
-use Rattle.std.proofs.Common.{◌≡◌, ◌≤◌, ◌+◌, ◌∙◌, ℕ, List, Bool, true, false, Option, Some, None}
+use Rattle.std.proofs.Common.{◌≡◌, ◌≢◌, ◌≤◌, ◌∙◌, ℕ, List, Bool, true, false, Option, Some, None}
 use Rattle.std.proofs.Common.{IfOk, IfSome, Ok, Result}
-use Rattle.std.proofs.Common.{ap, arith, codes, inl, inr, is_some, length, refl, string_bytes, subst, sym}
-use Rattle.std.specs.Prelude.{if◌then◌else◌}
+use Rattle.std.proofs.Common.{codes, inl, inr, length, refl, string_bytes, subst, sym}
+use Rattle.std.specs.Prelude.{◌==◌, if◌then◌else◌}
+use Rattle.std.specs.Cmp.Lexicographic.{pointwise, same_text}
 use Rattle.std.specs.Cow.{cow_str_bytes}
-use Rattle.std.specs.Str.{IsUtf8}
-use Rattle.msvc_nodes.proofs.Contexts.{IsRefusalOrMemory-IsAscii}
+use Rattle.std.specs.Str.{IsAscii, IsUtf8}
 use Rattle.msvc_demangler.specs.Demangled.{IsRefusedUnder}
 use Rattle.msvc_demangler.specs.ErrorRepr.{ErrorRepr}
 use Rattle.msvc_demangler.specs.ErrorRepr.TheVariants as error
-use Rattle.msvc_demangler.specs.Counts.{node_count}
-use Rattle.msvc_demangler.specs.Declaration.{declaration}
-use Rattle.msvc_demangler.specs.Errors.{context_of, error_text, limit_of, message_limit, offset_of, too_long}
-use Rattle.msvc_nodes.specs.declared.error.Limit.{Limit}
-use Rattle.msvc_nodes.specs.declared.error.Limit.TheVariants.{Nodes, Bytes}
-use Rattle.msvc_demangler.specs.Trees.{SymbolTree}
-use Rattle.msvc_demangler.specs.Limits.{IsBeyond, IsRejectedUnder, IsTooLong, IsWithin, Limits}
-use Rattle.msvc_demangler_c.specs.Calls.{IsFound, IsMeasured, IsNoDeclarationUnder, IsNoSymbolUnder, IsRefused}
-use Rattle.msvc_demangler_c.specs.Calls.{IsRejection, invalid, not_measured, not_read, status_by, too_many_nodes}
-use Rattle.msvc_demangler_c.specs.Calls as calls
+use Rattle.msvc_demangler.specs.Errors as errors
+use Rattle.msvc_demangler.specs.Errors.{context_of, context_text_of, error_text, limit_of, message_limit, offset_of}
+use Rattle.msvc_demangler.specs.Limit.{Limit}
+use Rattle.msvc_demangler.specs.Limit.TheVariants.{Bytes, Nodes}
+use Rattle.msvc_demangler.specs.Limits.{IsRejectedUnder, IsTooLong, Limits}
+use Rattle.msvc_demangler.specs.Refusals.{begins_with}
+use Rattle.msvc_demangler_c.specs.Calls.{IsFound, IsMeasured, IsNoSymbolUnder, IsRefused, IsRejection, IsStatus, Says}
+use Rattle.msvc_demangler_c.specs.Calls.{invalid, not_measured, not_read, too_long, too_many_nodes}
 
 -- an error has this offset in the symbol, and this text
 pub record IsAt (e : ErrorRepr) (offset : ℕ) (text : List ℕ) : Type 0 where
@@ -29,132 +27,109 @@ pub at : (e : ErrorRepr) (offset : ℕ) (text : List ℕ) → offset_of e ≡ So
     → IfSome (error_text e) (λ said. text ≡ said) → IsAt e offset text
 at e offset text o t = record { offset_is = o; text_is = t }
 
--- What is known of a symbol that reading rejects with an error at this offset: no tree is derived, and the text says
--- so with a message, which tells the limit that the error is about.
-record IsUnread (nodes : Option ℕ) (symbol : List ℕ) (e : ErrorRepr) (offset : ℕ) (text : List ℕ) : Type 0 where
-  none : IsNoSymbolUnder nodes symbol
-  message : List ℕ
-  limit : limit_of e ≡ message_limit message
-  rejection : IsRejection symbol message offset text
-
 some-injective : (m n : ℕ) → Some m ≡ Some n → m ≡ n
 some-injective m n e = cc
 
-unread : (nodes : Option ℕ) (symbol : List ℕ) (e : ErrorRepr) (offset : ℕ) (text : List ℕ)
-    → IsRejectedUnder nodes symbol e → IsAt e offset text → IsUnread nodes symbol e offset text
-unread nodes symbol (error.FromUtf8 cause) offset text r a = let no : None ≡ Some offset = a.offset_is in absurd (cc)
-unread nodes symbol (error.Utf8 cause) offset text r a = let no : None ≡ Some offset = a.offset_is in absurd (cc)
-unread nodes symbol (error.Other message) offset text r a =
+-- what is known of a symbol that reading rejects with this error, with a limit on nodes and without one
+abbrev IsUnread : Option ℕ → List ℕ → ErrorRepr → Type 0
+IsUnread nodes symbol (error.ParseError message context offset) =
+    (offset ≤ length symbol) × IsNoSymbolUnder nodes symbol
+    × (IsAscii symbol → string_bytes context ≡ context_of symbol offset)
+    × ((begins_with (codes "?") symbol → ⊥) → offset ≡ 0) × (message_limit (cow_str_bytes message) ≢ Some Bytes)
+IsUnread nodes symbol _ = Unit {0}
+
+unread : (nodes : Option ℕ) (symbol : List ℕ) (e : ErrorRepr) → IsRejectedUnder nodes symbol e
+    → IsUnread nodes symbol e
+unread None symbol (error.ParseError m c o) r =
+    (r.refused.0, r.refused.1, r.refused.2, (λ no. (r.begins no).0), r.limit)
+unread (Some most) symbol (error.ParseError m c o) r =
+    (r.refused.0, r.refused.1, r.refused.2, (λ no. (r.begins no).0), r.limit)
+unread nodes symbol (error.FromUtf8 cause) r = tt
+unread nodes symbol (error.Utf8 cause) r = tt
+unread nodes symbol (error.Other message) r = tt
+unread nodes symbol error.Memory r = tt
+
+-- the message about the limit on nodes is one text
+nodes-first : (nodes bytes : Bool) → (if nodes then Some Nodes else if bytes then Some Bytes else None) ≡ Some Nodes
+    → true ≡ nodes
+nodes-first true bytes e = refl
+nodes-first false true e = absurd (cc)
+nodes-first false false e = absurd (cc)
+
+nodes-message : (message : List ℕ) → message_limit message ≡ Some Nodes → message ≡ errors.too_many_nodes
+nodes-message message e =
+    same_text message errors.too_many_nodes
+    (nodes-first (pointwise (λ a b. a == b) message errors.too_many_nodes)
+    (pointwise (λ a b. a == b) message errors.too_long) e)
+
+-- a symbol that is not read has one of two statuses
+refused : (limits : Limits) (symbol : List ℕ) (status offset : ℕ) (message text : List ℕ) (limit : Option Limit)
+    → IsUtf8 symbol → IsNoSymbolUnder limits.nodes symbol → IsRejection symbol message offset text
+    → message_limit message ≡ limit → limit ≢ Some Bytes → IsStatus limits limit status
+    → IsRefused limits symbol status offset text
+refused limits symbol status offset message text None u none rejection about other is =
+    subst (λ n. IsRefused limits symbol n offset text) (sym is) (invalid u none about rejection)
+refused limits symbol status offset message text (Some Nodes) u none rejection about other is =
+    let Of : List ℕ → Type 0 = λ m. IsRejection symbol m offset text in
+    subst (λ n. IsRefused limits symbol n offset text) (sym is.0)
+    (too_many_nodes u none is.1 (subst Of (nodes-message message about) rejection))
+refused limits symbol status offset message text (Some Bytes) u none rejection about other is = absurd (other refl)
+
+refused-unread : (limits : Limits) (symbol : List ℕ) (status : ℕ) (e : ErrorRepr) (offset : ℕ) (text : List ℕ)
+    → IsUtf8 symbol → IsRejectedUnder limits.nodes symbol e → IsStatus limits (limit_of e) status
+    → IsAt e offset text → IsRefused limits symbol status offset text
+refused-unread limits symbol status (error.FromUtf8 cause) offset text u r is a =
     let no : None ≡ Some offset = a.offset_is in absurd (cc)
-unread nodes symbol error.Memory offset text r a = let no : None ≡ Some offset = a.offset_is in absurd (cc)
-unread None symbol (error.ParseError m c o) offset text r a =
-    let e = error.ParseError m c o in
-    let Of : ℕ → Type 0 = λ n. IsUnread None symbol e n text in
+refused-unread limits symbol status (error.Utf8 cause) offset text u r is a =
+    let no : None ≡ Some offset = a.offset_is in absurd (cc)
+refused-unread limits symbol status (error.Other message) offset text u r is a =
+    let no : None ≡ Some offset = a.offset_is in absurd (cc)
+refused-unread limits symbol status error.Memory offset text u r is a =
+    let no : None ≡ Some offset = a.offset_is in absurd (cc)
+refused-unread limits symbol status (error.ParseError m c o) offset text u r is a =
+    let known = unread limits.nodes symbol (error.ParseError m c o) r in
     let rejection : IsRejection symbol (cow_str_bytes m) o text = record {
-      inside = r.refused.0;
-      begins = λ no. (r.begins no).0;
+      inside = known.0;
+      begins = known.3;
       context = string_bytes c;
-      shows = r.refused.2;
+      shows = known.2;
       says = a.text_is;
     } in
-    subst Of (some-injective o offset a.offset_is)
-    (record { none = r.refused.1; message = cow_str_bytes m; limit = refl; rejection = rejection })
-unread (Some most) symbol (error.ParseError m c o) offset text r a =
-    let e = error.ParseError m c o in
-    let Of : ℕ → Type 0 = λ n. IsUnread (Some most) symbol e n text in
-    let rejection : IsRejection symbol (cow_str_bytes m) o text = record {
-      inside = r.refused.0;
-      begins = λ no. (r.begins no).0;
-      context = string_bytes c;
-      shows = r.refused.2;
-      says = a.text_is;
-    } in
-    subst Of (some-injective o offset a.offset_is)
-    (record { none = r.refused.1; message = cow_str_bytes m; limit = refl; rejection = rejection })
+    subst (λ n. IsRefused limits symbol status n text) (some-injective o offset a.offset_is)
+    (refused limits symbol status o (cow_str_bytes m) text (message_limit (cow_str_bytes m)) u known.1 rejection refl
+    known.4 is)
 
-choose : (b : Bool) (n : ℕ) (R : ℕ → Type 0) → ((if b then n else 1) ≡ 1 → R 1)
-    → (b ≡ true → (if b then n else 1) ≡ n → R n) → R (if b then n else 1)
-choose true n R low high = high refl refl
-choose false n R low high = low refl
-
--- the status of a rejected symbol is one of three
-by_status : (limits : Limits) (limit : Option Limit) (R : ℕ → Type 0) → (status_by limits limit ≡ 1 → R 1)
-    → (status_by limits limit ≡ 4 → R 4) → (is_some limits.bytes ≡ true → status_by limits limit ≡ 5 → R 5)
-    → R (status_by limits limit)
-by_status limits None R one four five = one refl
-by_status limits (Some Nodes) R one four five = choose (is_some limits.nodes) 4 R one (λ b. four)
-by_status limits (Some Bytes) R one four five = choose (is_some limits.bytes) 5 R one five
-
-beyond-within : (limit : Option ℕ) (count : ℕ) → IsBeyond limit count → IsWithin limit count → ⊥
-beyond-within None count beyond within = beyond
-beyond-within (Some most) count beyond within = omega (arith, beyond, within)
-
-found-unread : (limits : Limits) (symbol : List ℕ) (flags : ℕ) (e : ErrorRepr) (offset : ℕ) (text : List ℕ)
-    → IsUtf8 symbol → IsUnread limits.nodes symbol e offset text
-    → IsFound limits symbol flags (status_by limits (limit_of e)) offset text
-found-unread limits symbol flags e offset text u unread =
-    let Of : Option Limit → Type 0 = λ limit. IsFound limits symbol flags (status_by limits limit) offset text in
-    let no_declaration : IsNoDeclarationUnder limits symbol flags = λ tree rest notes derived within.
-    absurd (beyond-within limits.nodes (node_count tree) (unread.none tree rest notes derived) within) in
-    subst Of (sym unread.limit)
-    (by_status limits (message_limit unread.message) (λ status. IsFound limits symbol flags status offset text)
-    (λ is. not_read (invalid u unread.none is unread.rejection))
-    (λ is. not_read (too_many_nodes u unread.none is unread.rejection))
-    (λ set is. calls.too_long u no_declaration is unread.rejection))
-
-is_set : (limit : Option ℕ) (count : ℕ) → IsBeyond limit count → is_some limit ≡ true
-is_set None count beyond = absurd beyond
-is_set (Some most) count beyond = refl
-
--- a declaration that exceeds the limit on bytes is that of each tree that is derived
-longer-only : (limits : Limits) (symbol : List ℕ) (flags : ℕ) (e : ErrorRepr) → IsTooLong limits symbol flags e
-    → IsNoDeclarationUnder limits symbol flags
-longer-only limits symbol flags e long tree rest notes derived within =
-    let Longer : SymbolTree → Type 0 = λ t. IsBeyond limits.bytes (length (declaration t flags)) in
-    subst Longer (sym (long.parsed.only tree rest notes derived).0) long.longer
-
-found-too_long : (limits : Limits) (symbol : List ℕ) (flags : ℕ) (e : ErrorRepr) (offset : ℕ) (text : List ℕ)
-    → IsUtf8 symbol → IsTooLong limits symbol flags e → IsAt e offset text
-    → IsFound limits symbol flags (status_by limits (limit_of e)) offset text
-found-too_long limits symbol flags (error.FromUtf8 cause) offset text u long a =
+found-too_long : (limits : Limits) (symbol : List ℕ) (flags status : ℕ) (e : ErrorRepr) (offset : ℕ) (text : List ℕ)
+    → IsUtf8 symbol → IsTooLong limits symbol flags e → IsStatus limits (limit_of e) status → IsAt e offset text
+    → IsFound limits symbol flags status offset text
+found-too_long limits symbol flags status (error.FromUtf8 cause) offset text u long is a =
     let no : None ≡ Some offset = a.offset_is in absurd (cc)
-found-too_long limits symbol flags (error.Utf8 cause) offset text u long a =
+found-too_long limits symbol flags status (error.Utf8 cause) offset text u long is a =
     let no : None ≡ Some offset = a.offset_is in absurd (cc)
-found-too_long limits symbol flags (error.Other message) offset text u long a =
+found-too_long limits symbol flags status (error.Other message) offset text u long is a =
     let no : None ≡ Some offset = a.offset_is in absurd (cc)
-found-too_long limits symbol flags error.Memory offset text u long a =
+found-too_long limits symbol flags status error.Memory offset text u long is a =
     let no : None ≡ Some offset = a.offset_is in absurd (cc)
-found-too_long limits symbol flags (error.ParseError m c o) offset text u long a =
-    let e = error.ParseError m c o in
-    let p = long.parsed in
-    let all : long.read + length p.rest ≡ length symbol =
-    (long.takes.read_to long.tree p.rest p.notes p.derived).0 in
-    let fits : o ≤ length symbol = omega (arith, all, long.error.2) in
-    let set : is_some limits.bytes ≡ true = is_set limits.bytes _ long.longer in
-    let about : limit_of e ≡ Some Bytes = ap message_limit long.error.0 in
-    let five : status_by limits (limit_of e) ≡ 5 =
-    ap (status_by limits) about ∙ ap (λ b. if b then 5 else 1) set in
-    let rejection : IsRejection symbol (cow_str_bytes m) o text = record {
-      inside = fits;
-      begins = λ no. absurd (no p.begins);
-      context = string_bytes c;
-      shows = λ ascii.
-          (IsRefusalOrMemory-IsAscii too_long symbol long.read e ascii long.error).1
-          ∙ ap (context_of symbol) (sym long.error.2);
-      says = a.text_is;
-    } in
-    let found : IsFound limits symbol flags 5 o text =
-    calls.too_long u (longer-only limits symbol flags e long) five rejection in
-    let Of : ℕ → Type 0 = λ n. IsFound limits symbol flags n o text in
-    let At : ℕ → Type 0 = λ n. IsFound limits symbol flags (status_by limits (limit_of e)) n text in
-    subst At (some-injective o offset a.offset_is) (subst Of (sym five) found)
+found-too_long limits symbol flags status (error.ParseError m c o) offset text u long is a =
+    let at_end : long.read ≡ offset = sym long.error.2 ∙ some-injective o offset a.offset_is in
+    let About : List ℕ → Type 0 = λ message. IsStatus limits (message_limit message) status in
+    let set = subst About long.error.0 is in
+    let Shown : List ℕ → Type 0 = λ message. Says message (string_bytes c) o text in
+    let Ends : List ℕ → Type 0 = λ context. Says errors.too_long context o text in
+    let At : ℕ → Type 0 = λ n. Says errors.too_long (context_text_of symbol long.read) n text in
+    let says = subst At long.error.2 (subst Ends long.error.1 (subst Shown long.error.0 a.text_is)) in
+    let Found : ℕ → ℕ → Type 0 = λ number place. IsFound limits symbol flags number place text in
+    let found : Found 5 long.read =
+    too_long u (long.tree, long.parsed, long.nodes, long.takes, long.longer) says in
+    subst (Found status) at_end (subst (λ n. Found n long.read) (sym set.0) found)
 
-pub found : (limits : Limits) (symbol : List ℕ) (flags : ℕ) (e : ErrorRepr) (offset : ℕ) (text : List ℕ)
-    → IsUtf8 symbol → IsRefusedUnder limits symbol flags e → IsAt e offset text
-    → IsFound limits symbol flags (status_by limits (limit_of e)) offset text
-found limits symbol flags e offset text u (inl r) a =
-    found-unread limits symbol flags e offset text u (unread limits.nodes symbol e offset text r a)
-found limits symbol flags e offset text u (inr long) a = found-too_long limits symbol flags e offset text u long a
+pub found : (limits : Limits) (symbol : List ℕ) (flags status : ℕ) (e : ErrorRepr) (offset : ℕ) (text : List ℕ)
+    → IsUtf8 symbol → IsRefusedUnder limits symbol flags e → IsStatus limits (limit_of e) status → IsAt e offset text
+    → IsFound limits symbol flags status offset text
+found limits symbol flags status e offset text u (inl r) is a =
+    not_read (refused-unread limits symbol status e offset text u r is a)
+found limits symbol flags status e offset text u (inr long) is a =
+    found-too_long limits symbol flags status e offset text u long is a
 
 -- what holds of a result that is `Ok` holds of the value in it
 pub of_ok : {A E : Type 0} (r : Result A E) (a : A) (P : A → Type 0) → r ≡ Ok a → IfOk r P → P a
@@ -169,18 +144,10 @@ is_said : (text : Option (List ℕ)) → IfSome text (λ t. said text ≡ t)
 is_said None = tt
 is_said (Some text) = refl
 
-pub measured : (nodes : Option ℕ) (symbol : List ℕ) (e : ErrorRepr) (offset : ℕ) → IsUtf8 symbol
-    → IsRejectedUnder nodes symbol e → offset_of e ≡ Some offset
-    → IsMeasured (record { nodes = nodes; bytes = None }) symbol
-    (status_by (record { nodes = nodes; bytes = None }) (limit_of e)) offset 0
-measured nodes symbol e offset u r o =
-    let limits : Limits = record { nodes = nodes; bytes = None } in
+pub measured : (nodes : Option ℕ) (symbol : List ℕ) (status : ℕ) (e : ErrorRepr) (offset : ℕ) → IsUtf8 symbol
+    → IsRejectedUnder nodes symbol e → IsStatus (record { nodes = nodes; bytes = None }) (limit_of e) status
+    → offset_of e ≡ Some offset → IsMeasured (record { nodes = nodes; bytes = None }) symbol status offset 0
+measured nodes symbol status e offset u r is o =
     let text = said (error_text e) in
     let at_offset : IsAt e offset text = record { offset_is = o; text_is = is_said (error_text e) } in
-    let no = unread nodes symbol e offset text r at_offset in
-    let Of : Option Limit → Type 0 = λ limit. IsMeasured limits symbol (status_by limits limit) offset 0 in
-    subst Of (sym no.limit)
-    (by_status limits (message_limit no.message) (λ status. IsMeasured limits symbol status offset 0)
-    (λ is. not_measured (invalid u no.none is no.rejection))
-    (λ is. not_measured (too_many_nodes u no.none is no.rejection))
-    (λ set is. let differ : false ≡ true = set in absurd (cc)))
+    not_measured (refused-unread (record { nodes = nodes; bytes = None }) symbol status e offset text u r is at_offset)

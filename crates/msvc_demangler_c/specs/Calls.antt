@@ -1,15 +1,16 @@
 -- What the calls from C return and write, whatever makes it: definitions over bytes and numbers.
-use Rattle.std.specs.Prelude.{ℕ, List, ◌≡◌, ◌≤◌, length, codes, if◌then◌else◌}
-use Rattle.std.specs.Prelude.{Option, Some, None, IfSome, is_some}
+use Rattle.std.specs.Prelude.{ℕ, List, ◌≡◌, ◌≤◌, length, codes}
+use Rattle.std.specs.Prelude.{Option, Some, None, IfSome, is_some, true}
 use Rattle.std.specs.Fmt.{◌++?◌, debug_str, decimal}
 use Rattle.std.specs.Str.{IsAscii, IsUtf8, IsValidUpTo}
 use Rattle.msvc_demangler.specs.Counts.{node_count}
 use Rattle.msvc_demangler.specs.Declaration.{declaration}
 use Rattle.msvc_demangler.specs.Demangled.{IsDeclaredWithin}
-use Rattle.msvc_demangler.specs.Errors.{context_of, message_limit}
+use Rattle.msvc_demangler.specs.Errors as errors
+use Rattle.msvc_demangler.specs.Errors.{context_of, context_text_of, message_limit}
 use Rattle.msvc_demangler.specs.Filtered.{AreOnlyParts, Part, text_of_parts}
-use Rattle.msvc_nodes.specs.declared.error.Limit.{Limit}
-use Rattle.msvc_nodes.specs.declared.error.Limit.TheVariants.{Nodes, Bytes}
+use Rattle.msvc_demangler.specs.Limit.{Limit}
+use Rattle.msvc_demangler.specs.Limit.TheVariants.{Bytes, Nodes}
 use Rattle.msvc_demangler.specs.Limits.{IsBeyond, IsWithin, Limits}
 use Rattle.msvc_demangler.specs.Parsed.{IsParsed, IsSymbolLength}
 use Rattle.msvc_demangler.specs.Reads.{Derives}
@@ -27,23 +28,23 @@ not_utf8_text = codes "not UTF-8"
 abbrev pub out_of_memory_text : List ℕ
 out_of_memory_text = codes "out of memory"
 
--- The status of a symbol that is rejected with a message about this limit, or about none: TOO_MANY_NODES or TOO_LONG if
--- the caller set that limit, else INVALID.
-abbrev pub status_by : Limits → Option Limit → ℕ
-status_by limits None = 1
-status_by limits (Some Nodes) = if is_some limits.nodes then 4 else 1
-status_by limits (Some Bytes) = if is_some limits.bytes then 5 else 1
+-- The status of an error about no limit, INVALID, or about one that the caller has set, TOO_MANY_NODES or TOO_LONG.
+abbrev pub IsStatus : Limits → Option Limit → ℕ → Type 0
+IsStatus limits None status = status ≡ 1
+IsStatus limits (Some Nodes) status = (status ≡ 4) × (is_some limits.nodes ≡ true)
+IsStatus limits (Some Bytes) status = (status ≡ 5) × (is_some limits.bytes ≡ true)
 
 -- The grammar derives no tree from a beginning of the symbol, or none that is within the limit on nodes.
 abbrev pub IsNoSymbolUnder : Option ℕ → List ℕ → Type 0
 IsNoSymbolUnder nodes symbol = (tree : SymbolTree) (rest : List ℕ) (notes : List Note)
     → Derives symbol tree rest notes → IsBeyond nodes (node_count tree)
 
--- Each tree that is derived within the limit on nodes has a declaration that exceeds the limit on bytes.
-abbrev pub IsNoDeclarationUnder : Limits → List ℕ → ℕ → Type 0
-IsNoDeclarationUnder limits symbol flags = (tree : SymbolTree) (rest : List ℕ) (notes : List Note)
-    → Derives symbol tree rest notes → IsWithin limits.nodes (node_count tree)
-    → IsBeyond limits.bytes (length (declaration tree flags))
+-- So many bytes were read for the symbol's tree, which is within the limit on nodes, and its declaration exceeds the
+-- limit on bytes.
+abbrev pub IsLonger : Limits → List ℕ → (flags bytes : ℕ) → Type 0
+IsLonger limits symbol flags bytes = (tree : SymbolTree) × IsParsed symbol tree
+    × IsWithin limits.nodes (node_count tree) × IsSymbolLength bytes symbol
+    × IsBeyond limits.bytes (length (declaration tree flags))
 
 -- the text that says why a symbol is rejected; nothing is said of a context that is not ASCII
 abbrev pub rejection_text : (message context : List ℕ) (offset : ℕ) → Option (List ℕ)
@@ -51,7 +52,10 @@ rejection_text message context offset =
     Some message ++? Some (codes " (offset: ") ++? Some (decimal offset)
     ++? Some (codes ", remaining: ") ++? debug_str context ++? Some (codes ")")
 
--- A symbol is rejected with this message, at this offset, and the text says so.
+abbrev pub Says : (message context : List ℕ) (offset : ℕ) (text : List ℕ) → Type 0
+Says message context offset text = IfSome (rejection_text message context offset) (λ said. text ≡ said)
+
+-- Reading the symbol is rejected with this message, at this offset, and the text says so.
 pub record IsRejection (symbol message : List ℕ) (offset : ℕ) (text : List ℕ) : Type 0 where
   -- the offset is one in the symbol
   pub inside : offset ≤ length symbol
@@ -61,13 +65,13 @@ pub record IsRejection (symbol message : List ℕ) (offset : ℕ) (text : List �
   pub context : List ℕ
   -- if the symbol is ASCII, that is what stands at the offset
   pub shows : IsAscii symbol → context ≡ context_of symbol offset
-  pub says : IfSome (rejection_text message context offset) (λ said. text ≡ said)
+  pub says : Says message context offset text
 
 -- A symbol is not read: the status, the offset, and the text that says why.
 pub data IsRefused (limits : Limits) (symbol : List ℕ) : (status offset : ℕ) (text : List ℕ) → Type 0 where
-  -- INVALID
+  -- INVALID: with a message about no limit
   invalid : {offset : ℕ} {message text : List ℕ} → IsUtf8 symbol → IsNoSymbolUnder limits.nodes symbol
-      → status_by limits (message_limit message) ≡ 1
+      → message_limit message ≡ None
       → IsRejection symbol message offset text
       → IsRefused limits symbol 1 offset text
   -- NOT_UTF8: the offset is that up to which the symbol is UTF-8
@@ -75,10 +79,10 @@ pub data IsRefused (limits : Limits) (symbol : List ℕ) : (status offset : ℕ)
       → IsRefused limits symbol 2 offset not_utf8_text
   -- OUT_OF_MEMORY
   out_of_memory : IsUtf8 symbol → IsRefused limits symbol 3 0 out_of_memory_text
-  -- TOO_MANY_NODES
-  too_many_nodes : {offset : ℕ} {message text : List ℕ} → IsUtf8 symbol → IsNoSymbolUnder limits.nodes symbol
-      → status_by limits (message_limit message) ≡ 4
-      → IsRejection symbol message offset text
+  -- TOO_MANY_NODES: nodes are limited, and the message is the one about their limit
+  too_many_nodes : {offset : ℕ} {text : List ℕ} → IsUtf8 symbol → IsNoSymbolUnder limits.nodes symbol
+      → is_some limits.nodes ≡ true
+      → IsRejection symbol errors.too_many_nodes offset text
       → IsRefused limits symbol 4 offset text
 
 -- What is found of a symbol: the status, the offset, and its declaration or the text that says why it has none.
@@ -88,10 +92,9 @@ pub data IsFound (limits : Limits) (symbol : List ℕ) (flags : ℕ) : (status o
       → IsFound limits symbol flags 0 0 text
   not_read : {status offset : ℕ} {text : List ℕ} → IsRefused limits symbol status offset text
       → IsFound limits symbol flags status offset text
-  -- TOO_LONG
-  too_long : {offset : ℕ} {message text : List ℕ} → IsUtf8 symbol → IsNoDeclarationUnder limits symbol flags
-      → status_by limits (message_limit message) ≡ 5
-      → IsRejection symbol message offset text
+  -- TOO_LONG: the offset is where the symbol ends, and the text shows what follows it
+  too_long : {offset : ℕ} {text : List ℕ} → IsUtf8 symbol → IsLonger limits symbol flags offset
+      → Says errors.too_long (context_text_of symbol offset) offset text
       → IsFound limits symbol flags 5 offset text
 
 -- so many bytes were read for the symbol's tree, which is within the limit; cut after these, the symbol has this tree

@@ -2,12 +2,12 @@
 //! and can be called by any number of threads.
 #![tactic(auto)]
 
-ghost use Rattle.std.specs.Prelude.{◌≡◌, ℕ, IfErr, IfOk, List, length};
+ghost use Rattle.std.specs.Prelude.{◌≡◌, ℕ, IfErr, IfOk, IfSome, List, Some, length};
 ghost use Rattle.std.specs.Cow.{cow_str_bytes};
-ghost use Rattle.msvc_demangler.specs.Errors.{limit_of};
+ghost use Rattle.msvc_demangler.specs.Errors.{limit_of, offset_of};
 ghost use Rattle.msvc_demangler.specs.Limits.{IsRejectedUnder, limit_of_number, limits_of};
 ghost use Rattle.msvc_demangler_c.specs.Buffers.{IsWritten};
-ghost use Rattle.msvc_demangler_c.specs.Calls.{IsFilteredInto, IsFound, IsLength, IsMeasured, status_by, version};
+ghost use Rattle.msvc_demangler_c.specs.Calls.{IsFilteredInto, IsFound, IsLength, IsMeasured, IsStatus, version};
 
 use msvc_demangler::{
     DemangleFlags, Error, Filtered, Flags, Limit, demangle_within, filter_slice, symbol_length,
@@ -187,9 +187,12 @@ fn declare(
             offset: 0,
             text: CowStr::Owned(declaration),
         },
-        Err(error) => match (error.offset(), format!(in alloc; "{error}")) {
-            (Some(offset), Ok(text)) => Reply {
-                status: status(&error, max_nodes, max_bytes),
+        Err(error) => match (
+            rejection(&error, max_nodes, max_bytes),
+            format!(in alloc; "{error}"),
+        ) {
+            (Some((status, offset)), Ok(text)) => Reply {
+                status,
                 offset,
                 text: CowStr::Owned(text),
             },
@@ -212,9 +215,9 @@ fn measure(alloc: Global, symbol: &str, max_nodes: usize) -> CallResult
             offset: 0,
             length: bytes,
         },
-        Err(error) => match error.offset() {
-            Some(offset) => CallResult {
-                status: status(&error, max_nodes, usize::MAX),
+        Err(error) => match rejection(&error, max_nodes, usize::MAX) {
+            Some((status, offset)) => CallResult {
+                status,
                 offset,
                 length: 0,
             },
@@ -239,15 +242,19 @@ fn bytes_of(alloc: Global, symbol: &str, max_nodes: usize) -> Result<usize, Erro
     }
 }
 
-/// Returns the status of an error that rejects a symbol: that of the limit that the symbol exceeds, if it was set.
-fn status(error: &Error, max_nodes: usize, max_bytes: usize) -> u32
-    ensures { result ≡ status_by (limits_of max_nodes max_bytes) (limit_of error.now) }
+/// Returns the status and the offset of an error that rejects a symbol, or `None` if memory ran out.
+fn rejection(error: &Error, max_nodes: usize, max_bytes: usize) -> Option<(u32, usize)>
+    ensures status { IfSome result (λ r. IsStatus (limits_of max_nodes max_bytes) (limit_of error.now) r.0) }
+    ensures offset { IfSome result (λ r. offset_of error.now ≡ Some r.1) }
 {
-    match error.limit() {
+    let status = match error.limit() {
+        None => INVALID,
         Some(Limit::Nodes) if max_nodes != usize::MAX => TOO_MANY_NODES,
         Some(Limit::Bytes) if max_bytes != usize::MAX => TOO_LONG,
-        _ => INVALID,
-    }
+        // A limit that was not set: no memory has room for so many nodes or bytes.
+        Some(_) => return None,
+    };
+    Some((status, error.offset()?))
 }
 
 /// Writes a text and a NUL into a buffer, cut short before a character if they do not fit, and returns the length of
