@@ -161,6 +161,34 @@ static void try_long_text(void)
     free(text);
 }
 
+/* A symbol of so many levels, each of which doubles the declaration. */
+static void make_doubled(char *symbol, size_t levels)
+{
+    strcpy(symbol, "?x@");
+    for (size_t n = 0; n < levels; n++) {
+        strcat(symbol, "?1???0?$A@Va@");
+    }
+    for (size_t n = 0; n < levels; n++) {
+        strcat(symbol, "@@@QEAA@XZ");
+    }
+    strcat(symbol, "@3HA");
+}
+
+/* The declaration of ten levels has 54,224 bytes, and that of eleven exceeds the default limit. */
+static void try_default_limits(void)
+{
+    static char text[MSVC_DEMANGLER_DEFAULT_BYTES];
+    char symbol[512];
+    make_doubled(symbol, 10);
+    struct msvc_demangler_result result = msvc_demangler_demangle_string(symbol, LLVM, text, sizeof text);
+    see(result.status == MSVC_DEMANGLER_OK && result.offset == 0 && result.length == 54224, "ten levels", 0);
+    make_doubled(symbol, 11);
+    result = msvc_demangler_demangle_string(symbol, LLVM, text, sizeof text);
+    see(result.status == MSVC_DEMANGLER_TOO_LONG && result.offset == 260 &&
+            strcmp(text, "longer than allowed (offset: 260, remaining: \"\")") == 0,
+        "eleven levels", 0);
+}
+
 static void try_version(void)
 {
     const char *version = MSVC_DEMANGLER_VERSION;
@@ -184,6 +212,7 @@ int main(void)
     }
     try_filters();
     try_long_text();
+    try_default_limits();
     try_version();
     printf("%zu calls, %d wrong results\n", count, wrong);
     return wrong != 0;

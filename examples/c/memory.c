@@ -1,5 +1,6 @@
-/* Refuses each request for memory of a call in its turn: the call has to say so, and to keep none. Link this with
-   -Wl,--wrap=malloc,--wrap=realloc,--wrap=free, which hands the library's requests to the functions here. */
+/* Refuses each request for memory of a call in its turn: the call has to say so, and to keep none. A limit on nodes also
+   limits the requests, however long the symbol is. Link this with -Wl,--wrap=malloc,--wrap=realloc,--wrap=free, which
+   hands the library's requests to the functions here. */
 
 #include <msvc_demangler.h>
 #include <stdbool.h>
@@ -72,6 +73,21 @@ static bool wants_memory(enum kind kind, const char *symbol)
     }
 }
 
+/* The requests of a call on a function of so many parameters, of which a hundred nodes are allowed; 0 if it isn't
+   rejected for these nodes, near its beginning. */
+static long requests_for(size_t parameters)
+{
+    static char symbol[1000000 + sizeof "?f@@YAX@Z"] = "?f@@YAX";
+    char text[128];
+    memset(symbol + 7, 'H', parameters);
+    memcpy(symbol + 7 + parameters, "@Z", 3);
+    requests = 0;
+    struct msvc_demangler_result result =
+        msvc_demangler_demangle(symbol, strlen(symbol), MSVC_DEMANGLER_LLVM, 100, MSVC_DEMANGLER_DEFAULT_BYTES, text,
+                                sizeof text);
+    return result.status == MSVC_DEMANGLER_TOO_MANY_NODES && result.offset < 1000 ? requests : 0;
+}
+
 int main(void)
 {
     long tried = 0;
@@ -89,6 +105,11 @@ int main(void)
                 wrong++;
             }
         }
+    }
+    refused = 0;
+    if (requests_for(1000) == 0 || requests_for(1000000) != requests_for(1000)) {
+        puts("a longer list of parameters has other requests where a hundred nodes are allowed");
+        wrong++;
     }
     printf("%ld refused requests, %ld wrong results\n", tried, wrong);
     return wrong != 0;

@@ -113,6 +113,30 @@ mod tests {
         Ok(())
     }
 
+    /// Makes a function of so many parameters.
+    fn function(alloc: Global, parameters: usize) -> Result<String, AllocError> {
+        let mut symbol = String::from_str(alloc, "?f@@YAX")?;
+        for _ in 0..parameters {
+            symbol.push('H')?;
+        }
+        symbol.push_str("@Z")?;
+        Ok(symbol)
+    }
+
+    /// Where 100 nodes are allowed, reading stops near the beginning of a list, however long it is.
+    #[test]
+    fn parameters(rt: HostRuntime) -> Result<(), Fail> {
+        for count in [1000, 1_000_000] {
+            let symbol = function(rt.alloc(), count)?;
+            let error = symbol_length_within(rt.alloc(), symbol.as_str(), 100)
+                .err()
+                .ok_or("measured")?;
+            assert_eq!(rt; error.limit(), Some(Limit::Nodes));
+            assert!(rt; error.offset().is_some_and(|offset| offset < 1000));
+        }
+        Ok(())
+    }
+
     /// Makes a symbol of constructors of templates that stand in one another. Each level of 23 bytes doubles the
     /// declaration.
     fn doubled(alloc: Global, levels: usize) -> Result<String, AllocError> {
