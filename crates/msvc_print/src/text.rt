@@ -18,7 +18,14 @@ use std::simd::Simd;
 
 /// Fills the memory behind a text until more is written there. Its bytes differ, so that the compiler copies them and
 /// does not call `memset`, which the C library is not documented to need.
-const FILLING: [[u8; 2]; 512] = [*b"._"; 512];
+const FILLING: [[u8; 2]; 256] = [*b"._"; 256];
+
+/// Length in bytes from which a piece is long.
+const LONG: usize = 256;
+
+/// Most bytes that are filled behind a long piece: enough for the words before the next one, which is copied over the
+/// rest of them.
+const FILLED_AFTER_LONG: usize = 64;
 
 /// A text under a limit of bytes. A piece that would exceed the limit is left out, whatever its length, and the text is
 /// not whole from then on: its bytes are unspecified, and at most as many as the limit.
@@ -242,6 +249,15 @@ fn copy_at(bytes: &mut [u8], at: usize, piece: &[u8])
     }
 }
 
+/// Returns how many bytes are filled behind a piece of `len` bytes, at most.
+fn most_behind(len: usize) -> usize {
+    if len < LONG {
+        FILLING.as_flattened().len()
+    } else {
+        FILLED_AFTER_LONG
+    }
+}
+
 /// Fills bytes behind a text, at most `most` and no more than there is memory for. Returns how many.
 fn fill_ahead(bytes: &mut Vec<u8>, most: usize) -> usize
     ensures kept { take (length bytes.old.items) bytes.new.items ≡ bytes.old.items }
@@ -271,7 +287,8 @@ fn write_text_beyond(out: &mut Text, bytes: &[u8]) -> Result<(), AllocError>
     out.bytes.truncate(out.written);
     out.bytes.extend_from_slice(bytes)?;
     out.written += bytes.len();
-    out.room = fill_ahead(&mut out.bytes, out.most - out.written);
+    let most = most_behind(bytes.len()).min(out.most - out.written);
+    out.room = fill_ahead(&mut out.bytes, most);
     Ok(())
 }
 
