@@ -492,7 +492,8 @@ fn print_parameter<'a, 'b>(
 {
     match t {
         Type::Tagged(tag, set, symbol) => {
-            print_tagged(stack, out, tag_word(*tag, flags), *symbol, *set, flags)?;
+            let word = tag_word(*tag, flags);
+            print_tagged(stack, out, word, *symbol, *set, flags)?;
             Ok(())
         }
         _ => {

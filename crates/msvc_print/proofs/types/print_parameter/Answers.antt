@@ -12,7 +12,7 @@ use Rattle.msvc_print.proofs.types.print_parameter.Goals as goal
 pub returns-in_ok-print_tagged-in-Tagged-clause-text : goal.returns-in_ok-print_tagged-in-Tagged-clause-text
 returns-in_ok-print_tagged-in-Tagged-clause-text c =
     let w = c.in-Tagged in
-    rw (sym c.tag_word.ensures) c.in_ok-print_tagged-in-Tagged.ensures.text
+    rw (sym c.tag_word-word.ensures) c.in_ok-print_tagged-in-Tagged.ensures.text
     ∙ same_pieces _ _ _ _ _ (sym (ap (λ t. before t false c.args.flags.0 ++ after t false c.args.flags.0)
     (ap type_of w.is ∙ type_of-Tagged w.tag w.set w.symbol) ∙ tagged-sides w.tag _ _ w.set.0 c.args.flags.0))
 
