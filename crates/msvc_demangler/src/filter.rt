@@ -36,10 +36,11 @@ const MOST_HELD: usize = 65_536;
 /// they are.
 ///
 /// A line of at most 65,536 bytes is read whole, then filtered, then written, so that a fault leaves no part of it
-/// behind, unless a write fails. A line that the reader shows whole is consumed once it is written, also where that
-/// failed. Of a longer line pieces are written as they come, so that a line of any length takes no more memory. At each
-/// start at most 4,096 bytes are read as a symbol, of at most 10,000 nodes, and at most 65,536 bytes are printed; so
-/// the time is linear in the bytes.
+/// behind, unless a write fails. A line that the reader shows whole is written from the reader's buffer, and consumed
+/// then, also if the write failed; so reader and writer must not share a borrow that lasts from `fill_buf` to
+/// `consume`, as of a `RefCell`. Of a longer line pieces are written as they come, so that a line of any length takes
+/// no more memory. At each start at most 4,096 bytes are read as a symbol, of at most 10,000 nodes, and at most 65,536
+/// bytes are printed; so the time is linear in the bytes.
 ///
 /// # Errors
 ///
@@ -67,24 +68,29 @@ pub fn filter_text<R: BufRead, W: Write>(
             return Err(input.fail());
         };
         let (end, taken) = cut(shown);
-        if piece.is_empty() && matches!(taken, Taken::Line) {
-            // A line that the reader shows whole is not copied.
-            let put = put_rest(&mut room, &mut text, &shown[..end], scan, out, flags);
-            input.consume(end);
-            put?;
-            scan = Scan::new(b'\n');
-            continue;
-        }
-        if piece.extend_from_slice(&shown[..end]).is_err() {
-            return Err(Fault::Memory);
-        }
-        input.consume(end);
         match taken {
-            Taken::Part => put_settled(&mut room, &mut text, &mut piece, &mut scan, out, flags)?,
+            Taken::Line if piece.is_empty() => {
+                // A line that the reader shows whole is not copied.
+                let put = put_rest(&mut room, &mut text, &shown[..end], scan, out, flags);
+                input.consume(end);
+                put?;
+                scan = Scan::new(b'\n');
+            }
             Taken::Line => {
+                if piece.extend_from_slice(&shown[..end]).is_err() {
+                    return Err(Fault::Memory);
+                }
+                input.consume(end);
                 put_rest(&mut room, &mut text, &piece, scan, out, flags)?;
                 piece.clear();
                 scan = Scan::new(b'\n');
+            }
+            Taken::Part => {
+                if piece.extend_from_slice(&shown[..end]).is_err() {
+                    return Err(Fault::Memory);
+                }
+                input.consume(end);
+                put_settled(&mut room, &mut text, &mut piece, &mut scan, out, flags)?;
             }
             Taken::End => return put_rest(&mut room, &mut text, &piece, scan, out, flags),
         }

@@ -1,5 +1,5 @@
-//! Streams that are watched: whether a call on a reader or a writer has failed. Only `consume` and `put` move bytes, and
-//! only `fail` and `put` set the failure flag of a stream.
+//! Streams that are watched: whether a call on a reader or a writer has failed. Only `consume` and `put` move bytes,
+//! and only `fail` and `put` set the failure flag of a stream.
 
 ghost use Rattle.std.specs.Prelude.{◌≡◌, ◌+◌, ◌≤◌, ◌<◌, ◌^◌, ◌-◌, ◌++◌, ℕ, List, [], Err, IfErr, IfOk, IfSome};
 ghost use Rattle.std.specs.Prelude.{OnErr, OnSome, false, length, take, true};
@@ -11,7 +11,7 @@ ghost use Rattle.msvc_demangler.specs.contracts.watched.Watched.{the_row};
 ghost use Rattle.msvc_demangler.specs.Faults.{SetsFailureFlag, failure_flag, no_stream};
 ghost use Rattle.msvc_demangler.specs.Taking.{IsCut, TakenAs};
 
-use memchr::memchr;
+use msvc_parser::search::find_byte;
 use std::io::{self, BufRead, Write};
 use std::marker::Model;
 
@@ -133,6 +133,9 @@ impl<R: BufRead> Watched<R> {
             return Err(self.fail());
         };
         let (end, taken) = cut(shown);
+        if matches!(taken, Taken::End) {
+            return Ok(taken);
+        }
         if bytes.extend_from_slice(&shown[..end]).is_err() {
             return Err(Fault::Memory);
         }
@@ -148,11 +151,7 @@ pub(crate) fn cut(shown: &[u8]) -> (usize, Taken)
     ensures taken { IsCut result.1 (take result.0 shown.now) }
     ensures end { result.1 ≡ Taken.End → shown.now ≡ [] }
 {
-    // An empty line needs no search.
-    if let [b'\n', ..] = shown {
-        return (1, Taken::Line);
-    }
-    match memchr(b'\n', shown) {
+    match find_byte(b'\n', shown) {
         Some(at) => (at + 1, Taken::Line),
         None if shown.is_empty() => (0, Taken::End),
         None => (shown.len(), Taken::Part),

@@ -10,6 +10,7 @@ pub mod memorized;
 pub mod numbers;
 pub mod parser;
 pub mod refusal;
+pub mod search;
 pub mod source_names;
 pub mod special_codes;
 pub mod stack;

@@ -2,8 +2,9 @@
 //! errors.
 //!
 //! Each level of a nested symbol takes stack. So a reader returns a reference into the arena or a place in a list of
-//! the parser, never a value of many words, and functions that memorize, record an error or store a node of several
-//! parts are never inlined. None of their variables is in a reader's frame while a nested part is read.
+//! the parser, never a value of many words, and functions that memorize a name or a type, record an error or store a
+//! node of several parts are never inlined. None of their variables is in a reader's frame while a nested part is read.
+//! Names of the source, which nest nothing, are memorized inline, by `entered_name`.
 
 ghost use Rattle.std.specs.Option.{option_map};
 ghost use Rattle.std.specs.Prelude.{◌≡◌, ◌≤◌, ◌<◌, ◌+◌, ◌∷◌, [], IfErr, IfOk, IfSome, IsTrue, length, MatchOption};
