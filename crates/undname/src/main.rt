@@ -1,7 +1,7 @@
 //! `undname [-v] [symbols]` prints the declaration of each symbol on a line, as `llvm-undname` spells it: `int ns::x`
 //! for `?x@ns@@3HA`. Without symbols it reads them from the lines of standard input, and answers each line before it
 //! waits for the next. A rejected symbol is printed unchanged, and the error goes to standard error; `-v`, as the first
-//! argument, also prints each tree there.
+//! argument, also prints each tree there. `--version`, as the first argument, prints the version, and no symbol.
 //!
 //! The exit status is 0, or 1 if standard input can't be read, a line can't be written, or an allocation fails, or 2 if
 //! an argument isn't UTF-8. Then standard error says which, and the lines before are printed.
@@ -20,6 +20,9 @@ use streams::{Outputs, Remarks};
 /// Bytes that are read, or written, at once.
 const BUFFER_LENGTH: usize = 64 * 1024;
 
+/// What `--version` prints.
+const VERSION: &str = "undname 0.11.0";
+
 /// The exit status if an argument isn't UTF-8.
 const UNFIT_ARGUMENT: u8 = 2;
 
@@ -32,7 +35,11 @@ fn main(rt: HostRuntime) -> ExitCode {
         }
         Err(_) => return failure(&rt, Fault::Memory),
     };
-    match run(&rt, &words) {
+    let done = match words.first() {
+        Some(word) if word.as_str() == "--version" => show_version(&rt),
+        _ => run(&rt, &words),
+    };
+    match done {
         Ok(()) => ExitCode::SUCCESS,
         Err(fault) => failure(&rt, fault),
     }
@@ -55,6 +62,11 @@ fn failure(rt: &HostRuntime, fault: Fault) -> ExitCode {
         Fault::Memory => eprintln!(rt; "undname: out of memory"),
     };
     ExitCode::FAILURE
+}
+
+/// Prints the version.
+fn show_version(rt: &HostRuntime) -> Result<(), Fault> {
+    println!(rt; "{VERSION}").map_err(|_| Fault::Write)
 }
 
 /// Runs over the standard streams, and flushes the outputs, also after a fault.
