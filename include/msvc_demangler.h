@@ -61,8 +61,8 @@
 #define MSVC_DEMANGLER_WITH_PTR64 0x1000000u       /* __ptr64 */
 #define MSVC_DEMANGLER_LLVM 0xE00400u              /* as llvm-undname prints: four of them */
 
-/* Limits for symbols that are not trusted. A call with so many nodes takes up to 944 KB of stack; a thread with a
-   smaller stack needs a lower limit: about 95 bytes of stack a node. */
+/* Limits for symbols that are not trusted. A call with so many nodes takes at most 1,000,000 bytes of stack. A thread
+   with a smaller stack needs a lower limit: 100 bytes of stack a node, and 16,000 more. */
 #define MSVC_DEMANGLER_DEFAULT_NODES ((size_t)10000)
 #define MSVC_DEMANGLER_DEFAULT_BYTES ((size_t)65536)
 

@@ -42,8 +42,8 @@ use std::alloc::Global;
 use std::borrow::CowStr;
 pub use watched::{Fault, Watched};
 
-/// The most nodes to allow for a symbol that is not trusted. A call that reads so many takes up to 870 KB of stack; a
-/// thread with a smaller stack needs a lower limit.
+/// The most nodes to allow for a symbol that is not trusted. A call takes stack by the nodes that are allowed
+/// (`docs/speed.md` has the figures), so a thread with a small stack needs a lower limit.
 pub const DEFAULT_NODE_LIMIT: usize = 10_000;
 
 /// The most bytes to allow for the declaration of a symbol that is not trusted.
