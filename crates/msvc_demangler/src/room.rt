@@ -1,5 +1,6 @@
 //! The memory that symbols are demangled in: an arena, and the text of a declaration. Both are kept from one symbol to
-//! the next, or made for one. Every call that demangles one symbol does so here.
+//! the next, or made for one. `demangle`, `demangle_within` and the filter demangle here; for lines, `lines` reads and
+//! prints in a room, since it may print the tree between.
 
 ghost use Rattle.std.specs.Prelude.{IfErr, IfOk};
 ghost use Rattle.msvc_nodes.specs.NodeView.{typed_symbol_of};
