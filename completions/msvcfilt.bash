@@ -1,0 +1,13 @@
+# Completes the words of msvcfilt in bash: options, and files.
+_msvcfilt() {
+  local options='-n --name-only --no-calling-convention --no-access-specifier --no-member-type
+    --no-function-returns --no-this-type --no-class-type --with-ptr64 --ms-typenames --space-after-comma --hug-type
+    --space-before-pointer --flags -h --help -V --version'
+  COMPREPLY=()
+  if [[ $3 == --flags ]]; then
+    compopt +o default
+  elif [[ $2 == -* && " ${COMP_WORDS[*]:0:COMP_CWORD} " != *' -- '* ]]; then
+    COMPREPLY=($(compgen -W "$options" -- "$2"))
+  fi
+}
+complete -o default -F _msvcfilt msvcfilt
