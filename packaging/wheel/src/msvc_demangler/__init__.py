@@ -1,0 +1,172 @@
+"""Turns C++ symbols, as Microsoft's compiler mangles them, into declarations.
+
+    >>> import msvc_demangler
+    >>> msvc_demangler.demangle("?x@ns@@3HA")
+    'int ns::x'
+    >>> msvc_demangler.filter(b"undefined: ?x@ns@@3HA")
+    b'undefined: int ns::x'
+
+Symbols are str, or bytes in UTF-8. The calls keep nothing, release the GIL, and may run in any number of threads.
+
+The wheel has the library libmsvc_demangler.so.0 beside this file. Without it the library is the file that the
+environment variable MSVC_DEMANGLER_LIBRARY names, or else what the system's loader finds under that name.
+"""
+from __future__ import annotations
+
+import ctypes
+import enum
+import os
+from typing import Any, AnyStr
+
+__all__ = ["DEFAULT_BYTES", "DEFAULT_NODES", "UNLIMITED", "DemangleError", "Flags", "Status", "__version__", "demangle",
+           "filter", "symbol_length"]
+
+DEFAULT_NODES = 10_000
+DEFAULT_BYTES = 65_536
+UNLIMITED = ctypes.c_size_t(-1).value  # no limit: unsafe for symbols that are not trusted
+
+
+class Flags(enum.IntFlag):
+    """How a declaration is printed. Flags are combined with |."""
+
+    NO_MS_KEYWORDS = 0x2  # no __cdecl and the like
+    NO_FUNCTION_RETURNS = 0x4  # of functions the name and the parameters alone
+    NO_MS_THISTYPE = 0x20  # this one and the next: no const after a member function
+    NO_CV_THISTYPE = 0x40
+    NO_THISTYPE = 0x60  # both of these
+    NO_ACCESS_SPECIFIERS = 0x80  # no public:, protected: and private: of functions
+    NO_MEMBER_TYPE = 0x200  # no static and virtual of functions
+    MS_TYPENAMES = 0x400  # __int64, and not int64_t
+    DECODE_32_BIT = 0x800  # changes nothing
+    NAME_ONLY = 0x1000  # the name alone
+    NO_CLASS_TYPE = 0x100000  # no class, struct, union and enum before names
+    SPACE_AFTER_COMMA = 0x200000  # (int, int)
+    HUG_TYPE = 0x400000  # int*x, and not int *x
+    SPACE_BEFORE_POINTER = 0x800000
+    WITH_PTR64 = 0x1000000  # __ptr64
+    LLVM = 0xE00400  # as llvm-undname prints: four of them
+
+
+class Status(enum.IntEnum):
+    """What a call ended with."""
+
+    OK = 0
+    INVALID = 1  # the input begins with no symbol
+    NOT_UTF8 = 2  # the input is not UTF-8
+    OUT_OF_MEMORY = 3  # a MemoryError, and no DemangleError
+    TOO_MANY_NODES = 4  # the symbol has more than max_nodes nodes
+    TOO_LONG = 5  # the declaration has more than max_bytes bytes
+
+
+class DemangleError(ValueError):
+    """There is no declaration. The text of the error says why.
+
+    status is one of Status. offset says where in the symbol, in bytes of UTF-8: for INVALID where it is rejected, for
+    NOT_UTF8 how much of it is UTF-8, for TOO_MANY_NODES where reading stopped, for TOO_LONG where it ends.
+    """
+
+    def __init__(self, message: str, status: int, offset: int) -> None:
+        super().__init__(message, status, offset)  # all three, so that the error can be pickled
+        self.status = status
+        self.offset = offset
+
+    def __str__(self) -> str:
+        return str(self.args[0])
+
+
+class _Result(ctypes.Structure):
+    _fields_ = [("status", ctypes.c_uint32), ("offset", ctypes.c_size_t), ("length", ctypes.c_size_t)]
+
+
+def _load() -> ctypes.CDLL:
+    name = "libmsvc_demangler.so.0"
+    beside = os.path.join(os.path.dirname(os.path.abspath(__file__)), name)
+    return ctypes.CDLL(beside if os.path.exists(beside) else os.environ.get("MSVC_DEMANGLER_LIBRARY", name))
+
+
+def _call(name: str, result: Any, *arguments: Any) -> Any:
+    call = getattr(_library, "msvc_demangler_" + name)
+    call.restype, call.argtypes = result, arguments
+    return call
+
+
+_library = _load()
+_input, _output = (ctypes.c_char_p, ctypes.c_size_t), (ctypes.c_char_p, ctypes.c_size_t)
+_demangle = _call("demangle", _Result, *_input, ctypes.c_uint32, ctypes.c_size_t, ctypes.c_size_t, *_output)
+_prefix = _call("prefix", _Result, *_input, ctypes.c_size_t)
+_filter = _call("filter", _Result, *_input, ctypes.c_uint32, *_output)
+_version = _call("version", ctypes.c_size_t, *_output)
+
+
+def _bytes(text: str | bytes) -> bytes:
+    return text.encode("utf-8", "surrogatepass") if isinstance(text, str) else text
+
+
+def _limit(value: int) -> int:
+    if not 0 <= value <= UNLIMITED:
+        raise OverflowError(f"a limit is between 0 and UNLIMITED, not {value}")
+    return value
+
+
+def _check(result: _Result, message: bytes) -> None:
+    """Raises the error of a call that failed."""
+    if result.status == Status.OUT_OF_MEMORY:
+        raise MemoryError("out of memory")
+    if result.status != Status.OK:
+        raise DemangleError(message.decode(), result.status, result.offset)
+
+
+def _written(size: int, call: Any, *arguments: Any) -> bytes:
+    """Returns the text that a call writes. The first buffer has this size; if it is too small, the second suffices."""
+    while True:
+        out = ctypes.create_string_buffer(size)
+        result = call(*arguments, out, size)
+        if result.length < size:
+            break
+        size = result.length + 1
+    text = ctypes.string_at(out, result.length)
+    _check(result, text)
+    return text
+
+
+def demangle(symbol: str | bytes, flags: int = Flags.LLVM, *, max_nodes: int = DEFAULT_NODES,
+             max_bytes: int = DEFAULT_BYTES) -> str:
+    """Returns the declaration of the symbol that the text begins with.
+
+    max_nodes limits its tree, in which each name and each type is a node, and max_bytes the declaration in UTF-8. The
+    default limits suit symbols that are not trusted; a call with them takes up to 944 KB of stack. Raises DemangleError
+    if there is no declaration, and MemoryError.
+    """
+    given = _bytes(symbol)
+    size = min(4 * len(given) + 128, DEFAULT_BYTES)
+    return _written(size, _demangle, given, len(given), flags, _limit(max_nodes), _limit(max_bytes)).decode()
+
+
+def filter(text: AnyStr, flags: int = Flags.LLVM) -> AnyStr:
+    """Returns the text, str or bytes, with each symbol in it replaced by its declaration; all else stays.
+
+    The bytes need not be UTF-8. A symbol that exceeds a default limit stays. Raises MemoryError.
+    """
+    given = _bytes(text)
+    filtered = _written(3 * len(given) + 256, _filter, given, len(given), flags)
+    return filtered.decode("utf-8", "surrogatepass") if isinstance(text, str) else filtered
+
+
+def symbol_length(text: str | bytes, *, max_nodes: int = DEFAULT_NODES) -> int:
+    """Returns how long the symbol is that the text begins with: in characters of a str, in bytes of bytes.
+
+    Raises DemangleError if it begins with none, or with one of more than max_nodes nodes, and MemoryError.
+    """
+    given = _bytes(text)
+    result = _prefix(given, len(given), _limit(max_nodes))
+    _check(result, b"no symbol within the limit (offset: %d)" % result.offset)
+    return len(given[:result.length].decode()) if isinstance(text, str) else int(result.length)
+
+
+def _library_version() -> str:
+    out = ctypes.create_string_buffer(32)
+    _version(out, len(out))
+    return out.value.decode()
+
+
+__version__ = _library_version()

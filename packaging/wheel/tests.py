@@ -1,0 +1,179 @@
+"""Tests the module as a wheel has installed it.
+
+    python3 -I packaging/wheel/tests.py WHEEL
+
+WHEEL is the file. -I keeps other modules than the installed one out. mypy checks the types of this file too.
+"""
+import base64
+import concurrent.futures
+import contextlib
+import csv
+import doctest
+import hashlib
+import os
+import pathlib
+import pickle
+import re
+import resource
+import shutil
+import subprocess
+import sys
+import tempfile
+import unittest
+import zipfile
+from typing import Dict, Iterator, List, Tuple
+
+import msvc_demangler
+from msvc_demangler import UNLIMITED, DemangleError, Flags, Status
+
+TOP = pathlib.Path(__file__).resolve().parents[2]
+HEADER = (TOP / "include/msvc_demangler.h").read_text("utf-8")
+VERSION = (TOP / "VERSION").read_text("utf-8").strip()
+DEEP = "?x@@3" + 100_000 * "PEA" + "HEA"
+# Each parameter has the one before twenty times: the declaration has more than 20 ** 9 bytes.
+ENDLESS = "?f@@YAXPAH" + "".join(f"P6AX{20 * str(level)}@Z" for level in range(9)) + "@Z"
+wheel = ""
+
+
+def rows() -> List[Tuple[int, str, str]]:
+    """Returns the documented rows that have a declaration: flags, symbol and declaration."""
+    lines = [line.split("\t") for line in (TOP / "crates/msvc_bench/stdin").read_text("utf-8").split("\n")]
+    return [(int(line[0], 16), line[1], line[3]) for line in lines if line[2:3] == ["ok"]]
+
+
+def defined(pattern: str) -> Dict[str, int]:
+    """Returns the names in the header that a pattern finds after MSVC_DEMANGLER_, and their numbers."""
+    return {name: int(number, 0) for name, number in re.findall("MSVC_DEMANGLER_" + pattern, HEADER)}
+
+
+@contextlib.contextmanager
+def little_memory() -> Iterator[None]:
+    """Leaves the process 64 MB more than it has."""
+    pages = int(pathlib.Path("/proc/self/statm").read_text().split()[0])
+    before = resource.getrlimit(resource.RLIMIT_AS)
+    resource.setrlimit(resource.RLIMIT_AS, (pages * resource.getpagesize() + 64_000_000, before[1]))
+    try:
+        yield
+    finally:
+        resource.setrlimit(resource.RLIMIT_AS, before)
+
+
+class Module(unittest.TestCase):
+    def rejected(self, symbol: "str | bytes", status: Status, offset: int, **limits: int) -> str:
+        """Returns the message, after it has compared status and offset."""
+        with self.assertRaises(DemangleError) as caught:
+            msvc_demangler.demangle(symbol, **limits)
+        self.assertEqual((caught.exception.status, caught.exception.offset), (status, offset))
+        return str(caught.exception)
+
+    def test_header(self) -> None:
+        self.assertEqual(defined(r"([A-Z0-9_]+) (0x[0-9A-F]+)u"), {name: int(flag) for name, flag in
+                                                                  Flags.__members__.items()})
+        self.assertEqual(defined(r"([A-Z0-9_]+) = (\d+),?"), {status.name: int(status) for status in Status})
+        self.assertEqual(defined(r"(DEFAULT_[A-Z]+) \(\(size_t\)(\d+)\)"),
+                         {name: getattr(msvc_demangler, name) for name in ("DEFAULT_NODES", "DEFAULT_BYTES")})
+
+    def test_documents(self) -> None:
+        failed, tried = doctest.testmod(msvc_demangler)
+        self.assertTrue(tried > 0 and not failed)
+        failed, tried = doctest.testfile(str(TOP / "packaging/wheel/README.md"), module_relative=False,
+                                        encoding="utf-8")
+        self.assertTrue(tried > 0 and not failed)
+
+    def test_version(self) -> None:
+        self.assertEqual(msvc_demangler.__version__, VERSION)
+
+    def test_errors(self) -> None:
+        invalid = 'unknown primitive type (offset: 6, remaining: "")'
+        self.assertEqual(self.rejected("?x@@3L", Status.INVALID, 6), invalid)
+        self.assertEqual(self.rejected(b"?x\xff@@3HA", Status.NOT_UTF8, 2), "not UTF-8")
+        self.assertEqual(self.rejected("?x\udcff@@3HA", Status.NOT_UTF8, 2), "not UTF-8")
+        too_long = self.rejected("?x@ns@@3HA", Status.TOO_LONG, 10, max_bytes=8)
+        self.assertTrue(too_long.startswith("longer than allowed"))
+        with self.assertRaisesRegex(DemangleError, "^more nodes than allowed") as caught:
+            msvc_demangler.demangle("?x@ns@@3HA", max_nodes=1)
+        self.assertEqual(caught.exception.status, Status.TOO_MANY_NODES)
+        with self.assertRaises(ValueError) as invalid_value:
+            msvc_demangler.demangle("?x@@3L")
+        error = pickle.loads(pickle.dumps(invalid_value.exception))
+        self.assertEqual((str(error), error.status, error.offset), (invalid, Status.INVALID, 6))
+
+    def test_limits(self) -> None:
+        for symbol in (DEEP, ENDLESS):
+            with self.assertRaises(DemangleError):
+                msvc_demangler.demangle(symbol)
+            self.assertEqual(msvc_demangler.filter(symbol), symbol)
+        with self.assertRaises(DemangleError):
+            msvc_demangler.symbol_length(DEEP)
+        self.assertEqual(msvc_demangler.demangle("?x@@3HA", max_nodes=UNLIMITED, max_bytes=UNLIMITED), "int x")
+        for limit in (-1, UNLIMITED + 1):
+            with self.assertRaises(OverflowError):
+                msvc_demangler.demangle("?x@@3HA", max_nodes=limit)
+
+    def test_memory(self) -> None:
+        with little_memory(), self.assertRaises(MemoryError):
+            msvc_demangler.demangle(ENDLESS, max_nodes=UNLIMITED, max_bytes=UNLIMITED)
+
+    def test_filter(self) -> None:
+        text: str = msvc_demangler.filter("ä ?x@ns@@3HA")
+        self.assertEqual(text, "ä int ns::x")
+        content: bytes = msvc_demangler.filter(b"\0\xff ?x@ns@@3HA\0")
+        self.assertEqual(content, b"\0\xff int ns::x\0")
+        number: int = msvc_demangler.filter("")  # type: ignore[assignment]
+        self.assertEqual(number, "")
+        self.assertEqual(msvc_demangler.filter("\udcff\ud800 ?x@ns@@3HA"), "\udcff\ud800 int ns::x")
+        self.assertEqual(msvc_demangler.filter("?x@ns@@3HA", Flags.NAME_ONLY), "ns::x")
+
+    def test_long(self) -> None:
+        """A declaration needs a second buffer."""
+        _, symbol, wanted = max((row for row in rows() if row[0] == Flags.LLVM), key=lambda row: len(row[2]))
+        self.assertEqual(msvc_demangler.demangle(symbol), wanted)
+        self.assertEqual(msvc_demangler.filter(1000 * (symbol + "\n")), 1000 * (wanted + "\n"))
+
+    def test_length(self) -> None:
+        self.assertEqual(msvc_demangler.symbol_length("?äö@@3HA and more"), 8)
+        self.assertEqual(msvc_demangler.symbol_length("?äö@@3HA and more".encode()), 10)
+        with self.assertRaises(DemangleError) as caught:
+            msvc_demangler.symbol_length("?x@@3L")
+        self.assertEqual((caught.exception.status, caught.exception.offset), (Status.INVALID, 6))
+
+    def test_threads(self) -> None:
+        wanted = [declaration for _, _, declaration in rows()]
+        with concurrent.futures.ThreadPoolExecutor(4) as pool:
+            runs = [pool.submit(lambda: [msvc_demangler.demangle(symbol, flags, max_nodes=UNLIMITED)
+                                         for flags, symbol, _ in rows()]) for _ in range(8)]
+            for run in runs:
+                self.assertEqual(run.result(), wanted)
+
+    def test_without_wheel(self) -> None:
+        """Of the module alone the environment names the library."""
+        package = os.path.dirname(msvc_demangler.__file__)
+        with tempfile.TemporaryDirectory() as room:
+            shutil.copy(os.path.join(package, "__init__.py"), os.path.join(room, "msvc_demangler.py"))
+            environment = {"PYTHONPATH": room,
+                           "MSVC_DEMANGLER_LIBRARY": os.path.join(package, "libmsvc_demangler.so.0")}
+            program = "import msvc_demangler; print(msvc_demangler.__file__, msvc_demangler.demangle('?x@ns@@3HA'))"
+            printed = subprocess.check_output([sys.executable, "-c", program], env=environment, text=True)
+        self.assertEqual(printed, f"{room}/msvc_demangler.py int ns::x\n")
+
+
+class Wheel(unittest.TestCase):
+    def test_content(self) -> None:
+        """The hashes of RECORD are right, and the documents and the marker of type hints are there."""
+        info = f"msvc_demangler-{VERSION}.dist-info"
+        with zipfile.ZipFile(wheel) as archive:
+            record = list(csv.reader(archive.read(f"{info}/RECORD").decode().splitlines()))
+            self.assertEqual([name for name, _, _ in record], archive.namelist())
+            for name, digest, size in record[:-1]:
+                content = archive.read(name)
+                wanted = base64.urlsafe_b64encode(hashlib.sha256(content).digest()).rstrip(b"=").decode()
+                self.assertEqual((digest, int(size)), ("sha256=" + wanted, len(content)))
+            documents = ("PROVENANCE", "licenses/LICENSE-MIT", "licenses/LICENSE-NCSA", "licenses/THIRD-PARTY.md")
+            self.assertLessEqual({f"{info}/{name}" for name in documents} | {"msvc_demangler/py.typed"},
+                                 set(archive.namelist()))
+            self.assertIn(b"\nRoot-Is-Purelib: false\n", archive.read(f"{info}/WHEEL"))
+
+
+if __name__ == "__main__":
+    wheel = sys.argv.pop()
+    unittest.main()
