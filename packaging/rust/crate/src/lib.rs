@@ -39,10 +39,10 @@ pub fn demangle(input: &str, flags: DemangleFlags) -> Result<String> {
 
 /// Does what [`demangle`] does, under other limits, and for bytes too, as they stand in an object file.
 ///
-/// A call takes up to 95 bytes of stack a node, so a thread with a small stack needs fewer `nodes`. `usize::MAX` is no
-/// limit: this is unsafe for symbols that are not trusted. Without a limit on `nodes` a symbol that nests deeply
-/// overflows the stack, which ends the process. Without one on `bytes` a short symbol can have a declaration that takes
-/// all memory.
+/// A call takes up to 100 bytes of stack a node, and 16,000 more, so a thread with a small stack needs fewer `nodes`.
+/// `usize::MAX` is no limit: this is unsafe for symbols that are not trusted. Without a limit on `nodes` a symbol that
+/// nests deeply overflows the stack, which ends the process. Without one on `bytes` a short symbol can have a
+/// declaration that takes all memory.
 ///
 /// # Errors
 ///
