@@ -2,43 +2,59 @@
 
        c buffer ROUNDS
        c allocated ROUNDS
+       c name ROUNDS
+       c filter ROUNDS
 
    does what `llvm ROUNDS` of llvm.cpp does with LLVM's library. The texts go into one buffer of the caller, or into
-   one each that is allocated and freed. With no round it also prints the names that have a declaration. */
+   one each that is allocated and freed, or are names alone, in one buffer; or all lines are filtered by one call. With
+   no round it also prints the names that have a declaration. */
 
 #define _POSIX_C_SOURCE 200809L
 #include <msvc_demangler.h>
-#include <stdbool.h>
 #include <stdio.h>
 #include <time.h>
 
 struct names {
     char **lines;
     size_t count;
+    char *text; /* all lines */
+    size_t length;
 };
 
 static struct names read_names(void)
 {
-    struct names names = {NULL, 0};
+    struct names names = {NULL, 0, NULL, 0};
+    FILE *text = open_memstream(&names.text, &names.length);
     char *line = NULL;
     size_t room = 0;
-    for (ssize_t length; (length = getline(&line, &room, stdin)) > 0;) {
+    while (getline(&line, &room, stdin) > 0) {
+        fputs(line, text);
         line[strcspn(line, "\n")] = '\0';
         names.lines = realloc(names.lines, (names.count + 1) * sizeof names.lines[0]);
         names.lines[names.count++] = strdup(line);
     }
+    fclose(text);
     free(line);
     return names;
 }
 
 /* The length of a name's declaration, or 0. */
-static size_t length_in_buffer(const char *name)
+static size_t length_under(const char *name, uint32_t flags)
 {
     static char text[1 << 16];
-    struct msvc_demangler_result result =
-        msvc_demangler_demangle(name, strlen(name), MSVC_DEMANGLER_LLVM, MSVC_DEMANGLER_UNLIMITED,
-                                MSVC_DEMANGLER_UNLIMITED, text, sizeof text);
+    struct msvc_demangler_result result = msvc_demangler_demangle(
+        name, strlen(name), flags, MSVC_DEMANGLER_UNLIMITED, MSVC_DEMANGLER_UNLIMITED, text, sizeof text);
     return result.status == MSVC_DEMANGLER_OK ? strlen(text) : 0;
+}
+
+static size_t length_in_buffer(const char *name)
+{
+    return length_under(name, MSVC_DEMANGLER_LLVM);
+}
+
+static size_t length_of_name(const char *name)
+{
+    return length_under(name, MSVC_DEMANGLER_NAME_ONLY);
 }
 
 static size_t length_of_allocated(const char *name)
@@ -51,6 +67,41 @@ static size_t length_of_allocated(const char *name)
     return length;
 }
 
+/* One round: the bytes of the texts of all names. */
+static size_t sum(struct names names, size_t (*length)(const char *))
+{
+    size_t bytes = 0;
+    for (size_t n = 0; n < names.count; n++) {
+        bytes += length(names.lines[n]);
+    }
+    return bytes;
+}
+
+static size_t in_buffer(struct names names)
+{
+    return sum(names, length_in_buffer);
+}
+
+static size_t allocated(struct names names)
+{
+    return sum(names, length_of_allocated);
+}
+
+static size_t names_alone(struct names names)
+{
+    return sum(names, length_of_name);
+}
+
+static size_t filtered(struct names names)
+{
+    static char *text;
+    size_t size = 4 * names.length + 1;
+    if (text == NULL) {
+        text = malloc(size);
+    }
+    return msvc_demangler_filter(names.text, names.length, MSVC_DEMANGLER_LLVM, text, size).length;
+}
+
 static long long nanoseconds(void)
 {
     struct timespec now;
@@ -58,34 +109,47 @@ static long long nanoseconds(void)
     return 1000000000LL * now.tv_sec + now.tv_nsec;
 }
 
-/* Demangles all names in each round; prints the nanoseconds of the fastest round and the bytes of its texts. */
-static void measure(struct names names, size_t (*length)(const char *), long rounds)
+/* Does so many rounds; prints the nanoseconds of the fastest and the bytes of its texts. */
+static void measure(struct names names, size_t (*round)(struct names), long rounds)
 {
     long long fastest = -1;
     size_t bytes = 0;
-    for (long round = 0; round < rounds; round++) {
+    for (; rounds > 0; rounds--) {
         long long start = nanoseconds();
-        bytes = 0;
-        for (size_t n = 0; n < names.count; n++) {
-            bytes += length(names.lines[n]);
-        }
+        bytes = round(names);
         long long taken = nanoseconds() - start;
         fastest = fastest < 0 || taken < fastest ? taken : fastest;
     }
     printf("%lld %zu\n", fastest, bytes);
 }
 
+static const struct {
+    const char *word;
+    size_t (*round)(struct names);
+} ways[] = {{"buffer", in_buffer}, {"allocated", allocated}, {"name", names_alone}, {"filter", filtered}};
+
+/* The round that a word names, or null. */
+static size_t (*round_of(const char *word))(struct names)
+{
+    for (size_t way = 0; way < sizeof ways / sizeof ways[0]; way++) {
+        if (strcmp(ways[way].word, word) == 0) {
+            return ways[way].round;
+        }
+    }
+    return NULL;
+}
+
 int main(int count, char **words)
 {
-    if (count != 3) {
-        fputs("usage: c buffer|allocated ROUNDS\n", stderr);
+    size_t (*round)(struct names) = count == 3 ? round_of(words[1]) : NULL;
+    if (round == NULL) {
+        fputs("usage: c buffer|allocated|name|filter ROUNDS\n", stderr);
         return 2;
     }
-    bool allocates = strcmp(words[1], "allocated") == 0;
     long rounds = strtol(words[2], NULL, 10);
     struct names names = read_names();
     if (rounds > 0) {
-        measure(names, allocates ? length_of_allocated : length_in_buffer, rounds);
+        measure(names, round, rounds);
         return 0;
     }
     for (size_t n = 0; n < names.count; n++) {
