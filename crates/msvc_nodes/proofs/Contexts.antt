@@ -1,10 +1,15 @@
 -- The context of a refusal of an ASCII input needs no decoding.
-use Rattle.std.proofs.Common.{◌≡◌, ℕ, ◌∙◌, List, subst, take, drop}
+use Rattle.std.proofs.Common.{◌≡◌, ℕ, ◌∙◌, List, subst, sym, take, drop}
 use Rattle.std.proofs.lemmas.Str.{IsAscii-take, IsAscii-drop, IsUtf8-from_ascii, utf8_lossy-IsUtf8}
 use Rattle.std.specs.Str.{IsAscii}
+use Rattle.std.specs.Str.Lossy.{utf8_lossy}
 use Rattle.bstr.proofs.lemmas.LossyLemmas.{lossy_chars-utf8_lossy}
 use Rattle.msvc_nodes.specs.declared.error.ErrorRepr.{ErrorRepr}
 use Rattle.msvc_nodes.specs.Errors.{IsRefusalOrMemory, context_of, context_text_of, shortened, shortened_text, text_of}
+
+-- what std replaces in bytes that are not UTF-8 is what the definition replaces
+pub lossy_text : (bytes : List ℕ) → utf8_lossy bytes ≡ text_of bytes
+lossy_text bytes = sym (lossy_chars-utf8_lossy bytes)
 
 text_of-IsAscii : (bytes : List ℕ) → IsAscii bytes → text_of bytes ≡ bytes
 text_of-IsAscii bytes ascii =
