@@ -22,6 +22,12 @@ shortened_text-IsAscii bytes ascii =
     text_of-IsAscii (take 20 bytes) (IsAscii-take bytes 20 ascii) in
     cc
 
+-- the context of an ASCII input has the same bytes
+pub context_text-IsAscii : (input : List ℕ) (offset : ℕ) → IsAscii input
+    → context_text_of input offset ≡ context_of input offset
+context_text-IsAscii input offset ascii =
+    shortened_text-IsAscii (drop offset input) (IsAscii-drop input offset ascii)
+
 -- a refusal whose context was decoded has the bytes themselves as its context where they are ASCII
 pub IsRefusalOrMemory-IsAscii : (message input : List ℕ) (offset : ℕ) (error : ErrorRepr)
     → IsAscii input
@@ -29,4 +35,4 @@ pub IsRefusalOrMemory-IsAscii : (message input : List ℕ) (offset : ℕ) (error
     → IsRefusalOrMemory message (context_of input offset) offset error
 IsRefusalOrMemory-IsAscii message input offset error ascii refusal =
     let P : List ℕ → Type 0 = λ context. IsRefusalOrMemory message context offset error in
-    subst P (shortened_text-IsAscii (drop offset input) (IsAscii-drop input offset ascii)) refusal
+    subst P (context_text-IsAscii input offset ascii) refusal

@@ -200,7 +200,11 @@ fn write_function_qualifiers<A: Allocator>(
 
 /// Writes the end of a list of types.
 #[tactic(auto, using(crate::proofs::Settling::settling))]
-pub fn write_list_end<A: Allocator>(out: &mut Text<A>, end: ListEnd, flags: DemangleFlags) -> Result<(), AllocError>
+pub fn write_list_end<A: Allocator>(
+    out: &mut Text<A>,
+    end: ListEnd,
+    flags: DemangleFlags,
+) -> Result<(), AllocError>
     ensures { OnOk result (Writes (end_pieces end flags.0) out.old out.new) }
 {
     match end {
@@ -231,7 +235,11 @@ fn write_comma<A: Allocator>(out: &mut Text<A>, flags: DemangleFlags) -> Result<
 /// Writes the comma before a parameter that is not the first.
 #[tactic(auto, using(crate::proofs::Settling::settling), unfolding(crate::specs::Functions::separator))]
 #[inline(always)]
-pub fn write_separator<A: Allocator>(out: &mut Text<A>, first: bool, flags: DemangleFlags) -> Result<(), AllocError>
+pub fn write_separator<A: Allocator>(
+    out: &mut Text<A>,
+    first: bool,
+    flags: DemangleFlags,
+) -> Result<(), AllocError>
     ensures { OnOk result (Writes (spec.separator first flags.0) out.old out.new) }
 {
     if first {

@@ -68,7 +68,10 @@ pub fn write_spaced<A: Allocator>(out: &mut Text<A>, word: &[u8]) -> Result<(), 
 
 /// Writes the number of a guard, if it has one.
 #[tactic(auto, using(crate::proofs::Settling::settling), unfolding(crate::specs::Operators::guard_number))]
-fn write_guard_number<A: Allocator>(out: &mut Text<A>, number: Option<u32>) -> Result<(), AllocError>
+fn write_guard_number<A: Allocator>(
+    out: &mut Text<A>,
+    number: Option<u32>,
+) -> Result<(), AllocError>
     ensures { OnOk result (out.new ≡ add_all out.old (guard_number number)) }
 {
     match number {
@@ -92,7 +95,11 @@ fn guard_word<'t>(guard: Guard) -> &'t [u8]
 
 /// Writes the guard of a static variable.
 #[tactic(auto, using(crate::proofs::Settling::settling), unfolding(crate::specs::Operators::guard_pieces))]
-pub fn write_guard<A: Allocator>(out: &mut Text<A>, guard: Guard, number: Option<u32>) -> Result<(), AllocError>
+pub fn write_guard<A: Allocator>(
+    out: &mut Text<A>,
+    guard: Guard,
+    number: Option<u32>,
+) -> Result<(), AllocError>
     ensures { OnOk result (out.new ≡ add_all out.old (guard_pieces guard number)) }
 {
     write_spaced(out, guard_word(guard))?;
@@ -101,7 +108,11 @@ pub fn write_guard<A: Allocator>(out: &mut Text<A>, guard: Guard, number: Option
 
 /// Writes a comma and a number.
 #[tactic(auto, using(crate::proofs::Settling::settling))]
-fn write_listed<A: Allocator>(out: &mut Text<A>, number: i32, flags: DemangleFlags) -> Result<(), AllocError>
+fn write_listed<A: Allocator>(
+    out: &mut Text<A>,
+    number: i32,
+    flags: DemangleFlags,
+) -> Result<(), AllocError>
     ensures { OnOk result (out.new ≡ add_all out.old (listed number flags.0)) }
 {
     write_separator(out, false, flags)?;

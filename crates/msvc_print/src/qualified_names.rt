@@ -66,7 +66,10 @@ fn write_md5<A: Allocator>(out: &mut Text<A>, bytes: &[u8]) -> Result<(), AllocE
 /// Writes a name if it is spelled, and returns whether it is.
 #[tactic(auto, unfolding(crate::specs::Declaration::name_pieces, msvc_nodes::specs::NodeView::name_of))]
 #[inline(always)]
-fn write_if_spelled<'a, 'b, A: Allocator>(out: &mut Text<A>, name: &'b Name<'a, 'b>) -> Result<bool, AllocError>
+fn write_if_spelled<'a, 'b, A: Allocator>(
+    out: &mut Text<A>,
+    name: &'b Name<'a, 'b>,
+) -> Result<bool, AllocError>
     ensures spelled { IfOk result (λ is. is ≡ true → (of_symbol : Bool) (flags : ℕ) →
         Writes (spec.name_pieces (name_of name.now) of_symbol flags) out.old out.new) }
     ensures other { IfOk result (λ is. is ≡ false → out.new ≡ out.old) }

@@ -451,7 +451,10 @@ pub fn write_closing<A: Allocator>(out: &mut Text<A>, pointed: bool) -> Result<(
 
 /// Writes a number in decimal, with a minus if it is negative.
 #[tactic(auto, unfolding(crate::specs::Limited::add_all))]
-pub fn write_number<I: Integer, A: Allocator>(out: &mut Text<A>, number: I) -> Result<(), AllocError>
+pub fn write_number<I: Integer, A: Allocator>(
+    out: &mut Text<A>,
+    number: I,
+) -> Result<(), AllocError>
     ensures { OnOk result (Writes (text (I.text number) ∷ []) out.old out.new) }
 {
     let mut buffer = Buffer::new();

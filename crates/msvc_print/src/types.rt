@@ -581,7 +581,11 @@ fn write_thunk<A: Allocator>(
 
 /// Writes what a thunk has after its name: the offset in the table, in bytes, and the memory model.
 #[tactic(auto, using(crate::proofs::Settling::settling))]
-fn write_thunk_end<A: Allocator>(out: &mut Text<A>, number: i32, flags: DemangleFlags) -> Result<(), AllocError>
+fn write_thunk_end<A: Allocator>(
+    out: &mut Text<A>,
+    number: i32,
+    flags: DemangleFlags,
+) -> Result<(), AllocError>
     ensures { OnOk result (Writes (spec.thunk_end number flags.0) out.old out.new) }
 {
     write_text(out, b"{")?;
@@ -604,7 +608,11 @@ fn write_template_parameter<A: Allocator>(out: &mut Text<A>, number: i32) -> Res
 
 /// Writes the parenthesis after the name of a pointer to an array, and the length of the array.
 #[tactic(auto, using(crate::proofs::Stack::pushes))]
-fn write_length<A: Allocator>(out: &mut Text<A>, length: i32, pointed: bool) -> Result<(), AllocError>
+fn write_length<A: Allocator>(
+    out: &mut Text<A>,
+    length: i32,
+    pointed: bool,
+) -> Result<(), AllocError>
     ensures { OnOk result (Writes (closing pointed ++ spec.length_pieces length) out.old out.new) }
 {
     write_closing(out, pointed)?;

@@ -208,7 +208,9 @@ pub fn put_parts<'a, 'b, L: Limit, A: Allocator>(
 
 /// Reads the qualifiers of the return type of a function type.
 #[tactic(auto, using(msvc_parser::proofs::FunctionSteps::class_of_returned_is))]
-pub fn class_of_returned<'a, 'b, L: Limit, A: Allocator>(parser: &mut Parser<'a, 'b, L, A>) -> StorageClass
+pub fn class_of_returned<'a, 'b, L: Limit, A: Allocator>(
+    parser: &mut Parser<'a, 'b, L, A>,
+) -> StorageClass
     ensures value { read class_of_returned parser.old.rest.now (state_of parser.old)
         ≡ Some (result.0, parser.new.rest.now, state_of parser.new) }
     ensures shorter { length parser.new.rest.now ≤ length parser.old.rest.now }
@@ -311,7 +313,9 @@ pub fn signature<'a, 'b, L: Limit, A: Allocator>(
 
 /// Reads how a function is called.
 #[tactic(auto, using(msvc_parser::proofs::Choices::letter_is))]
-pub fn convention<'a, 'b, L: Limit, A: Allocator>(parser: &mut Parser<'a, 'b, L, A>) -> Result<CallingConv, Refused>
+pub fn convention<'a, 'b, L: Limit, A: Allocator>(
+    parser: &mut Parser<'a, 'b, L, A>,
+) -> Result<CallingConv, Refused>
     ensures value { ReadsAs (λ c. c) parser.old parser.new result (letter_here conventions) }
     ensures eats { MayEat parser.old parser.new result }
 {
@@ -376,7 +380,9 @@ pub fn member_returned<'a, 'b, L: Limit, A: Allocator>(
 
 /// Reads `FUNCTION_QUALIFIERS = ["E"] ["I"] ["F"] ["G" | "H"] [qualifier]`.
 #[tactic(auto, using(msvc_parser::proofs::FunctionSteps::function_qualifiers_is))]
-pub fn function_qualifiers<'a, 'b, L: Limit, A: Allocator>(parser: &mut Parser<'a, 'b, L, A>) -> StorageClass
+pub fn function_qualifiers<'a, 'b, L: Limit, A: Allocator>(
+    parser: &mut Parser<'a, 'b, L, A>,
+) -> StorageClass
     ensures value { read_name rules.function_qualifiers parser.old.rest.now (state_of parser.old)
         ≡ Some (result.0, parser.new.rest.now, state_of parser.new) }
     ensures shorter { length parser.new.rest.now ≤ length parser.old.rest.now }

@@ -51,7 +51,9 @@ pub fn indexed_symbol<'a, 'b, L: Limit, A: Allocator>(
 
 /// Reads `GUARD_INDEX = GUARD_MARKER end | GUARD_MARKER NUMBER`: the number is at least 0.
 #[tactic(auto, using(msvc_parser::proofs::GuardSteps::guard_index_is))]
-pub fn guard_index<'a, 'b, L: Limit, A: Allocator>(parser: &mut Parser<'a, 'b, L, A>) -> Result<Option<u32>, Refused>
+pub fn guard_index<'a, 'b, L: Limit, A: Allocator>(
+    parser: &mut Parser<'a, 'b, L, A>,
+) -> Result<Option<u32>, Refused>
     ensures value { ReadsAs (λ i. i) parser.old parser.new result (read_name (rules.guard_index true)) }
     ensures eats { Eats parser.old parser.new result }
 {
@@ -68,7 +70,9 @@ pub fn guard_index<'a, 'b, L: Limit, A: Allocator>(parser: &mut Parser<'a, 'b, L
 
 /// Reads `GUARD_MARKER = "4IA" | "5"`.
 #[tactic(auto, using(msvc_parser::proofs::GuardSteps::guard_marker_is))]
-pub fn guard_marker<'a, 'b, L: Limit, A: Allocator>(parser: &mut Parser<'a, 'b, L, A>) -> Result<(), Refused>
+pub fn guard_marker<'a, 'b, L: Limit, A: Allocator>(
+    parser: &mut Parser<'a, 'b, L, A>,
+) -> Result<(), Refused>
     ensures value { ReadsAs (λ _. tt) parser.old parser.new result (read guard_marker) }
     ensures eats { Eats parser.old parser.new result }
 {
@@ -147,7 +151,9 @@ pub fn put_guard<'a, 'b, L: Limit, A: Allocator>(
 
 /// Reads `GUARD_NUMBER = digit {digit} "@"`: base 10, at most 2,147,483,647.
 #[tactic(auto, using(msvc_parser::proofs::GuardSteps::decimal_goes_on))]
-pub fn guard_number<'a, 'b, L: Limit, A: Allocator>(parser: &mut Parser<'a, 'b, L, A>) -> Result<u32, Refused>
+pub fn guard_number<'a, 'b, L: Limit, A: Allocator>(
+    parser: &mut Parser<'a, 'b, L, A>,
+) -> Result<u32, Refused>
     ensures value { ReadsAs (λ n. n) parser.old parser.new result
         (λ left s. and_then (letter_here digits left s) (λ d. read_name (rules.decimal d))) }
     ensures eats { Eats parser.old parser.new result }
@@ -167,7 +173,9 @@ pub fn guard_number<'a, 'b, L: Limit, A: Allocator>(parser: &mut Parser<'a, 'b, 
 }
 
 /// Reads a digit of a guard's number.
-pub fn guard_digit<'a, 'b, L: Limit, A: Allocator>(parser: &mut Parser<'a, 'b, L, A>) -> Result<u8, Refused>
+pub fn guard_digit<'a, 'b, L: Limit, A: Allocator>(
+    parser: &mut Parser<'a, 'b, L, A>,
+) -> Result<u8, Refused>
     ensures value { ReadsAs (λ d. d) parser.old parser.new result (letter_here digits) }
     ensures eats { Eats parser.old parser.new result }
     ensures small { IfOk result (λ d. d < 10) }

@@ -34,7 +34,9 @@ pub fn hashed_symbol<'a, 'b, L: Limit, A: Allocator>(
 }
 
 /// Reads the digits of a hash up to and including the next `@`, and returns them without it.
-pub fn hash<'a, 'b, L: Limit, A: Allocator>(parser: &mut Parser<'a, 'b, L, A>) -> Result<&'a [u8], Refused>
+pub fn hash<'a, 'b, L: Limit, A: Allocator>(
+    parser: &mut Parser<'a, 'b, L, A>,
+) -> Result<&'a [u8], Refused>
     ensures value { ReadsAs (λ n. n.now) parser.old parser.new result (λ left s. hash_at (name_length left) left s) }
     ensures eats { Eats parser.old parser.new result }
 {

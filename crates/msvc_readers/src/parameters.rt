@@ -50,7 +50,9 @@ pub fn function_parameters<'a, 'b, L: Limit, A: Allocator>(
 /// Puts one `void`, which is already counted, on a new part of the list. The result ends that part.
 #[tactic(auto, unfolding(msvc_nodes::specs::NodeView::type_of))]
 #[inline(never)]
-pub fn no_parameters<'a, 'b, L: Limit, A: Allocator>(parser: &mut Parser<'a, 'b, L, A>) -> Result<usize, Refused>
+pub fn no_parameters<'a, 'b, L: Limit, A: Allocator>(
+    parser: &mut Parser<'a, 'b, L, A>,
+) -> Result<usize, Refused>
     ensures value { ReadsAs (λ _. map type_at (here parser.new.listed_types)) parser.old parser.new result
         (with_value (Some (base base_kind.Void 0 ∷ []))) }
     ensures rest { IfOk result (λ _. parser.new.rest.now ≡ parser.old.rest.now) }
@@ -67,7 +69,9 @@ pub fn no_parameters<'a, 'b, L: Limit, A: Allocator>(parser: &mut Parser<'a, 'b,
 #[cycle(readers)]
 #[tactic(auto, using(msvc_parser::proofs::RowSteps::parameters_go_on))]
 #[inline(never)]
-pub fn parameters<'a, 'b, L: Limit, A: Allocator>(parser: &mut Parser<'a, 'b, L, A>) -> Result<usize, Refused>
+pub fn parameters<'a, 'b, L: Limit, A: Allocator>(
+    parser: &mut Parser<'a, 'b, L, A>,
+) -> Result<usize, Refused>
     ensures value { ReadsAs (λ _. map type_at (here parser.new.listed_types)) parser.old parser.new result
         (read_name rules.parameters) }
     ensures shorter { IfOk result (λ _. length parser.new.rest.now ≤ length parser.old.rest.now) }

@@ -31,7 +31,9 @@ use std::alloc::Allocator;
 
 /// Reads `SOURCE_NAME = {byte} "@"`: the bytes up to the next `@`, possibly none.
 #[inline(always)]
-pub fn source_name<'a, 'b, L: Limit, A: Allocator>(parser: &mut Parser<'a, 'b, L, A>) -> Result<&'a [u8], Refused>
+pub fn source_name<'a, 'b, L: Limit, A: Allocator>(
+    parser: &mut Parser<'a, 'b, L, A>,
+) -> Result<&'a [u8], Refused>
     ensures value { ReadsAs (λ n. n.now) parser.old parser.new result (λ left s. cut_at (name_length left) left s) }
     ensures eats { Eats parser.old parser.new result }
 {
@@ -42,7 +44,9 @@ pub fn source_name<'a, 'b, L: Limit, A: Allocator>(parser: &mut Parser<'a, 'b, L
 }
 
 /// Reads up to and including the next `@`, and returns the bytes before it. Reads nothing if there is no `@`.
-pub fn up_to_at<'a, 'b, L: Limit, A: Allocator>(parser: &mut Parser<'a, 'b, L, A>) -> Option<&'a [u8]>
+pub fn up_to_at<'a, 'b, L: Limit, A: Allocator>(
+    parser: &mut Parser<'a, 'b, L, A>,
+) -> Option<&'a [u8]>
     ensures value { option_map (λ n. (n.now, parser.new.rest.now, state_of parser.new)) result
         ≡ cut_at (name_length parser.old.rest.now) parser.old.rest.now (state_of parser.old) }
     ensures shorter { IfSome result (λ _. length parser.new.rest.now < length parser.old.rest.now) }
@@ -352,7 +356,9 @@ pub fn gathered_digits<'a, 'b, L: Limit, A: Allocator>(
 
 /// Reads a base 16 digit, and returns its byte unchanged.
 #[tactic(auto, using(msvc_parser::proofs::Choices::letter_is))]
-pub fn hexadecimal_digit<'a, 'b, L: Limit, A: Allocator>(parser: &mut Parser<'a, 'b, L, A>) -> Result<u8, Refused>
+pub fn hexadecimal_digit<'a, 'b, L: Limit, A: Allocator>(
+    parser: &mut Parser<'a, 'b, L, A>,
+) -> Result<u8, Refused>
     ensures value { ReadsAs (λ d. d) parser.old parser.new result (letter_here hexadecimal_codes) }
     ensures eats { Eats parser.old parser.new result }
     ensures low { IfOk result (λ d. d < 128) }
@@ -372,7 +378,9 @@ pub fn hexadecimal_digit<'a, 'b, L: Limit, A: Allocator>(parser: &mut Parser<'a,
 #[cycle(readers)]
 #[tactic(auto, using(msvc_parser::proofs::RowSteps::scope_goes_on))]
 #[inline(never)]
-pub fn scope<'a, 'b, L: Limit, A: Allocator>(parser: &mut Parser<'a, 'b, L, A>) -> Result<usize, Refused>
+pub fn scope<'a, 'b, L: Limit, A: Allocator>(
+    parser: &mut Parser<'a, 'b, L, A>,
+) -> Result<usize, Refused>
     ensures value { ReadsAs (λ _. map name_at (here parser.new.listed_names)) parser.old parser.new result
         (read_name rules.scope) }
     ensures shorter { IfOk result (λ _. length parser.new.rest.now < length parser.old.rest.now) }

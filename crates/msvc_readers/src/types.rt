@@ -259,7 +259,9 @@ pub fn pointee<'a, 'b, L: Limit, A: Allocator>(
 #[cycle(readers)]
 #[tactic(auto, using(msvc_parser::proofs::TypeSteps::array_is))]
 #[inline(never)]
-pub fn array<'a, 'b, L: Limit, A: Allocator>(parser: &mut Parser<'a, 'b, L, A>) -> Result<&'b Type<'a, 'b>, Refused>
+pub fn array<'a, 'b, L: Limit, A: Allocator>(
+    parser: &mut Parser<'a, 'b, L, A>,
+) -> Result<&'b Type<'a, 'b>, Refused>
     ensures value { ReadsAs type_at parser.old parser.new result (read_name rules.array) }
     ensures eats { Eats parser.old parser.new result }
 {
@@ -273,7 +275,9 @@ pub fn array<'a, 'b, L: Limit, A: Allocator>(parser: &mut Parser<'a, 'b, L, A>) 
 /// Reads a number greater than 0.
 #[tactic(auto, using(msvc_parser::proofs::TypeSteps::dimension_is))]
 #[inline(never)]
-pub fn dimension<'a, 'b, L: Limit, A: Allocator>(parser: &mut Parser<'a, 'b, L, A>) -> Result<u32, Refused>
+pub fn dimension<'a, 'b, L: Limit, A: Allocator>(
+    parser: &mut Parser<'a, 'b, L, A>,
+) -> Result<u32, Refused>
     ensures value { ReadsAs (λ n. n) parser.old parser.new result (read_name rules.dimension) }
     ensures eats { Eats parser.old parser.new result }
 {
