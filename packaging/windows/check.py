@@ -1,0 +1,251 @@
+#!/usr/bin/env python3
+"""Checks what the packages for Windows rest on, and prints a line on what was seen; or what is wrong, with status 1.
+
+    python3 packaging/windows/check.py code OBJECT [FUNCTIONS]
+    python3 packaging/windows/check.py image OBJECT IMAGE
+
+OBJECT is the object for Linux that is turned into one for Windows: its sections are those of merge.ld, and sysv_ stands
+before its global names.
+
+code: its code may run under Windows. No function has a frame of a page or more, since Windows needs each page of a stack
+to be touched in order; none moves the stack pointer by a number that isn't known here. None asks the kernel of Linux for
+anything, or uses a segment, as thread-local data do. None reads or writes below the stack pointer, where Windows may
+write, but those of the file FUNCTIONS, which are no part of the demangler's own crates.
+
+image: IMAGE, a program or DLL that was linked of it, has its code and data once, with the same bytes but where they are
+relocated; and each of these places leads to the one address that the symbol has. It needs objdump.
+"""
+import re
+import struct
+import subprocess
+import sys
+
+import elf
+
+PAGE = 4096
+PREFIX = "sysv_"
+OWN_CRATES = re.compile(r"msvc_|undname::|msvcfilt::")
+FUNCTION = re.compile(r"[0-9a-f]+ <(.*)>:$")
+INSTRUCTION = re.compile(r" *[0-9a-f]+:\t(.*)$")
+
+# How the stack pointer may be moved, beside push, pop, call and ret: by a number, or back to a frame's beginning.
+MOVES = re.compile(
+    r"(sub|add) +\$(-?0x[0-9a-f]+),%rsp$|lea +(-?0x[0-9a-f]+)\(%rsp\),%rsp$|mov +%rbp,%rsp$|(push|pop)q? +[^%]*%rsp$"
+)
+CHANGES_STACK = re.compile(r"[^,]*,%[re]?sp$|.*[^(],%rsp$|pop +%rsp$")
+SYSTEM = re.compile(r"^(syscall|sysenter|int +\$)|%[fg]s:")
+BELOW = re.compile(r"-0x[0-9a-f]+\(%rsp(,[^)]*)?\)")
+BELOW_FRAME = re.compile(r"-0x([0-9a-f]+)\(%rbp\)")
+LISTED = re.compile("::<.*")
+
+# A PE file: where its headers stand, and the numbers of those of its tables that are used.
+PE_OFFSET, OPTIONAL_HEADER, BASE_RELOCATIONS = 0x3C, 24, 5
+TO_64_BITS = 10
+EXECUTABLE = 0x20000000
+
+
+class Wrong(Exception):
+    """What is wrong with an object or an image."""
+
+
+def functions(path):
+    """Returns the functions of an object, each with its instructions, as objdump writes them."""
+    listing = subprocess.run(
+        ["objdump", "-d", "--no-show-raw-insn", path], check=True, stdout=subprocess.PIPE, encoding="utf-8"
+    )
+    found = {}
+    code = []
+    for line in listing.stdout.split("\n"):
+        begin, instruction = FUNCTION.match(line), INSTRUCTION.match(line)
+        if begin:
+            code = found.setdefault(begin[1], [])
+        elif instruction:
+            code.append(re.sub(" *[<#].*", "", instruction[1]).strip())
+    return found
+
+
+def frame(name, code):
+    """Returns the bytes of the greatest frame that a function makes at once."""
+    most = 0
+    for instruction in code:
+        move = MOVES.match(instruction)
+        if move:
+            number = int(move[2] or move[3] or "0", 16)
+            most = max(most, -number if move[1] != "sub" else number)
+        elif CHANGES_STACK.match(instruction) and not re.match("(cmp|test)", instruction):
+            raise Wrong(f"{name}: moves the stack pointer by {instruction}")
+    if most >= PAGE:
+        raise Wrong(f"{name}: a frame of {most} bytes")
+    return most
+
+
+def below(code):
+    """Returns the first instruction that reaches below the stack pointer, if there is one. Where a function calls others,
+    an address with an index isn't below: the compiler keeps nothing there, and such a function writes digits from the end
+    of an array, whose index is not 0."""
+    calls = any(instruction.startswith("call") for instruction in code)
+    depth = None
+    for instruction in code:
+        found = BELOW.search(instruction)
+        if found and not instruction.endswith(",%rsp") and not (found[1] and calls):
+            return instruction
+        if re.match("mov +%rsp,%rbp$", instruction):
+            depth = 0
+        elif depth is not None:
+            move = MOVES.match(instruction)
+            if move and move[1] == "sub":
+                depth += int(move[2], 16)
+            elif instruction.startswith("push"):
+                depth += 8
+            found = BELOW_FRAME.search(instruction)
+            if found and int(found[1], 16) > depth:
+                return instruction
+    return None
+
+
+def check_code(path, listed):
+    """Checks the code of an object. Returns what was seen."""
+    most, used = 0, set()
+    found = functions(path)
+    if not found:
+        raise Wrong("no functions")
+    for name, code in found.items():
+        name = name[len(PREFIX):] if name.startswith(PREFIX) else name
+        most = max(most, frame(name, code))
+        for instruction in code:
+            if SYSTEM.search(instruction):
+                raise Wrong(f"{name}: {instruction}")
+        instruction = below(code)
+        if instruction:
+            bare = LISTED.sub("", name)
+            if bare not in listed or OWN_CRATES.match(bare):
+                raise Wrong(f"{name}: reaches below the stack pointer: {instruction}")
+            used.add(bare)
+    return f"{len(found)} functions, frames of {most} bytes at most, {len(used)} reach below the stack pointer"
+
+
+class Image:
+    """A program or DLL."""
+
+    def __init__(self, data):
+        self.data = data
+        header = struct.unpack_from("<I", data, PE_OFFSET)[0]
+        if data[header : header + 4] != b"PE\0\0":
+            raise Wrong("not a PE file")
+        machine, count, _, _, _, optional = struct.unpack_from("<HHIIIH", data, header + 4)
+        begin = header + OPTIONAL_HEADER
+        if machine != 0x8664 or struct.unpack_from("<H", data, begin)[0] != 0x20B:
+            raise Wrong("not for x86-64")
+        self.base = struct.unpack_from("<Q", data, begin + 24)[0]
+        self.relocations = struct.unpack_from("<II", data, begin + 112 + 8 * BASE_RELOCATIONS)
+        self.sections = []
+        for at in range(begin + optional, begin + optional + 40 * count, 40):
+            _, size, address, length, offset = struct.unpack_from("<8sIIII", data, at)
+            flags = struct.unpack_from("<I", data, at + 36)[0]
+            self.sections.append((address, size, data[offset : offset + min(size, length)], flags))
+
+    def read(self, address, length):
+        """Returns the bytes at an address from the beginning of the image."""
+        for begin, _, content, _ in self.sections:
+            if begin <= address and address + length <= begin + len(content):
+                return content[address - begin : address - begin + length]
+        raise Wrong(f"nothing stands at {address:#x}")
+
+    def is_code(self, address):
+        """Returns whether code stands at an address."""
+        return any(begin <= address < begin + size and flags & EXECUTABLE for begin, size, _, flags in self.sections)
+
+    def moved(self):
+        """Returns the addresses of all pointers that Windows changes when it loads the image elsewhere."""
+        found = set()
+        at, left = self.relocations
+        while left:
+            page, size = struct.unpack("<II", self.read(at, 8))
+            for (entry,) in struct.iter_unpack("<H", self.read(at + 8, size - 8)):
+                if entry >> 12 == TO_64_BITS:
+                    found.add(page + (entry & 0xFFF))
+            at += size
+            left -= size
+        return found
+
+
+def stretches(section):
+    """Returns the parts of a section that aren't relocated, each with its offset."""
+    found, at = [], 0
+    for relocation in sorted(section.relocations, key=lambda relocation: relocation.offset):
+        found.append((at, section.content[at : relocation.offset]))
+        at = relocation.offset + elf.RELOCATIONS[relocation.kind][1]
+    return found + [(at, section.content[at:])]
+
+
+def located(section, image):
+    """Returns the address at which a section stands, and that is the only one."""
+    parts = stretches(section)
+    longest = max(parts, key=lambda part: len(part[1]))
+    found = []
+    for begin, _, content, _ in image.sections:
+        at = content.find(longest[1])
+        while at >= 0:
+            start = at - longest[0]
+            if start >= 0 and all(content.startswith(part, start + offset) for offset, part in parts):
+                found.append(begin + start)
+            at = content.find(longest[1], at + 1)
+    if len(found) != 1:
+        raise Wrong(f"{section.name} stands in the image {len(found)} times")
+    return found[0]
+
+
+def check_image(object_path, image_path):
+    """Checks an image beside the object of which it was made. Returns what was seen."""
+    with open(object_path, "rb") as file:
+        object_ = elf.read(file.read())
+    with open(image_path, "rb") as file:
+        image = Image(file.read())
+    sections = {number: section for number, section in object_.sections.items() if section.size}
+    places = {number: located(section, image) for number, section in sections.items() if section.content}
+    same = sum(len(part) for number in places for _, part in stretches(sections[number]))
+    moved = image.moved()
+    outside = {}
+    count = 0
+    for number, place in places.items():
+        for relocation in sections[number].relocations:
+            at = place + relocation.offset
+            symbol = object_.symbols[relocation.symbol]
+            if relocation.kind == elf.R_64:
+                address = struct.unpack("<Q", image.read(at, 8))[0] - relocation.addend - image.base
+                if at not in moved:
+                    raise Wrong(f"the pointer at {at:#x} stays as it is when the image is loaded elsewhere")
+            else:
+                address = struct.unpack("<i", image.read(at, 4))[0] - relocation.addend + at
+            if symbol.section in places:
+                wanted = places[symbol.section] + symbol.value
+            else:
+                key = symbol.section or symbol.name
+                wanted = outside.setdefault(key, address - symbol.value) + symbol.value
+                if symbol.section == elf.UNDEFINED and not image.is_code(address):
+                    raise Wrong(f"{symbol.name} is no function")
+            if address != wanted:
+                raise Wrong(f"the relocation at {at:#x} leads to {address:#x}, and {symbol.name} is at {wanted:#x}")
+            count += 1
+    return f"{same} bytes as for Linux, and {count} relocations, which lead where they should"
+
+
+def main(words):
+    """Checks what the words say. Returns the exit status."""
+    try:
+        if words[0] == "code":
+            listed = set()
+            for path in words[2:]:
+                with open(path) as file:
+                    listed |= {line.strip() for line in file if not line.startswith("#")}
+            print(f"{words[1]}: {check_code(words[1], listed)}")
+        else:
+            print(f"{words[2]}: {check_image(words[1], words[2])}")
+    except (Wrong, elf.Unknown) as wrong:
+        print(f"check: {words[-1] if words[0] == 'image' else words[1]}: {wrong}", file=sys.stderr)
+        return 1
+    return 0
+
+
+if __name__ == "__main__":
+    sys.exit(main(sys.argv[1:]))
