@@ -7,14 +7,15 @@
 OBJECT is the object for Linux that is turned into one for Windows: its sections are those of merge.ld, and sysv_ stands
 before its global names.
 
-code: its code may run under Windows. No function has a frame of a page or more, since Windows needs each page of a stack
-to be touched in order; none moves the stack pointer by a number that isn't known here. None asks the kernel of Linux for
-anything, or uses a segment, as thread-local data do. None reads or writes below the stack pointer, where Windows may
-write, but those of the file FUNCTIONS, which are no part of the demangler's own crates.
+code: its code may run under Windows. No function has a frame of a page or more, since Windows needs each page of a
+stack to be touched in order; none moves the stack pointer by a number that isn't known here. None asks the kernel of
+Linux for anything, or uses a segment, as thread-local data do. None reads or writes below the stack pointer, where
+Windows may write, but those of the file FUNCTIONS, which are no part of the demangler's own crates.
 
 image: IMAGE, a program or DLL that was linked of it, has its code and data once, with the same bytes but where they are
 relocated; and each of these places leads to the one address that the symbol has. It needs objdump.
 """
+import os
 import re
 import struct
 import subprocess
@@ -29,10 +30,9 @@ FUNCTION = re.compile(r"[0-9a-f]+ <(.*)>:$")
 INSTRUCTION = re.compile(r" *[0-9a-f]+:\t(.*)$")
 
 # How the stack pointer may be moved, beside push, pop, call and ret: by a number, or back to a frame's beginning.
-MOVES = re.compile(
-    r"(sub|add) +\$(-?0x[0-9a-f]+),%rsp$|lea +(-?0x[0-9a-f]+)\(%rsp\),%rsp$|mov +%rbp,%rsp$|(push|pop)q? +[^%]*%rsp$"
-)
-CHANGES_STACK = re.compile(r"[^,]*,%[re]?sp$|.*[^(],%rsp$|pop +%rsp$")
+MOVES = re.compile(r"(sub|add) +\$(0x[0-9a-f]+),%rsp$|lea +(-?0x[0-9a-f]+)\(%rsp\),%rsp$|mov +%rbp,%rsp$")
+CHANGES_STACK = re.compile(r".*,%([re]?sp|spl)$|pop +%rsp$")
+COMPARES = re.compile("(cmp|test)")
 SYSTEM = re.compile(r"^(syscall|sysenter|int +\$)|%[fg]s:")
 BELOW = re.compile(r"-0x[0-9a-f]+\(%rsp(,[^)]*)?\)")
 BELOW_FRAME = re.compile(r"-0x([0-9a-f]+)\(%rbp\)")
@@ -41,7 +41,7 @@ LISTED = re.compile("::<.*")
 # A PE file: where its headers stand, and the numbers of those of its tables that are used.
 PE_OFFSET, OPTIONAL_HEADER, BASE_RELOCATIONS = 0x3C, 24, 5
 TO_64_BITS = 10
-EXECUTABLE = 0x20000000
+EXECUTABLE, ZEROS = 0x20000000, 0x80000080
 
 
 class Wrong(Exception):
@@ -64,15 +64,21 @@ def functions(path):
     return found
 
 
+def lowered(move):
+    """Returns by how many bytes an instruction lowers the stack pointer. objdump writes -1 as 0xffffffffffffffff."""
+    number = int(move[2] or move[3] or "0", 16)
+    number = number - (1 << 64) if number >> 63 == 1 else number
+    return number if move[1] == "sub" else -number
+
+
 def frame(name, code):
     """Returns the bytes of the greatest frame that a function makes at once."""
     most = 0
     for instruction in code:
         move = MOVES.match(instruction)
         if move:
-            number = int(move[2] or move[3] or "0", 16)
-            most = max(most, -number if move[1] != "sub" else number)
-        elif CHANGES_STACK.match(instruction) and not re.match("(cmp|test)", instruction):
+            most = max(most, lowered(move))
+        elif CHANGES_STACK.match(instruction) and not COMPARES.match(instruction):
             raise Wrong(f"{name}: moves the stack pointer by {instruction}")
     if most >= PAGE:
         raise Wrong(f"{name}: a frame of {most} bytes")
@@ -80,9 +86,9 @@ def frame(name, code):
 
 
 def below(code):
-    """Returns the first instruction that reaches below the stack pointer, if there is one. Where a function calls others,
-    an address with an index isn't below: the compiler keeps nothing there, and such a function writes digits from the end
-    of an array, whose index is not 0."""
+    """Returns the first instruction that reaches below the stack pointer, if there is one. Where a function calls
+    others, the compiler keeps nothing there: an address with an index is that of an array that is written from its end,
+    as digits are."""
     calls = any(instruction.startswith("call") for instruction in code)
     depth = None
     for instruction in code:
@@ -93,8 +99,8 @@ def below(code):
             depth = 0
         elif depth is not None:
             move = MOVES.match(instruction)
-            if move and move[1] == "sub":
-                depth += int(move[2], 16)
+            if move:
+                depth += max(0, lowered(move))
             elif instruction.startswith("push"):
                 depth += 8
             found = BELOW_FRAME.search(instruction)
@@ -151,9 +157,10 @@ class Image:
                 return content[address - begin : address - begin + length]
         raise Wrong(f"nothing stands at {address:#x}")
 
-    def is_code(self, address):
-        """Returns whether code stands at an address."""
-        return any(begin <= address < begin + size and flags & EXECUTABLE for begin, size, _, flags in self.sections)
+    def is_part(self, flags, address, length=1):
+        """Returns whether so many bytes from an address on are part of a section with these flags."""
+        return any(begin <= address and address + length <= begin + size and found & flags == flags
+                   for begin, size, _, found in self.sections)
 
     def moved(self):
         """Returns the addresses of all pointers that Windows changes when it loads the image elsewhere."""
@@ -195,39 +202,66 @@ def located(section, image):
     return found[0]
 
 
+class Linked:
+    """An object, and the image that was linked of it."""
+
+    def __init__(self, object_, image):
+        self.symbols = object_.symbols
+        self.sections = {number: section for number, section in object_.sections.items() if section.size}
+        self.image = image
+        self.moved = image.moved()
+        self.places = {number: self.placed(section) for number, section in self.sections.items() if section.content}
+        self.outside = {}
+
+    def placed(self, section):
+        """Returns the address of a section. One of code has to be where code is."""
+        place = located(section, self.image)
+        if not self.image.is_part(EXECUTABLE if section.flags & elf.EXECUTE else 0, place, section.size):
+            raise Wrong(f"{section.name} is not where code is")
+        return place
+
+    def address(self, relocation, at):
+        """Returns the address of the symbol of a relocation, as the bytes there say it."""
+        if relocation.kind != elf.R_64:
+            return struct.unpack("<i", self.image.read(at, 4))[0] - relocation.addend + at
+        if at not in self.moved:
+            raise Wrong(f"the pointer at {at:#x} stays as it is when the image is loaded elsewhere")
+        return struct.unpack("<Q", self.image.read(at, 8))[0] - relocation.addend - self.image.base
+
+    def wanted(self, symbol, address):
+        """Returns the address of a symbol: of one that the object has not, or only as zeros, what the first relocation
+        says, if a function stands there, or zeros."""
+        if symbol.section in self.places:
+            return self.places[symbol.section] + symbol.value
+        place = self.outside.setdefault(symbol.section or symbol.name, address - symbol.value)
+        if symbol.section == elf.UNDEFINED and not self.image.is_part(EXECUTABLE, place):
+            raise Wrong(f"{symbol.name} is no function")
+        if symbol.section in self.sections and not self.image.is_part(ZEROS, place, self.sections[symbol.section].size):
+            raise Wrong(f"{self.sections[symbol.section].name} is not where zeros are")
+        return place + symbol.value
+
+    def check(self):
+        """Checks each relocation. Returns how many there are."""
+        count = 0
+        for number, begin in self.places.items():
+            for relocation in self.sections[number].relocations:
+                at = begin + relocation.offset
+                symbol = self.symbols[relocation.symbol]
+                address = self.address(relocation, at)
+                if address != self.wanted(symbol, address):
+                    raise Wrong(f"the relocation at {at:#x} leads to {address:#x}, and not to {symbol.name}")
+                count += 1
+        return count
+
+
 def check_image(object_path, image_path):
     """Checks an image beside the object of which it was made. Returns what was seen."""
     with open(object_path, "rb") as file:
         object_ = elf.read(file.read())
     with open(image_path, "rb") as file:
-        image = Image(file.read())
-    sections = {number: section for number, section in object_.sections.items() if section.size}
-    places = {number: located(section, image) for number, section in sections.items() if section.content}
-    same = sum(len(part) for number in places for _, part in stretches(sections[number]))
-    moved = image.moved()
-    outside = {}
-    count = 0
-    for number, place in places.items():
-        for relocation in sections[number].relocations:
-            at = place + relocation.offset
-            symbol = object_.symbols[relocation.symbol]
-            if relocation.kind == elf.R_64:
-                address = struct.unpack("<Q", image.read(at, 8))[0] - relocation.addend - image.base
-                if at not in moved:
-                    raise Wrong(f"the pointer at {at:#x} stays as it is when the image is loaded elsewhere")
-            else:
-                address = struct.unpack("<i", image.read(at, 4))[0] - relocation.addend + at
-            if symbol.section in places:
-                wanted = places[symbol.section] + symbol.value
-            else:
-                key = symbol.section or symbol.name
-                wanted = outside.setdefault(key, address - symbol.value) + symbol.value
-                if symbol.section == elf.UNDEFINED and not image.is_code(address):
-                    raise Wrong(f"{symbol.name} is no function")
-            if address != wanted:
-                raise Wrong(f"the relocation at {at:#x} leads to {address:#x}, and {symbol.name} is at {wanted:#x}")
-            count += 1
-    return f"{same} bytes as for Linux, and {count} relocations, which lead where they should"
+        linked = Linked(object_, Image(file.read()))
+    same = sum(len(part) for number in linked.places for _, part in stretches(linked.sections[number]))
+    return f"{same} bytes as for Linux, and {linked.check()} relocations, which lead where they should"
 
 
 def main(words):
@@ -238,9 +272,9 @@ def main(words):
             for path in words[2:]:
                 with open(path) as file:
                     listed |= {line.strip() for line in file if not line.startswith("#")}
-            print(f"{words[1]}: {check_code(words[1], listed)}")
+            print(f"{os.path.basename(words[1])}: {check_code(words[1], listed)}")
         else:
-            print(f"{words[2]}: {check_image(words[1], words[2])}")
+            print(f"{os.path.basename(words[2])}: {check_image(words[1], words[2])}")
     except (Wrong, elf.Unknown) as wrong:
         print(f"check: {words[-1] if words[0] == 'image' else words[1]}: {wrong}", file=sys.stderr)
         return 1

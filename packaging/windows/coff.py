@@ -26,8 +26,8 @@ SECTIONS = {
     ".bss": (UNINITIALIZED | READABLE | WRITABLE, elf.NOBITS, (elf.ALLOC | elf.WRITE,)),
 }
 
-# Each relocation of ELF in COFF: its number; how it is written; and what is added, since COFF counts from the end of the
-# four bytes, and ELF from their beginning.
+# Each relocation of ELF in COFF: its number; how it is written; and what is added, since COFF counts from the end of
+# the four bytes, and ELF from their beginning.
 RELOCATIONS = {elf.R_64: (1, "<q", 0), elf.R_PC32: (4, "<i", 4), elf.R_PLT32: (4, "<i", 4)}
 
 EXTERNAL, STATIC, FUNCTION = 2, 3, 0x20

@@ -3,7 +3,7 @@
 
     python3 packaging/windows/pack.py FOLDER FILE
 
-The times are SOURCE_DATE_EPOCH, in UTC. Programs and DLLs keep the mode by which they can be run where a system has such.
+The times are SOURCE_DATE_EPOCH, in UTC. Programs and DLLs have the mode by which they can be run.
 """
 import os
 import pathlib

@@ -1,6 +1,6 @@
 /* What the programs ask of their system, for Windows, beside what memory.c has. They were built for Linux: they know
-   streams by small numbers, and errors by Linux's numbers and glibc's texts. Files and consoles are called directly, and
-   not through the C runtime: it would change bytes, and have one number for several errors. */
+   streams by small numbers, and errors by Linux's numbers and glibc's texts. Files and consoles are called directly,
+   and not through the C runtime: it would change bytes, and has one number for several errors. */
 #include "../stand-in.h"
 #include "sysv.h"
 
