@@ -92,6 +92,7 @@ static const struct {
     {ERROR_BAD_NET_NAME, LINUX_ENOENT},
     {ERROR_INVALID_PARAMETER, LINUX_EINVAL},
     {ERROR_BROKEN_PIPE, LINUX_EPIPE},
+    {ERROR_BUFFER_OVERFLOW, LINUX_ENAMETOOLONG},
     {ERROR_DISK_FULL, LINUX_ENOSPC},
     {ERROR_INVALID_NAME, LINUX_ENOENT},
     {ERROR_BAD_PATHNAME, LINUX_ENOENT},
@@ -103,6 +104,7 @@ static const struct {
     {ERROR_NO_SYSTEM_RESOURCES, LINUX_ENOMEM},
     {ERROR_COMMITMENT_LIMIT, LINUX_ENOMEM},
     {ERROR_NOT_ENOUGH_QUOTA, LINUX_ENOMEM},
+    {ERROR_CANT_ACCESS_FILE, LINUX_EACCES},
     {ERROR_CANT_RESOLVE_FILENAME, LINUX_ELOOP},
 };
 
@@ -264,6 +266,8 @@ int64_t SYSV(read)(int number, char *to, uint64_t room)
                 return 0;
             case ERROR_MORE_DATA: /* of a pipe that keeps messages apart; what fits was read */
                 return count;
+            case ERROR_NO_DATA: /* of a pipe that somebody made not wait; of a write it means that nobody reads */
+                return fails(LINUX_EAGAIN);
             default:
                 return fails_as_windows();
             }
