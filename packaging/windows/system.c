@@ -75,6 +75,7 @@ static const struct {
     DWORD code;
     int number;
 } errors[] = {
+    {ERROR_INVALID_FUNCTION, LINUX_EISDIR}, /* a read of a folder */
     {ERROR_FILE_NOT_FOUND, LINUX_ENOENT},
     {ERROR_PATH_NOT_FOUND, LINUX_ENOENT},
     {ERROR_TOO_MANY_OPEN_FILES, LINUX_EMFILE},
