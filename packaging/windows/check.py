@@ -71,18 +71,15 @@ def lowered(move):
     return number if move[1] == "sub" else -number
 
 
-def frame(name, code):
-    """Returns the bytes of the greatest frame that a function makes at once."""
-    most = 0
-    for instruction in code:
-        move = MOVES.match(instruction)
-        if move:
-            most = max(most, lowered(move))
-        elif CHANGES_STACK.match(instruction) and not COMPARES.match(instruction):
-            raise Wrong(f"{name}: moves the stack pointer by {instruction}")
-    if most >= PAGE:
-        raise Wrong(f"{name}: a frame of {most} bytes")
-    return most
+def frame(code):
+    """Returns by how many bytes a function lowers the stack pointer, beside push and call, if it does so in each place
+    that it has for that."""
+    return sum(max(0, lowered(move)) for move in map(MOVES.match, code) if move)
+
+
+def moves_otherwise(instruction):
+    """Returns whether an instruction moves the stack pointer otherwise than by a number that it has."""
+    return CHANGES_STACK.match(instruction) and not MOVES.match(instruction) and not COMPARES.match(instruction)
 
 
 def below(code):
@@ -109,25 +106,35 @@ def below(code):
     return None
 
 
+def faults(name, code, listed):
+    """Returns what is wrong with a function, and whether it reaches below the stack pointer, as those listed may."""
+    found = [instruction for instruction in code if SYSTEM.search(instruction)]
+    found += [f"moves the stack pointer by {instruction}" for instruction in code if moves_otherwise(instruction)]
+    if frame(code) >= PAGE:
+        found.append(f"a frame of {frame(code)} bytes")
+    reaching = below(code)
+    bare = LISTED.sub("", name)
+    may_reach = bare in listed and not OWN_CRATES.match(bare)
+    if reaching and not may_reach:
+        found.append(f"reaches below the stack pointer: {reaching}")
+    return found, bool(reaching)
+
+
 def check_code(path, listed):
     """Checks the code of an object. Returns what was seen."""
-    most, used = 0, set()
+    wrong, most, reaching = [], 0, 0
     found = functions(path)
     if not found:
         raise Wrong("no functions")
     for name, code in found.items():
         name = name[len(PREFIX):] if name.startswith(PREFIX) else name
-        most = max(most, frame(name, code))
-        for instruction in code:
-            if SYSTEM.search(instruction):
-                raise Wrong(f"{name}: {instruction}")
-        instruction = below(code)
-        if instruction:
-            bare = LISTED.sub("", name)
-            if bare not in listed or OWN_CRATES.match(bare):
-                raise Wrong(f"{name}: reaches below the stack pointer: {instruction}")
-            used.add(bare)
-    return f"{len(found)} functions, frames of {most} bytes at most, {len(used)} reach below the stack pointer"
+        told, reaches = faults(name, code, listed)
+        wrong += [f"{name}: {fault}" for fault in told]
+        most = max(most, frame(code))
+        reaching += reaches
+    if wrong:
+        raise Wrong("\n  ".join(["may not run under Windows:", *wrong]))
+    return f"{len(found)} functions, frames of {most} bytes at most, {reaching} reach below the stack pointer"
 
 
 class Image:

@@ -78,6 +78,7 @@ FORBIDDEN = {
     "f: sub $4096, %rsp\nadd $4096, %rsp\nret": "f: a frame of 4096 bytes",
     "f: lea -0x2000(%rsp), %rsp\nret": "f: a frame of 8192 bytes",
     "f: add $-0x1000, %rsp\nret": "f: a frame of 4096 bytes",
+    "f: sub $2048, %rsp\nsub $2048, %rsp\nadd $4096, %rsp\nret": "f: a frame of 4096 bytes",
     "f: sub %rax, %rsp\nret": "f: moves the stack pointer by sub",
     "f: and $-32, %rsp\nret": "f: moves the stack pointer by and",
     "f: mov %rax, %rsp\nret": "f: moves the stack pointer by mov",
