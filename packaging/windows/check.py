@@ -7,10 +7,11 @@
 OBJECT is the object for Linux that is turned into one for Windows: its sections are those of merge.ld, and sysv_ stands
 before its global names.
 
-code: its code may run under Windows. No function has a frame of a page or more, since Windows needs each page of a
-stack to be touched in order; none moves the stack pointer by a number that isn't known here. None asks the kernel of
-Linux for anything, or uses a segment, as thread-local data do. None reads or writes below the stack pointer, where
-Windows may write, but those of the file FUNCTIONS, which are no part of the demangler's own crates.
+code: its code may run under Windows. No function has a frame of a page or more that it doesn't write in between, since
+Windows needs each page of a stack to be touched in order; none moves the stack pointer by a number that isn't known
+here. None asks the kernel of Linux for anything, or uses a segment, as thread-local data do. None reads or writes below
+the stack pointer, where Windows may write, but those of the file FUNCTIONS, which are no part of the demangler's own
+crates.
 
 image: IMAGE, a program or DLL that was linked of it, has its code and data once, with the same bytes but where they are
 relocated; and each of these places leads to the one address that the symbol has. It needs objdump.
@@ -33,6 +34,7 @@ INSTRUCTION = re.compile(r" *[0-9a-f]+:\t(.*)$")
 MOVES = re.compile(r"(sub|add) +\$(0x[0-9a-f]+),%rsp$|lea +(-?0x[0-9a-f]+)\(%rsp\),%rsp$|mov +%rbp,%rsp$")
 CHANGES_STACK = re.compile(r".*,%([re]?sp|spl)$|pop +%rsp$")
 COMPARES = re.compile("(cmp|test)")
+TOUCHES = re.compile(r"push|call|mov[a-z]* +[^(]*,\(%rsp\)$")
 SYSTEM = re.compile(r"^(syscall|sysenter|int +\$)|%[fg]s:")
 BELOW = re.compile(r"-0x[0-9a-f]+\(%rsp(,[^)]*)?\)")
 BELOW_FRAME = re.compile(r"-0x([0-9a-f]+)\(%rbp\)")
@@ -72,9 +74,17 @@ def lowered(move):
 
 
 def frame(code):
-    """Returns by how many bytes a function lowers the stack pointer, beside push and call, if it does so in each place
-    that it has for that."""
-    return sum(max(0, lowered(move)) for move in map(MOVES.match, code) if move)
+    """Returns by how many bytes at most a function lowers the stack pointer before it writes there. The compiler writes
+    a word after each 3,072 bytes of a frame."""
+    most = untouched = 0
+    for instruction in code:
+        move = MOVES.match(instruction)
+        if move:
+            untouched += max(0, lowered(move))
+            most = max(most, untouched)
+        elif TOUCHES.match(instruction):
+            untouched = 0
+    return most
 
 
 def moves_otherwise(instruction):

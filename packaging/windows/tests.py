@@ -79,6 +79,8 @@ FORBIDDEN = {
     "f: lea -0x2000(%rsp), %rsp\nret": "f: a frame of 8192 bytes",
     "f: add $-0x1000, %rsp\nret": "f: a frame of 4096 bytes",
     "f: sub $2048, %rsp\nsub $2048, %rsp\nadd $4096, %rsp\nret": "f: a frame of 4096 bytes",
+    "f: sub $2048, %rsp\nmov (%rsp), %rax\nsub $2048, %rsp\nret": "f: a frame of 4096 bytes",
+    "f: sub $2048, %rsp\nmovq $0, 8(%rsp)\nsub $2048, %rsp\nret": "f: a frame of 4096 bytes",
     "f: sub %rax, %rsp\nret": "f: moves the stack pointer by sub",
     "f: and $-32, %rsp\nret": "f: moves the stack pointer by and",
     "f: mov %rax, %rsp\nret": "f: moves the stack pointer by mov",
@@ -100,6 +102,7 @@ FORBIDDEN = {
 # Code that may.
 ALLOWED = [
     "f: sub $4080, %rsp\nmov %rax, 8(%rsp)\nadd $4080, %rsp\nret",
+    "f: sub $3072, %rsp\nmovq $0, (%rsp)\nsub $3072, %rsp\ncall g\nsub $4000, %rsp\nret",
     "f: lea -0x80(%rsp), %rsp\nlea 0x80(%rsp), %rsp\nret",
     "f: push %rbp\nmov %rsp, %rbp\npush %rbx\nsub $24, %rsp\nmov %rax, -0x20(%rbp)\nleave\nret",
     "f: push %rbp\nmov %rsp, %rbp\nleave\nret",
