@@ -46,7 +46,8 @@ impl Lent {
 
     /// Takes the memory for a block of `size` bytes, if it is there and large enough.
     fn take(&self, size: usize, align: usize) -> Option<Workspace>
-        ensures { IfSome result (λ m. ((m.ptr, m.size) ≡ self.now.slot) × (1 ≤ m.size) × (size ≤ m.size) × (align ≤ 16)) }
+        ensures { IfSome result (λ m. ((m.ptr, m.size) ≡ self.now.slot)
+            × (1 ≤ m.size) × (size ≤ m.size) × (align ≤ 16)) }
     {
         if align > 16 || size > self.size || self.size == 0 {
             return None;

@@ -21,7 +21,8 @@ impl Owns for Slot {
 }
 
 impl Move for Slot {
-    ghost own_val = { λ r vs. fex Inside (λ i. fsep (Fields.own_val i vs) (fex (IfSome i.memory (λ m. (m.ptr, m.size) ≡ r)) (λ _. ftrue))) };
+    ghost own_val = { λ r vs. fex Inside (λ i. fsep (Fields.own_val i vs)
+        (fex (IfSome i.memory (λ m. (m.ptr, m.size) ≡ r)) (λ _. ftrue))) };
 }
 
 impl Slot {

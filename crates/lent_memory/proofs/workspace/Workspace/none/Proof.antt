@@ -40,10 +40,20 @@ none_spec 𝓤 𝓛 𝓜 𝓡 wired =
     let a = z.0.3 in
     let vss = z.0.4 in
     let w : (workspace.the_row).Denot = record { ptr = null_ptr; size = 0; fits = (refl, lit< tt) } in
-    qed 𝓛 ((raw (alive 𝓛 En₀.signature z.0.0 z.0.1) ⊛ ‵ (owns (types_at En₀.signature.params z.0.0) a vss)) ∷ ‵ ftrue ∷ []) ∵ move ! (1 ∷ []) $ drop ! $ split ! $ move ! (1 ∷ []) $ drop ! $
+    qed 𝓛 ((raw (alive 𝓛 En₀.signature z.0.0 z.0.1) ⊛ ‵ (owns (types_at En₀.signature.params z.0.0) a vss)) ∷ ‵ ftrue ∷
+    []) ∵ move ! (1 ∷ []) $ drop ! $ split ! $ move ! (1 ∷ []) $ drop ! $
     enter ! C Λ fn [] Post $
     alloc_all ! (λ l. pass_all ! refl tt $ let En : Env 𝓤 𝓛.H = env fn.locals l in
-    sets ! (agg ! (and_then ! (lit ! tt) (and_then ! (lit ! tt) (no_more !)))) refl (tt, (record { fits = lit< tt }, (record { fits = lit< tt }, tt))) $
+    sets ! (agg ! (and_then ! (lit ! tt) (and_then ! (lit ! tt) (no_more !)))) refl (
+      tt,
+      (
+        record {
+          fits = lit< tt;
+        },
+        (record { fits = lit< tt }, tt),
+      ),
+    ) $
     returns ! (look_at ! 0 refl) $ free_all ! refl $
-    nothing ! $ use0 𝓛 (‵ (sized_own null_ptr 0 (sized_val null_ptr 0 ∷ []))) (sized_made 𝓛 null_ptr 0 (lit< tt)) $ fjoin ! $ use0 𝓛 (raw (fact 𝓤 (0 ≡ 0))) (fact_i 𝓤 (0 ≡ 0) (emp 𝓤) refl) $ nothing ! $ move ! (3 ∷ 0 ∷ 2 ∷ 1 ∷ []) $
+    nothing ! $ use0 𝓛 (‵ (sized_own null_ptr 0 (sized_val null_ptr 0 ∷ []))) (sized_made 𝓛 null_ptr 0 (lit< tt)) $
+    fjoin ! $ use0 𝓛 (raw (fact 𝓤 (0 ≡ 0))) (fact_i 𝓤 (0 ≡ 0) (emp 𝓤) refl) $ nothing ! $ move ! (3 ∷ 0 ∷ 2 ∷ 1 ∷ []) $
     by ! (leaves 𝓛 En₀ stays c z (sized_val null_ptr 0) (w) tt tt)))
