@@ -15,8 +15,8 @@ use Rattle.msvc_demangler.specs.Limit.{Limit}
 use Rattle.msvc_demangler.specs.Limit.TheVariants.{Bytes, Nodes}
 use Rattle.msvc_demangler.specs.Limits.{IsRejectedUnder, IsTooLong, Limits}
 use Rattle.msvc_demangler.specs.Refusals.{begins_with}
-use Rattle.msvc_demangler_c.specs.Calls.{IsFound, IsMeasured, IsNoSymbolUnder, IsRefused, IsRejection, IsStatus, Says}
-use Rattle.msvc_demangler_c.specs.Calls.{invalid, not_measured, not_read, too_long, too_many_nodes}
+use Rattle.msvc_c_calls.specs.Calls.{IsFound, IsMeasured, IsNoSymbolUnder, IsRefused, IsRejection, IsStatus, Says}
+use Rattle.msvc_c_calls.specs.Calls.{invalid, not_measured, not_read, too_long, too_many_nodes}
 
 -- an error has this offset in the symbol, and this text
 pub record IsAt (e : ErrorRepr) (offset : ℕ) (text : List ℕ) : Type 0 where

@@ -17,10 +17,7 @@ use Rattle.msvc_demangler.specs.Reads.{Derives}
 use Rattle.msvc_demangler.specs.Refusals.{begins_with}
 use Rattle.msvc_demangler.specs.State.{Note}
 use Rattle.msvc_demangler.specs.Trees.{SymbolTree}
-use Rattle.msvc_demangler_c.specs.Buffers.{ArePartsWritten, IsWritten}
-
-abbrev pub version : List ℕ
-version = codes "0.11.0"
+use Rattle.msvc_c_calls.specs.Buffers.{ArePartsWritten, IsWritten}
 
 abbrev pub not_utf8_text : List ℕ
 not_utf8_text = codes "not UTF-8"
