@@ -1,10 +1,15 @@
 -- The context of a refusal of an ASCII input needs no decoding.
-use Rattle.std.proofs.Common.{◌≡◌, ℕ, ◌∙◌, List, subst, take, drop}
+use Rattle.std.proofs.Common.{◌≡◌, ℕ, ◌∙◌, List, subst, sym, take, drop}
 use Rattle.std.proofs.lemmas.Str.{IsAscii-take, IsAscii-drop, IsUtf8-from_ascii, utf8_lossy-IsUtf8}
 use Rattle.std.specs.Str.{IsAscii}
+use Rattle.std.specs.Str.Lossy.{utf8_lossy}
 use Rattle.bstr.proofs.lemmas.LossyLemmas.{lossy_chars-utf8_lossy}
 use Rattle.msvc_nodes.specs.declared.error.ErrorRepr.{ErrorRepr}
 use Rattle.msvc_nodes.specs.Errors.{IsRefusalOrMemory, context_of, context_text_of, shortened, shortened_text, text_of}
+
+-- what std replaces in bytes that are not UTF-8 is what the definition replaces
+pub lossy_text : (bytes : List ℕ) → utf8_lossy bytes ≡ text_of bytes
+lossy_text bytes = sym (lossy_chars-utf8_lossy bytes)
 
 text_of-IsAscii : (bytes : List ℕ) → IsAscii bytes → text_of bytes ≡ bytes
 text_of-IsAscii bytes ascii =
@@ -17,6 +22,12 @@ shortened_text-IsAscii bytes ascii =
     text_of-IsAscii (take 20 bytes) (IsAscii-take bytes 20 ascii) in
     cc
 
+-- the context of an ASCII input has the same bytes
+pub context_text-IsAscii : (input : List ℕ) (offset : ℕ) → IsAscii input
+    → context_text_of input offset ≡ context_of input offset
+context_text-IsAscii input offset ascii =
+    shortened_text-IsAscii (drop offset input) (IsAscii-drop input offset ascii)
+
 -- a refusal whose context was decoded has the bytes themselves as its context where they are ASCII
 pub IsRefusalOrMemory-IsAscii : (message input : List ℕ) (offset : ℕ) (error : ErrorRepr)
     → IsAscii input
@@ -24,4 +35,4 @@ pub IsRefusalOrMemory-IsAscii : (message input : List ℕ) (offset : ℕ) (error
     → IsRefusalOrMemory message (context_of input offset) offset error
 IsRefusalOrMemory-IsAscii message input offset error ascii refusal =
     let P : List ℕ → Type 0 = λ context. IsRefusalOrMemory message context offset error in
-    subst P (shortened_text-IsAscii (drop offset input) (IsAscii-drop input offset ascii)) refusal
+    subst P (context_text-IsAscii input offset ascii) refusal

@@ -68,11 +68,16 @@ IsMessageOrMemory message (Other m) = string_bytes m ≡ message
 IsMessageOrMemory message Memory = Unit {0}
 IsMessageOrMemory message _ = ⊥
 
--- the text of an error; nothing is said of a cause, nor of a refusal whose context is not ASCII
+-- the text that says why an input is rejected; nothing is said of a context that is not ASCII
+abbrev pub rejection_text : (message context : List ℕ) (offset : ℕ) → Option (List ℕ)
+rejection_text message context offset =
+    Some message ++? Some (codes " (offset: ") ++? Some (decimal offset)
+    ++? Some (codes ", remaining: ") ++? debug_str context ++? Some (codes ")")
+
+-- the text of an error; nothing is said of a cause
 abbrev pub error_text : ErrorRepr → Option (List ℕ)
 error_text (ParseError message context offset) =
-    Some (cow_str_bytes message) ++? Some (codes " (offset: ") ++? Some (decimal offset)
-    ++? Some (codes ", remaining: ") ++? debug_str (string_bytes context) ++? Some (codes ")")
+    rejection_text (cow_str_bytes message) (string_bytes context) offset
 error_text (Other message) = Some (string_bytes message)
 error_text Memory = Some (codes "out of memory")
 error_text _ = None

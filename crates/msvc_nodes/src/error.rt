@@ -1,16 +1,16 @@
 //! Errors: why a text was rejected, or that memory ran out, and what an error prints. Which message a text is rejected
 //! with is up to the parser.
 
-ghost use Rattle.std.specs.Prelude.{◌≡◌, ◌≤◌, ◌↔◌, length, IfOk, IsTrue, is_some, string_bytes};
+ghost use Rattle.std.specs.Prelude.{◌≡◌, ◌≤◌, ◌↔◌, length, IfOk, IfSome, IsTrue, is_some, string_bytes};
 ghost use Rattle.std.specs.Cow.{cow_str_bytes};
 ghost use Rattle.std.specs.Str.{IsAscii};
 ghost use Rattle.msvc_nodes.specs.declared.error.ErrorRepr.{ErrorRepr};
 ghost use Rattle.msvc_nodes.specs.declared.error.ErrorRepr.TheVariants.{FromUtf8, Memory, Utf8};
-ghost use Rattle.msvc_nodes.specs.Errors.{IsMessageOrMemory, IsRefusalOrMemory, context_of, context_text_of};
-ghost use Rattle.msvc_nodes.specs.Errors.{error_text, limit_of, message_limit, offset_of, shortened_text};
+ghost use Rattle.msvc_nodes.specs.Errors.{IsMessageOrMemory, IsRefusalOrMemory, context_of};
+ghost use Rattle.msvc_nodes.specs.Errors.{context_text_of, error_text, limit_of, message_limit, offset_of};
+ghost use Rattle.msvc_nodes.specs.Errors.{rejection_text, shortened_text};
 
-use bstr::ByteSlice;
-use std::alloc::{AllocError, AllocFailed, Global};
+use std::alloc::{AllocError, AllocFailed, Allocator, Global};
 use std::borrow::CowStr;
 use std::fmt;
 use std::marker::Model;
@@ -139,18 +139,59 @@ pub fn parse_error(alloc: Global, message: CowStr<'static>, input: &[u8], offset
 }
 
 /// Copies what an error shows of the bytes that remain at its offset.
-fn context(alloc: Global, remaining: &[u8]) -> Result<String, AllocError>
+#[tactic(auto, using(crate::proofs::Contexts::lossy_text))]
+fn context<A: Allocator>(alloc: A, remaining: &[u8]) -> Result<String<A>, AllocError>
     ensures { IfOk result (λ text. string_bytes text ≡ shortened_text remaining.now) }
 {
-    let mut text = String::new(alloc);
     if remaining.len() <= CONTEXT_LENGTH {
-        remaining.to_str_lossy_into(&mut text)?;
-    } else {
-        let beginning = &remaining[..CONTEXT_LENGTH];
-        beginning.to_str_lossy_into(&mut text)?;
-        text.push_str("...")?;
+        return String::from_utf8_lossy(alloc, remaining);
     }
+    let mut text = String::from_utf8_lossy(alloc, &remaining[..CONTEXT_LENGTH])?;
+    text.push_str("...")?;
     Ok(text)
+}
+
+/// Why an input is rejected, as an error prints it.
+#[derive(Clone, Copy)]
+struct Rejection<'m, 'c> {
+    message: &'m str,
+    /// The input at the offset, cut short.
+    context: &'c str,
+    /// In bytes.
+    offset: usize,
+}
+
+impl<'m, 'c> fmt::Display for Rejection<'m, 'c> {
+    ghost output = { λ r. rejection_text r.message.now r.context.now r.offset };
+
+    fn fmt<W: fmt::Write>(&self, f: &mut fmt::Formatter<W>) -> fmt::Result {
+        let Rejection {
+            message,
+            context,
+            offset,
+        } = *self;
+        write!(f, "{message} (offset: {offset}, remaining: {context:?})")
+    }
+}
+
+/// Returns the text that the error of [`parse_error`] prints, for a message, an input and an offset in bytes.
+pub fn format_rejection<A: Allocator + Copy>(
+    alloc: A,
+    message: &str,
+    input: &[u8],
+    offset: usize,
+) -> Result<String<A>, AllocError>
+    requires { offset ≤ length input.now }
+    ensures { IfOk result (λ text. IfSome
+        (rejection_text message.now (context_text_of input.now offset) offset) (λ said. string_bytes text ≡ said)) }
+{
+    let context = context(alloc, &input[offset..])?;
+    let rejection = Rejection {
+        message,
+        context: &context,
+        offset,
+    };
+    format!(in alloc; "{rejection}")
 }
 
 impl fmt::Display for Error {
@@ -161,7 +202,12 @@ impl fmt::Display for Error {
             ErrorRepr::FromUtf8(cause) => write!(f, "{cause}"),
             ErrorRepr::Utf8(cause) => write!(f, "{cause}"),
             ErrorRepr::ParseError(message, context, offset) => {
-                write!(f, "{message} (offset: {offset}, remaining: {context:?})")
+                let rejection = Rejection {
+                    message: message.as_str(),
+                    context,
+                    offset: *offset,
+                };
+                write!(f, "{rejection}")
             }
             ErrorRepr::Other(message) => write!(f, "{message}"),
             ErrorRepr::Memory => write!(f, "out of memory"),

@@ -2,6 +2,7 @@ pub mod Choices
 pub mod FirstByte
 pub mod FunctionSteps
 pub mod GuardSteps
+pub mod Messages
 pub mod NameSteps
 pub mod Nodes
 pub mod NumberSteps

@@ -51,11 +51,11 @@ abbrev pub note_of : BackReference → state.Note
 note_of n = record { at = n.at; start = n.start; end = n.end }
 
 -- the count of nodes
-abbrev pub count_of : {L : Type 0} {g : _} → Parser L g → state.Count
+abbrev pub count_of : {L A : Type 0} {g h : _} → Parser L A g h → state.Count
 count_of {g = g} p =
     record { weight = g.weight; made = g.made p.limit; most = g.most p.limit }
 
-abbrev pub state_of : {L : Type 0} {g : _} → Parser L g → state.State
+abbrev pub state_of : {L A : Type 0} {g h : _} → Parser L A g h → state.State
 state_of p =
     record {
       whole = p.text_length;
@@ -74,7 +74,7 @@ pub record Frame (N E : Type 0) : Type 0 where
   pub listed_types : List (Bor «Type»)
   pub types_before : List (Bor «Type»)
 
-abbrev pub frame_of : {L : Type 0} {g : _} → Parser L g → Frame (MemorizedName L g) (MemorizedType L g)
+abbrev pub frame_of : {L A : Type 0} {g h : _} → Parser L A g h → Frame (MemorizedName L g) (MemorizedType L g)
 frame_of p =
     record {
       names = outer p.memorized.names;
@@ -102,23 +102,23 @@ IsRead view (Err e) read = Refuses e read
 
 -- The result of a reader, seen by view, is what its rule reads of the unread bytes: its value, the bytes left and the
 -- state after it.
-abbrev pub ReadsAs : {L : Type 0} {g : _} {X Y : Type 0} → (X → Y) → Parser L g → Parser L g → Result X Refused
+abbrev pub ReadsAs : {L A : Type 0} {g h : _} {X Y : Type 0} → (X → Y) → Parser L A g h → Parser L A g h → Result X Refused
     → (List ℕ → state.State → Found Y) → Type 0
 ReadsAs view before after result reading =
     Gives (λ x. (view x, after.rest.now, state_of after)) after.why result (reading before.rest.now (state_of before))
 
 -- on success, a reader has read at least one byte and has left the frame unchanged
-abbrev pub Eats : {L : Type 0} {g : _} {X : Type 0} → Parser L g → Parser L g → Result X Refused → Type 0
+abbrev pub Eats : {L A : Type 0} {g h : _} {X : Type 0} → Parser L A g h → Parser L A g h → Result X Refused → Type 0
 Eats before after result =
     IfOk result (λ _. (length after.rest.now < length before.rest.now) × (frame_of after ≡ frame_of before))
 
 -- the same, and it may have read no byte
-abbrev pub MayEat : {L : Type 0} {g : _} {X : Type 0} → Parser L g → Parser L g → Result X Refused → Type 0
+abbrev pub MayEat : {L A : Type 0} {g h : _} {X : Type 0} → Parser L A g h → Parser L A g h → Result X Refused → Type 0
 MayEat before after result =
     IfOk result (λ _. (length after.rest.now ≤ length before.rest.now) × (frame_of after ≡ frame_of before))
 
 -- the same, and it has read no byte
-abbrev pub Stays : {L : Type 0} {g : _} {X : Type 0} → Parser L g → Parser L g → Result X Refused → Type 0
+abbrev pub Stays : {L A : Type 0} {g h : _} {X : Type 0} → Parser L A g h → Parser L A g h → Result X Refused → Type 0
 Stays before after result =
     IfOk result (λ _. (after.rest.now ≡ before.rest.now) × (frame_of after ≡ frame_of before))
 

@@ -13,7 +13,7 @@ use Rattle.msvc_parser.specs.declared.parser.Parser.{Parser}
 use Rattle.msvc_parser.specs.declared.refusal.Refused.{Refused}
 
 -- a reader of names leaves them on a new part of the list, and returns the checkpoint that ends that part
-abbrev pub ListsNames : {L : Type 0} {g : _} → Parser L g → Parser L g → Result ℕ Refused → Type 0
+abbrev pub ListsNames : {L A : Type 0} {g h : _} → Parser L A g h → Parser L A g h → Result ℕ Refused → Type 0
 ListsNames before after result =
     IfOk result (λ checkpoint. (checkpoint ≡ length (outer before.listed_names))
     × (frame_of after
@@ -23,7 +23,7 @@ ListsNames before after result =
     }))
 
 -- the same for types
-abbrev pub ListsTypes : {L : Type 0} {g : _} → Parser L g → Parser L g → Result ℕ Refused → Type 0
+abbrev pub ListsTypes : {L A : Type 0} {g h : _} → Parser L A g h → Parser L A g h → Result ℕ Refused → Type 0
 ListsTypes before after result =
     IfOk result (λ checkpoint. (checkpoint ≡ length (outer before.listed_types))
     × (frame_of after
@@ -33,7 +33,7 @@ ListsTypes before after result =
     }))
 
 -- a part of the list of names is dropped, and the list is as it was before that part began
-abbrev pub EndsNames : {L : Type 0} {g : _} {X : Type 0} → ℕ → Parser L g → Parser L g → Result X Refused → Type 0
+abbrev pub EndsNames : {L A : Type 0} {g h : _} {X : Type 0} → ℕ → Parser L A g h → Parser L A g h → Result X Refused → Type 0
 EndsNames checkpoint before after result =
     IfOk result (λ _. frame_of after
     ≡ record (frame_of before) {
@@ -42,7 +42,7 @@ EndsNames checkpoint before after result =
     })
 
 -- the same for types
-abbrev pub EndsTypes : {L : Type 0} {g : _} {X : Type 0} → ℕ → Parser L g → Parser L g → Result X Refused → Type 0
+abbrev pub EndsTypes : {L A : Type 0} {g h : _} {X : Type 0} → ℕ → Parser L A g h → Parser L A g h → Result X Refused → Type 0
 EndsTypes checkpoint before after result =
     IfOk result (λ _. frame_of after
     ≡ record (frame_of before) {

@@ -21,7 +21,7 @@ use bumpalo::Bump;
 use msvc_nodes::flags::StorageClass;
 use msvc_nodes::nodes::{Name, Type};
 use msvc_nodes::same::{is_same_name, is_same_type};
-use std::alloc::AllocError;
+use std::alloc::{AllocError, Allocator};
 
 /// How many entries each of the two tables has at most.
 const MOST_MEMORIZED: usize = 10;
@@ -40,9 +40,9 @@ pub struct BackReference {
 /// The tables of memorized names and types. A template has separate tables. While it is read, the entries of the
 /// enclosing tables stand before them in the same lists.
 #[derive(Drop)]
-pub struct Memorized<'a, 'b, L: Limit> {
-    pub names: Stack<'b, MemorizedName<'a, 'b, L>>,
-    pub types: Stack<'b, MemorizedType<'a, 'b, L>>,
+pub struct Memorized<'a, 'b, L: Limit, A: Allocator> {
+    pub names: Stack<'b, MemorizedName<'a, 'b, L>, A>,
+    pub types: Stack<'b, MemorizedType<'a, 'b, L>, A>,
 }
 
 /// Where the tables that enclose a template begin.
@@ -52,9 +52,9 @@ pub struct Outer {
     types: usize,
 }
 
-impl<'a, 'b, L: Limit> Memorized<'a, 'b, L> {
+impl<'a, 'b, L: Limit, A: Allocator> Memorized<'a, 'b, L, A> {
     /// Creates empty tables.
-    pub fn new(arena: &'b Bump) -> Memorized<'a, 'b, L>
+    pub fn new(arena: &'b Bump<A>) -> Memorized<'a, 'b, L, A>
         ensures names { (here result.names ≡ []) × (outer result.names ≡ []) }
         ensures types { (here result.types ≡ []) × (outer result.types ≡ []) }
     {
@@ -120,7 +120,7 @@ impl<'a, 'b, L: Limit> Memorized<'a, 'b, L> {
     }
 }
 
-impl<'a, 'b, L: Limit> Parser<'a, 'b, L> {
+impl<'a, 'b, L: Limit, A: Allocator> Parser<'a, 'b, L, A> {
     /// Stores a name without parts in the arena, memorizes it and returns it.
     #[inline(always)]
     pub fn memorized_name(&mut self, name: Name<'a, 'b>) -> Result<&'b Name<'a, 'b>, Refused>

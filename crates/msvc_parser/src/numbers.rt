@@ -9,11 +9,12 @@ use crate::letters;
 use crate::limit::Limit;
 use crate::parser::Parser;
 use crate::refusal::{Message, Refused};
+use std::alloc::Allocator;
 
 /// Base of a number's letters.
 const BASE: u32 = 16;
 
-impl<'a, 'b, L: Limit> Parser<'a, 'b, L> {
+impl<'a, 'b, L: Limit, A: Allocator> Parser<'a, 'b, L, A> {
     /// Reads `NUMBER = ["?"] MAGNITUDE`: a `?` negates.
     #[tactic(auto, using(crate::proofs::NumberSteps::number_is))]
     pub fn number(&mut self) -> Result<i32, Refused>

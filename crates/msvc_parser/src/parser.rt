@@ -26,33 +26,34 @@ use bitflags::Flags;
 use bumpalo::Bump;
 use msvc_nodes::flags::StorageClass;
 use msvc_nodes::nodes::{Name, Type};
+use std::alloc::Allocator;
 
 /// The state of the parser.
 #[derive(Drop)]
-pub struct Parser<'a, 'b, L: Limit> {
+pub struct Parser<'a, 'b, L: Limit, A: Allocator> {
     /// Holds the nodes, and all lists that grow while a text is read.
-    pub arena: &'b Bump,
+    pub arena: &'b Bump<A>,
     /// Length of the text, in bytes.
     pub text_length: usize,
     /// The bytes that are still unread.
     pub rest: &'a [u8],
     /// The tables that digits refer to.
-    pub memorized: Memorized<'a, 'b, L>,
+    pub memorized: Memorized<'a, 'b, L, A>,
     /// The names of the scopes that are being read.
-    pub listed_names: Stack<'b, &'b Name<'a, 'b>>,
+    pub listed_names: Stack<'b, &'b Name<'a, 'b>, A>,
     /// The parameters of the lists that are being read.
-    pub listed_types: Stack<'b, &'b Type<'a, 'b>>,
+    pub listed_types: Stack<'b, &'b Type<'a, 'b>, A>,
     /// The back references read so far.
-    pub notes: Vec<BackReference, &'b Bump>,
+    pub notes: Vec<BackReference, &'b Bump<A>>,
     /// The limit on nodes.
     pub limit: L,
     /// The error of the last reader that failed.
     pub why: Refusal,
 }
 
-impl<'a, 'b, L: Limit> Parser<'a, 'b, L> {
+impl<'a, 'b, L: Limit, A: Allocator> Parser<'a, 'b, L, A> {
     /// Creates a parser at the start of a text.
-    pub fn new(arena: &'b Bump, text: &'a [u8], limit: L) -> Parser<'a, 'b, L>
+    pub fn new(arena: &'b Bump<A>, text: &'a [u8], limit: L) -> Parser<'a, 'b, L, A>
         ensures rest { result.rest.now ≡ text.now }
         ensures state { state_of result ≡ beginning_with (record {
           weight = L.weight;

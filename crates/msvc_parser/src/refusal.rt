@@ -1,13 +1,12 @@
 //! Errors inside the parser. They are a few numbers, and become an error with a text only when they leave the reader.
 
-ghost use Rattle.std.specs.Prelude.{◌≢◌, IfOk, Some};
+ghost use Rattle.std.specs.Prelude.{◌≡◌, ◌-◌, IfOk, length, string_bytes};
 ghost use Rattle.std.specs.Cow.{cow_str_bytes};
 ghost use Rattle.msvc_nodes.specs.Errors.{message_limit};
-ghost use Rattle.msvc_nodes.specs.declared.error.Limit.TheVariants.{Bytes};
-ghost use Rattle.msvc_parser.specs.Errors.{IsErrorOf};
+ghost use Rattle.msvc_parser.specs.Errors.{IsErrorOf, IsMessageAt, limit_of_message, message_bytes};
 
-use msvc_nodes::error::{Error, TOO_MANY_NODES, parse_error};
-use std::alloc::{AllocError, Global};
+use msvc_nodes::error::{Error, Limit, TOO_MANY_NODES, format_rejection, parse_error};
+use std::alloc::{AllocError, Allocator, Global};
 use std::borrow::CowStr;
 
 /// The message of a syntax error.
@@ -45,10 +44,51 @@ pub enum Message {
     TooManyNodes,
 }
 
+/// The text of a message.
+#[derive(Drop)]
+pub enum MessageText<A: Allocator> {
+    /// A text without a number.
+    Fixed(&'static str),
+    /// A text with a number or a character in it.
+    Made(String<A>),
+}
+
+impl<A: Allocator> MessageText<A> {
+    /// Returns the text.
+    fn as_str(&self) -> &str
+        ensures { result.now ≡ message_bytes self.now }
+    {
+        match self {
+            MessageText::Fixed(text) => text,
+            MessageText::Made(text) => text,
+        }
+    }
+}
+
+/// Converts the text of a message to that of an error, without a copy.
+fn into_cow(text: MessageText<Global>) -> CowStr<'static>
+    ensures { cow_str_bytes result ≡ message_bytes text }
+{
+    match text {
+        MessageText::Fixed(text) => CowStr::Borrowed(text),
+        MessageText::Made(text) => CowStr::Owned(text),
+    }
+}
+
 impl Message {
+    /// Returns the limit that the message is about.
+    pub fn limit(self) -> Option<Limit>
+        ensures { result ≡ limit_of_message self }
+    {
+        match self {
+            Message::TooManyNodes => Some(Limit::Nodes),
+            _ => None,
+        }
+    }
+
     /// Returns the text of the message. Only a text with a number in it is allocated.
-    fn text(self, alloc: Global) -> Result<CowStr<'static>, AllocError>
-        ensures { IfOk result (λ text. message_limit (cow_str_bytes text) ≢ Some Bytes) }
+    fn text<A: Allocator>(self, alloc: A) -> Result<MessageText<A>, AllocError>
+        ensures { IfOk result (λ text. message_limit (message_bytes text) ≡ limit_of_message self) }
     {
         let text = match self {
             Message::NoQuestionMark => "does not start with b'?'",
@@ -76,21 +116,21 @@ impl Message {
             Message::UnknownRttiOperatorName => "unknown RTTI Operator name",
             Message::TooManyNodes => TOO_MANY_NODES,
             Message::InvalidBackReference(index) => {
-                return Ok(CowStr::Owned(format!(in alloc; "invalid backreference: {index}")?));
+                return Ok(MessageText::Made(format!(in alloc; "invalid backreference: {index}")?));
             }
             Message::UnknownCharacter(byte) => {
                 let character = char::from(byte);
-                return Ok(CowStr::Owned(format!(in alloc;
+                return Ok(MessageText::Made(format!(in alloc;
                     "unknown escaped encoded string character {character}"
                 )?));
             }
             Message::InvalidArrayDimension(dimension) => {
-                return Ok(CowStr::Owned(format!(in alloc;
+                return Ok(MessageText::Made(format!(in alloc;
                     "invalid array dimension: {dimension}"
                 )?));
             }
         };
-        Ok(CowStr::Borrowed(text))
+        Ok(MessageText::Fixed(text))
     }
 }
 
@@ -111,11 +151,32 @@ impl Refusal {
         match self {
             Refusal::Memory => Error::from(AllocError),
             Refusal::Unread(message, left) => match message.text(alloc) {
-                Ok(message) => parse_error(alloc, message, text, text.len().saturating_sub(left)),
+                Ok(message) => {
+                    let offset = text.len().saturating_sub(left);
+                    parse_error(alloc, into_cow(message), text, offset)
+                }
                 Err(refused) => Error::from(refused),
             },
         }
     }
+}
+
+/// Returns what the error of [`Refusal::error`] prints for a message where `left` bytes of `text` are unread.
+pub fn format_message<A: Allocator + Copy>(
+    alloc: A,
+    message: Message,
+    text: &[u8],
+    left: usize,
+) -> Result<String<A>, AllocError>
+    ensures { IfOk result (λ said. IsMessageAt message text.now (length text.now - left) (string_bytes said)) }
+{
+    let message = message.text(alloc)?;
+    format_rejection(
+        alloc,
+        message.as_str(),
+        text,
+        text.len().saturating_sub(left),
+    )
 }
 
 /// Returned by a reader that failed. The parser holds the reason.

@@ -3,13 +3,14 @@
 ghost use Rattle.std.specs.Prelude.{◌≤◌, length};
 
 use bumpalo::Bump;
+use std::alloc::Allocator;
 
 mod steps;
 
 /// A list of which the items from `from` on are in use.
 #[derive(Drop)]
-pub struct Stack<'b, T: Copy> {
-    items: Vec<T, &'b Bump>,
+pub struct Stack<'b, T: Copy, A: Allocator> {
+    items: Vec<T, &'b Bump<A>>,
     from: usize,
     ghost inside: { from ≤ length items.items },
 }

@@ -16,6 +16,7 @@ use crate::refusal::{Message, Refused};
 use bumpalo::Bump;
 use bumpalo::collections::into_bump_slice;
 use msvc_nodes::nodes::Type;
+use std::alloc::Allocator;
 
 /// Base of the two digits of a byte.
 const BASE: u8 = 16;
@@ -23,7 +24,7 @@ const BASE: u8 = 16;
 /// Greatest number of characters of one byte in a symbol.
 const MOST_CHARACTERS: u32 = 32;
 
-impl<'a, 'b, L: Limit> Parser<'a, 'b, L> {
+impl<'a, 'b, L: Limit, A: Allocator> Parser<'a, 'b, L, A> {
     /// Reads `ENCODED_STRING = character size NUMBER NUMBER CHARACTERS`: the second number is dropped.
     #[tactic(auto, using(crate::proofs::StringSteps::encoded_string_step), unfolding(msvc_nodes::specs::NodeView::type_of))]
     pub fn encoded_string(&mut self) -> Result<&'b Type<'a, 'b>, Refused>
@@ -53,7 +54,7 @@ impl<'a, 'b, L: Limit> Parser<'a, 'b, L> {
 
     /// Reads exactly `count` characters.
     #[tactic(auto, using(crate::proofs::StringSteps::characters_go_on))]
-    fn characters(&mut self, count: u32) -> Result<Vec<u8, &'b Bump>, Refused>
+    fn characters(&mut self, count: u32) -> Result<Vec<u8, &'b Bump<A>>, Refused>
         ensures value { ReadsAs (λ v. v.items) self.old self.new result (read_name (characters count)) }
         ensures eats { MayEat self.old self.new result }
     {

@@ -18,11 +18,11 @@ use crate::words::{base_word, mark_word};
 use msvc_nodes::flags::{DemangleFlags, StorageClass};
 use msvc_nodes::kinds::{BaseType, CallingConv};
 use msvc_nodes::nodes::Type;
-use std::alloc::AllocError;
+use std::alloc::{AllocError, Allocator};
 
 /// Writes the mark of a pointer or a reference after what it points to, unless that was left out.
-fn write_later_mark(
-    out: &mut Text,
+fn write_later_mark<A: Allocator>(
+    out: &mut Text<A>,
     word: &[u8],
     set: StorageClass,
     flags: DemangleFlags,
@@ -36,8 +36,8 @@ fn write_later_mark(
 }
 
 /// Writes the calling convention of a function after what it returns, unless that was left out.
-pub fn write_later_calling(
-    out: &mut Text,
+pub fn write_later_calling<A: Allocator>(
+    out: &mut Text<A>,
     pointed: bool,
     convention: CallingConv,
     flags: DemangleFlags,
@@ -54,8 +54,8 @@ pub fn write_later_calling(
 /// ready each word that depends on flags.
 #[tactic(auto, using(crate::proofs::Settling::settling))]
 #[inline(never)]
-fn write_base(
-    out: &mut Text,
+fn write_base<A: Allocator>(
+    out: &mut Text<A>,
     base: BaseType,
     set: StorageClass,
     flags: DemangleFlags,
@@ -68,8 +68,8 @@ fn write_base(
 /// Writes a type that has no other in it, if it is flat. Returns whether it is.
 #[tactic(auto, using(crate::proofs::Nodes::printed), unfolding(crate::specs::Halves::after, crate::specs::Halves::before, msvc_nodes::specs::NodeView::type_of))]
 #[inline(always)]
-fn write_flat_inner<'a, 'b>(
-    out: &mut Text,
+fn write_flat_inner<'a, 'b, A: Allocator>(
+    out: &mut Text<A>,
     t: &'b Type<'a, 'b>,
     flags: DemangleFlags,
 ) -> Result<bool, AllocError>
@@ -94,8 +94,8 @@ fn write_flat_inner<'a, 'b>(
 /// Writes what a pointer or a reference has before the name, if what it points to is flat. Returns whether it is.
 #[tactic(auto, using(crate::proofs::Settling::settling))]
 #[inline(always)]
-pub fn write_flat_pointer<'a, 'b>(
-    out: &mut Text,
+pub fn write_flat_pointer<'a, 'b, A: Allocator>(
+    out: &mut Text<A>,
     word: &[u8],
     set: StorageClass,
     inner: &'b Type<'a, 'b>,
@@ -116,8 +116,8 @@ pub fn write_flat_pointer<'a, 'b>(
 /// Writes a type, if it is flat. Returns whether it is.
 #[tactic(auto, using(crate::proofs::Nodes::printed), unfolding(crate::specs::Halves::after, crate::specs::Halves::before, msvc_nodes::specs::NodeView::type_of))]
 #[inline(always)]
-pub fn write_flat<'a, 'b>(
-    out: &mut Text,
+pub fn write_flat<'a, 'b, A: Allocator>(
+    out: &mut Text<A>,
     t: &'b Type<'a, 'b>,
     flags: DemangleFlags,
 ) -> Result<bool, AllocError>
@@ -136,8 +136,8 @@ pub fn write_flat<'a, 'b>(
 /// Writes the types of a list that stand before the first one that is not flat, with a comma before each but the first,
 /// and the comma before that one. Returns its place, or the length of the list if all are flat. Ends where `out` is not
 /// whole.
-pub fn write_flat_types<'a, 'b>(
-    out: &mut Text,
+pub fn write_flat_types<'a, 'b, A: Allocator>(
+    out: &mut Text<A>,
     types: &'b [&'b Type<'a, 'b>],
     first: bool,
     flags: DemangleFlags,

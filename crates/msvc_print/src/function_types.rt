@@ -10,7 +10,7 @@ use crate::text::{Space, Text, write_opening, write_qualifier, write_space, writ
 use bitflags::Flags;
 use msvc_nodes::flags::{DemangleFlags, FuncClass, StorageClass};
 use msvc_nodes::kinds::CallingConv;
-use std::alloc::AllocError;
+use std::alloc::{AllocError, Allocator};
 
 /// Returns the word of a calling convention, with one space after it.
 fn convention_word<'t>(convention: CallingConv) -> &'t [u8]
@@ -28,8 +28,8 @@ fn convention_word<'t>(convention: CallingConv) -> &'t [u8]
 
 /// Writes the word of a calling convention. NO_MS_KEYWORDS drops it.
 #[tactic(auto, using(crate::proofs::Settling::settling), unfolding(crate::specs::Functions::convention_pieces))]
-fn write_convention(
-    out: &mut Text,
+fn write_convention<A: Allocator>(
+    out: &mut Text<A>,
     convention: CallingConv,
     flags: DemangleFlags,
 ) -> Result<(), AllocError>
@@ -44,8 +44,8 @@ fn write_convention(
 
 /// Writes the parenthesis before the mark of a pointer to a function, and the calling convention.
 #[tactic(auto, using(crate::proofs::Settling::settling), unfolding(crate::specs::Functions::calling))]
-pub fn write_calling(
-    out: &mut Text,
+pub fn write_calling<A: Allocator>(
+    out: &mut Text<A>,
     pointed: bool,
     convention: CallingConv,
     flags: DemangleFlags,
@@ -60,8 +60,8 @@ pub fn write_calling(
 
 /// Writes a word of a member function, if its bit is set.
 #[tactic(auto, unfolding(crate::specs::Limited::add_all))]
-fn write_member_word(
-    out: &mut Text,
+fn write_member_word<A: Allocator>(
+    out: &mut Text<A>,
     bit: FuncClass,
     word: &[u8],
     class: FuncClass,
@@ -76,8 +76,8 @@ fn write_member_word(
 
 /// Writes who may call a member function. NO_ACCESS_SPECIFIERS drops it.
 #[tactic(auto, using(crate::proofs::Settling::settling), unfolding(crate::specs::Functions::access_words))]
-fn write_access_words(
-    out: &mut Text,
+fn write_access_words<A: Allocator>(
+    out: &mut Text<A>,
     class: FuncClass,
     flags: DemangleFlags,
 ) -> Result<(), AllocError>
@@ -94,8 +94,8 @@ fn write_access_words(
 
 /// Writes `static` and `virtual` of a member function. NO_MEMBER_TYPE drops them.
 #[tactic(auto, using(crate::proofs::Settling::settling), unfolding(crate::specs::Functions::kind_words))]
-fn write_kind_words(
-    out: &mut Text,
+fn write_kind_words<A: Allocator>(
+    out: &mut Text<A>,
     class: FuncClass,
     flags: DemangleFlags,
 ) -> Result<(), AllocError>
@@ -111,8 +111,8 @@ fn write_kind_words(
 
 /// Writes the words of a member function.
 #[tactic(auto, using(crate::proofs::Settling::settling), unfolding(crate::specs::Functions::member_words))]
-fn write_member_words(
-    out: &mut Text,
+fn write_member_words<A: Allocator>(
+    out: &mut Text<A>,
     class: FuncClass,
     flags: DemangleFlags,
 ) -> Result<(), AllocError>
@@ -126,8 +126,8 @@ fn write_member_words(
 
 /// Writes the words of a member function, unless it is pointed to.
 #[tactic(auto, using(crate::proofs::Settling::settling), unfolding(crate::specs::Functions::member_start))]
-pub fn write_member_start(
-    out: &mut Text,
+pub fn write_member_start<A: Allocator>(
+    out: &mut Text<A>,
     pointed: bool,
     class: FuncClass,
     flags: DemangleFlags,
@@ -142,8 +142,8 @@ pub fn write_member_start(
 
 /// Writes `__ptr64`, if its bit is set and WITH_PTR64 shows it.
 #[tactic(auto, using(crate::proofs::Settling::settling), unfolding(crate::specs::Functions::wide_qualifier))]
-fn write_wide_qualifier(
-    out: &mut Text,
+fn write_wide_qualifier<A: Allocator>(
+    out: &mut Text<A>,
     set: StorageClass,
     flags: DemangleFlags,
 ) -> Result<(), AllocError>
@@ -162,8 +162,8 @@ fn write_wide_qualifier(
 }
 
 /// Writes the qualifiers of a function itself whose bits are set.
-fn write_each_function_qualifier(
-    out: &mut Text,
+fn write_each_function_qualifier<A: Allocator>(
+    out: &mut Text<A>,
     set: StorageClass,
     flags: DemangleFlags,
 ) -> Result<(), AllocError>
@@ -184,8 +184,8 @@ fn write_each_function_qualifier(
 
 /// Writes the qualifiers of a function itself. Both bits of NO_THISTYPE together drop them.
 #[tactic(auto, using(crate::proofs::Settling::settling), unfolding(crate::specs::Functions::function_qualifiers))]
-fn write_function_qualifiers(
-    out: &mut Text,
+fn write_function_qualifiers<A: Allocator>(
+    out: &mut Text<A>,
     set: StorageClass,
     flags: DemangleFlags,
 ) -> Result<(), AllocError>
@@ -200,7 +200,11 @@ fn write_function_qualifiers(
 
 /// Writes the end of a list of types.
 #[tactic(auto, using(crate::proofs::Settling::settling))]
-pub fn write_list_end(out: &mut Text, end: ListEnd, flags: DemangleFlags) -> Result<(), AllocError>
+pub fn write_list_end<A: Allocator>(
+    out: &mut Text<A>,
+    end: ListEnd,
+    flags: DemangleFlags,
+) -> Result<(), AllocError>
     ensures { OnOk result (Writes (end_pieces end flags.0) out.old out.new) }
 {
     match end {
@@ -218,7 +222,7 @@ pub fn write_list_end(out: &mut Text, end: ListEnd, flags: DemangleFlags) -> Res
 
 /// Writes the comma between two parameters. Each word is a constant, which is stored without a call.
 #[tactic(auto, using(crate::proofs::Settling::settling), unfolding(crate::specs::Functions::separator))]
-fn write_comma(out: &mut Text, flags: DemangleFlags) -> Result<(), AllocError>
+fn write_comma<A: Allocator>(out: &mut Text<A>, flags: DemangleFlags) -> Result<(), AllocError>
     ensures { OnOk result (Writes (spec.separator false flags.0) out.old out.new) }
 {
     if flags.contains(DemangleFlags::SPACE_AFTER_COMMA) {
@@ -231,7 +235,11 @@ fn write_comma(out: &mut Text, flags: DemangleFlags) -> Result<(), AllocError>
 /// Writes the comma before a parameter that is not the first.
 #[tactic(auto, using(crate::proofs::Settling::settling), unfolding(crate::specs::Functions::separator))]
 #[inline(always)]
-pub fn write_separator(out: &mut Text, first: bool, flags: DemangleFlags) -> Result<(), AllocError>
+pub fn write_separator<A: Allocator>(
+    out: &mut Text<A>,
+    first: bool,
+    flags: DemangleFlags,
+) -> Result<(), AllocError>
     ensures { OnOk result (Writes (spec.separator first flags.0) out.old out.new) }
 {
     if first {

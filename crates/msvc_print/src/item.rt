@@ -3,11 +3,10 @@
 ghost use Rattle.std.specs.Prelude.{◌≡◌, ◌++◌, ◌∷◌, [], IfNone, IfSome, OnOk};
 ghost use Rattle.msvc_print.specs.declared.item.Item.TheVariants.{Parameters};
 
-use bumpalo::Bump;
 use msvc_nodes::flags::StorageClass;
 use msvc_nodes::kinds::CallingConv;
 use msvc_nodes::nodes::{Name, Scope, Symbol, Type};
-use std::alloc::AllocError;
+use std::alloc::{AllocError, Allocator};
 
 /// The end of a list of types.
 #[derive(Clone, Copy)]
@@ -61,8 +60,8 @@ pub enum Item<'a, 'b> {
 }
 
 /// Pushes an item. Its contract is the part of `Vec::push`'s that proofs of steps need.
-pub fn push<'a, 'b>(
-    stack: &mut Vec<Item<'a, 'b>, &'b Bump>,
+pub fn push<'a, 'b, S: Allocator>(
+    stack: &mut Vec<Item<'a, 'b>, S>,
     item: Item<'a, 'b>,
 ) -> Result<(), AllocError>
     ensures { OnOk result (stack.new.items ≡ stack.old.items ++ item.entry ∷ []) }
@@ -73,7 +72,7 @@ pub fn push<'a, 'b>(
 
 /// Pops the last item, if it is what is left of a list. Returns the list.
 #[inline(always)]
-pub fn pop_list<'a, 'b>(stack: &mut Vec<Item<'a, 'b>, &'b Bump>) -> Option<TypeList<'a, 'b>>
+pub fn pop_list<'a, 'b, S: Allocator>(stack: &mut Vec<Item<'a, 'b>, S>) -> Option<TypeList<'a, 'b>>
     ensures list { IfSome result (λ list. stack.old.items ≡ stack.new.items ++ Parameters list ∷ []) }
     ensures other { IfNone result (stack.new.items ≡ stack.old.items) }
 {

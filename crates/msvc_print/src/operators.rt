@@ -13,7 +13,7 @@ use msvc_nodes::flags::DemangleFlags;
 use msvc_nodes::kinds::{Guard, PlainOperator};
 use msvc_nodes::nodes::{BaseClass, Name};
 use msvc_nodes::plain_operators;
-use std::alloc::AllocError;
+use std::alloc::{AllocError, Allocator};
 
 /// How a name prints where it is the name of a symbol itself.
 #[derive(Clone, Copy)]
@@ -59,7 +59,7 @@ pub fn name_kind<'a, 'b>(name: &'b Name<'a, 'b>) -> NameKind
 
 /// Writes fixed words after the space that operators begin with.
 #[tactic(auto, using(crate::proofs::Settling::settling))]
-pub fn write_spaced(out: &mut Text, word: &[u8]) -> Result<(), AllocError>
+pub fn write_spaced<A: Allocator>(out: &mut Text<A>, word: &[u8]) -> Result<(), AllocError>
     ensures { OnOk result (out.new ≡ add_all out.old (spaced word.now)) }
 {
     write_space(out, Space::AfterPointer)?;
@@ -68,7 +68,10 @@ pub fn write_spaced(out: &mut Text, word: &[u8]) -> Result<(), AllocError>
 
 /// Writes the number of a guard, if it has one.
 #[tactic(auto, using(crate::proofs::Settling::settling), unfolding(crate::specs::Operators::guard_number))]
-fn write_guard_number(out: &mut Text, number: Option<u32>) -> Result<(), AllocError>
+fn write_guard_number<A: Allocator>(
+    out: &mut Text<A>,
+    number: Option<u32>,
+) -> Result<(), AllocError>
     ensures { OnOk result (out.new ≡ add_all out.old (guard_number number)) }
 {
     match number {
@@ -92,7 +95,11 @@ fn guard_word<'t>(guard: Guard) -> &'t [u8]
 
 /// Writes the guard of a static variable.
 #[tactic(auto, using(crate::proofs::Settling::settling), unfolding(crate::specs::Operators::guard_pieces))]
-pub fn write_guard(out: &mut Text, guard: Guard, number: Option<u32>) -> Result<(), AllocError>
+pub fn write_guard<A: Allocator>(
+    out: &mut Text<A>,
+    guard: Guard,
+    number: Option<u32>,
+) -> Result<(), AllocError>
     ensures { OnOk result (out.new ≡ add_all out.old (guard_pieces guard number)) }
 {
     write_spaced(out, guard_word(guard))?;
@@ -101,7 +108,11 @@ pub fn write_guard(out: &mut Text, guard: Guard, number: Option<u32>) -> Result<
 
 /// Writes a comma and a number.
 #[tactic(auto, using(crate::proofs::Settling::settling))]
-fn write_listed(out: &mut Text, number: i32, flags: DemangleFlags) -> Result<(), AllocError>
+fn write_listed<A: Allocator>(
+    out: &mut Text<A>,
+    number: i32,
+    flags: DemangleFlags,
+) -> Result<(), AllocError>
     ensures { OnOk result (out.new ≡ add_all out.old (listed number flags.0)) }
 {
     write_separator(out, false, flags)?;
@@ -111,8 +122,8 @@ fn write_listed(out: &mut Text, number: i32, flags: DemangleFlags) -> Result<(),
 /// Writes the place of a base class in an object, as run-time type information names it.
 #[tactic(auto, using(crate::proofs::Settling::settling), unfolding(crate::specs::Operators::base_class_pieces))]
 #[cold]
-pub fn write_base_class(
-    out: &mut Text,
+pub fn write_base_class<A: Allocator>(
+    out: &mut Text<A>,
     class: &BaseClass,
     flags: DemangleFlags,
 ) -> Result<(), AllocError>

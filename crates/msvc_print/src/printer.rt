@@ -17,7 +17,7 @@ use crate::types::{print_after, print_before, print_parameters, write_level};
 use bumpalo::Bump;
 use msvc_nodes::flags::DemangleFlags;
 use msvc_nodes::nodes::TypedSymbol;
-use std::alloc::AllocError;
+use std::alloc::{AllocError, Allocator};
 
 /// Items that the stack has room for before it grows: more than most symbols need.
 const FIRST_ITEMS: usize = 32;
@@ -59,9 +59,9 @@ pub fn stack_room_within(symbol_bytes: usize, nodes: usize) -> usize
 
 /// Prints one item of the stack.
 #[tactic(auto, using(crate::proofs::Stack::pushes))]
-fn step<'a, 'b>(
-    stack: &mut Vec<Item<'a, 'b>, &'b Bump>,
-    out: &mut Text,
+fn step<'a, 'b, S: Allocator, A: Allocator>(
+    stack: &mut Vec<Item<'a, 'b>, S>,
+    out: &mut Text<A>,
     item: Item<'a, 'b>,
     flags: DemangleFlags,
 ) -> Result<(), AllocError>
@@ -89,9 +89,9 @@ fn step<'a, 'b>(
 }
 
 /// Prints the items of the stack, the last first, until none is left or `out` is not whole.
-fn empty<'a, 'b>(
-    stack: &mut Vec<Item<'a, 'b>, &'b Bump>,
-    out: &mut Text,
+fn empty<'a, 'b, S: Allocator, A: Allocator>(
+    stack: &mut Vec<Item<'a, 'b>, S>,
+    out: &mut Text<A>,
     flags: DemangleFlags,
 ) -> Result<(), AllocError>
     ensures { OnOk result (out.new ≡ finished stack.old.items out.old flags.0) }
@@ -108,11 +108,11 @@ fn empty<'a, 'b>(
 /// Replaces the text of `out` with the declaration of `symbol` under `flags`. The stack of the printer is in `arena`.
 ///
 /// Fails only if memory is refused; `out` is then unspecified.
-pub fn print<'a, 'b>(
-    arena: &'b Bump,
+pub fn print<'a, 'b, B: Allocator, A: Allocator>(
+    arena: &'b Bump<B>,
     symbol: &'b TypedSymbol<'a, 'b>,
     flags: DemangleFlags,
-    out: &mut Text,
+    out: &mut Text<A>,
 ) -> Result<(), AllocError>
     ensures { OnOk result (out.new.text ≡ Some (declaration (typed_symbol_of symbol.now) flags.0)) }
 {
@@ -129,12 +129,12 @@ pub fn print<'a, 'b>(
 /// is a part of.
 ///
 /// Fails only if memory is refused; `out` is then unspecified.
-pub fn print_within<'a, 'b>(
-    arena: &'b Bump,
+pub fn print_within<'a, 'b, B: Allocator, A: Allocator>(
+    arena: &'b Bump<B>,
     symbol: &'b TypedSymbol<'a, 'b>,
     flags: DemangleFlags,
     most: usize,
-    out: &mut Text,
+    out: &mut Text<A>,
 ) -> Result<bool, AllocError>
     ensures { IfOk result (λ within.
         IsPrintedWithin most (declaration (typed_symbol_of symbol.now) flags.0) within out.new.text) }

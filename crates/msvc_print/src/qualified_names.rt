@@ -25,15 +25,14 @@ use crate::operators::{
 };
 use crate::text::{Space, Text, name_space, write_number, write_space, write_text};
 use bitflags::Flags;
-use bumpalo::Bump;
 use msvc_nodes::flags::DemangleFlags;
 use msvc_nodes::nodes::{Name, Scope, Symbol, Type, TypedSymbol};
-use std::alloc::AllocError;
+use std::alloc::{AllocError, Allocator};
 
 /// Writes bytes between two words.
 #[tactic(auto, using(crate::proofs::Settling::settling))]
-fn write_between(
-    out: &mut Text,
+fn write_between<A: Allocator>(
+    out: &mut Text<A>,
     opening: &[u8],
     bytes: &[u8],
     closing: &[u8],
@@ -49,7 +48,7 @@ fn write_between(
 /// Writes the name of an interface, in its brackets.
 #[tactic(auto, using(crate::proofs::Settling::settling))]
 #[cold]
-fn write_interface(out: &mut Text, bytes: &[u8]) -> Result<(), AllocError>
+fn write_interface<A: Allocator>(out: &mut Text<A>, bytes: &[u8]) -> Result<(), AllocError>
     ensures { OnOk result (Writes (spec.spelled_name spelling_kind.Interface bytes.now) out.old out.new) }
 {
     write_between(out, b"[", bytes, b"]")
@@ -58,7 +57,7 @@ fn write_interface(out: &mut Text, bytes: &[u8]) -> Result<(), AllocError>
 /// Writes the digits that stand for a name, between their marks.
 #[tactic(auto, using(crate::proofs::Settling::settling))]
 #[cold]
-fn write_md5(out: &mut Text, bytes: &[u8]) -> Result<(), AllocError>
+fn write_md5<A: Allocator>(out: &mut Text<A>, bytes: &[u8]) -> Result<(), AllocError>
     ensures { OnOk result (Writes (spec.spelled_name spelling_kind.Md5 bytes.now) out.old out.new) }
 {
     write_between(out, b"??@", bytes, b"@")
@@ -67,7 +66,10 @@ fn write_md5(out: &mut Text, bytes: &[u8]) -> Result<(), AllocError>
 /// Writes a name if it is spelled, and returns whether it is.
 #[tactic(auto, unfolding(crate::specs::Declaration::name_pieces, msvc_nodes::specs::NodeView::name_of))]
 #[inline(always)]
-fn write_if_spelled<'a, 'b>(out: &mut Text, name: &'b Name<'a, 'b>) -> Result<bool, AllocError>
+fn write_if_spelled<'a, 'b, A: Allocator>(
+    out: &mut Text<A>,
+    name: &'b Name<'a, 'b>,
+) -> Result<bool, AllocError>
     ensures spelled { IfOk result (λ is. is ≡ true → (of_symbol : Bool) (flags : ℕ) →
         Writes (spec.name_pieces (name_of name.now) of_symbol flags) out.old out.new) }
     ensures other { IfOk result (λ is. is ≡ false → out.new ≡ out.old) }
@@ -91,8 +93,8 @@ fn write_if_spelled<'a, 'b>(out: &mut Text, name: &'b Name<'a, 'b>) -> Result<bo
 
 /// Writes the outermost names of a scope, as long as they are spelled, each with `::` after it. Returns how many names
 /// are left.
-fn write_spelled_names<'a, 'b>(
-    out: &mut Text,
+fn write_spelled_names<'a, 'b, A: Allocator>(
+    out: &mut Text<A>,
     names: &'b [&'b Name<'a, 'b>],
 ) -> Result<usize, AllocError>
     ensures fits { IfOk result (λ left. left ≤ length names.now) }
@@ -113,7 +115,7 @@ fn write_spelled_names<'a, 'b>(
 
 /// Writes the number that parts local names, in quotes.
 #[tactic(auto, using(crate::proofs::Settling::settling))]
-fn write_discriminator(out: &mut Text, number: i32) -> Result<(), AllocError>
+fn write_discriminator<A: Allocator>(out: &mut Text<A>, number: i32) -> Result<(), AllocError>
     ensures { OnOk result (Writes (spec.quoted (text (signed_decimal number) ∷ [])) out.old out.new) }
 {
     write_text(out, b"`")?;
@@ -122,15 +124,15 @@ fn write_discriminator(out: &mut Text, number: i32) -> Result<(), AllocError>
 }
 
 /// Writes the name of an anonymous namespace.
-fn write_anonymous(out: &mut Text) -> Result<(), AllocError>
+fn write_anonymous<A: Allocator>(out: &mut Text<A>) -> Result<(), AllocError>
     ensures { OnOk result (Writes (text (codes "`anonymous namespace'") ∷ []) out.old out.new) }
 {
     write_text(out, b"`anonymous namespace'")
 }
 
 /// Pushes what a symbol has after its name. NAME_ONLY drops it.
-fn push_right<'a, 'b>(
-    stack: &mut Vec<Item<'a, 'b>, &'b Bump>,
+fn push_right<'a, 'b, S: Allocator>(
+    stack: &mut Vec<Item<'a, 'b>, S>,
     t: &'b Type<'a, 'b>,
     flags: DemangleFlags,
 ) -> Result<(), AllocError>
@@ -145,8 +147,8 @@ fn push_right<'a, 'b>(
 }
 
 /// Pushes what a symbol has before its name. NAME_ONLY and NO_FUNCTION_RETURNS drop it.
-fn push_left<'a, 'b>(
-    stack: &mut Vec<Item<'a, 'b>, &'b Bump>,
+fn push_left<'a, 'b, S: Allocator>(
+    stack: &mut Vec<Item<'a, 'b>, S>,
     t: &'b Type<'a, 'b>,
     flags: DemangleFlags,
 ) -> Result<(), AllocError>
@@ -165,8 +167,8 @@ fn push_left<'a, 'b>(
 
 /// Pushes a symbol with its type: the name between what the type has before and after it.
 #[tactic(auto, using(crate::proofs::Stack::pushes))]
-pub fn push_typed_symbol<'a, 'b>(
-    stack: &mut Vec<Item<'a, 'b>, &'b Bump>,
+pub fn push_typed_symbol<'a, 'b, S: Allocator>(
+    stack: &mut Vec<Item<'a, 'b>, S>,
     tree: &'b TypedSymbol<'a, 'b>,
     flags: DemangleFlags,
 ) -> Result<(), AllocError>
@@ -182,9 +184,9 @@ pub fn push_typed_symbol<'a, 'b>(
 
 /// Prints a nested symbol, in quotes unless it is the name of a symbol itself.
 #[tactic(auto, using(crate::proofs::Stack::pushes), unfolding(crate::specs::Declaration::quoted_unless))]
-fn print_nested<'a, 'b>(
-    stack: &mut Vec<Item<'a, 'b>, &'b Bump>,
-    out: &mut Text,
+fn print_nested<'a, 'b, S: Allocator, A: Allocator>(
+    stack: &mut Vec<Item<'a, 'b>, S>,
+    out: &mut Text<A>,
     tree: &'b TypedSymbol<'a, 'b>,
     of_symbol: bool,
     flags: DemangleFlags,
@@ -206,9 +208,9 @@ fn print_nested<'a, 'b>(
 /// Prints the descriptor of a type.
 #[tactic(auto, using(crate::proofs::Halves::pushed_left))]
 #[cold]
-fn print_descriptor<'a, 'b>(
-    stack: &mut Vec<Item<'a, 'b>, &'b Bump>,
-    out: &mut Text,
+fn print_descriptor<'a, 'b, S: Allocator, A: Allocator>(
+    stack: &mut Vec<Item<'a, 'b>, S>,
+    out: &mut Text<A>,
     described: &'b Type<'a, 'b>,
     flags: DemangleFlags,
 ) -> Result<(), AllocError>
@@ -226,9 +228,9 @@ fn print_descriptor<'a, 'b>(
 
 /// Prints a template with its arguments. Most of their names are spelled, and are written at once.
 #[tactic(auto, using(crate::proofs::Stack::pushes))]
-fn print_template<'a, 'b>(
-    stack: &mut Vec<Item<'a, 'b>, &'b Bump>,
-    out: &mut Text,
+fn print_template<'a, 'b, S: Allocator, A: Allocator>(
+    stack: &mut Vec<Item<'a, 'b>, S>,
+    out: &mut Text<A>,
     name: &'b Name<'a, 'b>,
     arguments: &'b [&'b Type<'a, 'b>],
     flags: DemangleFlags,
@@ -255,9 +257,9 @@ fn print_template<'a, 'b>(
 
 /// Prints a name.
 #[tactic(auto, using(crate::proofs::Nodes::printed), unfolding(crate::specs::Declaration::name_pieces, crate::specs::Weights::name_weight, msvc_nodes::specs::NodeView::name_of))]
-pub fn print_name<'a, 'b>(
-    stack: &mut Vec<Item<'a, 'b>, &'b Bump>,
-    out: &mut Text,
+pub fn print_name<'a, 'b, S: Allocator, A: Allocator>(
+    stack: &mut Vec<Item<'a, 'b>, S>,
+    out: &mut Text<A>,
     name: &'b Name<'a, 'b>,
     of_symbol: bool,
     flags: DemangleFlags,
@@ -286,8 +288,8 @@ pub fn print_name<'a, 'b>(
 
 /// Pushes the names of a scope, if it has any.
 #[inline(always)]
-fn push_scope<'a, 'b>(
-    stack: &mut Vec<Item<'a, 'b>, &'b Bump>,
+fn push_scope<'a, 'b, S: Allocator>(
+    stack: &mut Vec<Item<'a, 'b>, S>,
     names: &'b [&'b Name<'a, 'b>],
 ) -> Result<(), AllocError>
     ensures text { OnOk result ((flags : ℕ) →
@@ -305,9 +307,9 @@ fn push_scope<'a, 'b>(
 
 /// Prints the first `left` names of a scope, the outermost first, each with `::` after it.
 #[inline(always)]
-fn print_remaining_names<'a, 'b>(
-    stack: &mut Vec<Item<'a, 'b>, &'b Bump>,
-    out: &mut Text,
+fn print_remaining_names<'a, 'b, S: Allocator, A: Allocator>(
+    stack: &mut Vec<Item<'a, 'b>, S>,
+    out: &mut Text<A>,
     names: &'b [&'b Name<'a, 'b>],
     left: usize,
     flags: DemangleFlags,
@@ -328,9 +330,9 @@ fn print_remaining_names<'a, 'b>(
 }
 
 /// Prints the names of a scope, the outermost first, each with `::` after it.
-pub fn print_scope<'a, 'b>(
-    stack: &mut Vec<Item<'a, 'b>, &'b Bump>,
-    out: &mut Text,
+pub fn print_scope<'a, 'b, S: Allocator, A: Allocator>(
+    stack: &mut Vec<Item<'a, 'b>, S>,
+    out: &mut Text<A>,
     names: &'b [&'b Name<'a, 'b>],
     flags: DemangleFlags,
 ) -> Result<(), AllocError>
@@ -345,9 +347,9 @@ pub fn print_scope<'a, 'b>(
 
 /// Prints the names of a scope and the name of a symbol in it. The name is printed at once if all names of the scope
 /// are spelled, as most are.
-fn print_in_scope<'a, 'b>(
-    stack: &mut Vec<Item<'a, 'b>, &'b Bump>,
-    out: &mut Text,
+fn print_in_scope<'a, 'b, S: Allocator, A: Allocator>(
+    stack: &mut Vec<Item<'a, 'b>, S>,
+    out: &mut Text<A>,
     names: &'b [&'b Name<'a, 'b>],
     name: &'b Name<'a, 'b>,
     flags: DemangleFlags,
@@ -372,9 +374,9 @@ fn print_in_scope<'a, 'b>(
 }
 
 /// Prints the names of a scope, the outermost first, with `::` between them.
-pub fn print_path<'a, 'b>(
-    stack: &mut Vec<Item<'a, 'b>, &'b Bump>,
-    out: &mut Text,
+pub fn print_path<'a, 'b, S: Allocator, A: Allocator>(
+    stack: &mut Vec<Item<'a, 'b>, S>,
+    out: &mut Text<A>,
     names: &'b [&'b Name<'a, 'b>],
     flags: DemangleFlags,
 ) -> Result<(), AllocError>
@@ -393,8 +395,8 @@ pub fn print_path<'a, 'b>(
 }
 
 /// Pushes what a constructor or a destructor prints: the innermost name of its scope, that of a destructor after `~`.
-fn push_class_name<'a, 'b>(
-    stack: &mut Vec<Item<'a, 'b>, &'b Bump>,
+fn push_class_name<'a, 'b, S: Allocator>(
+    stack: &mut Vec<Item<'a, 'b>, S>,
     names: &'b [&'b Name<'a, 'b>],
     destructor: bool,
     flags: DemangleFlags,
@@ -441,8 +443,8 @@ fn symbol_return<'a, 'b>(symbol_type: Option<&'b Type<'a, 'b>>) -> Option<&'b Ty
 }
 
 /// Pushes what a conversion operator prints.
-fn push_conversion<'a, 'b>(
-    stack: &mut Vec<Item<'a, 'b>, &'b Bump>,
+fn push_conversion<'a, 'b, S: Allocator>(
+    stack: &mut Vec<Item<'a, 'b>, S>,
     name: &'b Name<'a, 'b>,
     symbol_type: Option<&'b Type<'a, 'b>>,
     flags: DemangleFlags,
@@ -469,8 +471,8 @@ fn push_conversion<'a, 'b>(
 }
 
 /// Pushes what the name of a table of virtual bases prints.
-fn push_base_table<'a, 'b>(
-    stack: &mut Vec<Item<'a, 'b>, &'b Bump>,
+fn push_base_table<'a, 'b, S: Allocator>(
+    stack: &mut Vec<Item<'a, 'b>, S>,
     flags: DemangleFlags,
 ) -> Result<(), AllocError>
     ensures text { OnOk result (Pushes (text (codes "`vbtable'{for `") ∷ []) flags.0 stack.old.items stack.new.items) }
@@ -481,7 +483,7 @@ fn push_base_table<'a, 'b>(
 }
 
 /// Writes the name of a literal operator.
-fn write_literal(out: &mut Text) -> Result<(), AllocError>
+fn write_literal<A: Allocator>(out: &mut Text<A>) -> Result<(), AllocError>
     ensures { OnOk result (Writes (spaced (codes "operator \"\"")) out.old out.new) }
 {
     write_spaced(out, b"operator \"\"")
@@ -489,9 +491,9 @@ fn write_literal(out: &mut Text) -> Result<(), AllocError>
 
 /// Prints a symbol's name in its scope, by the kind of the name.
 #[tactic(auto, using(crate::proofs::Stack::pushes), unfolding(crate::specs::Operators::scoped))]
-fn print_symbol_as<'a, 'b>(
-    stack: &mut Vec<Item<'a, 'b>, &'b Bump>,
-    out: &mut Text,
+fn print_symbol_as<'a, 'b, S: Allocator, A: Allocator>(
+    stack: &mut Vec<Item<'a, 'b>, S>,
+    out: &mut Text<A>,
     symbol: &'b Symbol<'a, 'b>,
     symbol_type: Option<&'b Type<'a, 'b>>,
     kind: NameKind,
@@ -529,9 +531,9 @@ fn print_symbol_as<'a, 'b>(
 }
 
 /// Prints a symbol's name in its scope.
-pub fn print_symbol<'a, 'b>(
-    stack: &mut Vec<Item<'a, 'b>, &'b Bump>,
-    out: &mut Text,
+pub fn print_symbol<'a, 'b, S: Allocator, A: Allocator>(
+    stack: &mut Vec<Item<'a, 'b>, S>,
+    out: &mut Text<A>,
     symbol: &'b Symbol<'a, 'b>,
     symbol_type: Option<&'b Type<'a, 'b>>,
     flags: DemangleFlags,
@@ -547,9 +549,9 @@ pub fn print_symbol<'a, 'b>(
 
 /// Prints the class whose member function is pointed to.
 #[tactic(auto, using(crate::proofs::Stack::pushes))]
-pub fn print_class<'a, 'b>(
-    stack: &mut Vec<Item<'a, 'b>, &'b Bump>,
-    out: &mut Text,
+pub fn print_class<'a, 'b, S: Allocator, A: Allocator>(
+    stack: &mut Vec<Item<'a, 'b>, S>,
+    out: &mut Text<A>,
     class: &'b Symbol<'a, 'b>,
     flags: DemangleFlags,
 ) -> Result<(), AllocError>

@@ -12,9 +12,10 @@ ghost use Rattle.msvc_print.specs.Words as spec;
 use bitflags::Flags;
 use itoa::{Buffer, Integer};
 use msvc_nodes::flags::{DemangleFlags, StorageClass};
-use std::alloc::{AllocError, Global};
+use std::alloc::{AllocError, Allocator, Global};
 use std::marker::Model;
 use std::simd::Simd;
+use std::str::from_utf8_unchecked;
 
 /// Fills the memory behind a text until more is written there. Its bytes differ, so that the compiler copies them and
 /// does not call `memset`, which the C library is not documented to need.
@@ -30,9 +31,9 @@ const FILLED_AFTER_LONG: usize = 64;
 /// A text under a limit of bytes. A piece that would exceed the limit is left out, whatever its length, and the text is
 /// not whole from then on: its bytes are unspecified, and at most as many as the limit.
 #[derive(Drop)]
-pub struct Text {
+pub struct Text<A: Allocator = Global> {
     /// Holds the bytes that were written, and then bytes that are filled already, so that a write only copies.
-    bytes: Vec<u8>,
+    bytes: Vec<u8, A>,
     /// How many bytes were written.
     written: usize,
     most: usize,
@@ -42,7 +43,7 @@ pub struct Text {
     whole: bool,
 }
 
-impl Model for Text {
+impl<A: Allocator> Model for Text<A> {
     ghost use Rattle.std.specs.Prelude.{◌+◌, ◌≤◌, length, take};
     ghost use Rattle.msvc_print.specs.Limited.{LimitedText, limited};
 
@@ -53,9 +54,9 @@ impl Model for Text {
     ghost invariant = { λ t. (t.written + t.room ≤ length t.bytes.items) × (t.written + t.room ≤ t.most) };
 }
 
-impl Text {
+impl<A: Allocator> Text<A> {
     /// Makes an empty text without a limit. Requests no memory.
-    pub fn new(alloc: Global) -> Text
+    pub fn new(alloc: A) -> Text<A>
         ensures { result ≡ empty_within usize.MAX }
     {
         Text {
@@ -101,6 +102,14 @@ impl Text {
         &self.bytes[..self.written]
     }
 
+    /// Returns the bytes of a whole text that is UTF-8 as a string, without a check.
+    pub fn as_str(&self) -> &str
+        requires { (bytes : List ℕ) × (self.now.text ≡ Some bytes) × IsUtf8 bytes }
+        ensures { self.now.text ≡ Some result.now }
+    {
+        unsafe { from_utf8_unchecked(self.as_bytes()) }
+    }
+
     /// Returns the last byte, or 0 if there is none.
     fn last_byte(&self) -> u8
         ensures last { (bytes : List ℕ) → self.now.text ≡ Some bytes → result ≡ last_byte bytes }
@@ -114,7 +123,7 @@ impl Text {
     }
 
     /// Returns what was written, without a copy.
-    fn into_bytes(self) -> Vec<u8>
+    fn into_bytes(self) -> Vec<u8, A>
         ensures { (bytes : List ℕ) → self.text ≡ Some bytes → result.items ≡ bytes }
     {
         let Text { bytes, written, .. } = self;
@@ -124,7 +133,7 @@ impl Text {
     }
 
     /// Converts a whole text that is UTF-8 to a string, without a check and without a copy.
-    pub fn into_string(self) -> String
+    pub fn into_string(self) -> String<A>
         requires { (bytes : List ℕ) × (self.text ≡ Some bytes) × IsUtf8 bytes }
         ensures { self.text ≡ Some (string_bytes result) }
     {
@@ -136,7 +145,7 @@ impl Text {
 /// Converts a whole text to a string. Each piece that is not UTF-8 becomes U+FFFD.
 ///
 /// Allocates only if the bytes are not UTF-8, and fails only if memory is refused.
-pub fn text_of(alloc: Global, declared: Text) -> Result<String, AllocError>
+pub fn text_of<A: Allocator>(alloc: A, declared: Text<A>) -> Result<String<A>, AllocError>
     ensures whole { IfOk result (λ text. (bytes : List ℕ) → declared.text ≡ Some bytes → IsUtf8 bytes →
         string_bytes text ≡ bytes) }
     ensures lossy { IfOk result (λ text. (bytes : List ℕ) → declared.text ≡ Some bytes →
@@ -259,7 +268,7 @@ fn most_behind(len: usize) -> usize {
 }
 
 /// Fills bytes behind a text, at most `most` and no more than there is memory for. Returns how many.
-fn fill_ahead(bytes: &mut Vec<u8>, most: usize) -> usize
+fn fill_ahead<A: Allocator>(bytes: &mut Vec<u8, A>, most: usize) -> usize
     ensures kept { take (length bytes.old.items) bytes.new.items ≡ bytes.old.items }
     ensures filled { length bytes.old.items + result ≤ length bytes.new.items }
     ensures fits { result ≤ most }
@@ -276,7 +285,7 @@ fn fill_ahead(bytes: &mut Vec<u8>, most: usize) -> usize
 /// Writes bytes as they are, behind those that were written, if the limit allows them.
 #[cold]
 #[inline(never)]
-fn write_text_beyond(out: &mut Text, bytes: &[u8]) -> Result<(), AllocError>
+fn write_text_beyond<A: Allocator>(out: &mut Text<A>, bytes: &[u8]) -> Result<(), AllocError>
     ensures { OnOk result (Writes (text bytes.now ∷ []) out.old out.new) }
 {
     if bytes.len() > out.most - out.written {
@@ -294,7 +303,7 @@ fn write_text_beyond(out: &mut Text, bytes: &[u8]) -> Result<(), AllocError>
 
 /// Writes bytes as they are.
 #[inline(always)]
-pub fn write_text(out: &mut Text, bytes: &[u8]) -> Result<(), AllocError>
+pub fn write_text<A: Allocator>(out: &mut Text<A>, bytes: &[u8]) -> Result<(), AllocError>
     ensures { OnOk result (Writes (text bytes.now ∷ []) out.old out.new) }
 {
     if bytes.len() > out.room {
@@ -308,7 +317,7 @@ pub fn write_text(out: &mut Text, bytes: &[u8]) -> Result<(), AllocError>
 
 /// Writes a space, if one is written after the last byte of `out`.
 #[inline(always)]
-pub fn write_space(out: &mut Text, kind: Space) -> Result<(), AllocError>
+pub fn write_space<A: Allocator>(out: &mut Text<A>, kind: Space) -> Result<(), AllocError>
     ensures { OnOk result (Writes (space kind ∷ []) out.old out.new) }
 {
     if !kind.is_written_after(out.last_byte()) {
@@ -343,8 +352,8 @@ fn qualifier_space(flags: DemangleFlags) -> Space
 /// Writes a space and a qualifier, if its bit is set.
 #[tactic(auto, unfolding(crate::specs::Limited::add_all))]
 #[inline(always)]
-pub fn write_qualifier(
-    out: &mut Text,
+pub fn write_qualifier<A: Allocator>(
+    out: &mut Text<A>,
     kind: Space,
     bit: StorageClass,
     word: &[u8],
@@ -361,8 +370,8 @@ pub fn write_qualifier(
 
 /// Writes `const` and `volatile`, if their bits are set.
 #[inline(always)]
-pub fn write_qualifiers(
-    out: &mut Text,
+pub fn write_qualifiers<A: Allocator>(
+    out: &mut Text<A>,
     set: StorageClass,
     flags: DemangleFlags,
 ) -> Result<(), AllocError>
@@ -375,8 +384,8 @@ pub fn write_qualifiers(
 }
 
 /// Writes `const` and `volatile`, of which one bit or both are set.
-fn write_set_qualifiers(
-    out: &mut Text,
+fn write_set_qualifiers<A: Allocator>(
+    out: &mut Text<A>,
     set: StorageClass,
     flags: DemangleFlags,
 ) -> Result<(), AllocError>
@@ -390,8 +399,8 @@ fn write_set_qualifiers(
 
 /// Writes the space before the mark of a pointer or a reference, and the mark with its qualifiers.
 #[tactic(auto, using(crate::proofs::Settling::settling), unfolding(crate::specs::Words::marked))]
-pub fn write_mark(
-    out: &mut Text,
+pub fn write_mark<A: Allocator>(
+    out: &mut Text<A>,
     word: &[u8],
     set: StorageClass,
     flags: DemangleFlags,
@@ -406,7 +415,7 @@ pub fn write_mark(
 
 /// Writes the space before the mark of a pointer or a reference.
 #[tactic(auto, unfolding(crate::specs::Limited::add_all))]
-fn write_mark_space(out: &mut Text, flags: DemangleFlags) -> Result<(), AllocError>
+fn write_mark_space<A: Allocator>(out: &mut Text<A>, flags: DemangleFlags) -> Result<(), AllocError>
     ensures { OnOk result (Writes (spec.mark_space flags.0) out.old out.new) }
 {
     if !flags.contains(DemangleFlags::HUG_TYPE) {
@@ -419,7 +428,7 @@ fn write_mark_space(out: &mut Text, flags: DemangleFlags) -> Result<(), AllocErr
 
 /// Writes the parenthesis before the mark of a pointer, if the type is pointed to.
 #[tactic(auto, unfolding(crate::specs::Limited::add_all, crate::specs::Words::opening))]
-pub fn write_opening(out: &mut Text, pointed: bool) -> Result<(), AllocError>
+pub fn write_opening<A: Allocator>(out: &mut Text<A>, pointed: bool) -> Result<(), AllocError>
     ensures { OnOk result (Writes (spec.opening pointed) out.old out.new) }
 {
     if pointed {
@@ -431,7 +440,7 @@ pub fn write_opening(out: &mut Text, pointed: bool) -> Result<(), AllocError>
 
 /// Writes the parenthesis that closes that of [`write_opening`], if the type is pointed to.
 #[tactic(auto, unfolding(crate::specs::Limited::add_all, crate::specs::Words::closing))]
-pub fn write_closing(out: &mut Text, pointed: bool) -> Result<(), AllocError>
+pub fn write_closing<A: Allocator>(out: &mut Text<A>, pointed: bool) -> Result<(), AllocError>
     ensures { OnOk result (Writes (spec.closing pointed) out.old out.new) }
 {
     if pointed {
@@ -442,7 +451,10 @@ pub fn write_closing(out: &mut Text, pointed: bool) -> Result<(), AllocError>
 
 /// Writes a number in decimal, with a minus if it is negative.
 #[tactic(auto, unfolding(crate::specs::Limited::add_all))]
-pub fn write_number<I: Integer>(out: &mut Text, number: I) -> Result<(), AllocError>
+pub fn write_number<I: Integer, A: Allocator>(
+    out: &mut Text<A>,
+    number: I,
+) -> Result<(), AllocError>
     ensures { OnOk result (Writes (text (I.text number) ∷ []) out.old out.new) }
 {
     let mut buffer = Buffer::new();

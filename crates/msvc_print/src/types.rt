@@ -22,17 +22,16 @@ use crate::qualified_names::{print_path, print_symbol};
 use crate::text::{Text, write_closing, write_number, write_opening, write_qualifiers, write_text};
 use crate::words::{base_word, mark_word, tag_word, variable_word};
 use bitflags::Flags;
-use bumpalo::Bump;
 use msvc_nodes::flags::{DemangleFlags, StorageClass};
 use msvc_nodes::kinds::{CallingConv, NumberedType, PlainType, Table, VarStorageKind};
 use msvc_nodes::nodes::{Function, Name, Symbol, Type};
-use std::alloc::AllocError;
+use std::alloc::{AllocError, Allocator};
 
 /// Prints what a type has before the name.
 #[tactic(auto, using(crate::proofs::Nodes::printed), unfolding(crate::specs::Halves::before, crate::specs::Weights::type_weight, msvc_nodes::specs::NodeView::type_of))]
-pub fn print_before<'a, 'b>(
-    stack: &mut Vec<Item<'a, 'b>, &'b Bump>,
-    out: &mut Text,
+pub fn print_before<'a, 'b, S: Allocator, A: Allocator>(
+    stack: &mut Vec<Item<'a, 'b>, S>,
+    out: &mut Text<A>,
     t: &'b Type<'a, 'b>,
     pointed: bool,
     flags: DemangleFlags,
@@ -73,8 +72,8 @@ pub fn print_before<'a, 'b>(
 
 /// Writes a type that has nothing in it.
 #[tactic(auto, using(crate::proofs::Settling::settling), unfolding(crate::specs::Halves::before))]
-fn write_plain(
-    out: &mut Text,
+fn write_plain<A: Allocator>(
+    out: &mut Text<A>,
     kind: PlainType,
     pointed: bool,
     flags: DemangleFlags,
@@ -92,8 +91,8 @@ fn write_plain(
 
 /// Writes a type that has one number in it.
 #[tactic(auto, using(crate::proofs::Settling::settling), unfolding(crate::specs::Halves::before))]
-pub fn write_numbered(
-    out: &mut Text,
+pub fn write_numbered<A: Allocator>(
+    out: &mut Text<A>,
     kind: NumberedType,
     number: i32,
     pointed: bool,
@@ -110,9 +109,9 @@ pub fn write_numbered(
 
 /// Prints what a type inside another has before the name. Most have no type in them, and are printed at once.
 #[tactic(auto, using(crate::proofs::Nodes::printed), unfolding(crate::specs::Halves::before, crate::specs::Weights::type_weight, msvc_nodes::specs::NodeView::type_of))]
-fn print_inner<'a, 'b>(
-    stack: &mut Vec<Item<'a, 'b>, &'b Bump>,
-    out: &mut Text,
+fn print_inner<'a, 'b, S: Allocator, A: Allocator>(
+    stack: &mut Vec<Item<'a, 'b>, S>,
+    out: &mut Text<A>,
     t: &'b Type<'a, 'b>,
     pointed: bool,
     flags: DemangleFlags,
@@ -133,9 +132,9 @@ fn print_inner<'a, 'b>(
 
 /// Prints what a pointer or a reference has before the name.
 #[tactic(auto, using(crate::proofs::Stack::pushes))]
-fn print_pointer<'a, 'b>(
-    stack: &mut Vec<Item<'a, 'b>, &'b Bump>,
-    out: &mut Text,
+fn print_pointer<'a, 'b, S: Allocator, A: Allocator>(
+    stack: &mut Vec<Item<'a, 'b>, S>,
+    out: &mut Text<A>,
     word: &'b [u8],
     set: StorageClass,
     inner: &'b Type<'a, 'b>,
@@ -154,9 +153,9 @@ fn print_pointer<'a, 'b>(
 
 /// Prints what a function has before its name.
 #[tactic(auto, using(crate::proofs::Stack::pushes))]
-fn print_function<'a, 'b>(
-    stack: &mut Vec<Item<'a, 'b>, &'b Bump>,
-    out: &mut Text,
+fn print_function<'a, 'b, S: Allocator, A: Allocator>(
+    stack: &mut Vec<Item<'a, 'b>, S>,
+    out: &mut Text<A>,
     function: &'b Function<'a, 'b>,
     pointed: bool,
     flags: DemangleFlags,
@@ -179,9 +178,9 @@ fn print_function<'a, 'b>(
 
 /// Prints what a variable has before its name: words that no flag drops, its type, and its qualifiers.
 #[tactic(auto, using(crate::proofs::Stack::pushes))]
-fn print_variable<'a, 'b>(
-    stack: &mut Vec<Item<'a, 'b>, &'b Bump>,
-    out: &mut Text,
+fn print_variable<'a, 'b, S: Allocator, A: Allocator>(
+    stack: &mut Vec<Item<'a, 'b>, S>,
+    out: &mut Text<A>,
     inner: &'b Type<'a, 'b>,
     kind: VarStorageKind,
     set: StorageClass,
@@ -198,9 +197,9 @@ fn print_variable<'a, 'b>(
 
 /// Prints what a type has after the name.
 #[tactic(auto, using(crate::proofs::Nodes::printed), unfolding(crate::specs::Halves::after, crate::specs::Weights::type_weight, msvc_nodes::specs::NodeView::type_of))]
-pub fn print_after<'a, 'b>(
-    stack: &mut Vec<Item<'a, 'b>, &'b Bump>,
-    out: &mut Text,
+pub fn print_after<'a, 'b, S: Allocator, A: Allocator>(
+    stack: &mut Vec<Item<'a, 'b>, S>,
+    out: &mut Text<A>,
     t: &'b Type<'a, 'b>,
     pointed: bool,
     flags: DemangleFlags,
@@ -267,8 +266,8 @@ fn has_after<'a, 'b>(t: &'b Type<'a, 'b>) -> bool
 }
 
 /// Pushes what a type has after the name, if it has anything.
-fn push_after<'a, 'b>(
-    stack: &mut Vec<Item<'a, 'b>, &'b Bump>,
+fn push_after<'a, 'b, S: Allocator>(
+    stack: &mut Vec<Item<'a, 'b>, S>,
     t: &'b Type<'a, 'b>,
     pointed: bool,
     flags: DemangleFlags,
@@ -285,9 +284,9 @@ fn push_after<'a, 'b>(
 
 /// Prints what a function has after its name: its parameters, its qualifiers, and the rest of what it returns.
 #[tactic(auto, using(crate::proofs::Stack::pushes))]
-fn print_function_end<'a, 'b>(
-    stack: &mut Vec<Item<'a, 'b>, &'b Bump>,
-    out: &mut Text,
+fn print_function_end<'a, 'b, S: Allocator, A: Allocator>(
+    stack: &mut Vec<Item<'a, 'b>, S>,
+    out: &mut Text<A>,
     function: &'b Function<'a, 'b>,
     pointed: bool,
     flags: DemangleFlags,
@@ -314,8 +313,8 @@ fn print_function_end<'a, 'b>(
 }
 
 /// Pushes `const`, if a member function that is pointed to has it.
-fn push_const<'a, 'b>(
-    stack: &mut Vec<Item<'a, 'b>, &'b Bump>,
+fn push_const<'a, 'b, S: Allocator>(
+    stack: &mut Vec<Item<'a, 'b>, S>,
     set: StorageClass,
     flags: DemangleFlags,
 ) -> Result<(), AllocError>
@@ -332,9 +331,9 @@ fn push_const<'a, 'b>(
 /// Prints what a pointer to a member function has after its name: the parameters, the rest of what the function
 /// returns, and its `const`.
 #[tactic(auto, using(crate::proofs::Stack::pushes))]
-fn print_member_pointer_end<'a, 'b>(
-    stack: &mut Vec<Item<'a, 'b>, &'b Bump>,
-    out: &mut Text,
+fn print_member_pointer_end<'a, 'b, S: Allocator, A: Allocator>(
+    stack: &mut Vec<Item<'a, 'b>, S>,
+    out: &mut Text<A>,
     function: &'b Function<'a, 'b>,
     flags: DemangleFlags,
 ) -> Result<(), AllocError>
@@ -354,9 +353,9 @@ fn print_member_pointer_end<'a, 'b>(
 
 /// Prints what a table has after its name: the scope that it is for.
 #[tactic(auto, using(crate::proofs::Stack::pushes), unfolding(crate::specs::Declaration::table_end))]
-fn print_table_end<'a, 'b>(
-    stack: &mut Vec<Item<'a, 'b>, &'b Bump>,
-    out: &mut Text,
+fn print_table_end<'a, 'b, S: Allocator, A: Allocator>(
+    stack: &mut Vec<Item<'a, 'b>, S>,
+    out: &mut Text<A>,
     table: Table,
     names: &'b [&'b Name<'a, 'b>],
     flags: DemangleFlags,
@@ -376,9 +375,9 @@ fn print_table_end<'a, 'b>(
 }
 
 /// Prints the scope that a table of virtual functions is for, if it is for one.
-fn print_for<'a, 'b>(
-    stack: &mut Vec<Item<'a, 'b>, &'b Bump>,
-    out: &mut Text,
+fn print_for<'a, 'b, S: Allocator, A: Allocator>(
+    stack: &mut Vec<Item<'a, 'b>, S>,
+    out: &mut Text<A>,
     names: &'b [&'b Name<'a, 'b>],
     flags: DemangleFlags,
 ) -> Result<(), AllocError>
@@ -418,9 +417,9 @@ pub fn is_empty_pack<'a, 'b>(t: &'b Type<'a, 'b>) -> bool
 /// Prints the flat types that a list begins with, with a comma before each but the first. If one that is not flat
 /// follows, begins to print it and pushes the rest; else prints what stands after the last.
 #[inline(always)]
-fn print_list<'a, 'b>(
-    stack: &mut Vec<Item<'a, 'b>, &'b Bump>,
-    out: &mut Text,
+fn print_list<'a, 'b, S: Allocator, A: Allocator>(
+    stack: &mut Vec<Item<'a, 'b>, S>,
+    out: &mut Text<A>,
     types: &'b [&'b Type<'a, 'b>],
     first: bool,
     end: ListEnd,
@@ -454,9 +453,9 @@ fn print_list<'a, 'b>(
 
 /// Prints the types of a list, with a comma before each but the first, and what stands after them. Goes on with the
 /// lists that are then the last items of the stack.
-pub fn print_parameters<'a, 'b>(
-    stack: &mut Vec<Item<'a, 'b>, &'b Bump>,
-    out: &mut Text,
+pub fn print_parameters<'a, 'b, S: Allocator, A: Allocator>(
+    stack: &mut Vec<Item<'a, 'b>, S>,
+    out: &mut Text<A>,
     types: &'b [&'b Type<'a, 'b>],
     first: bool,
     end: ListEnd,
@@ -478,9 +477,9 @@ pub fn print_parameters<'a, 'b>(
 }
 
 /// Prints a type on both sides of nothing.
-fn print_parameter<'a, 'b>(
-    stack: &mut Vec<Item<'a, 'b>, &'b Bump>,
-    out: &mut Text,
+fn print_parameter<'a, 'b, S: Allocator, A: Allocator>(
+    stack: &mut Vec<Item<'a, 'b>, S>,
+    out: &mut Text<A>,
     t: &'b Type<'a, 'b>,
     flags: DemangleFlags,
 ) -> Result<(), AllocError>
@@ -507,8 +506,8 @@ fn print_parameter<'a, 'b>(
 /// Writes a word and qualifiers.
 #[tactic(auto, using(crate::proofs::Settling::settling))]
 #[inline(always)]
-pub fn write_word(
-    out: &mut Text,
+pub fn write_word<A: Allocator>(
+    out: &mut Text<A>,
     word: &[u8],
     set: StorageClass,
     flags: DemangleFlags,
@@ -520,8 +519,8 @@ pub fn write_word(
 }
 
 /// Pushes qualifiers, unless there are none.
-fn push_qualifiers<'a, 'b>(
-    stack: &mut Vec<Item<'a, 'b>, &'b Bump>,
+fn push_qualifiers<'a, 'b, S: Allocator>(
+    stack: &mut Vec<Item<'a, 'b>, S>,
     set: StorageClass,
     flags: DemangleFlags,
 ) -> Result<(), AllocError>
@@ -536,9 +535,9 @@ fn push_qualifiers<'a, 'b>(
 
 /// Prints a word, a name in its scope, and qualifiers.
 #[tactic(auto, using(crate::proofs::Stack::pushes))]
-fn print_tagged<'a, 'b>(
-    stack: &mut Vec<Item<'a, 'b>, &'b Bump>,
-    out: &mut Text,
+fn print_tagged<'a, 'b, S: Allocator, A: Allocator>(
+    stack: &mut Vec<Item<'a, 'b>, S>,
+    out: &mut Text<A>,
     word: &[u8],
     symbol: &'b Symbol<'a, 'b>,
     set: StorageClass,
@@ -558,7 +557,7 @@ fn print_tagged<'a, 'b>(
 
 /// Writes the type of a thread-safe static guard.
 #[tactic(auto, using(crate::proofs::Settling::settling))]
-fn write_guarded(out: &mut Text, number: i32) -> Result<(), AllocError>
+fn write_guarded<A: Allocator>(out: &mut Text<A>, number: i32) -> Result<(), AllocError>
     ensures { OnOk result (Writes (text (codes "TSS") ∷ text (signed_decimal number) ∷ [])
         out.old out.new) }
 {
@@ -567,8 +566,8 @@ fn write_guarded(out: &mut Text, number: i32) -> Result<(), AllocError>
 }
 
 /// Writes what a thunk into a table of virtual functions has before its name.
-fn write_thunk(
-    out: &mut Text,
+fn write_thunk<A: Allocator>(
+    out: &mut Text<A>,
     convention: CallingConv,
     flags: DemangleFlags,
 ) -> Result<(), AllocError>
@@ -582,7 +581,11 @@ fn write_thunk(
 
 /// Writes what a thunk has after its name: the offset in the table, in bytes, and the memory model.
 #[tactic(auto, using(crate::proofs::Settling::settling))]
-fn write_thunk_end(out: &mut Text, number: i32, flags: DemangleFlags) -> Result<(), AllocError>
+fn write_thunk_end<A: Allocator>(
+    out: &mut Text<A>,
+    number: i32,
+    flags: DemangleFlags,
+) -> Result<(), AllocError>
     ensures { OnOk result (Writes (spec.thunk_end number flags.0) out.old out.new) }
 {
     write_text(out, b"{")?;
@@ -593,7 +596,7 @@ fn write_thunk_end(out: &mut Text, number: i32, flags: DemangleFlags) -> Result<
 
 /// Writes a template parameter by its number.
 #[tactic(auto, using(crate::proofs::Settling::settling))]
-fn write_template_parameter(out: &mut Text, number: i32) -> Result<(), AllocError>
+fn write_template_parameter<A: Allocator>(out: &mut Text<A>, number: i32) -> Result<(), AllocError>
     ensures { OnOk result (Writes
         (text (codes "`template-parameter") ∷ text (signed_decimal number) ∷ text (codes "'") ∷ [])
         out.old out.new) }
@@ -605,7 +608,11 @@ fn write_template_parameter(out: &mut Text, number: i32) -> Result<(), AllocErro
 
 /// Writes the parenthesis after the name of a pointer to an array, and the length of the array.
 #[tactic(auto, using(crate::proofs::Stack::pushes))]
-fn write_length(out: &mut Text, length: i32, pointed: bool) -> Result<(), AllocError>
+fn write_length<A: Allocator>(
+    out: &mut Text<A>,
+    length: i32,
+    pointed: bool,
+) -> Result<(), AllocError>
     ensures { OnOk result (Writes (closing pointed ++ spec.length_pieces length) out.old out.new) }
 {
     write_closing(out, pointed)?;
@@ -616,8 +623,8 @@ fn write_length(out: &mut Text, length: i32, pointed: bool) -> Result<(), AllocE
 
 /// Writes the qualifiers of an array, and the parenthesis before the mark of a pointer to it.
 #[tactic(auto, using(crate::proofs::Stack::pushes))]
-pub fn write_level(
-    out: &mut Text,
+pub fn write_level<A: Allocator>(
+    out: &mut Text<A>,
     set: StorageClass,
     pointed: bool,
     flags: DemangleFlags,

@@ -36,6 +36,7 @@ use Rattle.msvc_parser.specs.Parser.{Refuses, with_length}
 use Rattle.msvc_parser.specs.declared.refusal.Message.TheVariants as message
 use Rattle.msvc_parser.specs.declared.refusal.Refusal.{Refusal}
 use Rattle.msvc_parser.specs.declared.refusal.Refusal.TheVariants as refusal
+use Rattle.msvc_read.specs.Failures.{Fails, FailsWithin, UnlessMemory}
 
 -- The grammar
 
@@ -207,6 +208,37 @@ rejected text r e h start is =
       limit = error-limit text r e is;
     }
 
+-- where no symbol is read, none is derived, and a text without a question mark at its beginning is refused there
+unread-none : (text : List ℕ) (r : Refusal) → Refuses r (symbol_read text) → UnlessMemory text r (λ offset. IsNoSymbol text)
+unread-none text refusal.Memory h = tt
+unread-none text (refusal.Unread message left) h = read-none text h
+
+unread-begins : {A : Type 0} (text : List ℕ) (r : Refusal)
+    → (after (codes "?") text ≡ None
+    → ◌≡◌ {A = Result A Refusal} (Err r) (Err (refusal.Unread message.NoQuestionMark (length text))))
+    → UnlessMemory text r (λ offset. (begins_with (codes "?") text → ⊥) → offset ≡ 0)
+unread-begins text refusal.Memory start = tt
+unread-begins text (refusal.Unread m left) start = λ never. go never (after (codes "?") text) refl
+  where
+    go : (begins_with (codes "?") text → ⊥) → (o : Option (List ℕ)) → after (codes "?") text ≡ o
+        → length text - left ≡ 0
+    go never None k =
+        let whole = start k in
+        let same : left ≡ length text = cc in
+        omega (arith, same)
+    go never (Some rest) k = absurd (never (rest, after-is (codes "?") text rest k))
+
+pub fails : {A : Type 0} (text : List ℕ) (r : Refusal) → Refuses r (symbol_read text)
+    → (after (codes "?") text ≡ None
+    → ◌≡◌ {A = Result A Refusal} (Err r) (Err (refusal.Unread message.NoQuestionMark (length text))))
+    → Fails text r
+fails text r h start =
+    record {
+      rejected = λ e is. rejected text r e h start is;
+      none = unread-none text r h;
+      begins = unread-begins text r start;
+    }
+
 -- With a limit
 
 -- the symbol of at most so many nodes that is read of a text, and how many bytes of it were read
@@ -265,6 +297,22 @@ rejected-within most text r e h start is =
       refused = error-refused-within most text r e h is;
       begins = refused-at-once text r e start is;
       limit = error-limit text r e is;
+    }
+
+unread-none-within : (most : ℕ) (text : List ℕ) (r : Refusal) → Refuses r (symbol_within most text)
+    → UnlessMemory text r (λ offset. IsNoSymbolWithin most text)
+unread-none-within most text refusal.Memory h = tt
+unread-none-within most text (refusal.Unread message left) h = within-none most text h
+
+pub fails-within : {A : Type 0} (most : ℕ) (text : List ℕ) (r : Refusal) → Refuses r (symbol_within most text)
+    → (after (codes "?") text ≡ None
+    → ◌≡◌ {A = Result A Refusal} (Err r) (Err (refusal.Unread message.NoQuestionMark (length text))))
+    → FailsWithin most text r
+fails-within most text r h start =
+    record {
+      rejected = λ e is. rejected-within most text r e h start is;
+      none = unread-none-within most text r h;
+      begins = unread-begins text r start;
     }
 
 -- The number alone

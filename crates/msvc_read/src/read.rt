@@ -11,6 +11,7 @@ ghost use Rattle.msvc_grammar.specs.Reads.{read_name};
 ghost use Rattle.msvc_grammar.specs.Rules.{after, symbol};
 ghost use Rattle.msvc_grammar.specs.State.{Count, beginning, beginning_with};
 ghost use Rattle.msvc_parser.specs.Parser.{IsRead, note_of, with_length, Refuses};
+ghost use Rattle.msvc_read.specs.Failures.{Fails, FailsWithin};
 
 use bumpalo::Bump;
 use msvc_nodes::error::Error;
@@ -22,7 +23,7 @@ use msvc_parser::refusal::{Message, Refusal};
 use msvc_readers::symbols::symbol;
 use msvc_tree::to_tree::nodes_to_tree;
 use msvc_tree::tree::ParseResult;
-use std::alloc::Global;
+use std::alloc::{Allocator, Global};
 
 /// Bytes of an arena that a byte of a symbol takes at most: a node, and its places in a list and in a table that have
 /// grown by doubling.
@@ -101,24 +102,24 @@ pub fn parse_within<'a>(
 }
 
 /// Reads the symbol that `input` begins with. Returns it as nodes in `arena`, and its length in bytes. [`parse`] makes
-/// its tree of these nodes. The names borrow from `input`. A part that stands twice in the symbol is shared.
+/// its tree of these nodes. The names borrow from `input`. A part that stands twice in the symbol is shared. All memory
+/// is the arena's.
 ///
 /// # Errors
 ///
-/// Fails where [`parse`] does, with the same error.
-pub fn read_symbol<'a, 'b>(
-    alloc: Global,
-    arena: &'b Bump,
+/// Fails where [`parse`] does. The error of [`parse`] is the one that is made of the reason.
+pub fn read_symbol<'a, 'b, A: Allocator>(
+    arena: &'b Bump<A>,
     input: &'a str,
-) -> Result<(TypedSymbol<'a, 'b>, usize), Error>
+) -> Result<(TypedSymbol<'a, 'b>, usize), Refusal>
     ensures parsed { IfOk result (λ r. spec.IsParsed input.now (typed_symbol_of r.0)) }
     ensures length { IfOk result (λ r. spec.IsSymbolLength r.1 input.now) }
-    ensures rejected { IfErr result (λ e. spec.IsRejected input.now e) }
+    ensures fails { IfErr result (λ reason. Fails input.now reason) }
     ensures laws { spec.GrammarLaws input.now }
 {
     match read_nodes(arena, input, Unlimited) {
         Ok((symbol, length)) => Ok((symbol, length)),
-        Err(refusal) => Err(refusal.error(alloc, input.as_bytes())),
+        Err(refusal) => Err(refusal),
     }
 }
 
@@ -126,17 +127,16 @@ pub fn read_symbol<'a, 'b>(
 ///
 /// # Errors
 ///
-/// Fails where [`parse_within`] does, with the same error.
-pub fn read_symbol_within<'a, 'b>(
-    alloc: Global,
-    arena: &'b Bump,
+/// Fails where [`parse_within`] does. The error of [`parse_within`] is the one that is made of the reason.
+pub fn read_symbol_within<'a, 'b, A: Allocator>(
+    arena: &'b Bump<A>,
     input: &'a str,
     nodes: usize,
-) -> Result<(TypedSymbol<'a, 'b>, usize), Error>
+) -> Result<(TypedSymbol<'a, 'b>, usize), Refusal>
     ensures parsed { IfOk result (λ r. spec.IsParsed input.now (typed_symbol_of r.0)) }
     ensures within { IfOk result (λ r. node_count (typed_symbol_of r.0) ≤ nodes) }
     ensures length { IfOk result (λ r. spec.IsSymbolLength r.1 input.now) }
-    ensures rejected { IfErr result (λ e. spec.IsRejectedWithin nodes input.now e) }
+    ensures fails { IfErr result (λ reason. FailsWithin nodes input.now reason) }
 {
     let limit = Limited {
         made: 0,
@@ -144,7 +144,7 @@ pub fn read_symbol_within<'a, 'b>(
     };
     match read_nodes(arena, input, limit) {
         Ok((symbol, bytes)) => Ok((symbol, bytes)),
-        Err(refusal) => Err(refusal.error(alloc, input.as_bytes())),
+        Err(refusal) => Err(refusal),
     }
 }
 
@@ -295,8 +295,8 @@ fn read_length<L: Limit>(
 
 /// Reads the symbol that `input` begins with, and returns it as nodes in `arena`, and its length in bytes.
 #[inline(always)]
-fn read_nodes<'a, 'b, L: Limit>(
-    arena: &'b Bump,
+fn read_nodes<'a, 'b, L: Limit, A: Allocator>(
+    arena: &'b Bump<A>,
     input: &'a str,
     limit: L,
 ) -> Result<(TypedSymbol<'a, 'b>, usize), Refusal>

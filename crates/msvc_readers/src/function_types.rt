@@ -26,12 +26,13 @@ use msvc_parser::letters::{self, OptionalLetters};
 use msvc_parser::limit::Limit;
 use msvc_parser::parser::Parser;
 use msvc_parser::refusal::{Message, Refused};
+use std::alloc::Allocator;
 
 /// Reads `FUNCTION = SIGNATURE`: a function outside of any class.
 #[cycle(readers)]
 #[tactic(auto, using(msvc_parser::proofs::SymbolSteps::function_step))]
-pub fn function<'a, 'b, L: Limit>(
-    parser: &mut Parser<'a, 'b, L>,
+pub fn function<'a, 'b, L: Limit, A: Allocator>(
+    parser: &mut Parser<'a, 'b, L, A>,
 ) -> Result<&'b Type<'a, 'b>, Refused>
     ensures value { ReadsAs type_at parser.old parser.new result (read_name (rules.encoding_after plain_function)) }
     ensures eats { MayEat parser.old parser.new result }
@@ -49,8 +50,8 @@ pub fn function<'a, 'b, L: Limit>(
 /// Reads `MEMBER = [THUNK_NUMBER] [THIS_QUALIFIERS] SIGNATURE`.
 #[cycle(readers)]
 #[tactic(auto, using(msvc_parser::proofs::SymbolSteps::member_step))]
-pub fn member<'a, 'b, L: Limit>(
-    parser: &mut Parser<'a, 'b, L>,
+pub fn member<'a, 'b, L: Limit, A: Allocator>(
+    parser: &mut Parser<'a, 'b, L, A>,
     class: FuncClass,
 ) -> Result<&'b Type<'a, 'b>, Refused>
     ensures value { ReadsAs type_at parser.old parser.new result
@@ -67,8 +68,8 @@ pub fn member<'a, 'b, L: Limit>(
 /// Reads `FUNCTION_TYPE = [THIS_QUALIFIERS] convention [class of what is returned] TYPE FUNCTION_PARAMETERS`.
 #[cycle(readers)]
 #[tactic(auto, using(msvc_parser::proofs::FunctionSteps::function_type_step))]
-pub fn function_type<'a, 'b, L: Limit>(
-    parser: &mut Parser<'a, 'b, L>,
+pub fn function_type<'a, 'b, L: Limit, A: Allocator>(
+    parser: &mut Parser<'a, 'b, L, A>,
     qualifiers: ObjectQualifiers,
 ) -> Result<&'b Type<'a, 'b>, Refused>
     ensures value { ReadsAs type_at parser.old parser.new result
@@ -87,8 +88,8 @@ pub fn function_type<'a, 'b, L: Limit>(
 /// Reads `MEMBER_POINTER = QUALIFIED_NAME ["E"] CLASS_PART SIGNATURE`.
 #[cycle(readers)]
 #[tactic(auto, using(msvc_parser::proofs::FunctionSteps::member_pointer_step))]
-pub fn member_pointer<'a, 'b, L: Limit>(
-    parser: &mut Parser<'a, 'b, L>,
+pub fn member_pointer<'a, 'b, L: Limit, A: Allocator>(
+    parser: &mut Parser<'a, 'b, L, A>,
     form: MemberPointerForm,
 ) -> Result<&'b Type<'a, 'b>, Refused>
     ensures value { ReadsAs type_at parser.old parser.new result
@@ -106,8 +107,8 @@ pub fn member_pointer<'a, 'b, L: Limit>(
 /// Stores a function of these parts. It stands outside the cycle, as `put_tagged` does.
 #[tactic(auto, using(msvc_parser::proofs::Nodes::views))]
 #[inline(never)]
-pub fn put_function<'a, 'b, L: Limit>(
-    parser: &mut Parser<'a, 'b, L>,
+pub fn put_function<'a, 'b, L: Limit, A: Allocator>(
+    parser: &mut Parser<'a, 'b, L, A>,
     f: &'b Function<'a, 'b>,
 ) -> Result<&'b Type<'a, 'b>, Refused>
     ensures value { ReadsAs type_at parser.old parser.new result
@@ -121,8 +122,8 @@ pub fn put_function<'a, 'b, L: Limit>(
 /// Stores a function type of these parts and of the parameters on the list. It stands outside the cycle, as
 /// `put_tagged` does.
 #[inline(never)]
-pub fn put_function_type<'a, 'b, L: Limit>(
-    parser: &mut Parser<'a, 'b, L>,
+pub fn put_function_type<'a, 'b, L: Limit, A: Allocator>(
+    parser: &mut Parser<'a, 'b, L, A>,
     convention: CallingConv,
     on_this: StorageClass,
     returned: &'b Type<'a, 'b>,
@@ -149,8 +150,8 @@ pub fn put_function_type<'a, 'b, L: Limit>(
 /// Stores a member function of these parts. It stands outside the cycle, as `put_tagged` does.
 #[tactic(auto, using(msvc_parser::proofs::Nodes::views))]
 #[inline(never)]
-pub fn put_member<'a, 'b, L: Limit>(
-    parser: &mut Parser<'a, 'b, L>,
+pub fn put_member<'a, 'b, L: Limit, A: Allocator>(
+    parser: &mut Parser<'a, 'b, L, A>,
     f: &'b Function<'a, 'b>,
 ) -> Result<&'b Type<'a, 'b>, Refused>
     ensures value { ReadsAs type_at parser.old parser.new result
@@ -164,8 +165,8 @@ pub fn put_member<'a, 'b, L: Limit>(
 /// Stores a pointer to a member function of these parts. It stands outside the cycle, as `put_tagged` does.
 #[tactic(auto, using(msvc_parser::proofs::Nodes::views))]
 #[inline(never)]
-pub fn put_member_pointer<'a, 'b, L: Limit>(
-    parser: &mut Parser<'a, 'b, L>,
+pub fn put_member_pointer<'a, 'b, L: Limit, A: Allocator>(
+    parser: &mut Parser<'a, 'b, L, A>,
     symbol: &'b Symbol<'a, 'b>,
     f: &'b Function<'a, 'b>,
 ) -> Result<&'b Type<'a, 'b>, Refused>
@@ -180,8 +181,8 @@ pub fn put_member_pointer<'a, 'b, L: Limit>(
 
 /// Stores the parts of a function, with the parameters on the list.
 #[inline(never)]
-pub fn put_parts<'a, 'b, L: Limit>(
-    parser: &mut Parser<'a, 'b, L>,
+pub fn put_parts<'a, 'b, L: Limit, A: Allocator>(
+    parser: &mut Parser<'a, 'b, L, A>,
     convention: CallingConv,
     class: FuncClass,
     on_this: StorageClass,
@@ -207,7 +208,9 @@ pub fn put_parts<'a, 'b, L: Limit>(
 
 /// Reads the qualifiers of the return type of a function type.
 #[tactic(auto, using(msvc_parser::proofs::FunctionSteps::class_of_returned_is))]
-pub fn class_of_returned<'a, 'b, L: Limit>(parser: &mut Parser<'a, 'b, L>) -> StorageClass
+pub fn class_of_returned<'a, 'b, L: Limit, A: Allocator>(
+    parser: &mut Parser<'a, 'b, L, A>,
+) -> StorageClass
     ensures value { read class_of_returned parser.old.rest.now (state_of parser.old)
         ≡ Some (result.0, parser.new.rest.now, state_of parser.new) }
     ensures shorter { length parser.new.rest.now ≤ length parser.old.rest.now }
@@ -222,8 +225,8 @@ pub fn class_of_returned<'a, 'b, L: Limit>(parser: &mut Parser<'a, 'b, L>) -> St
 /// Reads `CLASS_PART = [qualifier] | function class [THUNK_NUMBER]`: a pointer to a member function has qualifiers or a
 /// class.
 #[tactic(auto, using(msvc_parser::proofs::Nodes::class_part_split))]
-pub fn class_part<'a, 'b, L: Limit>(
-    parser: &mut Parser<'a, 'b, L>,
+pub fn class_part<'a, 'b, L: Limit, A: Allocator>(
+    parser: &mut Parser<'a, 'b, L, A>,
     form: MemberPointerForm,
 ) -> Result<(FuncClass, StorageClass), Refused>
     ensures value { ReadsAs (λ c. (c.0.0, c.1.0)) parser.old parser.new result
@@ -241,8 +244,8 @@ pub fn class_part<'a, 'b, L: Limit>(
 
 /// Reads the class of the member function that a pointer refers to, and its number if it is a thunk.
 #[tactic(auto, using(msvc_parser::proofs::Nodes::class_part_split))]
-pub fn class_of_member<'a, 'b, L: Limit>(
-    parser: &mut Parser<'a, 'b, L>,
+pub fn class_of_member<'a, 'b, L: Limit, A: Allocator>(
+    parser: &mut Parser<'a, 'b, L, A>,
 ) -> Result<FuncClass, Refused>
     ensures value { ReadsAs (λ c. (c.0, 0)) parser.old parser.new result (read_name (rules.class_part false)) }
     ensures eats { MayEat parser.old parser.new result }
@@ -257,8 +260,8 @@ pub fn class_of_member<'a, 'b, L: Limit>(
 
 /// Reads `THUNK_NUMBER = NUMBER`: the number of a thunk, which is dropped. Other functions have none.
 #[tactic(auto, using(msvc_parser::proofs::FunctionSteps::thunk_number_is))]
-pub fn thunk_number<'a, 'b, L: Limit>(
-    parser: &mut Parser<'a, 'b, L>,
+pub fn thunk_number<'a, 'b, L: Limit, A: Allocator>(
+    parser: &mut Parser<'a, 'b, L, A>,
     class: FuncClass,
 ) -> Result<(), Refused>
     ensures value { ReadsAs (λ _. tt) parser.old parser.new result (read_name (rules.thunk_number (has class.0 128))) }
@@ -272,8 +275,8 @@ pub fn thunk_number<'a, 'b, L: Limit>(
 
 /// Reads `THIS_QUALIFIERS = FUNCTION_QUALIFIERS`. A function without an object has none.
 #[tactic(auto, using(msvc_parser::proofs::FunctionSteps::this_qualifiers_is))]
-pub fn this_qualifiers<'a, 'b, L: Limit>(
-    parser: &mut Parser<'a, 'b, L>,
+pub fn this_qualifiers<'a, 'b, L: Limit, A: Allocator>(
+    parser: &mut Parser<'a, 'b, L, A>,
     qualifiers: ObjectQualifiers,
 ) -> StorageClass
     ensures value { read_name (rules.this_qualifiers (is_bare qualifiers)) parser.old.rest.now (state_of parser.old)
@@ -291,8 +294,8 @@ pub fn this_qualifiers<'a, 'b, L: Limit>(
 #[cycle(readers)]
 #[tactic(auto, using(msvc_parser::proofs::FunctionSteps::signature_is))]
 #[inline(never)]
-pub fn signature<'a, 'b, L: Limit>(
-    parser: &mut Parser<'a, 'b, L>,
+pub fn signature<'a, 'b, L: Limit, A: Allocator>(
+    parser: &mut Parser<'a, 'b, L, A>,
     kind: FunctionKind,
     class: FuncClass,
     on_this: StorageClass,
@@ -310,7 +313,9 @@ pub fn signature<'a, 'b, L: Limit>(
 
 /// Reads how a function is called.
 #[tactic(auto, using(msvc_parser::proofs::Choices::letter_is))]
-pub fn convention<'a, 'b, L: Limit>(parser: &mut Parser<'a, 'b, L>) -> Result<CallingConv, Refused>
+pub fn convention<'a, 'b, L: Limit, A: Allocator>(
+    parser: &mut Parser<'a, 'b, L, A>,
+) -> Result<CallingConv, Refused>
     ensures value { ReadsAs (λ c. c) parser.old parser.new result (letter_here conventions) }
     ensures eats { MayEat parser.old parser.new result }
 {
@@ -323,8 +328,8 @@ pub fn convention<'a, 'b, L: Limit>(parser: &mut Parser<'a, 'b, L>) -> Result<Ca
 
 /// Reads `RETURN_QUALIFIERS = ["?" qualifier of what is returned]`.
 #[tactic(auto, using(msvc_parser::proofs::FunctionSteps::return_qualifiers_is))]
-pub fn return_qualifiers<'a, 'b, L: Limit>(
-    parser: &mut Parser<'a, 'b, L>,
+pub fn return_qualifiers<'a, 'b, L: Limit, A: Allocator>(
+    parser: &mut Parser<'a, 'b, L, A>,
 ) -> Result<StorageClass, Refused>
     ensures value { ReadsAs (λ q. q.0) parser.old parser.new result (read_name rules.return_qualifiers) }
     ensures eats { MayEat parser.old parser.new result }
@@ -342,8 +347,8 @@ pub fn return_qualifiers<'a, 'b, L: Limit>(
 /// Reads `RETURNED = "@" | TYPE`: of a member function, an `@` means no return type, as of a constructor.
 #[cycle(readers)]
 #[tactic(auto, using(msvc_parser::proofs::Nodes::returned_split), unfolding(msvc_nodes::specs::NodeView::type_of))]
-pub fn returned<'a, 'b, L: Limit>(
-    parser: &mut Parser<'a, 'b, L>,
+pub fn returned<'a, 'b, L: Limit, A: Allocator>(
+    parser: &mut Parser<'a, 'b, L, A>,
     kind: FunctionKind,
     q: StorageClass,
 ) -> Result<&'b Type<'a, 'b>, Refused>
@@ -360,8 +365,8 @@ pub fn returned<'a, 'b, L: Limit>(
 /// `returned`, so that the prover meets each case by itself.
 #[cycle(readers)]
 #[tactic(auto, using(msvc_parser::proofs::FunctionSteps::returned_member), unfolding(msvc_nodes::specs::NodeView::type_of))]
-pub fn member_returned<'a, 'b, L: Limit>(
-    parser: &mut Parser<'a, 'b, L>,
+pub fn member_returned<'a, 'b, L: Limit, A: Allocator>(
+    parser: &mut Parser<'a, 'b, L, A>,
     q: StorageClass,
 ) -> Result<&'b Type<'a, 'b>, Refused>
     ensures value { ReadsAs type_at parser.old parser.new result (read_name (rules.returned true q.0)) }
@@ -375,7 +380,9 @@ pub fn member_returned<'a, 'b, L: Limit>(
 
 /// Reads `FUNCTION_QUALIFIERS = ["E"] ["I"] ["F"] ["G" | "H"] [qualifier]`.
 #[tactic(auto, using(msvc_parser::proofs::FunctionSteps::function_qualifiers_is))]
-pub fn function_qualifiers<'a, 'b, L: Limit>(parser: &mut Parser<'a, 'b, L>) -> StorageClass
+pub fn function_qualifiers<'a, 'b, L: Limit, A: Allocator>(
+    parser: &mut Parser<'a, 'b, L, A>,
+) -> StorageClass
     ensures value { read_name rules.function_qualifiers parser.old.rest.now (state_of parser.old)
         ≡ Some (result.0, parser.new.rest.now, state_of parser.new) }
     ensures shorter { length parser.new.rest.now ≤ length parser.old.rest.now }

@@ -20,6 +20,7 @@ use msvc_nodes::nodes::{Name, Symbol, Type, TypedSymbol};
 use msvc_parser::limit::Limit;
 use msvc_parser::parser::Parser;
 use msvc_parser::refusal::{Message, Refused};
+use std::alloc::Allocator;
 
 /// Base of a guard's number.
 const BASE: u64 = 10;
@@ -29,8 +30,8 @@ const GREATEST_NUMBER: u64 = 2147483647;
 
 /// Reads the index of a guard if the symbol's name is one, and adds it to the name.
 #[tactic(auto, using(msvc_parser::proofs::Nodes::indexed_split), unfolding(msvc_nodes::specs::NodeView::name_of))]
-pub fn indexed_symbol<'a, 'b, L: Limit>(
-    parser: &mut Parser<'a, 'b, L>,
+pub fn indexed_symbol<'a, 'b, L: Limit, A: Allocator>(
+    parser: &mut Parser<'a, 'b, L, A>,
     symbol: &'b Symbol<'a, 'b>,
 ) -> Result<&'b Symbol<'a, 'b>, Refused>
     ensures value { ReadsAs named_at parser.old parser.new result
@@ -50,7 +51,9 @@ pub fn indexed_symbol<'a, 'b, L: Limit>(
 
 /// Reads `GUARD_INDEX = GUARD_MARKER end | GUARD_MARKER NUMBER`: the number is at least 0.
 #[tactic(auto, using(msvc_parser::proofs::GuardSteps::guard_index_is))]
-pub fn guard_index<'a, 'b, L: Limit>(parser: &mut Parser<'a, 'b, L>) -> Result<Option<u32>, Refused>
+pub fn guard_index<'a, 'b, L: Limit, A: Allocator>(
+    parser: &mut Parser<'a, 'b, L, A>,
+) -> Result<Option<u32>, Refused>
     ensures value { ReadsAs (λ i. i) parser.old parser.new result (read_name (rules.guard_index true)) }
     ensures eats { Eats parser.old parser.new result }
 {
@@ -67,7 +70,9 @@ pub fn guard_index<'a, 'b, L: Limit>(parser: &mut Parser<'a, 'b, L>) -> Result<O
 
 /// Reads `GUARD_MARKER = "4IA" | "5"`.
 #[tactic(auto, using(msvc_parser::proofs::GuardSteps::guard_marker_is))]
-pub fn guard_marker<'a, 'b, L: Limit>(parser: &mut Parser<'a, 'b, L>) -> Result<(), Refused>
+pub fn guard_marker<'a, 'b, L: Limit, A: Allocator>(
+    parser: &mut Parser<'a, 'b, L, A>,
+) -> Result<(), Refused>
     ensures value { ReadsAs (λ _. tt) parser.old parser.new result (read guard_marker) }
     ensures eats { Eats parser.old parser.new result }
 {
@@ -81,8 +86,8 @@ pub fn guard_marker<'a, 'b, L: Limit>(parser: &mut Parser<'a, 'b, L>) -> Result<
 #[cycle(readers)]
 #[tactic(auto, using(msvc_parser::proofs::GuardSteps::numbered_guard_step))]
 #[inline(never)]
-pub fn numbered_guard<'a, 'b, L: Limit>(
-    parser: &mut Parser<'a, 'b, L>,
+pub fn numbered_guard<'a, 'b, L: Limit, A: Allocator>(
+    parser: &mut Parser<'a, 'b, L, A>,
 ) -> Result<&'b TypedSymbol<'a, 'b>, Refused>
     ensures value { ReadsAs typed_symbol_at parser.old parser.new result (read numbered_guard) }
     ensures eats { Eats parser.old parser.new result }
@@ -95,8 +100,8 @@ pub fn numbered_guard<'a, 'b, L: Limit>(
 
 /// Reads the `4HA` of a numbered guard and stores the guard, whose scope is on the list.
 #[inline(never)]
-pub fn guard_of_number<'a, 'b, L: Limit>(
-    parser: &mut Parser<'a, 'b, L>,
+pub fn guard_of_number<'a, 'b, L: Limit, A: Allocator>(
+    parser: &mut Parser<'a, 'b, L, A>,
     number: i32,
     name: &'b Name<'a, 'b>,
     checkpoint: usize,
@@ -123,8 +128,8 @@ pub fn guard_of_number<'a, 'b, L: Limit>(
 
 /// Stores a numbered guard of these parts. It stands outside the cycle, as `put_tagged` does.
 #[inline(never)]
-pub fn put_guard<'a, 'b, L: Limit>(
-    parser: &mut Parser<'a, 'b, L>,
+pub fn put_guard<'a, 'b, L: Limit, A: Allocator>(
+    parser: &mut Parser<'a, 'b, L, A>,
     number: i32,
     name: &'b Name<'a, 'b>,
     checkpoint: usize,
@@ -146,7 +151,9 @@ pub fn put_guard<'a, 'b, L: Limit>(
 
 /// Reads `GUARD_NUMBER = digit {digit} "@"`: base 10, at most 2,147,483,647.
 #[tactic(auto, using(msvc_parser::proofs::GuardSteps::decimal_goes_on))]
-pub fn guard_number<'a, 'b, L: Limit>(parser: &mut Parser<'a, 'b, L>) -> Result<u32, Refused>
+pub fn guard_number<'a, 'b, L: Limit, A: Allocator>(
+    parser: &mut Parser<'a, 'b, L, A>,
+) -> Result<u32, Refused>
     ensures value { ReadsAs (λ n. n) parser.old parser.new result
         (λ left s. and_then (letter_here digits left s) (λ d. read_name (rules.decimal d))) }
     ensures eats { Eats parser.old parser.new result }
@@ -166,7 +173,9 @@ pub fn guard_number<'a, 'b, L: Limit>(parser: &mut Parser<'a, 'b, L>) -> Result<
 }
 
 /// Reads a digit of a guard's number.
-pub fn guard_digit<'a, 'b, L: Limit>(parser: &mut Parser<'a, 'b, L>) -> Result<u8, Refused>
+pub fn guard_digit<'a, 'b, L: Limit, A: Allocator>(
+    parser: &mut Parser<'a, 'b, L, A>,
+) -> Result<u8, Refused>
     ensures value { ReadsAs (λ d. d) parser.old parser.new result (letter_here digits) }
     ensures eats { Eats parser.old parser.new result }
     ensures small { IfOk result (λ d. d < 10) }

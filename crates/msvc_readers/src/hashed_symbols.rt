@@ -15,12 +15,13 @@ use msvc_parser::letters;
 use msvc_parser::limit::Limit;
 use msvc_parser::parser::Parser;
 use msvc_parser::refusal::{Message, Refused};
+use std::alloc::Allocator;
 
 /// Reads `HASHED_SYMBOL = 32 * hexadecimal digit "@"`, after its `??@`.
 #[tactic(auto, using(msvc_parser::proofs::SymbolSteps::hashed_symbol_step), unfolding(msvc_nodes::specs::NodeView::name_of))]
 #[inline(never)]
-pub fn hashed_symbol<'a, 'b, L: Limit>(
-    parser: &mut Parser<'a, 'b, L>,
+pub fn hashed_symbol<'a, 'b, L: Limit, A: Allocator>(
+    parser: &mut Parser<'a, 'b, L, A>,
 ) -> Result<&'b TypedSymbol<'a, 'b>, Refused>
     ensures value { ReadsAs typed_symbol_at parser.old parser.new result (read hashed_symbol) }
     ensures eats { Eats parser.old parser.new result }
@@ -33,7 +34,9 @@ pub fn hashed_symbol<'a, 'b, L: Limit>(
 }
 
 /// Reads the digits of a hash up to and including the next `@`, and returns them without it.
-pub fn hash<'a, 'b, L: Limit>(parser: &mut Parser<'a, 'b, L>) -> Result<&'a [u8], Refused>
+pub fn hash<'a, 'b, L: Limit, A: Allocator>(
+    parser: &mut Parser<'a, 'b, L, A>,
+) -> Result<&'a [u8], Refused>
     ensures value { ReadsAs (λ n. n.now) parser.old parser.new result (λ left s. hash_at (name_length left) left s) }
     ensures eats { Eats parser.old parser.new result }
 {

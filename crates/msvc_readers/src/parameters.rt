@@ -23,13 +23,14 @@ use msvc_parser::limit::Limit;
 use msvc_parser::memorized::is_long;
 use msvc_parser::parser::Parser;
 use msvc_parser::refusal::{Message, Refusal, Refused};
+use std::alloc::Allocator;
 
 /// Reads `FUNCTION_PARAMETERS = ("X" | PARAMETERS) "Z"`: an `X` means one `void`.
 #[cycle(readers)]
 #[tactic(auto, using(msvc_parser::proofs::FunctionSteps::function_parameters_step))]
 #[inline(never)]
-pub fn function_parameters<'a, 'b, L: Limit>(
-    parser: &mut Parser<'a, 'b, L>,
+pub fn function_parameters<'a, 'b, L: Limit, A: Allocator>(
+    parser: &mut Parser<'a, 'b, L, A>,
 ) -> Result<usize, Refused>
     ensures value { ReadsAs (λ _. map type_at (here parser.new.listed_types)) parser.old parser.new result
         (read_name rules.function_parameters) }
@@ -49,7 +50,9 @@ pub fn function_parameters<'a, 'b, L: Limit>(
 /// Puts one `void`, which is already counted, on a new part of the list. The result ends that part.
 #[tactic(auto, unfolding(msvc_nodes::specs::NodeView::type_of))]
 #[inline(never)]
-pub fn no_parameters<'a, 'b, L: Limit>(parser: &mut Parser<'a, 'b, L>) -> Result<usize, Refused>
+pub fn no_parameters<'a, 'b, L: Limit, A: Allocator>(
+    parser: &mut Parser<'a, 'b, L, A>,
+) -> Result<usize, Refused>
     ensures value { ReadsAs (λ _. map type_at (here parser.new.listed_types)) parser.old parser.new result
         (with_value (Some (base base_kind.Void 0 ∷ []))) }
     ensures rest { IfOk result (λ _. parser.new.rest.now ≡ parser.old.rest.now) }
@@ -66,7 +69,9 @@ pub fn no_parameters<'a, 'b, L: Limit>(parser: &mut Parser<'a, 'b, L>) -> Result
 #[cycle(readers)]
 #[tactic(auto, using(msvc_parser::proofs::RowSteps::parameters_go_on))]
 #[inline(never)]
-pub fn parameters<'a, 'b, L: Limit>(parser: &mut Parser<'a, 'b, L>) -> Result<usize, Refused>
+pub fn parameters<'a, 'b, L: Limit, A: Allocator>(
+    parser: &mut Parser<'a, 'b, L, A>,
+) -> Result<usize, Refused>
     ensures value { ReadsAs (λ _. map type_at (here parser.new.listed_types)) parser.old parser.new result
         (read_name rules.parameters) }
     ensures shorter { IfOk result (λ _. length parser.new.rest.now ≤ length parser.old.rest.now) }
@@ -88,8 +93,8 @@ pub fn parameters<'a, 'b, L: Limit>(parser: &mut Parser<'a, 'b, L>) -> Result<us
 #[cycle(readers)]
 #[tactic(auto, using(msvc_parser::proofs::FunctionSteps::parameter_is))]
 #[inline(always)]
-pub fn parameter<'a, 'b, L: Limit>(
-    parser: &mut Parser<'a, 'b, L>,
+pub fn parameter<'a, 'b, L: Limit, A: Allocator>(
+    parser: &mut Parser<'a, 'b, L, A>,
 ) -> Result<&'b Type<'a, 'b>, Refused>
     ensures value { ReadsAs type_at parser.old parser.new result (read_name rules.parameter) }
     ensures eats { Eats parser.old parser.new result }
@@ -108,8 +113,8 @@ pub fn parameter<'a, 'b, L: Limit>(
 }
 
 /// Appends a type to the list of parameters.
-pub fn list_type<'a, 'b, L: Limit>(
-    parser: &mut Parser<'a, 'b, L>,
+pub fn list_type<'a, 'b, L: Limit, A: Allocator>(
+    parser: &mut Parser<'a, 'b, L, A>,
     parameter: &'b Type<'a, 'b>,
 ) -> Result<(), Refused>
     ensures rest { IfOk result (λ _. parser.new.rest.now ≡ parser.old.rest.now) }
@@ -126,8 +131,8 @@ pub fn list_type<'a, 'b, L: Limit>(
 
 /// Copies the listed types into the arena and ends their part of the list.
 #[inline(always)]
-pub fn listed_types<'a, 'b, L: Limit>(
-    parser: &mut Parser<'a, 'b, L>,
+pub fn listed_types<'a, 'b, L: Limit, A: Allocator>(
+    parser: &mut Parser<'a, 'b, L, A>,
     checkpoint: usize,
 ) -> Result<List<'b, &'b Type<'a, 'b>>, Refused>
     requires { checkpoint ≤ length (outer parser.old.listed_types) }
@@ -145,8 +150,8 @@ pub fn listed_types<'a, 'b, L: Limit>(
 /// Appends an ellipsis to the list of parameters, if there is one, and counts it as a node.
 #[tactic(auto, using(msvc_parser::proofs::Nodes::map_last), unfolding(msvc_nodes::specs::NodeView::type_of))]
 #[inline(never)]
-pub fn list_ellipsis<'a, 'b, L: Limit>(
-    parser: &mut Parser<'a, 'b, L>,
+pub fn list_ellipsis<'a, 'b, L: Limit, A: Allocator>(
+    parser: &mut Parser<'a, 'b, L, A>,
     ellipsis: Ellipsis,
 ) -> Result<(), Refused>
     ensures value { ReadsAs (λ _. tt) parser.old parser.new result (counting_ellipsis ellipsis) }

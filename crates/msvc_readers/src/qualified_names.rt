@@ -27,10 +27,13 @@ use msvc_parser::limit::Limit;
 use msvc_parser::parser::Parser;
 use msvc_parser::refusal::{Message, Refusal, Refused};
 use msvc_parser::source_names::name_length;
+use std::alloc::Allocator;
 
 /// Reads `SOURCE_NAME = {byte} "@"`: the bytes up to the next `@`, possibly none.
 #[inline(always)]
-pub fn source_name<'a, 'b, L: Limit>(parser: &mut Parser<'a, 'b, L>) -> Result<&'a [u8], Refused>
+pub fn source_name<'a, 'b, L: Limit, A: Allocator>(
+    parser: &mut Parser<'a, 'b, L, A>,
+) -> Result<&'a [u8], Refused>
     ensures value { ReadsAs (λ n. n.now) parser.old parser.new result (λ left s. cut_at (name_length left) left s) }
     ensures eats { Eats parser.old parser.new result }
 {
@@ -41,7 +44,9 @@ pub fn source_name<'a, 'b, L: Limit>(parser: &mut Parser<'a, 'b, L>) -> Result<&
 }
 
 /// Reads up to and including the next `@`, and returns the bytes before it. Reads nothing if there is no `@`.
-pub fn up_to_at<'a, 'b, L: Limit>(parser: &mut Parser<'a, 'b, L>) -> Option<&'a [u8]>
+pub fn up_to_at<'a, 'b, L: Limit, A: Allocator>(
+    parser: &mut Parser<'a, 'b, L, A>,
+) -> Option<&'a [u8]>
     ensures value { option_map (λ n. (n.now, parser.new.rest.now, state_of parser.new)) result
         ≡ cut_at (name_length parser.old.rest.now) parser.old.rest.now (state_of parser.old) }
     ensures shorter { IfSome result (λ _. length parser.new.rest.now < length parser.old.rest.now) }
@@ -56,8 +61,8 @@ pub fn up_to_at<'a, 'b, L: Limit>(parser: &mut Parser<'a, 'b, L>) -> Option<&'a 
 /// Reads a source name and memorizes it.
 #[tactic(auto, using(msvc_parser::proofs::NameSteps::new_source_name_is), unfolding(msvc_nodes::specs::NodeView::name_of))]
 #[inline(never)]
-pub fn new_source_name<'a, 'b, L: Limit>(
-    parser: &mut Parser<'a, 'b, L>,
+pub fn new_source_name<'a, 'b, L: Limit, A: Allocator>(
+    parser: &mut Parser<'a, 'b, L, A>,
 ) -> Result<&'b Name<'a, 'b>, Refused>
     ensures value { ReadsAs name_at parser.old parser.new result (read new_source_name) }
     ensures eats { Eats parser.old parser.new result }
@@ -69,8 +74,8 @@ pub fn new_source_name<'a, 'b, L: Limit>(
 
 /// Memorizes a template name that has `nodes` nodes, unless `templates` says not to, and returns it.
 #[inline(never)]
-pub fn kept_name<'a, 'b, L: Limit>(
-    parser: &mut Parser<'a, 'b, L>,
+pub fn kept_name<'a, 'b, L: Limit, A: Allocator>(
+    parser: &mut Parser<'a, 'b, L, A>,
     name: &'b Name<'a, 'b>,
     nodes: L,
     templates: TemplateNames,
@@ -88,8 +93,8 @@ pub fn kept_name<'a, 'b, L: Limit>(
 }
 
 /// Appends a name to the list of the scope.
-pub fn list_name<'a, 'b, L: Limit>(
-    parser: &mut Parser<'a, 'b, L>,
+pub fn list_name<'a, 'b, L: Limit, A: Allocator>(
+    parser: &mut Parser<'a, 'b, L, A>,
     name: &'b Name<'a, 'b>,
 ) -> Result<(), Refused>
     ensures rest { IfOk result (λ _. parser.new.rest.now ≡ parser.old.rest.now) }
@@ -106,8 +111,8 @@ pub fn list_name<'a, 'b, L: Limit>(
 
 /// Copies the listed names into the arena and ends their part of the list.
 #[inline(always)]
-pub fn listed_names<'a, 'b, L: Limit>(
-    parser: &mut Parser<'a, 'b, L>,
+pub fn listed_names<'a, 'b, L: Limit, A: Allocator>(
+    parser: &mut Parser<'a, 'b, L, A>,
     checkpoint: usize,
 ) -> Result<List<'b, &'b Name<'a, 'b>>, Refused>
     requires { checkpoint ≤ length (outer parser.old.listed_names) }
@@ -126,8 +131,8 @@ pub fn listed_names<'a, 'b, L: Limit>(
 #[cycle(readers)]
 #[tactic(auto, using(msvc_parser::proofs::NameSteps::unqualified_name_is))]
 #[inline(always)]
-pub fn unqualified_name<'a, 'b, L: Limit>(
-    parser: &mut Parser<'a, 'b, L>,
+pub fn unqualified_name<'a, 'b, L: Limit, A: Allocator>(
+    parser: &mut Parser<'a, 'b, L, A>,
     templates: TemplateNames,
 ) -> Result<&'b Name<'a, 'b>, Refused>
     ensures value { ReadsAs name_at parser.old parser.new result
@@ -149,8 +154,8 @@ pub fn unqualified_name<'a, 'b, L: Limit>(
 /// Reads `TEMPLATE_NAME = UNQUALIFIED_NAME PARAMETERS`, with separate tables of names and types.
 #[cycle(readers)]
 #[tactic(auto, using(msvc_parser::proofs::NameSteps::template_kept_is))]
-pub fn template_name<'a, 'b, L: Limit>(
-    parser: &mut Parser<'a, 'b, L>,
+pub fn template_name<'a, 'b, L: Limit, A: Allocator>(
+    parser: &mut Parser<'a, 'b, L, A>,
     templates: TemplateNames,
 ) -> Result<&'b Name<'a, 'b>, Refused>
     ensures value { ReadsAs name_at parser.old parser.new result (read (template_kept (is_of_symbol templates))) }
@@ -168,8 +173,8 @@ pub fn template_name<'a, 'b, L: Limit>(
 #[cycle(readers)]
 #[tactic(auto, using(msvc_parser::proofs::NameSteps::template_inside_step))]
 #[inline(always)]
-pub fn template<'a, 'b, L: Limit>(
-    parser: &mut Parser<'a, 'b, L>,
+pub fn template<'a, 'b, L: Limit, A: Allocator>(
+    parser: &mut Parser<'a, 'b, L, A>,
 ) -> Result<&'b Name<'a, 'b>, Refused>
     ensures value { ReadsAs name_at parser.old parser.new result (read template_inside) }
     ensures eats { Eats parser.old parser.new result }
@@ -183,8 +188,8 @@ pub fn template<'a, 'b, L: Limit>(
 /// Stores a template of its name and of the arguments on the list. It stands outside the cycle, as `put_tagged` does.
 #[tactic(auto, using(msvc_parser::proofs::Nodes::views))]
 #[inline(never)]
-pub fn put_template<'a, 'b, L: Limit>(
-    parser: &mut Parser<'a, 'b, L>,
+pub fn put_template<'a, 'b, L: Limit, A: Allocator>(
+    parser: &mut Parser<'a, 'b, L, A>,
     name: &'b Name<'a, 'b>,
     checkpoint: usize,
 ) -> Result<&'b Name<'a, 'b>, Refused>
@@ -203,8 +208,8 @@ pub fn put_template<'a, 'b, L: Limit>(
 #[cycle(readers)]
 #[tactic(auto, using(msvc_parser::proofs::NameSteps::nested_name_is))]
 #[inline(always)]
-pub fn nested_name<'a, 'b, L: Limit>(
-    parser: &mut Parser<'a, 'b, L>,
+pub fn nested_name<'a, 'b, L: Limit, A: Allocator>(
+    parser: &mut Parser<'a, 'b, L, A>,
 ) -> Result<&'b Name<'a, 'b>, Refused>
     ensures value { ReadsAs name_at parser.old parser.new result (read_name rules.nested_name) }
     ensures eats { Eats parser.old parser.new result }
@@ -221,8 +226,8 @@ pub fn nested_name<'a, 'b, L: Limit>(
 /// Reads `MARKED_NAME = "?" SYMBOL_BODY | "$" TEMPLATE_NAME | "A" ANONYMOUS_NAMESPACE | "Q" SOURCE_NAME "@" | NUMBER`.
 #[cycle(readers)]
 #[tactic(auto, using(msvc_parser::proofs::Nodes::marked_split))]
-pub fn marked_name<'a, 'b, L: Limit>(
-    parser: &mut Parser<'a, 'b, L>,
+pub fn marked_name<'a, 'b, L: Limit, A: Allocator>(
+    parser: &mut Parser<'a, 'b, L, A>,
 ) -> Result<&'b Name<'a, 'b>, Refused>
     ensures value { ReadsAs name_at parser.old parser.new result (read_name rules.marked_name) }
     ensures eats { Eats parser.old parser.new result }
@@ -247,8 +252,8 @@ pub fn marked_name<'a, 'b, L: Limit>(
 /// Reads the number that distinguishes a scope.
 #[tactic(auto, unfolding(msvc_nodes::specs::NodeView::name_of))]
 #[inline(never)]
-pub fn discriminator<'a, 'b, L: Limit>(
-    parser: &mut Parser<'a, 'b, L>,
+pub fn discriminator<'a, 'b, L: Limit, A: Allocator>(
+    parser: &mut Parser<'a, 'b, L, A>,
 ) -> Result<&'b Name<'a, 'b>, Refused>
     ensures value { ReadsAs name_at parser.old parser.new result
         (λ left s. in_node left s (λ left s. and_then (read_name rules.number left s)
@@ -263,8 +268,8 @@ pub fn discriminator<'a, 'b, L: Limit>(
 /// Stores a symbol as a name.
 #[tactic(auto, using(msvc_parser::proofs::Nodes::views))]
 #[inline(never)]
-pub fn put_nested<'a, 'b, L: Limit>(
-    parser: &mut Parser<'a, 'b, L>,
+pub fn put_nested<'a, 'b, L: Limit, A: Allocator>(
+    parser: &mut Parser<'a, 'b, L, A>,
     symbol: &'b TypedSymbol<'a, 'b>,
 ) -> Result<&'b Name<'a, 'b>, Refused>
     ensures value { ReadsAs name_at parser.old parser.new result
@@ -278,8 +283,8 @@ pub fn put_nested<'a, 'b, L: Limit>(
 /// Reads the name of an interface, after its `?Q`.
 #[tactic(auto, using(msvc_parser::proofs::NameSteps::new_interface_step), unfolding(msvc_nodes::specs::NodeView::name_of))]
 #[inline(never)]
-pub fn interface<'a, 'b, L: Limit>(
-    parser: &mut Parser<'a, 'b, L>,
+pub fn interface<'a, 'b, L: Limit, A: Allocator>(
+    parser: &mut Parser<'a, 'b, L, A>,
 ) -> Result<&'b Name<'a, 'b>, Refused>
     ensures value { ReadsAs name_at parser.old parser.new result (read new_interface) }
     ensures eats { Eats parser.old parser.new result }
@@ -293,8 +298,8 @@ pub fn interface<'a, 'b, L: Limit>(
 /// Reads `ANONYMOUS_NAMESPACE = ["0x" {hexadecimal digit}] "@"`, after its `?A`.
 #[tactic(auto, using(msvc_parser::proofs::NameSteps::anonymous_namespace_step), unfolding(msvc_nodes::specs::NodeView::name_of))]
 #[inline(never)]
-pub fn anonymous_namespace<'a, 'b, L: Limit>(
-    parser: &mut Parser<'a, 'b, L>,
+pub fn anonymous_namespace<'a, 'b, L: Limit, A: Allocator>(
+    parser: &mut Parser<'a, 'b, L, A>,
 ) -> Result<&'b Name<'a, 'b>, Refused>
     ensures value { ReadsAs name_at parser.old parser.new result (read_name rules.anonymous_namespace) }
     ensures eats { Eats parser.old parser.new result }
@@ -310,8 +315,8 @@ pub fn anonymous_namespace<'a, 'b, L: Limit>(
 }
 
 /// Reads the digits after `0x` and stores them in the arena, with the `0x`.
-pub fn hexadecimal_digits<'a, 'b, L: Limit>(
-    parser: &mut Parser<'a, 'b, L>,
+pub fn hexadecimal_digits<'a, 'b, L: Limit, A: Allocator>(
+    parser: &mut Parser<'a, 'b, L, A>,
 ) -> Result<&'b str, Refused>
     ensures value { ReadsAs (λ t. t.now) parser.old parser.new result
         (λ left s. and_then (read_name rules.hexadecimal_digits left s)
@@ -327,9 +332,9 @@ pub fn hexadecimal_digits<'a, 'b, L: Limit>(
 
 /// Reads `HEXADECIMAL_DIGITS = {hexadecimal digit} "@"`, and returns `0x` and the digits.
 #[tactic(auto, using(msvc_parser::proofs::RowSteps::hexadecimal_digits_go_on))]
-pub fn gathered_digits<'a, 'b, L: Limit>(
-    parser: &mut Parser<'a, 'b, L>,
-) -> Result<String<&'b Bump>, Refused>
+pub fn gathered_digits<'a, 'b, L: Limit, A: Allocator>(
+    parser: &mut Parser<'a, 'b, L, A>,
+) -> Result<String<&'b Bump<A>>, Refused>
     ensures value { ReadsAs string_bytes parser.old parser.new result
         (λ left s. and_then (read_name rules.hexadecimal_digits left s)
         (λ ds left s. Some (codes "0x" ++ ds, left, s))) }
@@ -351,7 +356,9 @@ pub fn gathered_digits<'a, 'b, L: Limit>(
 
 /// Reads a base 16 digit, and returns its byte unchanged.
 #[tactic(auto, using(msvc_parser::proofs::Choices::letter_is))]
-pub fn hexadecimal_digit<'a, 'b, L: Limit>(parser: &mut Parser<'a, 'b, L>) -> Result<u8, Refused>
+pub fn hexadecimal_digit<'a, 'b, L: Limit, A: Allocator>(
+    parser: &mut Parser<'a, 'b, L, A>,
+) -> Result<u8, Refused>
     ensures value { ReadsAs (λ d. d) parser.old parser.new result (letter_here hexadecimal_codes) }
     ensures eats { Eats parser.old parser.new result }
     ensures low { IfOk result (λ d. d < 128) }
@@ -371,7 +378,9 @@ pub fn hexadecimal_digit<'a, 'b, L: Limit>(parser: &mut Parser<'a, 'b, L>) -> Re
 #[cycle(readers)]
 #[tactic(auto, using(msvc_parser::proofs::RowSteps::scope_goes_on))]
 #[inline(never)]
-pub fn scope<'a, 'b, L: Limit>(parser: &mut Parser<'a, 'b, L>) -> Result<usize, Refused>
+pub fn scope<'a, 'b, L: Limit, A: Allocator>(
+    parser: &mut Parser<'a, 'b, L, A>,
+) -> Result<usize, Refused>
     ensures value { ReadsAs (λ _. map name_at (here parser.new.listed_names)) parser.old parser.new result
         (read_name rules.scope) }
     ensures shorter { IfOk result (λ _. length parser.new.rest.now < length parser.old.rest.now) }
@@ -391,8 +400,8 @@ pub fn scope<'a, 'b, L: Limit>(parser: &mut Parser<'a, 'b, L>) -> Result<usize, 
 #[cycle(readers)]
 #[tactic(auto, using(msvc_parser::proofs::NameSteps::qualified_name_is))]
 #[inline(never)]
-pub fn qualified_name<'a, 'b, L: Limit>(
-    parser: &mut Parser<'a, 'b, L>,
+pub fn qualified_name<'a, 'b, L: Limit, A: Allocator>(
+    parser: &mut Parser<'a, 'b, L, A>,
     templates: TemplateNames,
 ) -> Result<&'b Symbol<'a, 'b>, Refused>
     ensures value { ReadsAs named_at parser.old parser.new result
@@ -406,8 +415,8 @@ pub fn qualified_name<'a, 'b, L: Limit>(
 
 /// Stores a name in the scope on the list.
 #[inline(never)]
-pub fn put_symbol<'a, 'b, L: Limit>(
-    parser: &mut Parser<'a, 'b, L>,
+pub fn put_symbol<'a, 'b, L: Limit, A: Allocator>(
+    parser: &mut Parser<'a, 'b, L, A>,
     name: &'b Name<'a, 'b>,
     checkpoint: usize,
 ) -> Result<&'b Symbol<'a, 'b>, Refused>

@@ -18,13 +18,14 @@ use msvc_parser::limit::Limit;
 use msvc_parser::parser::Parser;
 use msvc_parser::refusal::{Message, Refused};
 use msvc_parser::special_codes::{special_form, unknown_code};
+use std::alloc::Allocator;
 
 /// Reads `SPECIAL_NAME = code of special names, and what its row asks for`. Each case ends in a call, so that this
 /// frame is gone while the type of a descriptor is read.
 #[cycle(readers)]
 #[tactic(auto, using(msvc_parser::proofs::Nodes::special_split), unfolding(msvc_nodes::specs::NodeView::name_of))]
-pub fn special_name<'a, 'b, L: Limit>(
-    parser: &mut Parser<'a, 'b, L>,
+pub fn special_name<'a, 'b, L: Limit, A: Allocator>(
+    parser: &mut Parser<'a, 'b, L, A>,
 ) -> Result<&'b Name<'a, 'b>, Refused>
     ensures value { ReadsAs name_at parser.old parser.new result (read_name rules.special_name) }
     ensures eats { Eats parser.old parser.new result }
@@ -43,8 +44,8 @@ pub fn special_name<'a, 'b, L: Limit>(
 
 /// Records that the text continues with no code of a special name.
 #[inline(never)]
-pub fn no_special_name<'a, 'b, L: Limit>(
-    parser: &mut Parser<'a, 'b, L>,
+pub fn no_special_name<'a, 'b, L: Limit, A: Allocator>(
+    parser: &mut Parser<'a, 'b, L, A>,
 ) -> Result<&'b Name<'a, 'b>, Refused>
     ensures value { ReadsAs name_at parser.old parser.new result (λ left s. None) }
     ensures eats { Eats parser.old parser.new result }
@@ -56,8 +57,8 @@ pub fn no_special_name<'a, 'b, L: Limit>(
 /// Counts and stores an operator without parts.
 #[tactic(auto, unfolding(msvc_nodes::specs::NodeView::name_of))]
 #[inline(never)]
-pub fn new_operator<'a, 'b, L: Limit>(
-    parser: &mut Parser<'a, 'b, L>,
+pub fn new_operator<'a, 'b, L: Limit, A: Allocator>(
+    parser: &mut Parser<'a, 'b, L, A>,
     kind: PlainOperator,
 ) -> Result<&'b Name<'a, 'b>, Refused>
     ensures value { ReadsAs name_at parser.old parser.new result
@@ -70,8 +71,8 @@ pub fn new_operator<'a, 'b, L: Limit>(
 /// Counts and stores a guard without an index.
 #[tactic(auto, unfolding(msvc_nodes::specs::NodeView::name_of))]
 #[inline(never)]
-pub fn new_guard<'a, 'b, L: Limit>(
-    parser: &mut Parser<'a, 'b, L>,
+pub fn new_guard<'a, 'b, L: Limit, A: Allocator>(
+    parser: &mut Parser<'a, 'b, L, A>,
     kind: Guard,
 ) -> Result<&'b Name<'a, 'b>, Refused>
     ensures value { ReadsAs name_at parser.old parser.new result
@@ -85,8 +86,8 @@ pub fn new_guard<'a, 'b, L: Limit>(
 #[cycle(readers)]
 #[tactic(auto, using(msvc_parser::proofs::SpecialSteps::type_descriptor_step), unfolding(msvc_nodes::specs::NodeView::name_of))]
 #[inline(never)]
-pub fn type_descriptor<'a, 'b, L: Limit>(
-    parser: &mut Parser<'a, 'b, L>,
+pub fn type_descriptor<'a, 'b, L: Limit, A: Allocator>(
+    parser: &mut Parser<'a, 'b, L, A>,
 ) -> Result<&'b Name<'a, 'b>, Refused>
     ensures value { ReadsAs name_at parser.old parser.new result
         (read_name (rules.special_after special.TypeDescriptor)) }
@@ -102,8 +103,8 @@ pub fn type_descriptor<'a, 'b, L: Limit>(
 /// Reads four numbers: the place of a base class, after its code.
 #[tactic(auto, using(msvc_parser::proofs::SpecialSteps::base_class_step))]
 #[inline(never)]
-pub fn base_class_descriptor<'a, 'b, L: Limit>(
-    parser: &mut Parser<'a, 'b, L>,
+pub fn base_class_descriptor<'a, 'b, L: Limit, A: Allocator>(
+    parser: &mut Parser<'a, 'b, L, A>,
 ) -> Result<&'b Name<'a, 'b>, Refused>
     ensures value { ReadsAs name_at parser.old parser.new result (read_name (rules.special_after special.BaseClass)) }
     ensures eats { Eats parser.old parser.new result }
@@ -126,8 +127,8 @@ pub fn base_class_descriptor<'a, 'b, L: Limit>(
 
 /// Stores the place of a base class as a name. It stands outside the cycle, as `put_tagged` does.
 #[tactic(auto, unfolding(msvc_nodes::specs::NodeView::name_of))]
-pub fn put_base_class<'a, 'b, L: Limit>(
-    parser: &mut Parser<'a, 'b, L>,
+pub fn put_base_class<'a, 'b, L: Limit, A: Allocator>(
+    parser: &mut Parser<'a, 'b, L, A>,
     place: BaseClass,
 ) -> Result<&'b Name<'a, 'b>, Refused>
     ensures value { ReadsAs name_at parser.old parser.new result

@@ -26,11 +26,12 @@ use msvc_parser::letters::{self, OptionalLetters};
 use msvc_parser::limit::Limit;
 use msvc_parser::parser::Parser;
 use msvc_parser::refusal::{Message, Refusal, Refused};
+use std::alloc::Allocator;
 
 /// Reads `SYMBOL = "?" SYMBOL_BODY`.
 #[tactic(auto, using(msvc_parser::proofs::SymbolSteps::symbol_step))]
-pub fn symbol<'a, 'b, L: Limit>(
-    parser: &mut Parser<'a, 'b, L>,
+pub fn symbol<'a, 'b, L: Limit, A: Allocator>(
+    parser: &mut Parser<'a, 'b, L, A>,
 ) -> Result<TypedSymbol<'a, 'b>, Refused>
     ensures value { ReadsAs typed_symbol_of parser.old parser.new result (read_name rules.symbol) }
     ensures start { rules.after (codes "?") parser.old.rest.now ≡ None
@@ -47,8 +48,8 @@ pub fn symbol<'a, 'b, L: Limit>(
 /// Reads `SYMBOL_BODY = "?@" HASHED_SYMBOL | "$TSS" NUMBERED_GUARD | "$" TEMPLATE_NAME | NAMED_SYMBOL`.
 #[cycle(readers)]
 #[tactic(auto, using(msvc_parser::proofs::SymbolSteps::symbol_body_step))]
-pub fn symbol_body<'a, 'b, L: Limit>(
-    parser: &mut Parser<'a, 'b, L>,
+pub fn symbol_body<'a, 'b, L: Limit, A: Allocator>(
+    parser: &mut Parser<'a, 'b, L, A>,
 ) -> Result<&'b TypedSymbol<'a, 'b>, Refused>
     ensures value { ReadsAs typed_symbol_at parser.old parser.new result (read_name rules.symbol_body) }
     ensures eats { Eats parser.old parser.new result }
@@ -69,8 +70,8 @@ pub fn symbol_body<'a, 'b, L: Limit>(
 #[cycle(readers)]
 #[tactic(auto, using(msvc_parser::proofs::SymbolSteps::template_symbol_step))]
 #[inline(never)]
-pub fn template_symbol<'a, 'b, L: Limit>(
-    parser: &mut Parser<'a, 'b, L>,
+pub fn template_symbol<'a, 'b, L: Limit, A: Allocator>(
+    parser: &mut Parser<'a, 'b, L, A>,
 ) -> Result<&'b TypedSymbol<'a, 'b>, Refused>
     ensures value { ReadsAs typed_symbol_at parser.old parser.new result (read template_symbol) }
     ensures eats { Eats parser.old parser.new result }
@@ -83,8 +84,8 @@ pub fn template_symbol<'a, 'b, L: Limit>(
 /// Stores a symbol that has a name but no scope and no type. Its nodes are already counted.
 #[tactic(auto, unfolding(msvc_nodes::specs::NodeView::type_of))]
 #[inline(never)]
-pub fn untyped_symbol<'a, 'b, L: Limit>(
-    parser: &mut Parser<'a, 'b, L>,
+pub fn untyped_symbol<'a, 'b, L: Limit, A: Allocator>(
+    parser: &mut Parser<'a, 'b, L, A>,
     name: &'b Name<'a, 'b>,
 ) -> Result<&'b TypedSymbol<'a, 'b>, Refused>
     ensures value { ReadsAs typed_symbol_at parser.old parser.new result
@@ -108,8 +109,8 @@ pub fn untyped_symbol<'a, 'b, L: Limit>(
 #[cycle(readers)]
 #[tactic(auto, using(msvc_parser::proofs::SymbolSteps::named_symbol_step))]
 #[inline(never)]
-pub fn named_symbol<'a, 'b, L: Limit>(
-    parser: &mut Parser<'a, 'b, L>,
+pub fn named_symbol<'a, 'b, L: Limit, A: Allocator>(
+    parser: &mut Parser<'a, 'b, L, A>,
 ) -> Result<&'b TypedSymbol<'a, 'b>, Refused>
     ensures value { ReadsAs typed_symbol_at parser.old parser.new result (read named_symbol) }
     ensures eats { Eats parser.old parser.new result }
@@ -123,8 +124,8 @@ pub fn named_symbol<'a, 'b, L: Limit>(
 /// Stores a symbol with its type.
 #[tactic(auto, using(msvc_parser::proofs::Nodes::typed_symbol_split))]
 #[inline(never)]
-pub fn put_typed_symbol<'a, 'b, L: Limit>(
-    parser: &mut Parser<'a, 'b, L>,
+pub fn put_typed_symbol<'a, 'b, L: Limit, A: Allocator>(
+    parser: &mut Parser<'a, 'b, L, A>,
     symbol: &'b Symbol<'a, 'b>,
     symbol_type: &'b Type<'a, 'b>,
 ) -> Result<&'b TypedSymbol<'a, 'b>, Refused>
@@ -145,8 +146,8 @@ pub fn put_typed_symbol<'a, 'b, L: Limit>(
 /// Reads `ENCODING = end | letter of encodings, and what its row asks for`.
 #[cycle(readers)]
 #[tactic(auto, using(msvc_parser::proofs::Nodes::encoding_split), unfolding(msvc_parser::proofs::SymbolSteps::encoding_by, msvc_nodes::specs::NodeView::type_of))]
-pub fn encoding<'a, 'b, L: Limit>(
-    parser: &mut Parser<'a, 'b, L>,
+pub fn encoding<'a, 'b, L: Limit, A: Allocator>(
+    parser: &mut Parser<'a, 'b, L, A>,
 ) -> Result<&'b Type<'a, 'b>, Refused>
     ensures value { ReadsAs type_at parser.old parser.new result (read_name rules.encoding) }
     ensures eats { MayEat parser.old parser.new result }
@@ -177,8 +178,8 @@ pub fn encoding<'a, 'b, L: Limit>(
 /// Reads `VARIABLE = TYPE [storage class]`.
 #[cycle(readers)]
 #[tactic(auto, using(msvc_parser::proofs::SymbolSteps::variable_step), unfolding(msvc_nodes::specs::NodeView::type_of))]
-pub fn variable<'a, 'b, L: Limit>(
-    parser: &mut Parser<'a, 'b, L>,
+pub fn variable<'a, 'b, L: Limit, A: Allocator>(
+    parser: &mut Parser<'a, 'b, L, A>,
     kind: VarStorageKind,
 ) -> Result<&'b Type<'a, 'b>, Refused>
     ensures value { ReadsAs type_at parser.old parser.new result (read_name (rules.encoding_after (variable_of kind))) }
@@ -193,8 +194,8 @@ pub fn variable<'a, 'b, L: Limit>(
 /// Reads `[qualifier] SCOPE`: the table of a class, after its letter.
 #[cycle(readers)]
 #[tactic(auto, using(msvc_parser::proofs::SymbolSteps::table_step))]
-pub fn table<'a, 'b, L: Limit>(
-    parser: &mut Parser<'a, 'b, L>,
+pub fn table<'a, 'b, L: Limit, A: Allocator>(
+    parser: &mut Parser<'a, 'b, L, A>,
     table: Table,
 ) -> Result<&'b Type<'a, 'b>, Refused>
     ensures value { ReadsAs type_at parser.old parser.new result (read_name (rules.encoding_after (table_of table))) }
@@ -209,8 +210,8 @@ pub fn table<'a, 'b, L: Limit>(
 /// Stores the table of a class, whose scope is on the list.
 #[tactic(auto, using(msvc_parser::proofs::Nodes::views))]
 #[inline(never)]
-pub fn put_table<'a, 'b, L: Limit>(
-    parser: &mut Parser<'a, 'b, L>,
+pub fn put_table<'a, 'b, L: Limit, A: Allocator>(
+    parser: &mut Parser<'a, 'b, L, A>,
     kind: Table,
     class: StorageClass,
     checkpoint: usize,
@@ -228,8 +229,8 @@ pub fn put_table<'a, 'b, L: Limit>(
 
 /// Reads `VIRTUAL_CALL = "B" NUMBER "A" convention`: a thunk that calls a virtual function.
 #[tactic(auto, using(msvc_parser::proofs::SymbolSteps::virtual_call_step), unfolding(msvc_nodes::specs::NodeView::type_of))]
-pub fn virtual_call<'a, 'b, L: Limit>(
-    parser: &mut Parser<'a, 'b, L>,
+pub fn virtual_call<'a, 'b, L: Limit, A: Allocator>(
+    parser: &mut Parser<'a, 'b, L, A>,
 ) -> Result<&'b Type<'a, 'b>, Refused>
     ensures value { ReadsAs type_at parser.old parser.new result (read_name (rules.encoding_after virtual_call)) }
     ensures eats { MayEat parser.old parser.new result }

@@ -26,12 +26,13 @@ use msvc_parser::limit::Limit;
 use msvc_parser::parser::Parser;
 use msvc_parser::refusal::{Message, Refused};
 use msvc_parser::type_forms::type_form;
+use std::alloc::Allocator;
 
 /// Reads `TYPE = text of a form, and what the form asks for | ["$"] PLAIN_TYPE`.
 #[cycle(readers)]
 #[tactic(auto, using(msvc_parser::proofs::TypeSteps::any_type_is))]
-pub fn any_type<'a, 'b, L: Limit>(
-    parser: &mut Parser<'a, 'b, L>,
+pub fn any_type<'a, 'b, L: Limit, A: Allocator>(
+    parser: &mut Parser<'a, 'b, L, A>,
     q: StorageClass,
 ) -> Result<&'b Type<'a, 'b>, Refused>
     ensures value { ReadsAs type_at parser.old parser.new result (read_name (rules.any_type q.0)) }
@@ -52,8 +53,8 @@ pub fn any_type<'a, 'b, L: Limit>(
 #[cycle(readers)]
 #[tactic(auto, using(msvc_parser::proofs::TypeSteps::type_form_is), unfolding(msvc_nodes::specs::NodeView::type_of))]
 #[inline(never)]
-pub fn formed_type<'a, 'b, L: Limit>(
-    parser: &mut Parser<'a, 'b, L>,
+pub fn formed_type<'a, 'b, L: Limit, A: Allocator>(
+    parser: &mut Parser<'a, 'b, L, A>,
     form: TypeForm,
     q: StorageClass,
 ) -> Result<&'b Type<'a, 'b>, Refused>
@@ -82,8 +83,8 @@ pub fn formed_type<'a, 'b, L: Limit>(
 /// Reads `[qualifier] PLAIN_TYPE`: the qualifiers replace those that were read before.
 #[cycle(readers)]
 #[inline(never)]
-pub fn requalified<'a, 'b, L: Limit>(
-    parser: &mut Parser<'a, 'b, L>,
+pub fn requalified<'a, 'b, L: Limit, A: Allocator>(
+    parser: &mut Parser<'a, 'b, L, A>,
 ) -> Result<&'b Type<'a, 'b>, Refused>
     ensures value { ReadsAs type_at parser.old parser.new result
         (λ left s. and_then (read (rules.optional qualifiers) left s) (λ q l t. read_name (rules.plain_type q) l t)) }
@@ -96,8 +97,8 @@ pub fn requalified<'a, 'b, L: Limit>(
 /// Reads `"?" MEMBER_POINTER`, with the class of the member function.
 #[cycle(readers)]
 #[inline(never)]
-pub fn marked_member_pointer<'a, 'b, L: Limit>(
-    parser: &mut Parser<'a, 'b, L>,
+pub fn marked_member_pointer<'a, 'b, L: Limit, A: Allocator>(
+    parser: &mut Parser<'a, 'b, L, A>,
 ) -> Result<&'b Type<'a, 'b>, Refused>
     ensures value { ReadsAs type_at parser.old parser.new result
         (λ left s. and_then (read (rules.literal (codes "?")) left s)
@@ -111,8 +112,8 @@ pub fn marked_member_pointer<'a, 'b, L: Limit>(
 /// Counts and stores a type without parts.
 #[tactic(auto, unfolding(msvc_nodes::specs::NodeView::type_of))]
 #[inline(never)]
-pub fn new_plain<'a, 'b, L: Limit>(
-    parser: &mut Parser<'a, 'b, L>,
+pub fn new_plain<'a, 'b, L: Limit, A: Allocator>(
+    parser: &mut Parser<'a, 'b, L, A>,
     kind: PlainType,
 ) -> Result<&'b Type<'a, 'b>, Refused>
     ensures value { ReadsAs type_at parser.old parser.new result
@@ -124,8 +125,8 @@ pub fn new_plain<'a, 'b, L: Limit>(
 
 /// Reads a class, struct, union, enumeration or alias by its name.
 #[cycle(readers)]
-pub fn tagged_type<'a, 'b, L: Limit>(
-    parser: &mut Parser<'a, 'b, L>,
+pub fn tagged_type<'a, 'b, L: Limit, A: Allocator>(
+    parser: &mut Parser<'a, 'b, L, A>,
     tag: Tag,
     templates: TemplateNames,
     q: StorageClass,
@@ -143,8 +144,8 @@ pub fn tagged_type<'a, 'b, L: Limit>(
 /// Stores a type of its name. Every `put_` of several parts is a function outside the cycle of readers: a reader then
 /// only calls, and its step lemma is all that the prover needs.
 #[tactic(auto, using(msvc_parser::proofs::Nodes::views))]
-pub fn put_tagged<'a, 'b, L: Limit>(
-    parser: &mut Parser<'a, 'b, L>,
+pub fn put_tagged<'a, 'b, L: Limit, A: Allocator>(
+    parser: &mut Parser<'a, 'b, L, A>,
     tag: Tag,
     symbol: &'b Symbol<'a, 'b>,
     q: StorageClass,
@@ -160,8 +161,8 @@ pub fn put_tagged<'a, 'b, L: Limit>(
 /// Reads a pointer or reference to a type.
 #[cycle(readers)]
 #[tactic(auto, unfolding(msvc_nodes::specs::NodeView::type_of))]
-pub fn pointing_type<'a, 'b, L: Limit>(
-    parser: &mut Parser<'a, 'b, L>,
+pub fn pointing_type<'a, 'b, L: Limit, A: Allocator>(
+    parser: &mut Parser<'a, 'b, L, A>,
     mark: Mark,
     q: StorageClass,
 ) -> Result<&'b Type<'a, 'b>, Refused>
@@ -178,8 +179,8 @@ pub fn pointing_type<'a, 'b, L: Limit>(
 /// Reads a pointer or reference to a function.
 #[cycle(readers)]
 #[tactic(auto, unfolding(msvc_nodes::specs::NodeView::type_of))]
-pub fn pointed_function<'a, 'b, L: Limit>(
-    parser: &mut Parser<'a, 'b, L>,
+pub fn pointed_function<'a, 'b, L: Limit, A: Allocator>(
+    parser: &mut Parser<'a, 'b, L, A>,
     mark: Mark,
     q: StorageClass,
 ) -> Result<&'b Type<'a, 'b>, Refused>
@@ -195,8 +196,8 @@ pub fn pointed_function<'a, 'b, L: Limit>(
 
 /// Reads a template argument that is a number.
 #[tactic(auto, unfolding(msvc_nodes::specs::NodeView::type_of))]
-pub fn numbered_type<'a, 'b, L: Limit>(
-    parser: &mut Parser<'a, 'b, L>,
+pub fn numbered_type<'a, 'b, L: Limit, A: Allocator>(
+    parser: &mut Parser<'a, 'b, L, A>,
     kind: NumberedType,
 ) -> Result<&'b Type<'a, 'b>, Refused>
     ensures value { ReadsAs type_at parser.old parser.new result
@@ -213,8 +214,8 @@ pub fn numbered_type<'a, 'b, L: Limit>(
 #[cycle(readers)]
 #[tactic(auto, using(msvc_parser::proofs::Nodes::plain_split), unfolding(msvc_parser::proofs::TypeSteps::type_by, msvc_nodes::specs::NodeView::type_of))]
 #[inline(always)]
-pub fn plain_type<'a, 'b, L: Limit>(
-    parser: &mut Parser<'a, 'b, L>,
+pub fn plain_type<'a, 'b, L: Limit, A: Allocator>(
+    parser: &mut Parser<'a, 'b, L, A>,
     q: StorageClass,
 ) -> Result<&'b Type<'a, 'b>, Refused>
     ensures value { ReadsAs type_at parser.old parser.new result (read_name (rules.plain_type q.0)) }
@@ -242,8 +243,8 @@ pub fn plain_type<'a, 'b, L: Limit>(
 /// Reads `POINTEE = ["E"] [storage class] TYPE`.
 #[cycle(readers)]
 #[tactic(auto, using(msvc_parser::proofs::TypeSteps::pointee_is))]
-pub fn pointee<'a, 'b, L: Limit>(
-    parser: &mut Parser<'a, 'b, L>,
+pub fn pointee<'a, 'b, L: Limit, A: Allocator>(
+    parser: &mut Parser<'a, 'b, L, A>,
 ) -> Result<&'b Type<'a, 'b>, Refused>
     ensures value { ReadsAs type_at parser.old parser.new result (read_name rules.pointee) }
     ensures eats { Eats parser.old parser.new result }
@@ -258,7 +259,9 @@ pub fn pointee<'a, 'b, L: Limit>(
 #[cycle(readers)]
 #[tactic(auto, using(msvc_parser::proofs::TypeSteps::array_is))]
 #[inline(never)]
-pub fn array<'a, 'b, L: Limit>(parser: &mut Parser<'a, 'b, L>) -> Result<&'b Type<'a, 'b>, Refused>
+pub fn array<'a, 'b, L: Limit, A: Allocator>(
+    parser: &mut Parser<'a, 'b, L, A>,
+) -> Result<&'b Type<'a, 'b>, Refused>
     ensures value { ReadsAs type_at parser.old parser.new result (read_name rules.array) }
     ensures eats { Eats parser.old parser.new result }
 {
@@ -272,7 +275,9 @@ pub fn array<'a, 'b, L: Limit>(parser: &mut Parser<'a, 'b, L>) -> Result<&'b Typ
 /// Reads a number greater than 0.
 #[tactic(auto, using(msvc_parser::proofs::TypeSteps::dimension_is))]
 #[inline(never)]
-pub fn dimension<'a, 'b, L: Limit>(parser: &mut Parser<'a, 'b, L>) -> Result<u32, Refused>
+pub fn dimension<'a, 'b, L: Limit, A: Allocator>(
+    parser: &mut Parser<'a, 'b, L, A>,
+) -> Result<u32, Refused>
     ensures value { ReadsAs (λ n. n) parser.old parser.new result (read_name rules.dimension) }
     ensures eats { Eats parser.old parser.new result }
 {
@@ -286,8 +291,8 @@ pub fn dimension<'a, 'b, L: Limit>(parser: &mut Parser<'a, 'b, L>) -> Result<u32
 /// Reads the qualifiers of each level of an array.
 #[tactic(auto, using(msvc_parser::proofs::TypeSteps::array_class_is))]
 #[inline(never)]
-pub fn array_class<'a, 'b, L: Limit>(
-    parser: &mut Parser<'a, 'b, L>,
+pub fn array_class<'a, 'b, L: Limit, A: Allocator>(
+    parser: &mut Parser<'a, 'b, L, A>,
 ) -> Result<StorageClass, Refused>
     ensures value { ReadsAs (λ q. q.0) parser.old parser.new result (read array_class) }
     ensures eats { MayEat parser.old parser.new result }
@@ -308,8 +313,8 @@ pub fn array_class<'a, 'b, L: Limit>(
 /// Reads exactly `count` lengths of arrays, and counts each array as a node.
 #[tactic(auto, using(msvc_parser::proofs::RowSteps::lengths_go_on))]
 #[inline(never)]
-pub fn lengths<'a, 'b, L: Limit>(
-    parser: &mut Parser<'a, 'b, L>,
+pub fn lengths<'a, 'b, L: Limit, A: Allocator>(
+    parser: &mut Parser<'a, 'b, L, A>,
     count: u32,
 ) -> Result<&'b [i32], Refused>
     ensures value { ReadsAs (λ zs. zs.now) parser.old parser.new result (read_name (rules.lengths count)) }
@@ -329,8 +334,8 @@ pub fn lengths<'a, 'b, L: Limit>(
 /// Stores an array of these lengths, the outermost first, with qualifiers at each level. It is recursive, since the
 /// borrow checker rejects a reference that a loop reassigns.
 #[tactic(auto, unfolding(msvc_grammar::specs::Grammar::arrays, msvc_nodes::specs::NodeView::type_of))]
-pub fn nested_arrays<'a, 'b, L: Limit>(
-    parser: &mut Parser<'a, 'b, L>,
+pub fn nested_arrays<'a, 'b, L: Limit, A: Allocator>(
+    parser: &mut Parser<'a, 'b, L, A>,
     lengths: &[i32],
     element: &'b Type<'a, 'b>,
     class: StorageClass,
@@ -349,8 +354,8 @@ pub fn nested_arrays<'a, 'b, L: Limit>(
 /// Reads a base type by its second letter.
 #[tactic(auto, using(msvc_parser::proofs::TypeSteps::extended_is), unfolding(msvc_nodes::specs::NodeView::type_of))]
 #[inline(never)]
-pub fn extended_type<'a, 'b, L: Limit>(
-    parser: &mut Parser<'a, 'b, L>,
+pub fn extended_type<'a, 'b, L: Limit, A: Allocator>(
+    parser: &mut Parser<'a, 'b, L, A>,
     q: StorageClass,
 ) -> Result<&'b Type<'a, 'b>, Refused>
     ensures value { ReadsAs type_at parser.old parser.new result (read_name (rules.type_after q.0 extended)) }
@@ -367,8 +372,8 @@ pub fn extended_type<'a, 'b, L: Limit>(
 /// Reads the negated number of a template parameter.
 #[tactic(auto, unfolding(msvc_nodes::specs::NodeView::type_of))]
 #[inline(never)]
-pub fn template_parameter<'a, 'b, L: Limit>(
-    parser: &mut Parser<'a, 'b, L>,
+pub fn template_parameter<'a, 'b, L: Limit, A: Allocator>(
+    parser: &mut Parser<'a, 'b, L, A>,
 ) -> Result<&'b Type<'a, 'b>, Refused>
     ensures value { ReadsAs type_at parser.old parser.new result
         (λ left s. in_node left s (λ left s. and_then (read_name rules.number left s)

@@ -8,14 +8,14 @@ ghost use Rattle.msvc_parser.specs.Stack.{here, outer};
 use crate::stack::Stack;
 use bumpalo::Bump;
 use msvc_nodes::list::List;
-use std::alloc::AllocError;
+use std::alloc::{AllocError, Allocator};
 
 /// How many items a list has room for at first. It is the least by which a list grows.
 const FIRST_ITEMS: usize = 16;
 
-impl<'b, T: Copy> Stack<'b, T> {
+impl<'b, T: Copy, A: Allocator> Stack<'b, T, A> {
     /// Creates an empty list.
-    pub fn new(arena: &'b Bump) -> Stack<'b, T>
+    pub fn new(arena: &'b Bump<A>) -> Stack<'b, T, A>
         ensures here { here result ≡ [] }
         ensures outer { outer result ≡ [] }
     {
@@ -85,7 +85,7 @@ impl<'b, T: Copy> Stack<'b, T> {
 
     /// Copies the part in use into the arena and drops it, or returns nothing if memory runs out.
     #[inline(always)]
-    pub fn end_in(&mut self, arena: &'b Bump, from: usize) -> Option<List<'b, T>>
+    pub fn end_in(&mut self, arena: &'b Bump<A>, from: usize) -> Option<List<'b, T>>
         requires { from ≤ length (outer self.old) }
         ensures items { IfSome result (λ list. list.items.now ≡ here self.old) }
         ensures here { IfSome result (λ _. here self.new ≡ drop from (outer self.old)) }
@@ -100,7 +100,7 @@ impl<'b, T: Copy> Stack<'b, T> {
 /// Requests memory for more items of a full list.
 #[cold]
 #[inline(never)]
-fn make_room<'b, T: Copy>(items: &mut Vec<T, &'b Bump>) -> Result<(), AllocError>
+fn make_room<'b, T: Copy, A: Allocator>(items: &mut Vec<T, &'b Bump<A>>) -> Result<(), AllocError>
     ensures items { items.new.items ≡ items.old.items }
     ensures room { IfOk result (λ _. vec_len items.new < vec_capacity items.new) }
 {
@@ -110,7 +110,7 @@ fn make_room<'b, T: Copy>(items: &mut Vec<T, &'b Bump>) -> Result<(), AllocError
 /// Copies items into the arena, or returns nothing if memory runs out. Up to three, as most lists have, are stored as
 /// one value. A longer list is taken apart and put together again, so that all arms return in registers.
 #[inline(always)]
-fn copied<'b, T: Copy>(arena: &'b Bump, items: &[T]) -> Option<List<'b, T>>
+fn copied<'b, T: Copy, A: Allocator>(arena: &'b Bump<A>, items: &[T]) -> Option<List<'b, T>>
     ensures { IfSome result (λ list. list.items.now ≡ items.now) }
 {
     match items {
@@ -136,7 +136,7 @@ fn copied<'b, T: Copy>(arena: &'b Bump, items: &[T]) -> Option<List<'b, T>>
 
 /// Copies any number of items into the arena, or returns nothing if memory runs out.
 #[inline(never)]
-fn copied_slice<'b, T: Copy>(arena: &'b Bump, items: &[T]) -> Option<List<'b, T>>
+fn copied_slice<'b, T: Copy, A: Allocator>(arena: &'b Bump<A>, items: &[T]) -> Option<List<'b, T>>
     ensures { IfSome result (λ list. list.items.now ≡ items.now) }
 {
     match arena.try_alloc_slice_copy(items) {

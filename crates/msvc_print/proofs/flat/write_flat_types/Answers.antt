@@ -10,7 +10,7 @@ use Rattle.msvc_print.proofs.flat.write_flat_types.Goals.{else-not-is_empty_pack
 
 -- a type that is not flat is left, after its comma
 pub returns-then-not-branch-clause-text : goal.returns-then-not-branch-clause-text
-returns-then-not-branch-clause-text c =
+returns-then-not-branch-clause-text g c =
     let within : c.types.at < length c.args.types.now = omega (arith, c.types-test.true) in
     ap (λ x. add_all x (begun (drop c.types.at c.args.types.now) c.args.flags.0))
     (c.in_ok-write_flat.ensures.other c.if-not-branch.true)
@@ -19,7 +19,7 @@ returns-then-not-branch-clause-text c =
     ∙ c.types.invariant.written
 
 pub types-preserved : goal.types-preserved
-types-preserved c =
+types-preserved g c =
     let ts = c.args.types.now in
     let within : c.types.at < length ts = omega (arith, c.types-test.true) in
     elim c.if-not-is_empty_pack.branch [
@@ -49,11 +49,11 @@ types-preserved c =
 
 -- nothing is left to write after a piece was left out
 pub returns-else-is_whole-clause-text : goal.returns-else-is_whole-clause-text
-returns-else-is_whole-clause-text c =
+returns-else-is_whole-clause-text g c =
     let left_out : is_some c.types.out.text ≡ false = search rules in
     left_out-end c.args.types.now c.types.at _ c.args.flags.0 _ left_out ∙ c.types.invariant.written
 
 pub returns-after-types-clause-text : goal.returns-after-types-clause-text
-returns-after-types-clause-text c =
+returns-after-types-clause-text g c =
     written-end c.args.types.now c.types.at _ c.args.flags.0 _ (omega (arith, c.types-test.false))
     ∙ c.types.invariant.written

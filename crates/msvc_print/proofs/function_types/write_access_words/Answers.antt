@@ -6,7 +6,7 @@ use Rattle.msvc_print.specs.Limited.{add_all}
 use Rattle.msvc_print.proofs.function_types.write_access_words.Goals as goal
 
 pub returns : goal.returns
-returns c =
+returns g c =
     let is : has c.args.flags.0 no_access_specifiers ≡ false = search rules in
     settled_two _ _ _ _ _ c.in_ok-write_member_word.ensures
     (settled_two _ _ _ _ _ c.in_ok-write_member_word-2.ensures c.in_ok-write_member_word-3.ensures)

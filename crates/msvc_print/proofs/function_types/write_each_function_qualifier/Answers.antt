@@ -7,14 +7,14 @@ use Rattle.msvc_print.proofs.function_types.write_each_function_qualifier.Goals 
 
 -- no bit is set
 pub returns-then-is_empty : goal.returns-then-is_empty
-returns-then-is_empty c =
+returns-then-is_empty g c =
     let none : c.args.set.0 ≡ 0 = search rules in
     sym (ap (λ set. add_all c.args.out.now (each_function_qualifier set c.args.flags.0)) none
     ∙ ap (add_all c.args.out.now) (each_function_qualifier-none c.args.flags.0) ∙ add_all-none _)
 
 pub returns : goal.returns
 unfolding each_function_qualifier
-returns c = settled_two _ _ _ _ _ c.in_ok-write_qualifier.ensures
+returns g c = settled_two _ _ _ _ _ c.in_ok-write_qualifier.ensures
     (settled_two _ _ _ _ _ c.in_ok-write_qualifier-2.ensures
     (settled_two _ _ _ _ _ c.in_ok-write_wide_qualifier.ensures
     (settled_two _ _ _ _ _ c.in_ok-write_qualifier-3.ensures

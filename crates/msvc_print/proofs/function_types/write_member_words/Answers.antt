@@ -4,5 +4,5 @@ use Rattle.msvc_print.proofs.function_types.write_member_words.Goals as goal
 
 pub returns : goal.returns
 unfolding member_words
-returns c = settled_two _ _ _ _ _ c.in_ok-write_member_word.ensures
+returns g c = settled_two _ _ _ _ _ c.in_ok-write_member_word.ensures
     (settled_two _ _ _ _ _ c.in_ok-write_access_words.ensures c.in_ok-write_kind_words.ensures)

@@ -3,7 +3,7 @@ use Rattle.msvc_print.proofs.OperatorNames.{settled-base_class}
 use Rattle.msvc_print.proofs.operators.write_base_class.Goals as goal
 
 pub returns : goal.returns
-returns c = settled-base_class _ _ _ _ _ _ _ _ _ _ _ _ _ _ _ c.args.flags.0
+returns g c = settled-base_class _ _ _ _ _ _ _ _ _ _ _ _ _ _ _ c.args.flags.0
     c.in_ok-write_spaced.ensures c.in_ok-write_number.ensures c.in_ok-write_listed.ensures
     c.in_ok-write_listed-2.ensures c.in_ok-write_listed-3.ensures c.in_ok-write_text.ensures
     (search rules) (search rules) (search rules) (search rules)

@@ -10,7 +10,7 @@ use Rattle.msvc_print.proofs.Stack.{pushed_one, work_one}
 use Rattle.msvc_print.proofs.qualified_names.print_in_scope.Goals as goal
 
 pub returns-then-left-eq0-clause-text : goal.returns-then-left-eq0-clause-text
-returns-then-left-eq0-clause-text c =
+returns-then-left-eq0-clause-text g c =
     let name = name_pieces (name_of c.args.name.now) true c.args.flags.0 in
     c.in_ok-print_name.ensures.text
     ∙ ap (λ x. finished c.args.stack.now.items (add_all x name) c.args.flags.0)
@@ -20,7 +20,7 @@ returns-then-left-eq0-clause-text c =
 
 -- a piece was left out
 pub returns-then-not-is_whole-clause-text : goal.returns-then-not-is_whole-clause-text
-returns-then-not-is_whole-clause-text c =
+returns-then-not-is_whole-clause-text g c =
     let name = name_pieces (name_of c.args.name.now) true c.args.flags.0 in
     let left_out : is_some c.write_spelled_names.new.out.text ≡ false = search rules in
     ap (λ x. finished c.args.stack.now.items x c.args.flags.0)
@@ -29,7 +29,7 @@ returns-then-not-is_whole-clause-text c =
     ∙ sym (add_all-append c.args.out.now _ name))
 
 pub returns-clause-text : goal.returns-clause-text
-returns-clause-text c =
+returns-clause-text g c =
     let name = name_pieces (name_of c.args.name.now) true c.args.flags.0 in
     c.in_ok-print_remaining_names.ensures.text
     ∙ pushed_one _ _ _ _ _ c.in_ok-push.ensures
@@ -38,7 +38,7 @@ returns-clause-text c =
     ∙ ap (λ x. finished c.args.stack.now.items x c.args.flags.0) (sym (add_all-append c.args.out.now _ name))
 
 pub returns-clause-lighter : goal.returns-clause-lighter
-returns-clause-lighter c = omega (
+returns-clause-lighter g c = omega (
   arith,
   work_one _ _ _ c.in_ok-push.ensures,
   c.in_ok-print_remaining_names.ensures.lighter,

@@ -9,22 +9,22 @@ use Rattle.msvc_print.proofs.qualified_names.print_path.Goals as goal
 
 pub returns-in-empty-clause-text : goal.returns-in-empty-clause-text
 unfolding scope_pieces
-returns-in-empty-clause-text c =
+returns-in-empty-clause-text g c =
     printed_none _ _ _ _ (ap (λ ns. scope_path ns c.args.flags.0) (names_in-none _ c.in-empty.len_below))
 
 pub returns-in-empty-clause-lighter : goal.returns-in-empty-clause-lighter
-returns-in-empty-clause-lighter c = omega (arith, scope_weight-positive c.args.names.now)
+returns-in-empty-clause-lighter g c = omega (arith, scope_weight-positive c.args.names.now)
 
 pub returns-in_ok-print_scope-in-len1-up-clause-text : goal.returns-in_ok-print_scope-in-len1-up-clause-text
 unfolding scope_pieces
-returns-in_ok-print_scope-in-len1-up-clause-text c =
+returns-in_ok-print_scope-in-len1-up-clause-text g c =
     c.in_ok-print_scope-in-len1-up.ensures.text ∙ pushed_one _ _ _ _ _ c.in_ok-push-in-len1-up.ensures
     ∙ ap (λ x. finished c.args.stack.now.items x c.args.flags.0)
     (sym (add_all-append c.args.out.now _ _) ∙ ap (add_all c.args.out.now)
     (sym (ap (λ ns. scope_path ns c.args.flags.0) (names_in-first _ _ c.in-len1-up.len_at_least))))
 
 pub returns-in_ok-print_scope-in-len1-up-clause-lighter : goal.returns-in_ok-print_scope-in-len1-up-clause-lighter
-returns-in_ok-print_scope-in-len1-up-clause-lighter c = omega (
+returns-in_ok-print_scope-in-len1-up-clause-lighter g c = omega (
   arith,
   c.in_ok-print_scope-in-len1-up.ensures.lighter,
   work-first c.args.names.now _ _ _ _ c.in-len1-up.len_at_least c.in_ok-push-in-len1-up.ensures,

@@ -10,16 +10,16 @@ use Rattle.msvc_print.proofs.Stack.{printed_none, pushed_one, work_one}
 use Rattle.msvc_print.proofs.qualified_names.print_remaining_names.Goals as goal
 
 pub returns-then-left-eq0-clause-text : goal.returns-then-left-eq0-clause-text
-returns-then-left-eq0-clause-text c =
+returns-then-left-eq0-clause-text g c =
     printed_none c.args.stack.now.items _ c.args.flags.0 _
     (ap (λ k. scope_prefix (names_in (take k c.args.names.now)) c.args.flags.0) c.if-left-eq0.true
     ∙ scope_prefix-none c.args.names.now c.args.flags.0)
 
 pub returns-then-left-eq0-clause-lighter : goal.returns-then-left-eq0-clause-lighter
-returns-then-left-eq0-clause-lighter c = omega (arith, scope_weight-positive c.args.names.now)
+returns-then-left-eq0-clause-lighter g c = omega (arith, scope_weight-positive c.args.names.now)
 
 pub returns-clause-text : goal.returns-clause-text
-returns-clause-text c =
+returns-clause-text g c =
     let some : 0 < c.args.left = omega (arith, c.if-left-eq0.false) in
     c.in_ok-print_name.ensures.text
     ∙ pushed_one _ _ _ _ _ c.in_ok-push.ensures
@@ -29,7 +29,7 @@ returns-clause-text c =
     (sym (scope_prefix-left c.args.names.now _ c.args.left c.args.flags.0 some c.requires)))
 
 pub returns-clause-lighter : goal.returns-clause-lighter
-returns-clause-lighter c =
+returns-clause-lighter g c =
     let some : 0 < c.args.left = omega (arith, c.if-left-eq0.false) in
     omega (
       arith,

@@ -7,7 +7,7 @@ use Rattle.msvc_print.specs.Work.{Prints}
 use Rattle.msvc_print.proofs.qualified_names.print_symbol.Goals as goal
 
 pub returns-clause-text : goal.returns-clause-text
-returns-clause-text c =
+returns-clause-text g c =
     let s = c.args.symbol.now in
     subst (λ kind. OnOk c.print_symbol_as.result
     (Prints (symbol_as kind (name_of s.name.now) (names_in s.scope.now) (type_or_none c.args.symbol_type)

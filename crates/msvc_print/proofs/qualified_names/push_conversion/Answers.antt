@@ -9,7 +9,7 @@ use Rattle.msvc_print.proofs.qualified_names.push_conversion.Goals as goal
 
 pub returns-in_ok-push-in-Some-3-clause-text : goal.returns-in_ok-push-in-Some-3-clause-text
 unfolding conversion_to
-returns-in_ok-push-in-Some-3-clause-text c =
+returns-in_ok-push-in-Some-3-clause-text g c =
     let name = name_pieces (name_of c.args.name.now) true c.args.flags.0 in
     let is : Some (type_of c.in-Some.returned.now) ≡ member_return (type_or_none c.args.symbol_type)
     = c.in-Some.ensures in
@@ -20,7 +20,7 @@ returns-in_ok-push-in-Some-3-clause-text c =
 
 pub returns-in_ok-push-in-Some-3-clause-lighter : goal.returns-in_ok-push-in-Some-3-clause-lighter
 unfolding return_weight
-returns-in_ok-push-in-Some-3-clause-lighter c =
+returns-in_ok-push-in-Some-3-clause-lighter g c =
     let is : Some (type_of c.in-Some.returned.now) ≡ member_return (type_or_none c.args.symbol_type)
     = c.in-Some.ensures in
     omega (
@@ -34,7 +34,7 @@ returns-in_ok-push-in-Some-3-clause-lighter c =
 
 pub returns-in_ok-push-in-None-clause-text : goal.returns-in_ok-push-in-None-clause-text
 unfolding conversion_to
-returns-in_ok-push-in-None-clause-text c =
+returns-in_ok-push-in-None-clause-text g c =
     let name = name_pieces (name_of c.args.name.now) true c.args.flags.0 in
     let is : None ≡ member_return (type_or_none c.args.symbol_type) = c.in-None.ensures in
     λ out. pushed_one _ _ _ out _ c.in_ok-push-in-None.ensures
@@ -42,4 +42,4 @@ returns-in_ok-push-in-None-clause-text c =
     ∙ sym (conversion-return (type_or_none c.args.symbol_type) name c.args.flags.0))
 
 pub returns-in_ok-push-in-None-clause-lighter : goal.returns-in_ok-push-in-None-clause-lighter
-returns-in_ok-push-in-None-clause-lighter c = omega (arith, work_one _ _ _ c.in_ok-push-in-None.ensures)
+returns-in_ok-push-in-None-clause-lighter g c = omega (arith, work_one _ _ _ c.in_ok-push-in-None.ensures)

@@ -7,7 +7,7 @@ use Rattle.msvc_print.specs.Work.{finished}
 use Rattle.msvc_print.proofs.qualified_names.push_typed_symbol.Goals as goal
 
 pub returns-clause-text : goal.returns-clause-text
-returns-clause-text c =
+returns-clause-text g c =
     λ out. c.in_ok-push_left.ensures.text out ∙ pushed_one _ _ _ _ _ c.in_ok-push.ensures
     ∙ c.in_ok-push_right.ensures.text _
     ∙ ap (λ x. finished c.args.stack.now.items x c.args.flags.0)
@@ -15,7 +15,7 @@ returns-clause-text c =
     ∙ same_pieces _ out _ _ _ (sym (symbol_pieces-halves _ _ (type_of c.args.tree.now.symbol_type.now) c.args.flags.0))
 
 pub returns-clause-lighter : goal.returns-clause-lighter
-returns-clause-lighter c = omega (
+returns-clause-lighter g c = omega (
   arith,
   c.in_ok-push_left.ensures.lighter,
   work_one _ _ _ c.in_ok-push.ensures,

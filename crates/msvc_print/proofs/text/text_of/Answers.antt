@@ -5,6 +5,6 @@ use Rattle.msvc_print.proofs.text.text_of.Goals as goal
 
 -- bytes that are a text show no character as U+FFFD
 pub returns-in-Ok-clause-lossy : goal.returns-in-Ok-clause-lossy
-returns-in-Ok-clause-lossy c = λ bytes whole.
+returns-in-Ok-clause-lossy g c = λ bytes whole.
     let same : string_bytes c.in-Ok.text ≡ bytes = search rules in
     sym (utf8_lossy-IsUtf8 _ (IsUtf8-string_bytes c.in-Ok.text)) ∙ ap utf8_lossy same

@@ -7,6 +7,6 @@ use Rattle.msvc_print.proofs.text.write_qualifiers.Goals as goal
 -- no bit is set
 pub returns-then-is_empty : goal.returns-then-is_empty
 unfolding qualifiers
-returns-then-is_empty c =
+returns-then-is_empty g c =
     let none : c.args.set.0 ≡ 0 = search rules in
     sym (ap (λ set. add_all c.args.out.now (qualifiers set c.args.flags.0)) none ∙ add_all-none _)

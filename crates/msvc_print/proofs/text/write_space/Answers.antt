@@ -3,8 +3,8 @@ use Rattle.msvc_print.proofs.Longer.{spaced, unspaced}
 use Rattle.msvc_print.proofs.text.write_space.Goals as goal
 
 pub returns-then-not-is_written_after : goal.returns-then-not-is_written_after
-returns-then-not-is_written_after c =
+returns-then-not-is_written_after g c =
     unspaced _ _ c.args.kind _ c.last_byte.ensures.last c.last_byte.ensures.fits (search rules)
 
 pub returns : goal.returns
-returns c = c.in_ok-write_text.ensures ∙ spaced _ _ c.args.kind _ c.last_byte.ensures.last (search rules)
+returns g c = c.in_ok-write_text.ensures ∙ spaced _ _ c.args.kind _ c.last_byte.ensures.last (search rules)

@@ -7,7 +7,7 @@ use Rattle.msvc_print.specs.Pieces.{text}
 use Rattle.msvc_print.proofs.text.write_text.Goals as goal
 
 pub returns : goal.returns
-returns c =
+returns g c =
     let fields = c.out.inside in
     let before = take fields.written fields.bytes.items in
     let end = fields.written + length c.args.bytes.now in

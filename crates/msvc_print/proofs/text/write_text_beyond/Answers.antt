@@ -6,7 +6,7 @@ use Rattle.msvc_print.specs.Pieces.{text}
 use Rattle.msvc_print.proofs.text.write_text_beyond.Goals as goal
 
 pub returns-then-bytes-out : goal.returns-then-bytes-out
-returns-then-bytes-out c =
+returns-then-bytes-out g c =
     let fields = c.out.inside in
     let before = take fields.written fields.bytes.items in
     left_out _ fields.whole before (text c.args.bytes.now) (omega (
@@ -19,7 +19,7 @@ returns-then-bytes-out c =
     ∙ ap (λ t. add_all t (text c.args.bytes.now ∷ [])) c.out.view_is
 
 pub returns : goal.returns
-returns c =
+returns g c =
     let fields = c.out.inside in
     let piece = c.args.bytes.now in
     let before = take fields.written fields.bytes.items in

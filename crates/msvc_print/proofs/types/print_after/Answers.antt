@@ -12,7 +12,7 @@ use Rattle.msvc_print.proofs.types.print_after.Goals as goal
 
 pub returns-in_ok-push_after-in-Array-clause-text : goal.returns-in_ok-push_after-in-Array-clause-text
 unfolding type_of
-returns-in_ok-push_after-in-Array-clause-text c =
+returns-in_ok-push_after-in-Array-clause-text g c =
     let w = c.in-Array in
     let out = c.args.out.now in
     c.in_ok-push_after-in-Array.ensures.text _ ∙ ap (λ x. finished c.args.stack.now.items x c.args.flags.0)
@@ -23,7 +23,7 @@ returns-in_ok-push_after-in-Array-clause-text c =
 pub returns-in_ok-print_member_pointer_end-in-MemberPointer-clause-text :
     goal.returns-in_ok-print_member_pointer_end-in-MemberPointer-clause-text
 unfolding after
-returns-in_ok-print_member_pointer_end-in-MemberPointer-clause-text c =
+returns-in_ok-print_member_pointer_end-in-MemberPointer-clause-text g c =
     let w = c.in-MemberPointer in
     c.in_ok-print_member_pointer_end-in-MemberPointer.ensures.text
     ∙ same_pieces _ _ _ _ _ (sym (ap (λ t. after t c.args.pointed c.args.flags.0)
@@ -32,7 +32,7 @@ returns-in_ok-print_member_pointer_end-in-MemberPointer-clause-text c =
 pub returns-in_ok-print_member_pointer_end-in-MemberPointer-clause-lighter :
     goal.returns-in_ok-print_member_pointer_end-in-MemberPointer-clause-lighter
 unfolding type_weight
-returns-in_ok-print_member_pointer_end-in-MemberPointer-clause-lighter c =
+returns-in_ok-print_member_pointer_end-in-MemberPointer-clause-lighter g c =
     let w = c.in-MemberPointer in
     omega (
       arith,
@@ -42,7 +42,7 @@ returns-in_ok-print_member_pointer_end-in-MemberPointer-clause-lighter c =
 
 pub returns-in-Table-clause-text : goal.returns-in-Table-clause-text
 unfolding after
-returns-in-Table-clause-text c =
+returns-in-Table-clause-text g c =
     let w = c.in-Table in
     subst (λ t. OnOk c.print_table_end.result (Prints (after t c.args.pointed c.args.flags.0) c.args.flags.0
     c.args.stack.now.items c.args.out.now c.print_table_end.new.stack.items
@@ -51,7 +51,7 @@ returns-in-Table-clause-text c =
 
 pub returns-in-Table-clause-lighter : goal.returns-in-Table-clause-lighter
 unfolding type_weight
-returns-in-Table-clause-lighter c =
+returns-in-Table-clause-lighter g c =
     let w = c.in-Table in
     subst (λ t. OnOk c.print_table_end.result (Lightens (type_weight t) c.args.stack.now.items
     c.print_table_end.new.stack.items))

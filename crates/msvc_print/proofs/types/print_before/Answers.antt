@@ -9,7 +9,7 @@ use Rattle.msvc_print.proofs.types.print_before.Goals as goal
 
 pub returns-in-Tagged-clause-text : goal.returns-in-Tagged-clause-text
 unfolding before
-returns-in-Tagged-clause-text c =
+returns-in-Tagged-clause-text g c =
     let w = c.in-Tagged in
     subst (λ t. OnOk c.print_tagged.result (Prints (before t c.args.pointed c.args.flags.0) c.args.flags.0
     c.args.stack.now.items c.args.out.now c.print_tagged.new.stack.items c.print_tagged.new.out))
@@ -18,7 +18,7 @@ returns-in-Tagged-clause-text c =
 
 pub returns-in-Tagged-clause-lighter : goal.returns-in-Tagged-clause-lighter
 unfolding type_weight
-returns-in-Tagged-clause-lighter c =
+returns-in-Tagged-clause-lighter g c =
     let w = c.in-Tagged in
     subst (λ t. OnOk c.print_tagged.result (Lightens (type_weight t) c.args.stack.now.items
     c.print_tagged.new.stack.items))

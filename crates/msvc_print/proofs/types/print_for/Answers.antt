@@ -12,12 +12,12 @@ use Rattle.msvc_print.proofs.types.print_for.Goals as goal
 
 pub returns-in-empty-clause-text : goal.returns-in-empty-clause-text
 unfolding table_end
-returns-in-empty-clause-text c =
+returns-in-empty-clause-text g c =
     printed_none _ _ _ _ (ap (λ ns. table_end Functions ns (scope_path (names_in c.args.names.now) c.args.flags.0))
     (names_in-none _ c.in-empty.len_below))
 
 pub returns-in_ok-print_path-in-len1-up-clause-text : goal.returns-in_ok-print_path-in-len1-up-clause-text
-returns-in_ok-print_path-in-len1-up-clause-text c =
+returns-in_ok-print_path-in-len1-up-clause-text g c =
     let path = scope_path (names_in c.args.names.now) c.args.flags.0 in
     c.in_ok-print_path-in-len1-up.ensures.text ∙ pushed_one _ _ _ _ _ c.in_ok-push-in-len1-up.ensures
     ∙ ap (λ x. finished c.args.stack.now.items x c.args.flags.0)
@@ -28,5 +28,5 @@ returns-in_ok-print_path-in-len1-up-clause-text c =
     (sym (table_end-some c.args.names.now path c.in-len1-up.len_at_least)))
 
 pub returns-in_ok-print_path-in-len1-up-clause-lighter : goal.returns-in_ok-print_path-in-len1-up-clause-lighter
-returns-in_ok-print_path-in-len1-up-clause-lighter c =
+returns-in_ok-print_path-in-len1-up-clause-lighter g c =
     omega (arith, c.in_ok-print_path-in-len1-up.ensures.lighter, work_one _ _ _ c.in_ok-push-in-len1-up.ensures)

@@ -5,6 +5,6 @@ use Rattle.msvc_print.proofs.types.print_function.Goals as goal
 
 -- a piece was left out
 pub returns-then-not-is_whole-clause-text : goal.returns-then-not-is_whole-clause-text
-returns-then-not-is_whole-clause-text c =
+returns-then-not-is_whole-clause-text g c =
     let left_out : is_some c.args.out.now.text ≡ false = search rules in
     ap (λ x. finished c.args.stack.now.items x c.args.flags.0) (add_all-not_whole _ _ left_out)

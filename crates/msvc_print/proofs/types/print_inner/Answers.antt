@@ -8,7 +8,7 @@ use Rattle.msvc_print.proofs.types.print_inner.Goals as goal
 
 pub returns-in_ok-print_tagged-in-Tagged-clause-text : goal.returns-in_ok-print_tagged-in-Tagged-clause-text
 unfolding before
-returns-in_ok-print_tagged-in-Tagged-clause-text c =
+returns-in_ok-print_tagged-in-Tagged-clause-text g c =
     let w = c.in-Tagged in
     subst (λ t. Prints (before t c.args.pointed c.args.flags.0) c.args.flags.0 c.args.stack.now.items
     c.args.out.now c.print_tagged.new.stack.items c.print_tagged.new.out)
@@ -17,7 +17,7 @@ returns-in_ok-print_tagged-in-Tagged-clause-text c =
 
 pub returns-in_ok-print_tagged-in-Tagged-clause-lighter : goal.returns-in_ok-print_tagged-in-Tagged-clause-lighter
 unfolding type_weight
-returns-in_ok-print_tagged-in-Tagged-clause-lighter c =
+returns-in_ok-print_tagged-in-Tagged-clause-lighter g c =
     let w = c.in-Tagged in
     omega (
       arith,

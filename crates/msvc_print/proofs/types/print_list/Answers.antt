@@ -9,25 +9,25 @@ use Rattle.msvc_print.proofs.types.print_list.Goals as goal
 
 -- a piece was left out
 pub returns-then-not-is_whole-clause-text : goal.returns-then-not-is_whole-clause-text
-returns-then-not-is_whole-clause-text c =
+returns-then-not-is_whole-clause-text g c =
     let left_out : is_some c.write_flat_types.new.out.text ≡ false = search rules in
     ap (λ x. finished c.args.stack.now.items x c.args.flags.0) (add_all-not_whole _ _ left_out
     ∙ written-rest c.args.types.now c.in_ok-at.at _ c.args.end c.args.flags.0 _ _ c.in_ok-at.ensures.text)
 
 pub returns-then-not-is_whole-clause-lighter : goal.returns-then-not-is_whole-clause-lighter
-returns-then-not-is_whole-clause-lighter c = omega (arith, types_weight-positive c.args.types.now)
+returns-then-not-is_whole-clause-lighter g c = omega (arith, types_weight-positive c.args.types.now)
 
 pub returns-in_ok-write_list_end-in-empty-clause-text : goal.returns-in_ok-write_list_end-in-empty-clause-text
-returns-in_ok-write_list_end-in-empty-clause-text c =
+returns-in_ok-write_list_end-in-empty-clause-text g c =
     ap (λ x. finished c.args.stack.now.items x c.args.flags.0) (c.in_ok-write_list_end-in-empty.ensures
     ∙ rest-written _ _ _ _ c.in-empty.len_below
     ∙ written-rest c.args.types.now c.in_ok-at.at _ c.args.end c.args.flags.0 _ _ c.in_ok-at.ensures.text)
 
 pub returns-in_ok-write_list_end-in-empty-clause-lighter : goal.returns-in_ok-write_list_end-in-empty-clause-lighter
-returns-in_ok-write_list_end-in-empty-clause-lighter c = omega (arith, types_weight-positive c.args.types.now)
+returns-in_ok-write_list_end-in-empty-clause-lighter g c = omega (arith, types_weight-positive c.args.types.now)
 
 pub returns-in_ok-print_parameter-in-len1-up-clause-text : goal.returns-in_ok-print_parameter-in-len1-up-clause-text
-returns-in_ok-print_parameter-in-len1-up-clause-text c =
+returns-in_ok-print_parameter-in-len1-up-clause-text g c =
     c.in_ok-print_parameter-in-len1-up.ensures.text ∙ pushed_one _ _ _ _ _ c.in_ok-push-in-len1-up.ensures
     ∙ ap (λ x. finished c.args.stack.now.items x c.args.flags.0)
     (rest-begun _ _ c.args.end c.args.flags.0 _ c.in-len1-up.len_at_least
@@ -35,7 +35,7 @@ returns-in_ok-print_parameter-in-len1-up-clause-text c =
 
 pub returns-in_ok-print_parameter-in-len1-up-clause-lighter :
     goal.returns-in_ok-print_parameter-in-len1-up-clause-lighter
-returns-in_ok-print_parameter-in-len1-up-clause-lighter c = omega (
+returns-in_ok-print_parameter-in-len1-up-clause-lighter g c = omega (
   arith,
   work_one _ _ _ c.in_ok-push-in-len1-up.ensures,
   lightened-first _ _ _ _ c.in-len1-up.len_at_least c.in_ok-print_parameter-in-len1-up.ensures.lighter,

@@ -4,7 +4,7 @@ use Rattle.msvc_print.specs.Work.{finished}
 use Rattle.msvc_print.proofs.types.print_member_pointer_end.Goals as goal
 
 pub returns-clause-text : goal.returns-clause-text
-returns-clause-text c =
+returns-clause-text g c =
     c.in_ok-print_parameters.ensures.text ∙ c.in_ok-push_after.ensures.text _ ∙ c.in_ok-push_const.ensures.text _
     ∙ ap (λ x. finished c.args.stack.now.items x c.args.flags.0)
     (settled-member_pointer_end _ _ c.args.function.now.parameters.now c.args.function.now.qualifiers.0

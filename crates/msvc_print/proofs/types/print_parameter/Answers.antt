@@ -10,7 +10,7 @@ use Rattle.msvc_print.proofs.Stack.{same_pieces}
 use Rattle.msvc_print.proofs.types.print_parameter.Goals as goal
 
 pub returns-in_ok-print_tagged-in-Tagged-clause-text : goal.returns-in_ok-print_tagged-in-Tagged-clause-text
-returns-in_ok-print_tagged-in-Tagged-clause-text c =
+returns-in_ok-print_tagged-in-Tagged-clause-text g c =
     let w = c.in-Tagged in
     rw (sym c.tag_word-word.ensures) c.in_ok-print_tagged-in-Tagged.ensures.text
     ∙ same_pieces _ _ _ _ _ (sym (ap (λ t. before t false c.args.flags.0 ++ after t false c.args.flags.0)
@@ -18,7 +18,7 @@ returns-in_ok-print_tagged-in-Tagged-clause-text c =
 
 pub returns-in_ok-print_tagged-in-Tagged-clause-lighter : goal.returns-in_ok-print_tagged-in-Tagged-clause-lighter
 unfolding type_weight
-returns-in_ok-print_tagged-in-Tagged-clause-lighter c =
+returns-in_ok-print_tagged-in-Tagged-clause-lighter g c =
     let w = c.in-Tagged in
     omega (
       arith,
@@ -27,12 +27,12 @@ returns-in_ok-print_tagged-in-Tagged-clause-lighter c =
     )
 
 pub returns-in_ok-print_before-in_default-clause-text : goal.returns-in_ok-print_before-in_default-clause-text
-returns-in_ok-print_before-in_default-clause-text c =
+returns-in_ok-print_before-in_default-clause-text g c =
     c.in_ok-print_before-in_default.ensures.text ∙ c.in_ok-push_after-in_default.ensures.text _
     ∙ ap (λ x. finished c.args.stack.now.items x c.args.flags.0) (sym (add_all-append c.args.out.now _ _))
 
 pub returns-in_ok-print_before-in_default-clause-lighter : goal.returns-in_ok-print_before-in_default-clause-lighter
-returns-in_ok-print_before-in_default-clause-lighter c = omega (
+returns-in_ok-print_before-in_default-clause-lighter g c = omega (
   arith,
   c.in_ok-print_before-in_default.ensures.lighter,
   c.in_ok-push_after-in_default.ensures.lighter,
