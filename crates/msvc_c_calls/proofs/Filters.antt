@@ -155,6 +155,13 @@ moved flags text old new made status is total count s t n into =
     let New : List ℕ → Type 0 = λ xs. IsFilteredInto flags text old xs is count in
     subst Status (sym s) (subst Total (sym t) (subst New (sym n) into))
 
+-- what it returns and writes if memory runs out
+pub filter_lost : (flags : ℕ) (text old others new : List ℕ) (status total : ℕ) → length others ≡ length old → status ≡ 3
+    → total ≡ length out_of_memory_text → IsWritten out_of_memory_text others new
+    → IsFilteredInto flags text old new status total
+filter_lost flags text old others new status total held s t written =
+    moved flags text old new new status 3 total _ s t refl (not_filtered others held written)
+
 -- what a call of the filter from C returns and writes, from what the library did and how that was ended
 pub filtered_call : {A E : Type 0} (count written : A → ℕ) (r : Result A E) (flags bits : ℕ)
     (text old front new : List ℕ) (room status total : ℕ) → bits ≡ flags → room ≡ length old - 1
@@ -171,6 +178,5 @@ filtered_call count written (Ok a) flags bits text old front new room status tot
     moved flags text old new _ status 0 total (count a) after.0 after.1 after.2
     (ended flags bits text old front f.0 room (written a) (count a) same f.1 f.2 last held f.3 f.4)
 filtered_call count written (Err e) flags bits text old front new room status total same last held f after failed =
-    let others = front ++ drop room old in
-    moved flags text old new new status 3 total _ failed.0 failed.1 refl
-    (not_filtered others (kept-length front old room held) failed.2)
+    filter_lost flags text old (front ++ drop room old) new status total (kept-length front old room held) failed.0
+    failed.1 failed.2

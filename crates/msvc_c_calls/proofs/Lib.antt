@@ -1,2 +1,3 @@
 mod Cuts
 pub mod Filters
+pub mod Refused

@@ -1,20 +1,22 @@
 //! The calls in lent memory.
 
-ghost use Rattle.std.specs.Prelude.{◌≡◌, ℕ, IfSome, List, Some, length};
-ghost use Rattle.msvc_demangler.specs.Failures.{IsFailureUnder, failure_limit, failure_offset};
+ghost use Rattle.std.specs.Prelude.{◌≡◌, ◌≢◌, ◌++◌, ℕ, IfNone, IfOk, IfSome, List, drop, length};
+ghost use Rattle.msvc_parser.specs.declared.refusal.Refusal.TheVariants as refusal;
+ghost use Rattle.msvc_demangler.specs.declared.failure.Failure.TheVariants.{Unread};
+ghost use Rattle.msvc_demangler.specs.Failures.{IsFailure, IsFailureText, IsInside, limit_of_failure, offset_of_failure};
+ghost use Rattle.msvc_demangler.specs.Filtered.{AreOnlyParts, Part, fitting, text_of_parts};
 ghost use Rattle.msvc_demangler.specs.Limits.{limits_of};
 ghost use Rattle.msvc_c_calls.specs.Buffers.{IsWritten};
 ghost use Rattle.msvc_c_calls.specs.Calls.{IsFilteredInto, IsFound, IsMeasured, IsStatus, out_of_memory_text};
 
 use crate::memory::{arena_in, demangler_in, measurer_in};
+use bumpalo::Bump;
 use lent_memory::Lent;
 use msvc_c_calls::{
-    CallResult, NOT_UTF8, NOT_UTF8_TEXT, OK, OUT_OF_MEMORY, OUT_OF_MEMORY_TEXT, end_filtered, status_of,
-    write,
+    CallResult, OK, OUT_OF_MEMORY, OUT_OF_MEMORY_TEXT, end_filtered, status_of, write,
 };
-use msvc_demangler::{DemangleFlags, Failure, filter_slice_in};
-use std::alloc::AllocError;
-use std::str::from_utf8;
+use msvc_demangler::{DemangleFlags, Failure, Filtered, filter_slice_in};
+use std::alloc::{AllocError, Allocator};
 
 /// Writes that memory ran out, and returns that.
 pub(crate) fn out_of_memory(out: &mut [u8]) -> CallResult
@@ -40,31 +42,7 @@ pub(crate) fn unmeasured(status: u32, offset: usize) -> CallResult
 }
 
 /// Writes the declaration of a symbol, or why it has none, into `out`.
-pub(crate) fn find(
-    arena: &Lent,
-    text: &Lent,
-    symbol: &[u8],
-    flags: DemangleFlags,
-    max_nodes: usize,
-    max_bytes: usize,
-    out: &mut [u8],
-) -> CallResult
-    ensures { (shown : List ℕ)
-        × IsFound (limits_of max_nodes max_bytes) symbol.now flags.0 result.status result.offset shown
-        × (result.length ≡ length shown) × IsWritten shown out.old out.new }
-{
-    match from_utf8(symbol) {
-        Ok(symbol) => declare(arena, text, symbol, flags, max_nodes, max_bytes, out),
-        Err(fault) => CallResult {
-            status: NOT_UTF8,
-            offset: fault.valid_up_to(),
-            length: write(NOT_UTF8_TEXT, out),
-        },
-    }
-}
-
-/// Does the same for a symbol that is UTF-8.
-fn declare(
+pub(crate) fn declare(
     arena: &Lent,
     text: &Lent,
     symbol: &str,
@@ -104,39 +82,48 @@ fn tell(
     max_bytes: usize,
     out: &mut [u8],
 ) -> CallResult
-    requires { IsFailureUnder (limits_of max_nodes max_bytes) symbol.now flags.0 failure }
+    requires failed { IsFailure (limits_of max_nodes max_bytes) symbol.now flags.0 failure }
+    requires inside { IsInside symbol.now failure }
     ensures { (shown : List ℕ)
         × IsFound (limits_of max_nodes max_bytes) symbol.now flags.0 result.status result.offset shown
         × (result.length ≡ length shown) × IsWritten shown out.old out.new }
 {
     let (Some((status, offset)), Some(arena)) = (
-        rejection(failure, max_nodes, max_bytes),
+        rejection(failure, symbol, max_nodes, max_bytes),
         arena_in(memory),
     ) else {
         return out_of_memory(out);
     };
-    match failure.text(&arena, symbol.as_bytes()) {
-        Ok(text) => CallResult {
+    match write_failure(&arena, failure, symbol, out) {
+        Some(length) => CallResult {
             status,
             offset,
-            length: write(&text, out),
+            length,
         },
-        Err(_) => out_of_memory(out),
+        None => out_of_memory(out),
+    }
+}
+
+/// Writes the text of a failure, which is made in the arena, and returns its length in bytes.
+fn write_failure<A: Allocator>(
+    arena: &Bump<A>,
+    failure: Failure,
+    symbol: &str,
+    out: &mut [u8],
+) -> Option<usize>
+    requires { IsInside symbol.now failure }
+    ensures none { IfNone result (out.new ≡ out.old) }
+    ensures some { IfSome result (λ count. (shown : List ℕ) × IsFailureText symbol.now failure shown
+        × (count ≡ length shown) × IsWritten shown out.old out.new) }
+{
+    match failure.text(arena, symbol) {
+        Ok(text) => Some(write(&text, out)),
+        Err(_) => None,
     }
 }
 
 /// Measures how many bytes a symbol takes.
-pub(crate) fn measure(memory: &Lent, symbol: &[u8], max_nodes: usize) -> CallResult
-    ensures { IsMeasured (limits_of max_nodes usize.MAX) symbol.now result.status result.offset result.length }
-{
-    match from_utf8(symbol) {
-        Ok(symbol) => measure_text(memory, symbol, max_nodes),
-        Err(fault) => unmeasured(NOT_UTF8, fault.valid_up_to()),
-    }
-}
-
-/// Does the same for a symbol that is UTF-8.
-fn measure_text(memory: &Lent, symbol: &str, max_nodes: usize) -> CallResult
+pub(crate) fn measure(memory: &Lent, symbol: &str, max_nodes: usize) -> CallResult
     ensures { IsMeasured (limits_of max_nodes usize.MAX) symbol.now result.status result.offset result.length }
 {
     let Some(mut demangler) = measurer_in(memory) else {
@@ -148,7 +135,7 @@ fn measure_text(memory: &Lent, symbol: &str, max_nodes: usize) -> CallResult
             offset: 0,
             length,
         },
-        Err(failure) => match rejection(failure, max_nodes, usize::MAX) {
+        Err(refusal) => match rejection(Failure::Unread(refusal), symbol, max_nodes, usize::MAX) {
             Some((status, offset)) => unmeasured(status, offset),
             None => unmeasured(OUT_OF_MEMORY, 0),
         },
@@ -167,18 +154,42 @@ pub(crate) fn filter(
     ensures offset { result.offset ≡ 0 }
 {
     let room = out.len().saturating_sub(1);
-    let found = match demangler_in(arena, text) {
-        Some(mut demangler) => filter_slice_in(&mut demangler, input, flags, &mut out[..room]),
-        None => Err(AllocError),
-    };
+    let found = filter_into(arena, text, input, flags, &mut out[..room]);
     end_filtered(found, out)
 }
 
-/// Returns the status and the offset of a failure that rejects a symbol, or `None` if memory ran out.
-fn rejection(failure: Failure, max_nodes: usize, max_bytes: usize) -> Option<(u32, usize)>
-    ensures status { IfSome result (λ r. IsStatus (limits_of max_nodes max_bytes) (failure_limit failure) r.0) }
-    ensures offset { IfSome result (λ r. failure_offset failure ≡ Some r.1) }
+/// Does what `filter_slice` does.
+fn filter_into(
+    arena: &Lent,
+    text: &Lent,
+    input: &[u8],
+    flags: DemangleFlags,
+    out: &mut [u8],
+) -> Result<Filtered, AllocError>
+    ensures { IfOk result (λ f. (parts : List Part) × AreOnlyParts flags.0 input.now parts
+        × (f.length ≡ length (text_of_parts parts)) × (f.written ≡ length (fitting (length out.old) parts))
+        × (out.new ≡ fitting (length out.old) parts ++ drop (length (fitting (length out.old) parts)) out.old)) }
 {
+    match demangler_in(arena, text) {
+        Some(mut demangler) => filter_slice_in(&mut demangler, input, flags, out),
+        None => Err(AllocError),
+    }
+}
+
+/// Returns the status and the offset of a failure that rejects a symbol, or `None` if memory ran out.
+fn rejection(
+    failure: Failure,
+    symbol: &str,
+    max_nodes: usize,
+    max_bytes: usize,
+) -> Option<(u32, usize)>
+    ensures status { IfSome result (λ r. IsStatus (limits_of max_nodes max_bytes) (limit_of_failure failure) r.0) }
+    ensures offset { IfSome result (λ r. r.1 ≡ offset_of_failure symbol.now failure) }
+    ensures memory { IfSome result (λ _. failure ≢ Unread refusal.Memory) }
+{
+    if failure.is_out_of_memory() {
+        return None;
+    }
     let status = status_of(failure.limit(), max_nodes, max_bytes)?;
-    Some((status, failure.offset()?))
+    Some((status, failure.offset(symbol)))
 }

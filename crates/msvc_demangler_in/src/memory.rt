@@ -51,12 +51,12 @@ pub(crate) fn arena_in(memory: &Lent) -> Option<Bump<&Lent>> {
 pub(crate) fn demangler_in<'a>(arena: &'a Lent, text: &'a Lent) -> Option<Demangler<&'a Lent>> {
     let mut declaration = Text::new(text);
     match declaration.try_reserve(text.size()) {
-        Ok(()) => Some(Demangler::over(arena_in(arena)?, declaration, arena)),
+        Ok(()) => Some(Demangler::over(arena, arena_in(arena)?, declaration)),
         Err(_) => None,
     }
 }
 
 /// Makes one that has no memory for a declaration, and can measure a symbol.
 pub(crate) fn measurer_in(arena: &Lent) -> Option<Demangler<&Lent>> {
-    Some(Demangler::over(arena_in(arena)?, Text::new(arena), arena))
+    Some(Demangler::over(arena, arena_in(arena)?, Text::new(arena)))
 }
