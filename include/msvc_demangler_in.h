@@ -40,8 +40,8 @@
 #define MSVC_DEMANGLER_SMALL_BYTES ((size_t)4096)
 
 /* Bytes of a workspace for each symbol within the small limits, and within the default ones. */
-#define MSVC_DEMANGLER_SMALL_WORKSPACE ((size_t)262144)
-#define MSVC_DEMANGLER_DEFAULT_WORKSPACE ((size_t)2097152)
+#define MSVC_DEMANGLER_SMALL_WORKSPACE ((size_t)98304)
+#define MSVC_DEMANGLER_DEFAULT_WORKSPACE ((size_t)1228800)
 
 /* Bytes of stack that a call takes at most under the small limits, and under the default ones. */
 #define MSVC_DEMANGLER_SMALL_STACK ((size_t)116000)

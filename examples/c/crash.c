@@ -1,8 +1,7 @@
 /* A crash reporter: when the program crashes, a handler of SIGSEGV prints the declarations of the functions that are
    being called, innermost first. Some functions here have names as Microsoft's compiler gives them.
 
-       cc -fno-omit-frame-pointer -mno-omit-leaf-frame-pointer -fno-optimize-sibling-calls crash.c \
-           -lmsvc_demangler_in -o crash
+       cc -fno-omit-frame-pointer -fno-optimize-sibling-calls crash.c -lmsvc_demangler_in -o crash
 
    A handler may call only what is async-signal-safe. This one calls the library and write: the names of the functions
    are read when the program starts, and all memory is there before the crash. It is for Linux on x86-64 and AArch64. */
@@ -182,9 +181,12 @@ int digit(const char *text) NAMED("?digit@config@@YAHPEBD@Z");
 int next(const char *text) NAMED("?next@Reader@config@@QEBA_NAEAU?$basic_string@D@std@@@Z");
 int find(const char *text) NAMED("??$find@H@config@@YAPEAHAEAU?$vector@HU?$allocator@H@std@@@std@@PEBD@Z");
 
+/* The variable is on the stack, so that this function has a frame: compilers leave out that of one that needs none. */
 int digit(const char *text)
 {
-    return *(const volatile char *)text - '0';
+    volatile int value = 0;
+    value += *(const volatile char *)text - '0';
+    return value;
 }
 
 int next(const char *text)
