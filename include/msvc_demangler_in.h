@@ -29,7 +29,8 @@
      unspecified then. The call may be repeated with a larger workspace, or with lower limits.
 
    A workspace of MSVC_DEMANGLER_DEFAULT_WORKSPACE bytes suffices for each symbol within the default limits, and one of
-   MSVC_DEMANGLER_SMALL_WORKSPACE bytes for each symbol within the small ones. Most symbols need 8,192 bytes. */
+   MSVC_DEMANGLER_SMALL_WORKSPACE bytes for each symbol within the small ones. 12,288 bytes suffice for each of 676 real
+   names. */
 #ifndef MSVC_DEMANGLER_IN_H
 #define MSVC_DEMANGLER_IN_H
 
