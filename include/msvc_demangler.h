@@ -79,6 +79,13 @@
 #define MSVC_DEMANGLER_NOEXCEPT
 #endif
 
+/* On Windows: with MSVC_DEMANGLER_DLL defined a program calls msvc_demangler.dll without a jump in between. */
+#if defined(_WIN32) && defined(MSVC_DEMANGLER_DLL)
+#define MSVC_DEMANGLER_API __declspec(dllimport)
+#else
+#define MSVC_DEMANGLER_API
+#endif
+
 #ifdef __cplusplus
 extern "C" {
 #endif
@@ -143,6 +150,7 @@ MSVC_DEMANGLER_ASSERT(offsetof(struct msvc_demangler_result, length) == 16);
        puts(result.status == MSVC_DEMANGLER_OK ? text : symbol);
 
    prints "void __cdecl f(int)". */
+MSVC_DEMANGLER_API
 struct msvc_demangler_result msvc_demangler_demangle(const char *symbol, size_t length, uint32_t flags,
                                                      size_t max_nodes, size_t max_bytes, char *out,
                                                      size_t size) MSVC_DEMANGLER_NOEXCEPT;
@@ -161,6 +169,7 @@ struct msvc_demangler_result msvc_demangler_demangle(const char *symbol, size_t 
        printf("%zu bytes\n", result.length);
 
    prints "7 bytes". */
+MSVC_DEMANGLER_API
 struct msvc_demangler_result msvc_demangler_prefix(const char *symbol, size_t length,
                                                    size_t max_nodes) MSVC_DEMANGLER_NOEXCEPT;
 
@@ -182,6 +191,7 @@ struct msvc_demangler_result msvc_demangler_prefix(const char *symbol, size_t le
        puts(result.status == MSVC_DEMANGLER_OK ? text : line);
 
    prints "undefined: int ns::x". */
+MSVC_DEMANGLER_API
 struct msvc_demangler_result msvc_demangler_filter(const char *text, size_t length, uint32_t flags, char *out,
                                                    size_t size) MSVC_DEMANGLER_NOEXCEPT;
 
@@ -192,6 +202,7 @@ struct msvc_demangler_result msvc_demangler_filter(const char *text, size_t leng
        puts(version);
 
    prints "0.11.0". */
+MSVC_DEMANGLER_API
 size_t msvc_demangler_version(char *out, size_t size) MSVC_DEMANGLER_NOEXCEPT;
 
 /* Demangles a symbol that ends in NUL, as msvc_demangler_demangle does, under the default limits. */

@@ -92,6 +92,7 @@ int main(void)
 {
     long tried = 0;
     long wrong = 0;
+    blocks = 0; /* a C runtime may have requested some before */
     for (size_t n = 0; n < kinds * (sizeof symbols / sizeof symbols[0]); n++) {
         const char *symbol = symbols[n / kinds];
         enum kind kind = (enum kind)(n % kinds);

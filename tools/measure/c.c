@@ -24,17 +24,21 @@ struct names {
 static struct names read_names(void)
 {
     struct names names = {NULL, 0, NULL, 0};
-    FILE *text = open_memstream(&names.text, &names.length);
-    char *line = NULL;
     size_t room = 0;
-    while (getline(&line, &room, stdin) > 0) {
-        fputs(line, text);
-        line[strcspn(line, "\n")] = '\0';
+    do {
+        room = 2 * room + 65536;
+        names.text = realloc(names.text, room);
+        names.length += fread(names.text + names.length, 1, room - names.length, stdin);
+    } while (names.length == room);
+    for (size_t at = 0; at < names.length;) {
+        const char *end = memchr(names.text + at, '\n', names.length - at);
+        size_t length = end == NULL ? names.length - at : (size_t)(end - names.text) - at;
+        char *line = calloc(length + 1, 1);
+        memcpy(line, names.text + at, length);
         names.lines = realloc(names.lines, (names.count + 1) * sizeof names.lines[0]);
-        names.lines[names.count++] = strdup(line);
+        names.lines[names.count++] = line;
+        at += length + 1;
     }
-    fclose(text);
-    free(line);
     return names;
 }
 

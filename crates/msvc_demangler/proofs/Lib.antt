@@ -1,4 +1,5 @@
 pub mod Demangled
+pub mod Failed
 pub mod Filled
 pub mod FirstByte
 pub mod Fronts

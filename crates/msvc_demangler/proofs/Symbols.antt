@@ -1,22 +1,20 @@
 -- Symbols at the starts of a text.
-use Rattle.std.proofs.Common.{◌≡◌, ◌≢◌, ◌≤◌, ◌<◌, ◌+◌, ◌-◌, ◌∙◌, ℕ, List, drop, length, take, refl, sym, ap, subst}
+use Rattle.std.proofs.Common.{◌≡◌, ◌≤◌, ◌<◌, ◌+◌, ◌-◌, ◌∙◌, ⊎_elim, ℕ, List, drop, length, take, refl, sym, ap, subst}
 use Rattle.std.proofs.Common.{Bool, cond, arith, false, length-take, true}
 use Rattle.std.specs.List.{prefix_len, take_while}
 use Rattle.std.specs.Str.Lossy.{utf8_valid_len}
 use Rattle.msvc_nodes.specs.Trees.{SymbolTree}
-use Rattle.msvc_nodes.specs.declared.error.ErrorRepr.{ErrorRepr}
-use Rattle.msvc_nodes.specs.declared.error.ErrorRepr.TheVariants.{FromUtf8, Utf8, ParseError, Other, Memory}
 use Rattle.msvc_grammar.specs.Counts.{node_count}
-use Rattle.msvc_grammar.specs.Parsed.{IsParsed, IsRejectedWithin, IsSymbolLength}
+use Rattle.msvc_grammar.specs.Parsed.{IsParsed, IsSymbolLength}
 use Rattle.msvc_grammar.specs.Reads.{Derives, ranks}
-use Rattle.msvc_grammar.specs.Refusals.{IsNoSymbolWithin, IsRefusedWithin}
+use Rattle.msvc_grammar.specs.Refusals.{IsNoSymbolWithin}
 use Rattle.msvc_grammar.specs.Rules.{call, symbol}
 use Rattle.msvc_grammar.specs.State.{Note}
 use Rattle.msvc_grammar.proofs.Checks.{Fine, eater, eats, rank}
 use Rattle.msvc_grammar.proofs.Progress.{Less, shorter}
 use Rattle.msvc_grammar.proofs.Laws.{derived-only}
 use Rattle.msvc_print.specs.Declaration.{declaration}
-use Rattle.msvc_demangler.specs.Filtered.{IsNoSymbol, IsSymbol, most_declared, most_nodes}
+use Rattle.msvc_demangler.specs.Filtered.{IsNoSymbol, IsNoneWithin, IsSymbol, most_declared, most_nodes}
 use Rattle.msvc_demangler.specs.Words.{candidate, continues, is_left_over, is_visible, most_bytes, symbol_extent}
 
 -- a candidate is no longer than what it begins
@@ -83,7 +81,7 @@ no_symbol-continues flags read left input same tree is read_length on bytes othe
     let no : true ≡ false = sym on ∙ sym (ap (λ n. continues (drop n left)) equal) ∙ s.ends in cc
 
 -- no symbol where the declaration is too long
-pub no_symbol-long : (flags : ℕ) (left input : List ℕ) → input ≡ candidate left → (tree : SymbolTree)
+no_symbol-long : (flags : ℕ) (left input : List ℕ) → input ≡ candidate left → (tree : SymbolTree)
     → IsParsed input tree → most_declared < length (declaration tree flags) → IsNoSymbol flags left
 no_symbol-long flags left input same tree is long bytes other s =
     let here = subst (λ l. Derives l tree is.rest is.notes) same is.derived in
@@ -103,20 +101,20 @@ read-within read left input same tree is read_length =
       omega (arith, to, ap length same, candidate-within left),
     )
 
--- and none where the candidate was rejected
-pub no_symbol-rejected : (flags : ℕ) (left input : List ℕ) → input ≡ candidate left → (e : ErrorRepr) → e ≢ Memory
-    → IsRejectedWithin most_nodes input e → IsNoSymbol flags left
-no_symbol-rejected flags left input same e other rejected bytes text s =
+-- and none where no tree of so few nodes is derived from the candidate
+no_symbol-many : (flags : ℕ) (left input : List ℕ) → input ≡ candidate left → IsNoSymbolWithin most_nodes input
+    → IsNoSymbol flags left
+no_symbol-many flags left input same none bytes text s =
     let here = subst (λ l. Derives l s.tree s.rest s.notes) (sym same) s.derived in
-    let many : most_nodes < node_count s.tree = within e other rejected.refused s.tree s.rest s.notes here in
+    let many : most_nodes < node_count s.tree = none s.tree s.rest s.notes here in
     omega (arith, many, s.nodes)
-  where
-    within : (e : ErrorRepr) → e ≢ Memory → IsRefusedWithin most_nodes input e → IsNoSymbolWithin most_nodes input
-    within (ParseError message context at) other h = h.1
-    within Memory other h = absurd (other refl)
-    within (FromUtf8 x) other h = absurd h
-    within (Utf8 x) other h = absurd h
-    within (Other x) other h = absurd h
+
+-- none where the candidate has no declaration
+pub no_symbol-none : (flags : ℕ) (left input : List ℕ) → input ≡ candidate left → IsNoneWithin flags input
+    → IsNoSymbol flags left
+no_symbol-none flags left input same none =
+    ⊎_elim (no_symbol-many flags left input same)
+    (λ long. no_symbol-long flags left input same long.0 long.1 long.2) none
 
 -- a start begins with one symbol at most
 pub symbol-only : (flags : ℕ) (left : List ℕ) (bytes others : ℕ) (text other : List ℕ) → IsSymbol flags left bytes text

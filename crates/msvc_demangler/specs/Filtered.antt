@@ -1,9 +1,11 @@
 -- The filter's text: that of some bytes in which each symbol is replaced by its declaration.
 use Rattle.std.specs.Prelude.{ℕ, List, [], ◌∷◌, ◌++◌, ◌-◌, ◌≡◌, ◌≤◌, ◌==◌, true, false, length, drop, slice_index, take}
-use Rattle.std.specs.Prelude.{nat_le, if◌then◌else◌}
+use Rattle.std.specs.Prelude.{◌<◌, ◌⊎◌, nat_le, if◌then◌else◌}
 use Rattle.msvc_nodes.specs.Trees.{SymbolTree}
 use Rattle.msvc_grammar.specs.Counts.{node_count}
+use Rattle.msvc_grammar.specs.Parsed.{IsParsed}
 use Rattle.msvc_grammar.specs.Reads.{Derives}
+use Rattle.msvc_grammar.specs.Refusals.{IsNoSymbolWithin}
 use Rattle.msvc_grammar.specs.State.{Note}
 use Rattle.msvc_print.specs.Declaration.{declaration}
 use Rattle.msvc_demangler.specs.Words.{candidate, continues, is_start, symbol_extent, utf8_front}
@@ -30,6 +32,11 @@ pub record IsSymbol (flags : ℕ) (left : List ℕ) (bytes : ℕ) (text : List �
 
 abbrev pub IsNoSymbol : (flags : ℕ) (left : List ℕ) → Type 0
 IsNoSymbol flags left = (bytes : ℕ) (text : List ℕ) → IsSymbol flags left bytes text → ⊥
+
+-- A candidate has no declaration: no beginning of it is a symbol of so few nodes, or its declaration is too long.
+abbrev pub IsNoneWithin : (flags : ℕ) (input : List ℕ) → Type 0
+IsNoneWithin flags input = IsNoSymbolWithin most_nodes input
+    ⊎ ((tree : SymbolTree) × IsParsed input tree × (most_declared < length (declaration tree flags)))
 
 -- A part of what the filter writes: a byte that stays, or the declaration that replaces a symbol.
 pub data Part : Type 0 where

@@ -1,5 +1,6 @@
 pub mod Answers
 pub mod Demangled
+pub mod Failures
 pub mod Faults
 pub mod Fillings
 pub mod Filtered
@@ -27,9 +28,11 @@ pub use Rattle.msvc_nodes.specs.Errors
 pub use Rattle.msvc_nodes.specs.Trees
 pub use Rattle.msvc_nodes.specs.declared.error.ErrorRepr
 pub use Rattle.msvc_nodes.specs.declared.error.Limit
+pub use Rattle.msvc_parser.specs.Errors as MessageTexts
 pub use Rattle.msvc_parser.specs.Parser
 pub use Rattle.msvc_print.specs.Declaration
 pub use Rattle.msvc_print.specs.Laws as PrintLaws
+pub use Rattle.msvc_read.specs.Failures as ReadFailures
 pub use Rattle.msvc_tree.specs.Equality
 pub use Rattle.msvc_tree.specs.View
 pub use Rattle.msvc_write.specs.Serialized

@@ -1,5 +1,5 @@
 -- Limits on a call: how many nodes a tree may have, and how many bytes its declaration.
-use Rattle.std.specs.Prelude.{ℕ, List, Bool, IsTrue, IsFalse, ◌-◌, ◌^◌, ◌≡◌, ◌≤◌, ◌<◌, ◌==◌, length}
+use Rattle.std.specs.Prelude.{ℕ, List, ◌-◌, ◌^◌, ◌≡◌, ◌≤◌, ◌<◌, ◌==◌, length}
 use Rattle.std.specs.Prelude.{Option, Some, None, if◌then◌else◌}
 use Rattle.msvc_nodes.specs.Errors.{IsRefusalOrMemory, context_text_of, too_long}
 use Rattle.msvc_nodes.specs.Trees.{SymbolTree}
@@ -33,18 +33,16 @@ abbrev pub IsRejectedUnder : Option ℕ → List ℕ → ErrorRepr → Type 0
 IsRejectedUnder None text e = IsRejected text e
 IsRejectedUnder (Some nodes) text e = IsRejectedWithin nodes text e
 
--- The symbol at the beginning of the input was read within the limit on nodes, and takes so many bytes. If its
--- declaration is within the limit on bytes, it is the text that was printed.
-pub record IsPrinted (limits : Limits) (input : List ℕ) (flags read : ℕ) (whole : Bool) (text : Option (List ℕ))
-    : Type 0 where
+-- The symbol at the beginning of the input was read within the limit on nodes, and takes so many bytes. The text is its
+-- declaration, within the limit on bytes.
+pub record IsPrinted (limits : Limits) (input : List ℕ) (flags read : ℕ) (text : Option (List ℕ)) : Type 0 where
   -- the tree of the symbol
   pub tree : SymbolTree
   pub parsed : IsParsed input tree
   pub nodes : IsWithin limits.nodes (node_count tree)
   pub takes : IsSymbolLength read input
-  pub printed : IsTrue whole
-      → (text ≡ Some (declaration tree flags)) × IsWithin limits.bytes (length (declaration tree flags))
-  pub longer : IsFalse whole → IsBeyond limits.bytes (length (declaration tree flags))
+  pub printed : text ≡ Some (declaration tree flags)
+  pub bytes : IsWithin limits.bytes (length (declaration tree flags))
 
 -- The error for a symbol that was read within the limit on nodes, and whose declaration exceeds the limit on bytes.
 pub record IsTooLong (limits : Limits) (input : List ℕ) (flags : ℕ) (e : ErrorRepr) : Type 0 where

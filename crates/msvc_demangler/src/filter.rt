@@ -1,32 +1,31 @@
 //! The filter over texts: each symbol in them is replaced by its declaration.
 
-ghost use Rattle.std.specs.Prelude.{◌≡◌, ◌≤◌, ◌<◌, ◌+◌, ◌++◌, ◌∷◌, ℕ, List, [], IfErr, IfNone, IfOk, IfSome};
+ghost use Rattle.std.specs.Prelude.{◌≡◌, ◌≤◌, ◌<◌, ◌+◌, ◌++◌, ◌∷◌, ℕ, List, [], IfNone, IfOk, IfSome};
 ghost use Rattle.std.specs.Prelude.{MatchResult};
 ghost use Rattle.std.specs.Prelude.{OnOk, OnSome, Some, drop, length, map, slice_index, take, true, vec_len};
 ghost use Rattle.std.specs.Io.KnownBytes.{Appends, Consumes, IsAtEnd};
 ghost use Rattle.msvc_nodes.specs.Trees.{SymbolTree};
 ghost use Rattle.msvc_grammar.specs.Counts.{node_count};
-ghost use Rattle.msvc_grammar.specs.Parsed.{IsParsed, IsRejectedWithin, IsSymbolLength};
+ghost use Rattle.msvc_grammar.specs.Parsed.{IsParsed, IsSymbolLength};
 ghost use Rattle.msvc_print.specs.Declaration.{declaration};
 ghost use Rattle.msvc_demangler.specs.Faults.{SetsFailureFlag, failure_flag, no_stream};
 ghost use Rattle.msvc_demangler.specs.Fillings.{IsFilling, space_after};
-ghost use Rattle.msvc_demangler.specs.Filtered.{AreOnlyParts, IsNoSymbol, Part, declared, fitting, kept};
-ghost use Rattle.msvc_demangler.specs.Filtered.{most_declared, most_nodes, text_of_parts};
+ghost use Rattle.msvc_demangler.specs.Filtered.{AreOnlyParts, IsNoSymbol, IsNoneWithin, Part, declared, fitting};
+ghost use Rattle.msvc_demangler.specs.Filtered.{kept, most_declared, most_nodes, text_of_parts};
 ghost use Rattle.msvc_demangler.specs.Runs.{Writes, WritesFiltered, WritesPart};
 ghost use Rattle.msvc_demangler.specs.Scans.{ArePartsUpTo, IsFilteredUpTo, IsFound, IsPut, IsPutOf, IsRestText};
 ghost use Rattle.msvc_demangler.specs.Scans.{IsSymbolShown, Keeps};
 ghost use Rattle.msvc_demangler.specs.Words.{is_start};
 
+use crate::demangler::Demangler;
 use crate::output::put_all;
-use crate::room::Room;
 use crate::watched::{Fault, Taken, Watched, cut};
 use crate::words::{
     MOST_LOOKED_AT, Scan, candidate, continues, plain_len, symbol_extent, utf8_front,
 };
 use crate::{DEFAULT_BYTE_LIMIT, DEFAULT_NODE_LIMIT};
-use msvc_nodes::error::Error;
 use msvc_nodes::flags::DemangleFlags;
-use std::alloc::{AllocError, Global};
+use std::alloc::{AllocError, Allocator, Global};
 use std::io::{BufRead, Write};
 
 /// The most bytes of a line that are held before a piece of the line is written.
@@ -59,7 +58,7 @@ pub fn filter_text<R: BufRead, W: Write>(
     ensures marks { SetsFailureFlag result (failure_flag input.old input.new) (failure_flag out.old out.new)
         no_stream }
 {
-    let mut room = Room::new(alloc);
+    let mut demangler = Demangler::new(alloc);
     let mut text = Vec::new(alloc);
     let mut piece = Vec::new(alloc);
     let mut scan = Scan::new(b'\n');
@@ -71,7 +70,7 @@ pub fn filter_text<R: BufRead, W: Write>(
         match taken {
             Taken::Line if piece.is_empty() => {
                 // A line that the reader shows whole is not copied.
-                let put = put_rest(&mut room, &mut text, &shown[..end], scan, out, flags);
+                let put = put_rest(&mut demangler, &mut text, &shown[..end], scan, out, flags);
                 input.consume(end);
                 put?;
                 scan = Scan::new(b'\n');
@@ -81,7 +80,7 @@ pub fn filter_text<R: BufRead, W: Write>(
                     return Err(Fault::Memory);
                 }
                 input.consume(end);
-                put_rest(&mut room, &mut text, &piece, scan, out, flags)?;
+                put_rest(&mut demangler, &mut text, &piece, scan, out, flags)?;
                 piece.clear();
                 scan = Scan::new(b'\n');
             }
@@ -90,9 +89,9 @@ pub fn filter_text<R: BufRead, W: Write>(
                     return Err(Fault::Memory);
                 }
                 input.consume(end);
-                put_settled(&mut room, &mut text, &mut piece, &mut scan, out, flags)?;
+                put_settled(&mut demangler, &mut text, &mut piece, &mut scan, out, flags)?;
             }
-            Taken::End => return put_rest(&mut room, &mut text, &piece, scan, out, flags),
+            Taken::End => return put_rest(&mut demangler, &mut text, &piece, scan, out, flags),
         }
     }
     Err(input.fail())
@@ -101,7 +100,7 @@ pub fn filter_text<R: BufRead, W: Write>(
 /// Writes what is settled of a line whose end has not come, if more bytes of it are held than [`MOST_HELD`], and leaves
 /// the other bytes in `piece`.
 fn put_settled<W: Write>(
-    room: &mut Room,
+    demangler: &mut Demangler,
     text: &mut Vec<u8>,
     piece: &mut Vec<u8>,
     scan: &mut Scan,
@@ -117,7 +116,7 @@ fn put_settled<W: Write>(
         return Ok(());
     }
     let until = piece.len() - MOST_LOOKED_AT;
-    match filter_piece(room, piece, until, scan, text, flags) {
+    match filter_piece(demangler, piece, until, scan, text, flags) {
         Ok(at) => {
             put_all(out, text)?;
             drop_front(piece, at);
@@ -139,7 +138,7 @@ fn drop_front(bytes: &mut Vec<u8>, count: usize)
 
 /// Writes the filtered text of the rest of a line, for which `text` has room.
 fn put_rest<W: Write>(
-    room: &mut Room,
+    demangler: &mut Demangler,
     text: &mut Vec<u8>,
     piece: &[u8],
     mut scan: Scan,
@@ -154,7 +153,7 @@ fn put_rest<W: Write>(
     if !piece.contains(&b'?') {
         return put_all(out, piece);
     }
-    match filter_piece(room, piece, piece.len(), &mut scan, text, flags) {
+    match filter_piece(demangler, piece, piece.len(), &mut scan, text, flags) {
         Ok(_) => put_all(out, text),
         Err(_) => Err(Fault::Memory),
     }
@@ -188,7 +187,24 @@ pub fn filter_slice(
         × (f.length ≡ length (text_of_parts parts)) × (f.written ≡ length (fitting (length out.old) parts))
         × (out.new ≡ fitting (length out.old) parts ++ drop (length (fitting (length out.old) parts)) out.old)) }
 {
-    let mut room = Room::new(alloc);
+    filter_slice_in(&mut Demangler::new(alloc), text, flags, out)
+}
+
+/// Writes `text` into `out`, as [`filter_slice`] does, with the memory of a demangler.
+///
+/// # Errors
+///
+/// Those of [`filter_slice`].
+pub fn filter_slice_in<A: Allocator + Copy>(
+    demangler: &mut Demangler<A>,
+    text: &[u8],
+    flags: DemangleFlags,
+    out: &mut [u8],
+) -> Result<Filtered, AllocError>
+    ensures text { IfOk result (λ f. (parts : List Part) × AreOnlyParts flags.0 text.now parts
+        × (f.length ≡ length (text_of_parts parts)) × (f.written ≡ length (fitting (length out.old) parts))
+        × (out.new ≡ fitting (length out.old) parts ++ drop (length (fitting (length out.old) parts)) out.old)) }
+{
     let mut scan = Scan::new(b'\n');
     let mut filling = Filling {
         length: 0,
@@ -197,10 +213,10 @@ pub fn filter_slice(
     };
     let mut at = 0;
     'symbols: while at < text.len() {
-        match next_symbol(&mut room, &text[at..], text.len() - at, &mut scan, flags)? {
+        match next_symbol(demangler, &text[at..], text.len() - at, &mut scan, flags)? {
             Some(found) => {
                 filling = fill_kept(out, filling, &text[at..at + found.before])?;
-                filling = fill_declared(out, filling, room.text.as_bytes())?;
+                filling = fill_declared(out, filling, demangler.text.as_bytes())?;
                 at += found.before + found.bytes;
             }
             None => {
@@ -296,7 +312,7 @@ fn put_bytes(out: &mut [u8], at: usize, bytes: &[u8])
 /// Replaces the contents of `text` by the filtered text of `piece` up to `until`, or up to the end of the symbol that
 /// `until` is inside. Returns how many bytes of `piece` these are.
 fn filter_piece(
-    room: &mut Room,
+    demangler: &mut Demangler,
     piece: &[u8],
     until: usize,
     scan: &mut Scan,
@@ -310,10 +326,10 @@ fn filter_piece(
     text.clear();
     let mut at = 0;
     'symbols: while at < until {
-        match next_symbol(room, &piece[at..], until - at, scan, flags)? {
+        match next_symbol(demangler, &piece[at..], until - at, scan, flags)? {
             Some(found) => {
                 text.extend_from_slice(&piece[at..at + found.before])?;
-                text.extend_from_slice(room.text.as_bytes())?;
+                text.extend_from_slice(demangler.text.as_bytes())?;
                 at += found.before + found.bytes;
             }
             None => {
@@ -334,10 +350,10 @@ struct Found {
     bytes: usize,
 }
 
-/// Finds the first symbol of `left` that begins before `until`, and prints its declaration as the room's text. Moves
+/// Finds the first symbol of `left` that begins before `until`, and prints its declaration as the demangler's text. Moves
 /// the scan to the end of the symbol, or to `until` if there is none.
-fn next_symbol(
-    room: &mut Room,
+fn next_symbol<A: Allocator + Copy>(
+    demangler: &mut Demangler<A>,
     left: &[u8],
     until: usize,
     scan: &mut Scan,
@@ -347,7 +363,7 @@ fn next_symbol(
     ensures none { IfOk result (λ found. IfNone found
         (ArePartsUpTo flags.0 scan.old left.now until (map kept (take until left.now)) until scan.new)) }
     ensures some { IfOk result (λ found. IfSome found (λ f.
-        IsFound flags.0 scan.old left.now until f.before f.bytes room.new.text.text scan.new)) }
+        IsFound flags.0 scan.old left.now until f.before f.bytes demangler.new.text.text scan.new)) }
 {
     let mut at = 0;
     'bytes: while at < until {
@@ -358,7 +374,7 @@ fn next_symbol(
             at = end;
             continue;
         }
-        match symbol_at(room, &left[at..], *scan, flags)? {
+        match symbol_at(demangler, &left[at..], *scan, flags)? {
             Some(bytes) => {
                 *scan = Scan::new(left[at + bytes - 1]);
                 return Ok(Some(Found { before: at, bytes }));
@@ -372,9 +388,9 @@ fn next_symbol(
     Ok(None)
 }
 
-/// Returns how many bytes the symbol takes that begins here, if one does, with its declaration as the room's text.
-fn symbol_at(
-    room: &mut Room,
+/// Returns how many bytes the symbol takes that begins here, if one does, with its declaration as the demangler's text.
+fn symbol_at<A: Allocator + Copy>(
+    demangler: &mut Demangler<A>,
     left: &[u8],
     scan: Scan,
     flags: DemangleFlags,
@@ -383,55 +399,57 @@ fn symbol_at(
         → is_start last passed (slice_index left.now 0) ≡ true → IsNoSymbol flags.0 left.now)) }
     ensures some { IfOk result (λ found. IfSome found (λ bytes. ((last : ℕ) (passed : List ℕ) → Keeps scan last passed
         → is_start last passed (slice_index left.now 0) ≡ true)
-        × IsSymbolShown flags.0 left.now bytes room.new.text.text)) }
+        × IsSymbolShown flags.0 left.now bytes demangler.new.text.text)) }
 {
     match left {
-        [byte, ..] if scan.is_start(*byte) => symbol(room, left, flags),
+        [byte, ..] if scan.is_start(*byte) => symbol(demangler, left, flags),
         _ => Ok(None),
     }
 }
 
-/// Returns how many bytes the symbol takes that begins at a start, if one does, with its declaration as the room's
+/// Returns how many bytes the symbol takes that begins at a start, if one does, with its declaration as the demangler's
 /// text.
-fn symbol(room: &mut Room, left: &[u8], flags: DemangleFlags) -> Result<Option<usize>, AllocError>
+fn symbol<A: Allocator + Copy>(
+    demangler: &mut Demangler<A>,
+    left: &[u8],
+    flags: DemangleFlags,
+) -> Result<Option<usize>, AllocError>
     ensures none { IfOk result (λ found. IfNone found (IsNoSymbol flags.0 left.now)) }
     ensures some { IfOk result (λ found. IfSome found (λ bytes.
-        IsSymbolShown flags.0 left.now bytes room.new.text.text)) }
+        IsSymbolShown flags.0 left.now bytes demangler.new.text.text)) }
 {
-    match declare(room, candidate(left), flags) {
-        Ok(found) => match found {
-            Some(read) => {
-                let bytes = symbol_extent(left, read);
-                if continues(left, bytes) {
-                    return Ok(None);
-                }
-                Ok(Some(bytes))
+    match declare(demangler, candidate(left), flags)? {
+        Some(read) => {
+            let bytes = symbol_extent(left, read);
+            if continues(left, bytes) {
+                return Ok(None);
             }
-            None => Ok(None),
-        },
-        Err(error) if error.is_out_of_memory() => Err(AllocError),
-        Err(_) => Ok(None),
+            Ok(Some(bytes))
+        }
+        None => Ok(None),
     }
 }
 
-/// Prints the declaration of the symbol that `input` begins with as the room's text, and returns how many bytes were
-/// read for it. Returns none if the declaration is too long; the text is no declaration then.
-fn declare(room: &mut Room, input: &str, flags: DemangleFlags) -> Result<Option<usize>, Error>
+/// Prints the declaration of the symbol that `input` begins with as the demangler's text, and returns how many bytes
+/// were read for it. Returns none if there is no symbol, or one that exceeds a limit; the text is no declaration then.
+fn declare<A: Allocator + Copy>(
+    demangler: &mut Demangler<A>,
+    input: &str,
+    flags: DemangleFlags,
+) -> Result<Option<usize>, AllocError>
     ensures declared { IfOk result (λ found. IfSome found (λ bytes. (tree : SymbolTree) × IsParsed input.now tree
-        × (room.new.text.text ≡ Some (declaration tree flags.0)) × (node_count tree ≤ most_nodes)
+        × (demangler.new.text.text ≡ Some (declaration tree flags.0)) × (node_count tree ≤ most_nodes)
         × IsSymbolLength bytes input.now × (length (declaration tree flags.0) ≤ most_declared))) }
-    ensures longer { IfOk result (λ found. IfNone found ((tree : SymbolTree) × IsParsed input.now tree
-        × (most_declared < length (declaration tree flags.0)))) }
-    ensures rejected { IfErr result (λ e. IsRejectedWithin most_nodes input.now e) }
+    ensures none { IfOk result (λ found. IfNone found (IsNoneWithin flags.0 input.now)) }
 {
-    match room.demangle(input, flags, DEFAULT_NODE_LIMIT, DEFAULT_BYTE_LIMIT) {
-        Ok(printed) => {
-            if printed.whole {
-                Ok(Some(printed.read))
+    match demangler.run(input, flags, DEFAULT_NODE_LIMIT, DEFAULT_BYTE_LIMIT) {
+        Ok(read) => Ok(Some(read)),
+        Err(failure) => {
+            if failure.is_out_of_memory() {
+                Err(AllocError)
             } else {
                 Ok(None)
             }
         }
-        Err(error) => Err(error),
     }
 }

@@ -3,9 +3,7 @@
 //! [`parse`] reads a symbol into a tree, [`serialize`] prints a tree, and [`demangle`] does both.
 #![tactic(auto)]
 
-ghost use Rattle.std.specs.Prelude.{◌≤◌, IfErr, IfOk, length, string_bytes};
-ghost use Rattle.msvc_nodes.specs.Errors as spec;
-ghost use Rattle.msvc_nodes.specs.Errors.{IsRefusalOrMemory};
+ghost use Rattle.std.specs.Prelude.{IfErr, IfOk, string_bytes};
 ghost use Rattle.msvc_nodes.specs.Trees.{SymbolTree};
 ghost use Rattle.msvc_grammar.specs.Parsed.{GrammarLaws, IsRejected};
 ghost use Rattle.msvc_demangler.specs.Demangled.{HashesAreShown, IsDeclared, IsDeclaredWithin, IsRefusedUnder};
@@ -13,21 +11,25 @@ ghost use Rattle.msvc_demangler.specs.Limits.{limits_of};
 
 mod debug;
 mod debug_words;
+mod demangler;
+mod failure;
 mod filter;
 mod lines;
 mod output;
-mod room;
 mod run;
 mod watched;
 mod words;
 
 pub use bitflags::Flags;
+pub use demangler::Demangler;
+use demangler::demangle_once;
+pub use failure::Failure;
 pub use filter::{Filtered, filter_slice, filter_text};
 pub use lines::{undname_lines, undname_one};
 pub use msvc_nodes::error::{Error, ErrorRepr, Limit};
-use msvc_nodes::error::{TOO_LONG, parse_error};
 pub use msvc_nodes::flags::{DemangleFlags, FuncClass, StorageClass};
-use msvc_print::Text;
+pub use msvc_parser::refusal::{Message, Refusal};
+pub use msvc_print::Text;
 pub use msvc_read::{
     BackReference, back_references, parse, parse_prefix, parse_within, symbol_length,
     symbol_length_within,
@@ -36,10 +38,8 @@ pub use msvc_tree::tree::{
     CallingConv, Name, NameSequence, Operator, Params, ParseResult, Symbol, Type, VarStorageKind,
 };
 pub use msvc_write::serialize;
-use room::demangle_once;
 pub use run::undname_run;
 use std::alloc::Global;
-use std::borrow::CowStr;
 pub use watched::{Fault, Watched};
 
 /// The most nodes to allow for a symbol that is not trusted. A call takes stack by the nodes that are allowed
@@ -95,21 +95,7 @@ pub fn demangle_within(
 {
     let mut text = Text::new(alloc);
     match demangle_once(alloc, &mut text, input, flags, nodes, bytes) {
-        Ok(printed) => {
-            if printed.whole {
-                Ok(text.into_string())
-            } else {
-                Err(too_long(alloc, input, printed.read))
-            }
-        }
-        Err(error) => Err(error),
+        Ok(_) => Ok(text.into_string()),
+        Err(failure) => Err(failure.error(alloc, input)),
     }
-}
-
-/// Returns the error for a declaration that is longer than allowed, of a symbol that takes `read` bytes of `input`.
-fn too_long(alloc: Global, input: &str, read: usize) -> Error
-    requires { read ≤ length input.now }
-    ensures { IsRefusalOrMemory spec.too_long (spec.context_text_of input.now read) read result }
-{
-    parse_error(alloc, CowStr::Borrowed(TOO_LONG), input.as_bytes(), read)
 }

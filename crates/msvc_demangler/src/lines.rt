@@ -11,18 +11,16 @@ ghost use Rattle.msvc_demangler.specs.Faults.{SetsFailureFlag, failure_flag, no_
 ghost use Rattle.msvc_demangler.specs.Runs.{Writes, WritesLines};
 
 use crate::debug::write_tree;
+use crate::demangler::{Demangler, print_in, read};
 use crate::output::{put_all, put_line};
-use crate::room::{Room, clear_text_for};
 use crate::watched::{Fault, Taken, Watched};
 use msvc_nodes::error::Error;
 use msvc_nodes::flags::DemangleFlags;
-use msvc_print::print;
-use msvc_read::read_symbol;
 use std::alloc::{AllocError, Global};
 use std::io::{BufRead, Write};
 use std::str::from_utf8;
 
-/// Bytes that the line of an error has room for before it grows. Few errors of symbols take more.
+/// Bytes that the line of an error has demangler for before it grows. Few errors of symbols take more.
 const ERROR_TEXT: usize = 256;
 
 /// Demangles one symbol: writes its declaration and a line feed to `out`. If the symbol is rejected, writes the error
@@ -43,12 +41,12 @@ pub fn undname_one<W: Write, E: Write>(
         × Writes result (IsLineText symbol.now) text }
     ensures marks { SetsFailureFlag result no_stream (failure_flag out.old out.new) (failure_flag err.old err.new) }
 {
-    undname_in(&mut Room::new(alloc), symbol, out, err, verbose)
+    undname_in(&mut Demangler::new(alloc), symbol, out, err, verbose)
 }
 
-/// Demangles one symbol, as [`undname_one`] does, in a room that is kept for the next.
+/// Demangles one symbol, as [`undname_one`] does, by a demangler that is kept for the next.
 pub(crate) fn undname_in<W: Write, E: Write>(
-    room: &mut Room,
+    demangler: &mut Demangler,
     symbol: &str,
     out: &mut Watched<W>,
     err: &mut Watched<E>,
@@ -58,40 +56,53 @@ pub(crate) fn undname_in<W: Write, E: Write>(
         × Writes result (IsLineText symbol.now) text }
     ensures marks { SetsFailureFlag result no_stream (failure_flag out.old out.new) (failure_flag err.old err.new) }
 {
-    let mut tree = String::new(room.alloc);
-    match answer(room, symbol, verbose, &mut tree) {
+    let mut tree = String::new(demangler.alloc);
+    match answer(demangler, symbol, verbose, &mut tree) {
         Ok(()) => {
             put_all(err, tree.as_bytes())?;
-            put_line(out, room.text.as_bytes())
+            put_line(out, demangler.text.as_bytes())
         }
         Err(error) => {
             if error.is_out_of_memory() {
                 return Err(Fault::Memory);
             }
-            report(room.alloc, &error, err)?;
+            report(demangler.alloc, &error, err)?;
             put_line(out, symbol.as_bytes())
         }
     }
 }
 
-/// Prints the declaration of a symbol, under the flags of lines, as the room's text, and its tree to `tree` if
+/// Prints the declaration of a symbol, under the flags of lines, as the demangler's text, and its tree to `tree` if
 /// `verbose`.
-fn answer(room: &mut Room, symbol: &str, verbose: bool, tree: &mut String) -> Result<(), Error>
-    ensures declared { IfOk result (λ _. (text : List ℕ) × (room.new.text.text ≡ Some text)
+fn answer(
+    demangler: &mut Demangler,
+    symbol: &str,
+    verbose: bool,
+    tree: &mut String,
+) -> Result<(), Error>
+    ensures declared { IfOk result (λ _. (text : List ℕ) × (demangler.new.text.text ≡ Some text)
         × IsAnswer symbol.now text) }
     ensures rejected { IfErr result (λ e. e ≢ Memory → IsAnswer symbol.now symbol.now) }
 {
-    room.clear_for(symbol, usize::MAX)?;
-    match read_symbol(room.alloc, &room.arena, symbol) {
+    demangler.prepare(symbol, usize::MAX)?;
+    let reserved = demangler.text_bytes(symbol);
+    match read(&demangler.arena, symbol, usize::MAX) {
         Ok((read, _)) => {
             if verbose {
-                write_tree(room.alloc, &read, tree)?;
+                write_tree(demangler.alloc, &read, tree)?;
             }
-            clear_text_for(&mut room.text, symbol)?;
-            print(&room.arena, &read, DemangleFlags::llvm(), &mut room.text)?;
+            let flags = DemangleFlags::llvm();
+            print_in(
+                &demangler.arena,
+                &mut demangler.text,
+                reserved,
+                &read,
+                flags,
+                usize::MAX,
+            )?;
             Ok(())
         }
-        Err(error) => Err(error),
+        Err(refusal) => Err(refusal.error(demangler.alloc, symbol.as_bytes())),
     }
 }
 
@@ -134,20 +145,20 @@ pub fn undname_lines<R: BufRead, W: Write, E: Write>(
     ensures marks { SetsFailureFlag result (failure_flag input.old input.new) (failure_flag out.old out.new)
         (failure_flag err.old err.new) }
 {
-    let mut room = Room::new(alloc);
+    let mut demangler = Demangler::new(alloc);
     let mut piece = Vec::new(alloc);
     'pieces: for polls in 0..u64::MAX {
         match input.take(polls, &mut piece)? {
             Taken::Part => {}
             Taken::Line => {
-                undname_line(&mut room, &piece, out, err, verbose)?;
+                undname_line(&mut demangler, &piece, out, err, verbose)?;
                 piece.clear();
             }
             Taken::End => {
                 if piece.is_empty() {
                     return Ok(());
                 }
-                return undname_line(&mut room, &piece, out, err, verbose);
+                return undname_line(&mut demangler, &piece, out, err, verbose);
             }
         }
     }
@@ -159,7 +170,7 @@ pub fn undname_lines<R: BufRead, W: Write, E: Write>(
 
 /// Demangles one line, unless it is not UTF-8.
 fn undname_line<W: Write, E: Write>(
-    room: &mut Room,
+    demangler: &mut Demangler,
     piece: &[u8],
     out: &mut Watched<W>,
     err: &mut Watched<E>,
@@ -170,7 +181,7 @@ fn undname_line<W: Write, E: Write>(
     ensures marks { SetsFailureFlag result no_stream (failure_flag out.old out.new) (failure_flag err.old err.new) }
 {
     match from_utf8(without_end(piece)) {
-        Ok(line) => undname_in(room, line, out, err, verbose),
+        Ok(line) => undname_in(demangler, line, out, err, verbose),
         Err(_) => Ok(()),
     }
 }

@@ -2,8 +2,8 @@
 
 ghost use Rattle.msvc_demangler.specs.Faults.{SetsFailureFlag, failure_flag, no_stream};
 
+use crate::demangler::Demangler;
 use crate::lines::{undname_in, undname_lines};
-use crate::room::Room;
 use crate::watched::{Fault, Watched};
 use std::alloc::Global;
 use std::io::{BufRead, Write};
@@ -50,9 +50,9 @@ fn undname_all<W: Write, E: Write>(
 ) -> Result<(), Fault>
     ensures marks { SetsFailureFlag result no_stream (failure_flag out.old out.new) (failure_flag err.old err.new) }
 {
-    let mut room = Room::new(alloc);
+    let mut demangler = Demangler::new(alloc);
     for symbol in symbols {
-        undname_in(&mut room, symbol.as_str(), out, err, verbose)?;
+        undname_in(&mut demangler, symbol.as_str(), out, err, verbose)?;
     }
     Ok(())
 }

@@ -13,4 +13,4 @@ pub use Rattle.msvc_nodes.specs.NodeView
 pub use Rattle.msvc_nodes.specs.Trees
 pub use Rattle.msvc_parser.specs.Parser
 pub use Rattle.msvc_tree.specs.View
-pub use Rattle.msvc_read.specs.Failures
+pub mod Failures

@@ -1,19 +1,25 @@
 use Rattle.msvc_print.proofs.Texts.{declaration-utf8}
 use Rattle.msvc_print.specs.Declaration.{declaration}
 use Rattle.msvc_demangler.proofs.Demangled.{declared_of, hashes_shown}
+use Rattle.msvc_demangler.proofs.Failed.{refused_under}
+use Rattle.msvc_demangler.specs.Limits.{limits_of}
 use Rattle.msvc_demangler.proofs.demangle_within.Goals as goal
 
 pub into_string-requires : goal.into_string-requires
 into_string-requires c =
     let is = c.in-Ok.ensures.printed in (
       declaration is.tree c.args.flags.0,
-      (is.printed c.if-printed.true).0,
+      is.printed,
       declaration-utf8 is.tree c.args.flags.0 is.parsed.texts,
     )
 
-pub returns-then-printed-clause-hashes : goal.returns-then-printed-clause-hashes
-returns-then-printed-clause-hashes c =
+pub returns-in-Ok-clause-hashes : goal.returns-in-Ok-clause-hashes
+returns-in-Ok-clause-hashes c =
     let is = c.in-Ok.ensures.printed in
     hashes_shown c.args.input.now _ is.tree c.args.flags.0
-    (declared_of c.args.input.now _ is.tree c.args.flags.0 _ is.parsed (is.printed c.if-printed.true).0
-    c.into_string.ensures)
+    (declared_of c.args.input.now _ is.tree c.args.flags.0 _ is.parsed is.printed c.into_string.ensures)
+
+pub returns-in-Err-clause-rejected : goal.returns-in-Err-clause-rejected
+returns-in-Err-clause-rejected c =
+    refused_under (limits_of c.args.nodes c.args.bytes) c.args.input.now c.args.flags.0 c.in-Err.failure c.error.result
+    c.in-Err.ensures.fails c.error.ensures

@@ -4,16 +4,16 @@ use Rattle.msvc_demangler.proofs.Written.{to_end}
 use Rattle.msvc_demangler.proofs.filter.next_symbol.Goals as goal
 
 pub bytes-init : goal.bytes-init
-bytes-init c =
+bytes-init g c =
     (omega arith, parts-start c.args.flags.0 c.args.scan.now c.args.left.now c.args.until)
 
 pub pass-requires-clause-plain : goal.pass-requires-clause-plain
-pass-requires-clause-plain c =
+pass-requires-clause-plain g c =
     let run = c.plain_len.ensures in
     plain-run c.args.left.now c.bytes.at c.plain_len.result c.args.until run.bound run.plain
 
 pub bytes-preserved-then-left-at-ne63 : goal.bytes-preserved-then-left-at-ne63
-bytes-preserved-then-left-at-ne63 c =
+bytes-preserved-then-left-at-ne63 g c =
     let left = c.args.left.now in
     let at = c.bytes.at in
     let count = c.plain_len.result in
@@ -26,7 +26,7 @@ bytes-preserved-then-left-at-ne63 c =
     )
 
 pub bytes-preserved : goal.bytes-preserved
-bytes-preserved c =
+bytes-preserved g c =
     let left = c.args.left.now in
     let at = c.bytes.at in
     let none = rw (c.in-None.is, to_end left at, first-of left at) at c.in_ok-bytes.ensures.none in (
@@ -36,7 +36,7 @@ bytes-preserved c =
     )
 
 pub returns-in-Some-clause-some : goal.returns-in-Some-clause-some
-returns-in-Some-clause-some c =
+returns-in-Some-clause-some g c =
     let left = c.args.left.now in
     let at = c.bytes.at in
     let some = rw (c.in-Some.is, to_end left at, first-of left at) at c.in_ok-bytes.ensures.some in

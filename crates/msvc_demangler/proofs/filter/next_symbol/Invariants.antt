@@ -4,8 +4,8 @@ use Rattle.msvc_demangler.specs.Scans.{ArePartsUpTo}
 use Rattle.msvc_demangler.proofs.filter.next_symbol.Given as goal
 
 abbrev pub invariant-bytes : goal.invariant-bytes
-invariant-bytes l =
+invariant-bytes g l =
     (l.at ≤ l.until) × ArePartsUpTo l.flags.0 l.fn.scan l.left l.until (map kept (take l.at l.left)) l.at l.scan
 
 abbrev pub decreases-bytes : goal.decreases-bytes
-decreases-bytes l = l.until - l.at
+decreases-bytes g l = l.until - l.at

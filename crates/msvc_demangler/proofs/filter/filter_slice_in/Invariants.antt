@@ -3,11 +3,11 @@ use Rattle.msvc_demangler.specs.Fillings.{IsFilling}
 use Rattle.msvc_demangler.specs.Filtered.{Part}
 use Rattle.msvc_demangler.specs.Scans.{ArePartsUpTo}
 use Rattle.msvc_demangler.proofs.Replaced.{fresh}
-use Rattle.msvc_demangler.proofs.filter.filter_slice.Given as goal
+use Rattle.msvc_demangler.proofs.filter.filter_slice_in.Given as goal
 
 abbrev pub invariant-symbols : goal.invariant-symbols
-invariant-symbols l = (l.at ≤ length l.text) × ((parts : List Part) × IsFilling l.fn.out parts l.filling l.out
+invariant-symbols g l = (l.at ≤ length l.text) × ((parts : List Part) × IsFilling l.fn.out parts l.filling l.out
     × ArePartsUpTo l.flags.0 (fresh 10) l.text (length l.text) parts l.at l.scan)
 
 abbrev pub decreases-symbols : goal.decreases-symbols
-decreases-symbols l = length l.text - l.at
+decreases-symbols g l = length l.text - l.at

@@ -8,10 +8,10 @@ use Rattle.msvc_demangler.proofs.Replaced.{Keeps-fresh, fresh, parts-only}
 use Rattle.msvc_demangler.proofs.Starts.{parts-kept}
 use Rattle.msvc_demangler.proofs.Within.{parts-all, parts-further}
 use Rattle.msvc_demangler.proofs.Written.{to_end}
-use Rattle.msvc_demangler.proofs.filter.filter_slice.Goals as goal
+use Rattle.msvc_demangler.proofs.filter.filter_slice_in.Goals as goal
 
 pub symbols-init : goal.symbols-init
-symbols-init c = (
+symbols-init g c = (
   omega arith,
   (
     [],
@@ -21,13 +21,13 @@ symbols-init c = (
 )
 
 pub fill_declared-requires : goal.fill_declared-requires
-fill_declared-requires c =
+fill_declared-requires g c =
     let so = c.symbols.invariant.1 in
     let on = c.in_ok-filling-in-Some.ensures c.args.out.now so.0 so.1 in
     omega (arith, on.inside, Filling-length c.args.out.now _ _ _ on)
 
 pub symbols-preserved-in-Some : goal.symbols-preserved-in-Some
-symbols-preserved-in-Some c =
+symbols-preserved-in-Some g c =
     let text = c.args.text.now in
     let given = c.args.out.now in
     let at = c.symbols.at in
@@ -52,7 +52,7 @@ symbols-preserved-in-Some c =
     )
 
 pub symbols-preserved : goal.symbols-preserved
-symbols-preserved c =
+symbols-preserved g c =
     let text = c.args.text.now in
     let given = c.args.out.now in
     let at = c.symbols.at in
@@ -73,7 +73,7 @@ symbols-preserved c =
     )
 
 pub returns : goal.returns
-returns c =
+returns g c =
     let text = c.args.text.now in
     let so = c.symbols.invariant in
     let all = parts-all c.args.flags.0 (fresh 10) c.symbols.scan text (length text) c.symbols.at so.1.0 so.1.2

@@ -1,0 +1,25 @@
+use Rattle.msvc_print.proofs.Texts.{declaration-utf8}
+use Rattle.msvc_print.specs.Declaration.{declaration}
+use Rattle.msvc_demangler.proofs.Demangled.{declared_of, hashes_shown}
+use Rattle.msvc_demangler.proofs.Failed.{refused_under}
+use Rattle.msvc_demangler.specs.Limits.{limits_of}
+use Rattle.msvc_demangler.proofs.demangler.Demangler+Global.demangle_within.Goals as goal
+
+pub as_str-requires : goal.as_str-requires
+as_str-requires c =
+    let is = c.in-Ok.ensures.printed in (
+      declaration is.tree c.args.flags.0,
+      is.printed,
+      declaration-utf8 is.tree c.args.flags.0 is.parsed.texts,
+    )
+
+pub returns-in-Ok-clause-hashes : goal.returns-in-Ok-clause-hashes
+returns-in-Ok-clause-hashes c =
+    let is = c.in-Ok.ensures.printed in
+    hashes_shown c.args.input.now _ is.tree c.args.flags.0
+    (declared_of c.args.input.now _ is.tree c.args.flags.0 _ is.parsed is.printed c.as_str.ensures)
+
+pub returns-in-Err-clause-rejected : goal.returns-in-Err-clause-rejected
+returns-in-Err-clause-rejected c =
+    refused_under (limits_of c.args.nodes c.args.bytes) c.args.input.now c.args.flags.0 c.in-Err.failure c.error.result
+    c.in-Err.ensures.fails c.error.ensures

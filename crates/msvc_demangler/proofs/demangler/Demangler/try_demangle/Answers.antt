@@ -1,0 +1,11 @@
+use Rattle.msvc_print.proofs.Texts.{declaration-utf8}
+use Rattle.msvc_print.specs.Declaration.{declaration}
+use Rattle.msvc_demangler.proofs.demangler.Demangler.try_demangle.Goals as goal
+
+pub as_str-requires : goal.as_str-requires
+as_str-requires g c =
+    let is = c.in-Ok.ensures.printed in (
+      declaration is.tree c.args.flags.0,
+      is.printed,
+      declaration-utf8 is.tree c.args.flags.0 is.parsed.texts,
+    )

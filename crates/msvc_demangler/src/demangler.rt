@@ -1,0 +1,351 @@
+//! Reads a symbol and prints its declaration, in memory that is kept from one symbol to the next or made for one. The
+//! sizes of this memory stand here.
+
+ghost use Rattle.std.specs.Prelude.{◌≡◌, ◌≤◌, IfErr, IfOk, Some, length, true};
+ghost use Rattle.msvc_nodes.specs.NodeView.{typed_symbol_of};
+ghost use Rattle.msvc_nodes.specs.Trees.{SymbolTree};
+ghost use Rattle.msvc_grammar.specs.Counts.{node_count};
+ghost use Rattle.msvc_grammar.specs.Parsed.{GrammarLaws, IsParsed, IsRejected, IsSymbolLength};
+ghost use Rattle.msvc_print.specs.Declaration.{declaration};
+ghost use Rattle.msvc_print.specs.Within.{IsPrintedWithin};
+ghost use Rattle.msvc_demangler.specs.Demangled.{HashesAreShown, IsDeclared, IsDeclaredWithin, IsRefusedUnder};
+ghost use Rattle.msvc_demangler.specs.Failures.{FailsUnder, IsFailure, IsInside};
+ghost use Rattle.msvc_demangler.specs.Limits.{IsPrinted, IsRejectedUnder, IsWithin, limit_of_number, limits_of};
+
+use crate::failure::Failure;
+use bumpalo::Bump;
+use msvc_nodes::error::Error;
+use msvc_nodes::flags::DemangleFlags;
+use msvc_nodes::nodes::TypedSymbol;
+use msvc_parser::refusal::Refusal;
+use msvc_print::{Text, print_within, stack_room, stack_room_within};
+use msvc_read::{read_symbol, read_symbol_within, room_for, room_within};
+use std::alloc::{AllocError, Allocator, Global};
+
+/// Bytes that a declaration has room for before it grows, for each byte of its symbol: few names need more.
+const TEXT_OF_A_BYTE: usize = 3;
+
+/// Bytes that it has room for beside these.
+const TEXT_AT_FIRST: usize = 64;
+
+/// The most bytes that a declaration has room for before it grows.
+const MOST_TEXT: usize = 1 << 16;
+
+/// The most bytes that an arena begins with.
+const MOST_ROOM: usize = 1 << 20;
+
+/// The bytes of an arena that is never made anew.
+const FIXED: usize = usize::MAX;
+
+/// A demangler that keeps its memory: a symbol that needs no more than those before it makes no request.
+#[derive(Drop)]
+pub struct Demangler<A: Allocator + Copy = Global> {
+    pub(crate) alloc: A,
+    /// The nodes of the last symbol, and the stack of the printer.
+    pub(crate) arena: Bump<A>,
+    /// Bytes that the arena began with, or [`FIXED`].
+    began: usize,
+    /// The declaration of the last symbol that was printed.
+    pub(crate) text: Text<A>,
+}
+
+impl<A: Allocator + Copy> Demangler<A> {
+    /// Makes a demangler. Requests no memory.
+    pub fn new(alloc: A) -> Demangler<A> {
+        Demangler {
+            alloc,
+            arena: Bump::new(alloc),
+            began: 0,
+            text: Text::new(alloc),
+        }
+    }
+
+    /// Makes a demangler of an arena and a text that have all the memory that there is: neither is made anew, and for
+    /// no symbol is more reserved than it takes.
+    pub fn over(alloc: A, arena: Bump<A>, text: Text<A>) -> Demangler<A> {
+        Demangler {
+            alloc,
+            arena,
+            began: FIXED,
+            text,
+        }
+    }
+
+    /// Returns the declaration of the symbol that `input` begins with, as [`crate::demangle_within`] does. It is
+    /// borrowed until the next call.
+    ///
+    /// # Errors
+    ///
+    /// Fails where [`crate::demangle_within`] does, with the reason for its error.
+    pub fn try_demangle(
+        &mut self,
+        input: &str,
+        flags: DemangleFlags,
+        nodes: usize,
+        bytes: usize,
+    ) -> Result<&str, Failure>
+        ensures declared { IfOk result (λ text.
+            IsDeclaredWithin (limits_of nodes bytes) input.now flags.0 text.now) }
+        ensures fails { IfErr result (λ failure. IsFailure (limits_of nodes bytes) input.now flags.0 failure) }
+        ensures inside { IfErr result (λ failure. IsInside input.now failure) }
+    {
+        match self.run(input, flags, nodes, bytes) {
+            Ok(_) => Ok(self.text.as_str()),
+            Err(failure) => Err(failure),
+        }
+    }
+
+    /// Returns the length in bytes of the symbol that `input` begins with, if its tree has at most `nodes` nodes.
+    ///
+    /// # Errors
+    ///
+    /// Fails where [`crate::symbol_length_within`] does, with the reason for its error.
+    pub fn try_symbol_length(&mut self, input: &str, nodes: usize) -> Result<usize, Refusal>
+        ensures parsed { IfOk result (λ _. (tree : SymbolTree) × IsParsed input.now tree
+            × IsWithin (limit_of_number nodes) (node_count tree)) }
+        ensures length { IfOk result (λ bytes. IsSymbolLength bytes input.now) }
+        ensures fails { IfErr result (λ reason. FailsUnder (limit_of_number nodes) input.now reason) }
+    {
+        if self.prepare(input, nodes).is_err() {
+            return Err(Refusal::Memory);
+        }
+        match read(&self.arena, input, nodes) {
+            Ok((_, bytes)) => Ok(bytes),
+            Err(refusal) => Err(refusal),
+        }
+    }
+
+    /// Gives all memory back. The next symbol requests it again.
+    pub fn clear(&mut self) {
+        self.arena = Bump::new(self.alloc);
+        self.began = 0;
+        self.text = Text::new(self.alloc);
+    }
+
+    /// Reads the symbol that `input` begins with, if its tree has at most `nodes` nodes, and prints its declaration as
+    /// the text, if that has at most `bytes` bytes. `usize::MAX` is no limit. Returns how many bytes the symbol takes.
+    pub(crate) fn run(
+        &mut self,
+        input: &str,
+        flags: DemangleFlags,
+        nodes: usize,
+        bytes: usize,
+    ) -> Result<usize, Failure>
+        ensures printed { IfOk result (λ read.
+            IsPrinted (limits_of nodes bytes) input.now flags.0 read self.new.text.text) }
+        ensures fails { IfErr result (λ failure. IsFailure (limits_of nodes bytes) input.now flags.0 failure) }
+        ensures inside { IfErr result (λ failure. IsInside input.now failure) }
+    {
+        self.prepare(input, nodes)?;
+        let reserved = self.text_bytes(input);
+        demangle_in(
+            &self.arena,
+            &mut self.text,
+            reserved,
+            input,
+            flags,
+            nodes,
+            bytes,
+        )
+    }
+
+    /// Returns how many bytes to reserve for the declaration of the symbol that `input` begins with.
+    pub(crate) fn text_bytes(&self, input: &str) -> usize {
+        if self.began == FIXED {
+            0
+        } else {
+            text_bytes(input)
+        }
+    }
+
+    /// Empties the arena, and makes it large enough to read and to print a symbol of at most `nodes` nodes, unless it
+    /// is fixed. Requests no memory for a text that doesn't begin with `?`.
+    pub(crate) fn prepare(&mut self, input: &str, nodes: usize) -> Result<(), AllocError> {
+        // An arena that some list was not given back to stays as it is, and can still be used.
+        let _ = self.arena.reset();
+        let bytes = arena_bytes(input, nodes);
+        if self.began < bytes {
+            self.arena = Bump::try_with_capacity(self.alloc, bytes)?;
+            self.began = bytes;
+        }
+        Ok(())
+    }
+}
+
+impl Demangler<Global> {
+    /// Returns the declaration of the symbol that `input` begins with, as [`crate::demangle`] does. It is borrowed
+    /// until the next call.
+    ///
+    /// # Errors
+    ///
+    /// Fails where [`crate::demangle`] does, with the same error.
+    pub fn demangle(&mut self, input: &str, flags: DemangleFlags) -> Result<&str, Error>
+        ensures declared { IfOk result (λ text. (tree : SymbolTree) × IsDeclared input.now tree flags.0 text.now) }
+        ensures rejected { IfErr result (λ e. IsRejected input.now e) }
+        ensures laws { GrammarLaws input.now }
+        ensures hashes { IfOk result (λ text. HashesAreShown input.now text.now) }
+    {
+        self.demangle_within(input, flags, usize::MAX, usize::MAX)
+    }
+
+    /// Returns the declaration of the symbol that `input` begins with, as [`crate::demangle_within`] does. It is
+    /// borrowed until the next call.
+    ///
+    /// # Errors
+    ///
+    /// Fails where [`crate::demangle_within`] does, with the same error.
+    pub fn demangle_within(
+        &mut self,
+        input: &str,
+        flags: DemangleFlags,
+        nodes: usize,
+        bytes: usize,
+    ) -> Result<&str, Error>
+        ensures declared { IfOk result (λ text.
+            IsDeclaredWithin (limits_of nodes bytes) input.now flags.0 text.now) }
+        ensures rejected { IfErr result (λ e. IsRefusedUnder (limits_of nodes bytes) input.now flags.0 e) }
+        ensures hashes { IfOk result (λ text. HashesAreShown input.now text.now) }
+    {
+        match self.run(input, flags, nodes, bytes) {
+            Ok(_) => Ok(self.text.as_str()),
+            Err(failure) => Err(failure.error(self.alloc, input)),
+        }
+    }
+
+    /// Returns the length in bytes of the symbol that `input` begins with, as [`crate::symbol_length_within`] does;
+    /// `usize::MAX` is no limit.
+    ///
+    /// # Errors
+    ///
+    /// Fails where [`crate::symbol_length_within`] does, with the same error.
+    pub fn symbol_length_within(&mut self, input: &str, nodes: usize) -> Result<usize, Error>
+        ensures parsed { IfOk result (λ _. (tree : SymbolTree) × IsParsed input.now tree
+            × IsWithin (limit_of_number nodes) (node_count tree)) }
+        ensures length { IfOk result (λ bytes. IsSymbolLength bytes input.now) }
+        ensures rejected { IfErr result (λ e. IsRejectedUnder (limit_of_number nodes) input.now e) }
+    {
+        match self.try_symbol_length(input, nodes) {
+            Ok(bytes) => Ok(bytes),
+            Err(refusal) => Err(refusal.error(self.alloc, input.as_bytes())),
+        }
+    }
+}
+
+/// Does what [`Demangler::run`] does, in an arena that is made for this symbol, and prints the declaration to `text`.
+#[inline(always)]
+pub(crate) fn demangle_once<A: Allocator + Copy>(
+    alloc: A,
+    text: &mut Text<A>,
+    input: &str,
+    flags: DemangleFlags,
+    nodes: usize,
+    bytes: usize,
+) -> Result<usize, Failure>
+    ensures printed { IfOk result (λ read.
+        IsPrinted (limits_of nodes bytes) input.now flags.0 read text.new.text) }
+    ensures fails { IfErr result (λ failure. IsFailure (limits_of nodes bytes) input.now flags.0 failure) }
+    ensures inside { IfErr result (λ failure. IsInside input.now failure) }
+{
+    let arena = Bump::try_with_capacity(alloc, arena_bytes(input, nodes))?;
+    demangle_in(&arena, text, text_bytes(input), input, flags, nodes, bytes)
+}
+
+/// Reads a symbol and prints its declaration to `text`, as [`Demangler::run`] says, in an arena that is empty and large
+/// enough. Reserves so many bytes of text before it prints.
+#[inline(always)]
+fn demangle_in<B: Allocator, A: Allocator>(
+    arena: &Bump<B>,
+    text: &mut Text<A>,
+    reserved: usize,
+    input: &str,
+    flags: DemangleFlags,
+    nodes: usize,
+    bytes: usize,
+) -> Result<usize, Failure>
+    ensures printed { IfOk result (λ read.
+        IsPrinted (limits_of nodes bytes) input.now flags.0 read text.new.text) }
+    ensures fails { IfErr result (λ failure. IsFailure (limits_of nodes bytes) input.now flags.0 failure) }
+    ensures inside { IfErr result (λ failure. IsInside input.now failure) }
+{
+    match read(arena, input, nodes) {
+        Ok((symbol, read)) => {
+            if print_in(arena, text, reserved, &symbol, flags, bytes)? {
+                Ok(read)
+            } else {
+                Err(Failure::TooLong(read))
+            }
+        }
+        Err(refusal) => Err(Failure::Unread(refusal)),
+    }
+}
+
+/// Prints the declaration of a symbol as the text, if it has at most `bytes` bytes, and returns whether it has.
+/// `usize::MAX` is no limit. Reserves so many bytes of text first.
+#[inline(always)]
+pub(crate) fn print_in<'a, 'b, B: Allocator, A: Allocator>(
+    arena: &'b Bump<B>,
+    text: &mut Text<A>,
+    reserved: usize,
+    symbol: &'b TypedSymbol<'a, 'b>,
+    flags: DemangleFlags,
+    bytes: usize,
+) -> Result<bool, AllocError>
+    ensures printed { IfOk result (λ within.
+        IsPrintedWithin bytes (declaration (typed_symbol_of symbol.now) flags.0) within text.new.text) }
+    ensures unlimited { IfOk result (λ within. bytes ≡ usize.MAX → within ≡ true) }
+{
+    text.clear(bytes);
+    text.try_reserve(reserved)?;
+    let within = print_within(arena, symbol, flags, bytes, text)?;
+    if !within && bytes == usize::MAX {
+        // No memory has room for so many bytes.
+        return Err(AllocError);
+    }
+    Ok(within)
+}
+
+/// Returns how many bytes the declarations take of most symbols that are as long as `input`.
+#[inline(always)]
+fn text_bytes(input: &str) -> usize {
+    input
+        .len()
+        .saturating_mul(TEXT_OF_A_BYTE)
+        .saturating_add(TEXT_AT_FIRST)
+        .min(MOST_TEXT)
+}
+
+/// Returns how many bytes of an arena it takes to read and to print a symbol of at most `nodes` nodes: none if `input`
+/// doesn't begin with `?`.
+#[inline(always)]
+fn arena_bytes(input: &str, nodes: usize) -> usize {
+    let [b'?', ..] = input.as_bytes() else {
+        return 0;
+    };
+    let (tree, stack) = if nodes == usize::MAX {
+        (room_for(input), stack_room(input.len()))
+    } else {
+        let stack = stack_room_within(input.len(), nodes);
+        (room_within(input, nodes), stack)
+    };
+    tree.saturating_add(stack).min(MOST_ROOM)
+}
+
+/// Reads the symbol that `input` begins with as nodes in `arena`, if it has at most `nodes` nodes, and returns it and
+/// its length in bytes. Counts no nodes if any number is allowed.
+#[inline(always)]
+pub(crate) fn read<'a, 'b, B: Allocator>(
+    arena: &'b Bump<B>,
+    input: &'a str,
+    nodes: usize,
+) -> Result<(TypedSymbol<'a, 'b>, usize), Refusal>
+    ensures parsed { IfOk result (λ r. IsParsed input.now (typed_symbol_of r.0)) }
+    ensures within { IfOk result (λ r. IsWithin (limit_of_number nodes) (node_count (typed_symbol_of r.0))) }
+    ensures length { IfOk result (λ r. IsSymbolLength r.1 input.now) }
+    ensures fails { IfErr result (λ reason. FailsUnder (limit_of_number nodes) input.now reason) }
+{
+    if nodes == usize::MAX {
+        read_symbol(arena, input)
+    } else {
+        read_symbol_within(arena, input, nodes)
+    }
+}
