@@ -44,9 +44,9 @@
 #define MSVC_DEMANGLER_SMALL_WORKSPACE ((size_t)98304)
 #define MSVC_DEMANGLER_DEFAULT_WORKSPACE ((size_t)1228800)
 
-/* Bytes of stack that a call takes at most under the small limits, and under the default ones. */
-#define MSVC_DEMANGLER_SMALL_STACK ((size_t)116000)
-#define MSVC_DEMANGLER_DEFAULT_STACK ((size_t)1000000)
+/* Bytes of stack that a call takes at most under the small limits, and under the default ones, on x86-64 and AArch64. */
+#define MSVC_DEMANGLER_SMALL_STACK ((size_t)136000)
+#define MSVC_DEMANGLER_DEFAULT_STACK ((size_t)1200000)
 
 /* A part of a workspace: memory that is aligned to 16, and a multiple of 16 bytes of it. */
 struct msvc_demangler_part {
