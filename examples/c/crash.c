@@ -1,7 +1,8 @@
 /* A crash reporter: when the program crashes, a handler of SIGSEGV prints the declarations of the functions that are
    being called, innermost first. Some functions here have names as Microsoft's compiler gives them.
 
-       cc -fno-omit-frame-pointer -fno-optimize-sibling-calls crash.c -lmsvc_demangler_in -o crash
+       cc -fno-omit-frame-pointer -mno-omit-leaf-frame-pointer -fno-optimize-sibling-calls crash.c \
+           -lmsvc_demangler_in -o crash
 
    A handler may call only what is async-signal-safe. This one calls the library and write: the names of the functions
    are read when the program starts, and all memory is there before the crash. It is for Linux on x86-64 and AArch64. */
