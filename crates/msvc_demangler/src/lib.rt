@@ -24,7 +24,7 @@ pub use bitflags::Flags;
 pub use demangler::Demangler;
 use demangler::demangle_once;
 pub use failure::Failure;
-pub use filter::{Filtered, filter_slice, filter_text};
+pub use filter::{Filtered, filter_slice, filter_slice_in, filter_text};
 pub use lines::{undname_lines, undname_one};
 pub use msvc_nodes::error::{Error, ErrorRepr, Limit};
 pub use msvc_nodes::flags::{DemangleFlags, FuncClass, StorageClass};

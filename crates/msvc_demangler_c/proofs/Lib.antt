@@ -1,3 +1,1 @@
-mod Cuts
-mod Filters
 mod Refusals

@@ -15,8 +15,9 @@ use Rattle.msvc_demangler.specs.Limit.{Limit}
 use Rattle.msvc_demangler.specs.Limit.TheVariants.{Bytes, Nodes}
 use Rattle.msvc_demangler.specs.Limits.{IsRejectedUnder, IsTooLong, Limits}
 use Rattle.msvc_demangler.specs.Refusals.{begins_with}
-use Rattle.msvc_demangler_c.specs.Calls.{IsFound, IsMeasured, IsNoSymbolUnder, IsRefused, IsRejection, IsStatus, Says}
-use Rattle.msvc_demangler_c.specs.Calls.{invalid, not_measured, not_read, too_long, too_many_nodes}
+use Rattle.msvc_c_calls.proofs.Refused.{refused}
+use Rattle.msvc_c_calls.specs.Calls.{IsFound, IsMeasured, IsNoSymbolUnder, IsRefused, IsRejection, IsStatus, Says}
+use Rattle.msvc_c_calls.specs.Calls.{not_measured, not_read, too_long}
 
 -- an error has this offset in the symbol, and this text
 pub record IsAt (e : ErrorRepr) (offset : ℕ) (text : List ℕ) : Type 0 where
@@ -48,32 +49,6 @@ unread nodes symbol (error.FromUtf8 cause) r = tt
 unread nodes symbol (error.Utf8 cause) r = tt
 unread nodes symbol (error.Other message) r = tt
 unread nodes symbol error.Memory r = tt
-
--- the message about the limit on nodes is one text
-nodes-first : (nodes bytes : Bool) → (if nodes then Some Nodes else if bytes then Some Bytes else None) ≡ Some Nodes
-    → true ≡ nodes
-nodes-first true bytes e = refl
-nodes-first false true e = absurd (cc)
-nodes-first false false e = absurd (cc)
-
-nodes-message : (message : List ℕ) → message_limit message ≡ Some Nodes → message ≡ errors.too_many_nodes
-nodes-message message e =
-    same_text message errors.too_many_nodes
-    (nodes-first (pointwise (λ a b. a == b) message errors.too_many_nodes)
-    (pointwise (λ a b. a == b) message errors.too_long) e)
-
--- a symbol that is not read has one of two statuses
-refused : (limits : Limits) (symbol : List ℕ) (status offset : ℕ) (message text : List ℕ) (limit : Option Limit)
-    → IsUtf8 symbol → IsNoSymbolUnder limits.nodes symbol → IsRejection symbol message offset text
-    → message_limit message ≡ limit → limit ≢ Some Bytes → IsStatus limits limit status
-    → IsRefused limits symbol status offset text
-refused limits symbol status offset message text None u none rejection about other is =
-    subst (λ n. IsRefused limits symbol n offset text) (sym is) (invalid u none about rejection)
-refused limits symbol status offset message text (Some Nodes) u none rejection about other is =
-    let Of : List ℕ → Type 0 = λ m. IsRejection symbol m offset text in
-    subst (λ n. IsRefused limits symbol n offset text) (sym is.0)
-    (too_many_nodes u none is.1 (subst Of (nodes-message message about) rejection))
-refused limits symbol status offset message text (Some Bytes) u none rejection about other is = absurd (other refl)
 
 refused-unread : (limits : Limits) (symbol : List ℕ) (status : ℕ) (e : ErrorRepr) (offset : ℕ) (text : List ℕ)
     → IsUtf8 symbol → IsRejectedUnder limits.nodes symbol e → IsStatus limits (limit_of e) status

@@ -1,2 +1,1 @@
-pub mod Buffers
-pub mod Calls
+pub mod Version

@@ -6,12 +6,16 @@ ghost use Rattle.std.specs.Prelude.{◌≡◌, ℕ, IfErr, IfOk, IfSome, List, S
 ghost use Rattle.std.specs.Cow.{cow_str_bytes};
 ghost use Rattle.msvc_demangler.specs.Errors.{limit_of, offset_of};
 ghost use Rattle.msvc_demangler.specs.Limits.{IsRejectedUnder, limit_of_number, limits_of};
-ghost use Rattle.msvc_demangler_c.specs.Buffers.{IsWritten};
-ghost use Rattle.msvc_demangler_c.specs.Calls.{IsFilteredInto, IsFound, IsLength, IsMeasured, IsStatus, version};
+ghost use Rattle.msvc_c_calls.specs.Buffers.{IsWritten};
+ghost use Rattle.msvc_c_calls.specs.Calls.{IsFilteredInto, IsFound, IsLength, IsMeasured, IsStatus};
+ghost use Rattle.msvc_demangler_c.specs.Version.{version};
 
+use msvc_c_calls::{
+    CallResult, NOT_UTF8, NOT_UTF8_TEXT, OK, OUT_OF_MEMORY, OUT_OF_MEMORY_TEXT, end_filtered,
+    status_of, write,
+};
 use msvc_demangler::{
-    DemangleFlags, Error, Filtered, Flags, Limit, demangle_within, filter_slice, symbol_length,
-    symbol_length_within,
+    DemangleFlags, Error, Flags, demangle_within, filter_slice, symbol_length, symbol_length_within,
 };
 use std::alloc::Global;
 use std::borrow::CowStr;
@@ -19,42 +23,6 @@ use std::str::from_utf8;
 
 /// The version of the library.
 const VERSION: &str = "0.11.0";
-
-/// The status of a declaration, a length or a filtered text.
-const OK: u32 = 0;
-
-/// The status of an input that begins with no symbol.
-const INVALID: u32 = 1;
-
-/// The status of an input that is not UTF-8.
-const NOT_UTF8: u32 = 2;
-
-/// The status of a call that ran out of memory.
-const OUT_OF_MEMORY: u32 = 3;
-
-/// The status of a symbol with more nodes than allowed.
-const TOO_MANY_NODES: u32 = 4;
-
-/// The status of a symbol whose declaration has more bytes than allowed.
-const TOO_LONG: u32 = 5;
-
-/// The text of a symbol that is not UTF-8.
-const NOT_UTF8_TEXT: &str = "not UTF-8";
-
-/// The text of a call that is out of memory.
-const OUT_OF_MEMORY_TEXT: &str = "out of memory";
-
-/// The result of a call: `struct msvc_demangler_result` of the header.
-#[repr(C)]
-#[derive(Drop)]
-pub struct CallResult {
-    /// One of the statuses.
-    pub status: u32,
-    /// The offset in bytes at which the symbol was rejected, or up to which it is UTF-8; else 0.
-    pub offset: usize,
-    /// The bytes of the whole text, without the NUL after it, whether it fits or not; or the bytes of the symbol.
-    pub length: usize,
-}
 
 /// What is found of a symbol.
 #[derive(Drop)]
@@ -124,23 +92,8 @@ pub extern "C" fn msvc_demangler_filter(
 {
     let room = out.len().saturating_sub(1);
     let flags = DemangleFlags::from_bits_retain(flags);
-    match filter_slice(alloc, text, flags, &mut out[..room]) {
-        Ok(Filtered { length, written }) => {
-            if !out.is_empty() {
-                out[written] = 0;
-            }
-            CallResult {
-                status: OK,
-                offset: 0,
-                length,
-            }
-        }
-        Err(_) => CallResult {
-            status: OUT_OF_MEMORY,
-            offset: 0,
-            length: write(OUT_OF_MEMORY_TEXT, out),
-        },
-    }
+    let found = filter_slice(alloc, text, flags, &mut out[..room]);
+    end_filtered(found, out)
 }
 
 /// Writes the version into `out`, by the same rules, and returns its length in bytes.
@@ -247,28 +200,6 @@ fn rejection(error: &Error, max_nodes: usize, max_bytes: usize) -> Option<(u32, 
     ensures status { IfSome result (λ r. IsStatus (limits_of max_nodes max_bytes) (limit_of error.now) r.0) }
     ensures offset { IfSome result (λ r. offset_of error.now ≡ Some r.1) }
 {
-    let status = match error.limit() {
-        None => INVALID,
-        Some(Limit::Nodes) if max_nodes != usize::MAX => TOO_MANY_NODES,
-        Some(Limit::Bytes) if max_bytes != usize::MAX => TOO_LONG,
-        // A limit that was not set: no memory has room for so many nodes or bytes.
-        Some(_) => return None,
-    };
+    let status = status_of(error.limit(), max_nodes, max_bytes)?;
     Some((status, error.offset()?))
-}
-
-/// Writes a text and a NUL into a buffer, cut short before a character if they do not fit, and returns the length of
-/// the text in bytes.
-fn write(text: &str, out: &mut [u8]) -> usize
-    ensures written { IsWritten text.now out.old out.new }
-    ensures length { result ≡ length text.now }
-{
-    let whole = text.len();
-    if out.is_empty() {
-        return whole;
-    }
-    let cut = text.floor_char_boundary(out.len() - 1);
-    out[..cut].copy_from_slice(&text.as_bytes()[..cut]);
-    out[cut] = 0;
-    whole
 }

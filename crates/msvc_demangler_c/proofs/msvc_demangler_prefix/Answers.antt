@@ -1,6 +1,6 @@
 use Rattle.std.proofs.Common.{ℕ, subst, sym}
 use Rattle.std.specs.Str.{IsValidUpTo}
-use Rattle.msvc_demangler_c.specs.Calls.{not_measured, not_utf8}
+use Rattle.msvc_c_calls.specs.Calls.{not_measured, not_utf8}
 use Rattle.msvc_demangler_c.proofs.msvc_demangler_prefix.Goals as goal
 
 pub returns-in-Err : goal.returns-in-Err

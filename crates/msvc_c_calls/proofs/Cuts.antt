@@ -5,7 +5,7 @@ use Rattle.std.proofs.Common.{sym, subst, get_or, arith, true, false}
 use Rattle.std.proofs.Math.Seq.{drop-cons, set-append_seam}
 use Rattle.std.proofs.lemmas.Str.{IsCharBoundary-from_take, IsUtf8-take}
 use Rattle.std.specs.Str.{IsCharBoundary, IsUtf8}
-use Rattle.msvc_demangler_c.specs.Buffers.{IsLongest, IsWritten}
+use Rattle.msvc_c_calls.specs.Buffers.{IsLongest, IsWritten}
 
 pub set-copied : (part old : List ℕ) (n : ℕ) → length part ≡ n → n < length old
     → set (part ++ drop n old) n 0 ≡ part ++ 0 ∷ drop (suc n) old

@@ -1,8 +1,8 @@
 use Rattle.std.proofs.Common.{◌≡◌, ◌-◌, ◌∙◌, ◌++◌, ◌∷◌, arith, drop, length, slice_set, suc, sym, take}
 use Rattle.std.proofs.lemmas.Grind.{common_steps}
 use Rattle.std.proofs.lemmas.List.{length-take-le}
-use Rattle.msvc_demangler_c.proofs.Cuts.{longest, one_more, set-copied, written-cut}
-use Rattle.msvc_demangler_c.proofs.write.Goals as goal
+use Rattle.msvc_c_calls.proofs.Cuts.{longest, one_more, set-copied, written-cut}
+use Rattle.msvc_c_calls.proofs.write.Goals as goal
 
 pub returns-clause-written : goal.returns-clause-written
 returns-clause-written c =

@@ -1,13 +1,13 @@
 -- What the calls from C return and write, whatever makes it: definitions over bytes and numbers.
 use Rattle.std.specs.Prelude.{ℕ, List, ◌≡◌, ◌≤◌, length, codes}
 use Rattle.std.specs.Prelude.{Option, Some, None, IfSome, is_some, true}
-use Rattle.std.specs.Fmt.{◌++?◌, debug_str, decimal}
 use Rattle.std.specs.Str.{IsAscii, IsUtf8, IsValidUpTo}
 use Rattle.msvc_demangler.specs.Counts.{node_count}
 use Rattle.msvc_demangler.specs.Declaration.{declaration}
 use Rattle.msvc_demangler.specs.Demangled.{IsDeclaredWithin}
 use Rattle.msvc_demangler.specs.Errors as errors
-use Rattle.msvc_demangler.specs.Errors.{context_of, context_text_of, message_limit}
+use Rattle.msvc_demangler.specs.Errors.{context_of, context_text_of, message_limit, rejection_text}
+use Rattle.msvc_demangler.specs.Failures.{IsLonger}
 use Rattle.msvc_demangler.specs.Filtered.{AreOnlyParts, Part, text_of_parts}
 use Rattle.msvc_demangler.specs.Limit.{Limit}
 use Rattle.msvc_demangler.specs.Limit.TheVariants.{Bytes, Nodes}
@@ -17,10 +17,7 @@ use Rattle.msvc_demangler.specs.Reads.{Derives}
 use Rattle.msvc_demangler.specs.Refusals.{begins_with}
 use Rattle.msvc_demangler.specs.State.{Note}
 use Rattle.msvc_demangler.specs.Trees.{SymbolTree}
-use Rattle.msvc_demangler_c.specs.Buffers.{ArePartsWritten, IsWritten}
-
-abbrev pub version : List ℕ
-version = codes "0.11.0"
+use Rattle.msvc_c_calls.specs.Buffers.{ArePartsWritten, IsWritten}
 
 abbrev pub not_utf8_text : List ℕ
 not_utf8_text = codes "not UTF-8"
@@ -39,19 +36,7 @@ abbrev pub IsNoSymbolUnder : Option ℕ → List ℕ → Type 0
 IsNoSymbolUnder nodes symbol = (tree : SymbolTree) (rest : List ℕ) (notes : List Note)
     → Derives symbol tree rest notes → IsBeyond nodes (node_count tree)
 
--- So many bytes were read for the symbol's tree, which is within the limit on nodes, and its declaration exceeds the
--- limit on bytes.
-abbrev pub IsLonger : Limits → List ℕ → (flags bytes : ℕ) → Type 0
-IsLonger limits symbol flags bytes = (tree : SymbolTree) × IsParsed symbol tree
-    × IsWithin limits.nodes (node_count tree) × IsSymbolLength bytes symbol
-    × IsBeyond limits.bytes (length (declaration tree flags))
-
--- the text that says why a symbol is rejected; nothing is said of a context that is not ASCII
-abbrev pub rejection_text : (message context : List ℕ) (offset : ℕ) → Option (List ℕ)
-rejection_text message context offset =
-    Some message ++? Some (codes " (offset: ") ++? Some (decimal offset)
-    ++? Some (codes ", remaining: ") ++? debug_str context ++? Some (codes ")")
-
+-- the text says why a symbol is rejected; nothing is said of a context that is not ASCII
 abbrev pub Says : (message context : List ℕ) (offset : ℕ) (text : List ℕ) → Type 0
 Says message context offset text = IfSome (rejection_text message context offset) (λ said. text ≡ said)
 

@@ -1,5 +1,6 @@
 -- The parts that the filter writes, and a NUL after them.
 use Rattle.std.proofs.Common.{◌≡◌, ◌≤◌, ◌<◌, ◌-◌, ◌+◌, ◌∙◌, ℕ, List, [], ◌∷◌, ◌++◌, Bool, true, false, suc, min}
+use Rattle.std.proofs.Common.{Err, IfErr, IfOk, Ok, Result}
 use Rattle.std.proofs.Common.{ap, append_assoc, arith, drop, length, refl, set, subst, sym, take}
 use Rattle.std.proofs.lemmas.List.{drop-append-le, length-append, length-take, length-take-le, take-append-drop}
 use Rattle.std.proofs.lemmas.Bool.{eqb-true, leb-true}
@@ -8,9 +9,9 @@ use Rattle.std.specs.Prelude.{◌==◌, if◌then◌else◌, nat_le}
 use Rattle.std.specs.Str.Lossy.{utf8_valid_len}
 use Rattle.msvc_demangler.specs.Filtered.{AreOnlyParts, Part, declared, fitting, kept, text_of_parts}
 use Rattle.msvc_demangler.specs.Words.{utf8_front}
-use Rattle.msvc_demangler_c.proofs.Cuts.{one_more, set-copied}
-use Rattle.msvc_demangler_c.specs.Buffers.{ArePartsWritten}
-use Rattle.msvc_demangler_c.specs.Calls.{IsFilteredInto, filtered}
+use Rattle.msvc_c_calls.proofs.Cuts.{one_more, set-copied}
+use Rattle.msvc_c_calls.specs.Buffers.{ArePartsWritten, IsWritten}
+use Rattle.msvc_c_calls.specs.Calls.{IsFilteredInto, filtered, not_filtered, out_of_memory_text}
 
 take-room : (n : ℕ) (xs : List ℕ) → length (take n xs) ≤ n
 take-room n xs = let e : length (take n xs) ≡ min n (length xs) = length-take n xs in omega (arith, e)
@@ -122,3 +123,60 @@ pub into-nothing : (parts : List Part) (old new : List ℕ) → length new ≡ l
 into-nothing parts [] new same none = is_empty new same
 into-nothing parts (first ∷ old) new same none =
     let zero : length new ≡ 0 = eqb-true (length new) 0 none in absurd (omega (arith, same, zero))
+
+not_zero : (n : ℕ) (is : Bool) → (suc n == 0) ≡ is → is ≡ false
+not_zero n true e = let no : suc n ≡ 0 = eqb-true (suc n) 0 e in absurd (omega (arith, no))
+not_zero n false e = refl
+
+-- what the filter wrote into all of a buffer but its last byte, and a NUL after that
+pub ended : (flags bits : ℕ) (text old front : List ℕ) (parts : List Part) (room written count : ℕ) → bits ≡ flags
+    → AreOnlyParts bits text parts → count ≡ length (text_of_parts parts) → room ≡ length old - 1
+    → length front ≡ length (take room old)
+    → written ≡ length (fitting (length (take room old)) parts)
+    → front ≡ fitting (length (take room old)) parts
+    ++ drop (length (fitting (length (take room old)) parts)) (take room old)
+    → IsFilteredInto flags text old (set (front ++ drop room old) written 0) 0 count
+ended flags bits text [] front parts room written count same are is last held written_is front_is =
+    let front_none : front ≡ [] = is_empty front (held ∙ ap (λ r. length (take {A = ℕ} r [])) last) in
+    let none : front ++ drop room [] ≡ [] = ap (λ xs. xs ++ drop room []) front_none ∙ ap (λ r. drop {A = ℕ} r []) last in
+    filtered-into flags bits text [] _ parts count same are is (ap (λ xs. set xs written 0) none)
+ended flags bits text (first ∷ old) front parts room written count same are is last held written_is front_is =
+    let some : (length (front ++ drop room (first ∷ old)) == 0) ≡ false =
+    ap (λ n. n == 0) (kept-length front (first ∷ old) room held)
+    ∙ not_zero (length old) (suc (length old) == 0) refl in
+    filtered-into flags bits text (first ∷ old) _ parts count same are is
+    (into-buffer parts (first ∷ old) front room written last held some written_is front_is)
+
+moved : (flags : ℕ) (text old new made : List ℕ) (status is total count : ℕ) → status ≡ is → total ≡ count → new ≡ made
+    → IsFilteredInto flags text old made is count → IsFilteredInto flags text old new status total
+moved flags text old new made status is total count s t n into =
+    let Status : ℕ → Type 0 = λ k. IsFilteredInto flags text old new k total in
+    let Total : ℕ → Type 0 = λ k. IsFilteredInto flags text old new is k in
+    let New : List ℕ → Type 0 = λ xs. IsFilteredInto flags text old xs is count in
+    subst Status (sym s) (subst Total (sym t) (subst New (sym n) into))
+
+-- what it returns and writes if memory runs out
+pub filter_lost : (flags : ℕ) (text old others new : List ℕ) (status total : ℕ) → length others ≡ length old → status ≡ 3
+    → total ≡ length out_of_memory_text → IsWritten out_of_memory_text others new
+    → IsFilteredInto flags text old new status total
+filter_lost flags text old others new status total held s t written =
+    moved flags text old new new status 3 total _ s t refl (not_filtered others held written)
+
+-- what a call of the filter from C returns and writes, from what the library did and how that was ended
+pub filtered_call : {A E : Type 0} (count written : A → ℕ) (r : Result A E) (flags bits : ℕ)
+    (text old front new : List ℕ) (room status total : ℕ) → bits ≡ flags → room ≡ length old - 1
+    → length front ≡ length (take room old)
+    → IfOk r (λ f. (parts : List Part) × AreOnlyParts bits text parts × (count f ≡ length (text_of_parts parts))
+    × (written f ≡ length (fitting (length (take room old)) parts))
+    × (front ≡ fitting (length (take room old)) parts
+    ++ drop (length (fitting (length (take room old)) parts)) (take room old)))
+    → IfOk r (λ f. (status ≡ 0) × (total ≡ count f) × (new ≡ set (front ++ drop room old) (written f) 0))
+    → IfErr r (λ _. (status ≡ 3) × (total ≡ length out_of_memory_text)
+    × IsWritten out_of_memory_text (front ++ drop room old) new)
+    → IsFilteredInto flags text old new status total
+filtered_call count written (Ok a) flags bits text old front new room status total same last held f after failed =
+    moved flags text old new _ status 0 total (count a) after.0 after.1 after.2
+    (ended flags bits text old front f.0 room (written a) (count a) same f.1 f.2 last held f.3 f.4)
+filtered_call count written (Err e) flags bits text old front new room status total same last held f after failed =
+    filter_lost flags text old (front ++ drop room old) new status total (kept-length front old room held) failed.0
+    failed.1 failed.2

@@ -1,0 +1,46 @@
+/* The calls of msvc_demangler.h, made of those of msvc_demangler_in.h in a workspace that each thread has, so that the
+   programs of examples/c that test the former test the latter. The workspaces are not aligned. */
+
+#include <msvc_demangler_in.h>
+#include <stdatomic.h>
+#include <stdio.h>
+
+enum { threads = 8, work_size = (1 << 24) - 1 };
+
+static char *workspace(void)
+{
+    static char spaces[threads][work_size + 1];
+    static atomic_int taken;
+    static _Thread_local char *space;
+    if (space == NULL) {
+        int number = atomic_fetch_add(&taken, 1);
+        if (number == threads) {
+            abort();
+        }
+        space = spaces[number] + 1;
+    }
+    return space;
+}
+
+struct msvc_demangler_result msvc_demangler_demangle(const char *symbol, size_t length, uint32_t flags,
+                                                     size_t max_nodes, size_t max_bytes, char *out, size_t size)
+{
+    return msvc_demangler_demangle_in(symbol, length, flags, max_nodes, max_bytes, workspace(), work_size, out, size);
+}
+
+struct msvc_demangler_result msvc_demangler_prefix(const char *symbol, size_t length, size_t max_nodes)
+{
+    return msvc_demangler_prefix_in(symbol, length, max_nodes, workspace(), work_size);
+}
+
+struct msvc_demangler_result msvc_demangler_filter(const char *text, size_t length, uint32_t flags, char *out,
+                                                   size_t size)
+{
+    return msvc_demangler_filter_in(text, length, flags, workspace(), work_size, out, size);
+}
+
+/* There is no call for the version without malloc. */
+size_t msvc_demangler_version(char *out, size_t size)
+{
+    return (size_t)snprintf(out, size, "%s", MSVC_DEMANGLER_VERSION);
+}

@@ -1,0 +1,3 @@
+mod Cuts
+pub mod Filters
+pub mod Refused

@@ -1,0 +1,103 @@
+//! What the libraries for C share: the result of a call, its statuses, and how a text is written into a buffer.
+#![tactic(auto)]
+
+ghost use Rattle.std.specs.Prelude.{◌≡◌, IfErr, IfOk, IfSome, length, set};
+ghost use Rattle.msvc_demangler.specs.Limits.{limits_of};
+ghost use Rattle.msvc_c_calls.specs.Buffers.{IsWritten};
+ghost use Rattle.msvc_c_calls.specs.Calls.{IsStatus, out_of_memory_text};
+
+use msvc_demangler::{Filtered, Limit};
+use std::alloc::AllocError;
+
+/// The status of a declaration, a length or a filtered text.
+pub const OK: u32 = 0;
+
+/// The status of an input that begins with no symbol.
+pub const INVALID: u32 = 1;
+
+/// The status of an input that is not UTF-8.
+pub const NOT_UTF8: u32 = 2;
+
+/// The status of a call that ran out of memory.
+pub const OUT_OF_MEMORY: u32 = 3;
+
+/// The status of a symbol with more nodes than allowed.
+pub const TOO_MANY_NODES: u32 = 4;
+
+/// The status of a symbol whose declaration has more bytes than allowed.
+pub const TOO_LONG: u32 = 5;
+
+/// The text of a symbol that is not UTF-8.
+pub const NOT_UTF8_TEXT: &str = "not UTF-8";
+
+/// The text of a call that is out of memory.
+pub const OUT_OF_MEMORY_TEXT: &str = "out of memory";
+
+/// The result of a call: `struct msvc_demangler_result` of the header.
+#[repr(C)]
+#[derive(Drop)]
+pub struct CallResult {
+    /// One of the statuses.
+    pub status: u32,
+    /// The offset in bytes at which the symbol was rejected, or up to which it is UTF-8; else 0.
+    pub offset: usize,
+    /// The bytes of the whole text, without the NUL after it, whether it fits or not; or the bytes of the symbol.
+    pub length: usize,
+}
+
+/// Returns the status of a rejected symbol by the limit that it exceeds, or `None` if that limit was not set: no memory
+/// has room for so many nodes or bytes.
+pub fn status_of(limit: Option<Limit>, max_nodes: usize, max_bytes: usize) -> Option<u32>
+    ensures { IfSome result (λ status. IsStatus (limits_of max_nodes max_bytes) limit status) }
+{
+    match limit {
+        None => Some(INVALID),
+        Some(Limit::Nodes) if max_nodes != usize::MAX => Some(TOO_MANY_NODES),
+        Some(Limit::Bytes) if max_bytes != usize::MAX => Some(TOO_LONG),
+        Some(_) => None,
+    }
+}
+
+/// Writes a text and a NUL into a buffer, cut short before a character if they do not fit, and returns the length of
+/// the text in bytes.
+pub fn write(text: &str, out: &mut [u8]) -> usize
+    ensures written { IsWritten text.now out.old out.new }
+    ensures length { result ≡ length text.now }
+{
+    let whole = text.len();
+    if out.is_empty() {
+        return whole;
+    }
+    let cut = text.floor_char_boundary(out.len() - 1);
+    out[..cut].copy_from_slice(&text.as_bytes()[..cut]);
+    out[cut] = 0;
+    whole
+}
+
+/// Ends what the filter has written into all of a buffer but its last byte by a NUL, and returns the result of the call.
+/// If memory ran out, writes that instead.
+pub fn end_filtered(found: Result<Filtered, AllocError>, out: &mut [u8]) -> CallResult
+    ensures offset { result.offset ≡ 0 }
+    ensures filtered { IfOk found (λ f. (result.status ≡ 0) × (result.length ≡ f.length)
+        × (out.new ≡ set out.old f.written 0)) }
+    ensures not_filtered { IfErr found (λ _. (result.status ≡ 3) × (result.length ≡ length out_of_memory_text)
+        × IsWritten out_of_memory_text out.old out.new) }
+{
+    match found {
+        Ok(Filtered { length, written }) => {
+            if written < out.len() {
+                out[written] = 0;
+            }
+            CallResult {
+                status: OK,
+                offset: 0,
+                length,
+            }
+        }
+        Err(_) => CallResult {
+            status: OUT_OF_MEMORY,
+            offset: 0,
+            length: write(OUT_OF_MEMORY_TEXT, out),
+        },
+    }
+}

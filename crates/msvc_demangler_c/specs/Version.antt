@@ -1,0 +1,5 @@
+-- The version of the library.
+use Rattle.std.specs.Prelude.{ℕ, List, codes}
+
+abbrev pub version : List ℕ
+version = codes "0.11.0"

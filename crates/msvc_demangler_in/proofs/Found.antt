@@ -1,0 +1,161 @@
+-- What C sees of a failure of the library is right of the symbol.
+use Rattle.std.proofs.Common.{◌≡◌, ◌≢◌, ◌∙◌, ◌-◌, ◌≤◌, ℕ, List, [], Option, Some, None, IfSome, arith, codes, length, refl}
+use Rattle.std.proofs.Common.{subst, sym}
+use Rattle.std.specs.Str.{IsAscii, IsUtf8}
+use Rattle.msvc_parser.specs.declared.refusal.Message.{Message}
+use Rattle.msvc_parser.specs.declared.refusal.Message.TheVariants as messages
+use Rattle.msvc_parser.specs.declared.refusal.Refusal.{Refusal}
+use Rattle.msvc_parser.specs.declared.refusal.Refusal.TheVariants as refusal
+use Rattle.msvc_parser.specs.Errors.{limit_of_message}
+use Rattle.msvc_demangler.specs.Errors as errors
+use Rattle.msvc_demangler.specs.Errors.{context_of, context_text_of, message_limit, rejection_text}
+use Rattle.msvc_demangler.specs.Failures.{FailsUnder, IsFailure, IsFailureText, limit_of_failure, offset_of_failure}
+use Rattle.msvc_demangler.specs.Limit.{Limit}
+use Rattle.msvc_demangler.specs.Limit.TheVariants.{Bytes, Nodes}
+use Rattle.msvc_demangler.specs.Limits.{Limits}
+use Rattle.msvc_demangler.specs.Refusals.{begins_with}
+use Rattle.msvc_demangler.specs.declared.failure.Failure.{Failure}
+use Rattle.msvc_demangler.specs.declared.failure.Failure.TheVariants.{Unread, TooLong}
+use Rattle.msvc_c_calls.proofs.Refused.{refused}
+use Rattle.msvc_c_calls.specs.Calls.{IsFound, IsMeasured, IsNoSymbolUnder, IsRefused, IsRejection, IsStatus, Says}
+use Rattle.msvc_c_calls.specs.Calls.{not_measured, not_read, out_of_memory, out_of_memory_text, too_long}
+use Rattle.msvc_c_calls.specs.Buffers.{IsWritten}
+
+none-not-bytes : (limit : Option Limit) → limit ≡ None → limit ≢ Some Bytes
+none-not-bytes limit none e = let no : None ≡ Some Bytes = sym none ∙ e in absurd (cc)
+
+-- no reader's message is that of a declaration that is too long
+not-bytes : (message : Message) → limit_of_message message ≢ Some Bytes
+not-bytes messages.NoQuestionMark e = none-not-bytes _ refl e
+not-bytes messages.EndOfInput e = none-not-bytes _ refl e
+not-bytes messages.MissingAt e = none-not-bytes _ refl e
+not-bytes messages.BadNumber e = none-not-bytes _ refl e
+not-bytes messages.NameReferenceTooLarge e = none-not-bytes _ refl e
+not-bytes (messages.InvalidBackReference x) e = none-not-bytes _ refl e
+not-bytes (messages.InvalidArrayDimension x) e = none-not-bytes _ refl e
+not-bytes messages.UnknownStorageClass e = none-not-bytes _ refl e
+not-bytes messages.UnknownPrimitiveType e = none-not-bytes _ refl e
+not-bytes messages.UnknownCallingConv e = none-not-bytes _ refl e
+not-bytes messages.UnknownFuncClass e = none-not-bytes _ refl e
+not-bytes messages.ZExpected e = none-not-bytes _ refl e
+not-bytes messages.AtExpected e = none-not-bytes _ refl e
+not-bytes messages.QuestionMarkExpected e = none-not-bytes _ refl e
+not-bytes messages.AExpected e = none-not-bytes _ refl e
+not-bytes messages.BExpected e = none-not-bytes _ refl e
+not-bytes messages.GuardTypeExpected e = none-not-bytes _ refl e
+not-bytes messages.MissingDigit e = none-not-bytes _ refl e
+not-bytes messages.GuardNumberTooLarge e = none-not-bytes _ refl e
+not-bytes messages.UnexpectedLocalGuardMarker e = none-not-bytes _ refl e
+not-bytes messages.ExpectedUnsigned e = none-not-bytes _ refl e
+not-bytes messages.UnknownStringCharacterType e = none-not-bytes _ refl e
+not-bytes (messages.UnknownCharacter x) e = none-not-bytes _ refl e
+not-bytes messages.HashLength e = none-not-bytes _ refl e
+not-bytes messages.UnknownOperatorName e = none-not-bytes _ refl e
+not-bytes messages.UnknownRttiOperatorName e = none-not-bytes _ refl e
+not-bytes messages.TooManyNodes e = let no : Some Nodes ≡ Some Bytes = e in absurd (cc)
+
+no-symbol : (nodes : Option ℕ) (symbol : List ℕ) (message : Message) (left : ℕ)
+    → FailsUnder nodes symbol (refusal.Unread message left) → IsNoSymbolUnder nodes symbol
+no-symbol None symbol message left fails = fails.none
+no-symbol (Some most) symbol message left fails = fails.none
+
+begins : (nodes : Option ℕ) (symbol : List ℕ) (message : Message) (left : ℕ)
+    → FailsUnder nodes symbol (refusal.Unread message left)
+    → (begins_with (codes "?") symbol → ⊥) → length symbol - left ≡ 0
+begins None symbol message left fails = fails.begins
+begins (Some most) symbol message left fails = fails.begins
+
+-- a reader's refusal, of which such a text is shown
+unread : (limits : Limits) (symbol : List ℕ) (status : ℕ) (message : Message) (left : ℕ) (words context text : List ℕ)
+    → IsUtf8 symbol → FailsUnder limits.nodes symbol (refusal.Unread message left)
+    → IsStatus limits (limit_of_message message) status → message_limit words ≡ limit_of_message message
+    → (IsAscii symbol → context ≡ context_of symbol (length symbol - left))
+    → Says words context (length symbol - left) text
+    → IsRefused limits symbol status (length symbol - left) text
+unread limits symbol status message left words context text u fails is about shows says =
+    let rejection : IsRejection symbol words (length symbol - left) text = record {
+      inside = omega arith;
+      begins = begins limits.nodes symbol message left fails;
+      context = context;
+      shows = shows;
+      says = says;
+    } in
+    refused limits symbol status (length symbol - left) words text (limit_of_message message) u
+    (no-symbol limits.nodes symbol message left fails) rejection about (not-bytes message) is
+
+-- what is found of a symbol that has no declaration, for a reason other than memory
+pub found : (limits : Limits) (symbol : List ℕ) (flags status offset : ℕ) (failure : Failure) (text : List ℕ)
+    → IsUtf8 symbol → IsFailure limits symbol flags failure → failure ≢ Unread refusal.Memory
+    → IsStatus limits (limit_of_failure failure) status → offset ≡ offset_of_failure symbol failure
+    → IsFailureText symbol failure text → IsFound limits symbol flags status offset text
+found limits symbol flags status offset (Unread (refusal.Unread message left)) text u fails other is at said =
+    let At : ℕ → Type 0 = λ n. IsFound limits symbol flags status n text in
+    subst At (sym at)
+    (not_read (unread limits symbol status message left said.words said.context text u fails is said.limit said.shows
+    said.says))
+found limits symbol flags status offset (Unread refusal.Memory) text u fails other is at said = absurd (other refl)
+found limits symbol flags status offset (TooLong read) text u longer other is at said =
+    let At : ℕ → Type 0 = λ n. IsFound limits symbol flags status n text in
+    let Status : ℕ → Type 0 = λ n. IsFound limits symbol flags n read text in
+    subst At (sym at) (subst Status (sym is.0) (too_long u longer said))
+
+-- a message about a limit
+abbrev words_about : Option Limit → List ℕ
+words_about None = []
+words_about (Some Nodes) = errors.too_many_nodes
+words_about (Some Bytes) = errors.too_long
+
+about-words : (limit : Option Limit) → message_limit (words_about limit) ≡ limit
+about-words None = refl
+about-words (Some Nodes) = refl
+about-words (Some Bytes) = refl
+
+-- a text, if one is known
+abbrev said : Option (List ℕ) → List ℕ
+said None = []
+said (Some text) = text
+
+is-said : (text : Option (List ℕ)) → IfSome text (λ t. said text ≡ t)
+is-said None = tt
+is-said (Some text) = refl
+
+-- the same of the length of a symbol
+pub measured : (limits : Limits) (symbol : List ℕ) (status offset : ℕ) (reason : Refusal) → IsUtf8 symbol
+    → FailsUnder limits.nodes symbol reason → Unread reason ≢ Unread refusal.Memory
+    → IsStatus limits (limit_of_failure (Unread reason)) status → offset ≡ offset_of_failure symbol (Unread reason)
+    → IsMeasured limits symbol status offset 0
+measured limits symbol status offset (refusal.Unread message left) u fails other is at =
+    let words = words_about (limit_of_message message) in
+    let context = context_of symbol (length symbol - left) in
+    let text = rejection_text words context (length symbol - left) in
+    let At : ℕ → Type 0 = λ n. IsMeasured limits symbol status n 0 in
+    subst At (sym at)
+    (not_measured (unread limits symbol status message left words context (said text) u fails is
+    (about-words (limit_of_message message)) (λ ascii. refl) (is-said text)))
+measured limits symbol status offset refusal.Memory u fails other is at = absurd (other refl)
+
+-- what is written of a symbol for which memory ran out
+pub lost : (limits : Limits) (symbol : List ℕ) (flags status offset count : ℕ) (old new : List ℕ) → IsUtf8 symbol
+    → (status ≡ 3) × (offset ≡ 0) × (count ≡ length out_of_memory_text) → IsWritten out_of_memory_text old new
+    → (shown : List ℕ) × IsFound limits symbol flags status offset shown × (count ≡ length shown)
+    × IsWritten shown old new
+lost limits symbol flags status offset count old new u is written =
+    let Status : ℕ → Type 0 = λ n. IsFound limits symbol flags n offset out_of_memory_text in
+    let At : ℕ → Type 0 = λ n. IsFound limits symbol flags 3 n out_of_memory_text in
+    (out_of_memory_text, subst Status (sym is.0) (subst At (sym is.1) (not_read (out_of_memory u))), is.2, written)
+
+-- the same of the length of a symbol, which is not known for another reason
+pub as_measured : (limits : Limits) (symbol : List ℕ) (status offset count is at : ℕ)
+    → (status ≡ is) × (offset ≡ at) × (count ≡ 0) → IsMeasured limits symbol is at 0
+    → IsMeasured limits symbol status offset count
+as_measured limits symbol status offset count is at same made =
+    let Status : ℕ → Type 0 = λ n. IsMeasured limits symbol n offset count in
+    let At : ℕ → Type 0 = λ n. IsMeasured limits symbol is n count in
+    let Count : ℕ → Type 0 = λ n. IsMeasured limits symbol is at n in
+    subst Status (sym same.0) (subst At (sym same.1) (subst Count (sym same.2) made))
+
+-- and if memory ran out
+pub unknown : (limits : Limits) (symbol : List ℕ) (status offset count : ℕ) → IsUtf8 symbol
+    → (status ≡ 3) × (offset ≡ 0) × (count ≡ 0) → IsMeasured limits symbol status offset count
+unknown limits symbol status offset count u same =
+    as_measured limits symbol status offset count 3 0 same (not_measured (out_of_memory u))

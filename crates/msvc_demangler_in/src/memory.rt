@@ -1,0 +1,62 @@
+//! Lent memory, and a demangler over it.
+
+ghost use Rattle.std.specs.Prelude.{◌≡◌, ◌<◌, IsTrue};
+
+use bumpalo::Bump;
+use lent_memory::{Lent, Workspace};
+use msvc_demangler::{Demangler, Text};
+
+/// Bytes of the pages that an arena's first chunk comes to.
+const PAGE: usize = 4096;
+
+/// Bytes of a page that an arena does not request.
+const UNREQUESTED: usize = 16;
+
+/// Bytes of the first chunk that an arena needs for itself, with those that it does not request.
+const OVERHEAD: usize = 64;
+
+/// Takes the memory of a workspace, as an allocator.
+pub(crate) fn lend(workspace: &mut Workspace) -> Lent
+    ensures lent { result.slot ≡ (workspace.old.ptr, workspace.old.size) }
+    ensures none { workspace.new.size ≡ 0 }
+{
+    Lent::new(workspace.take())
+}
+
+/// Gives the memory back to its workspace, and returns whether all of it was there.
+pub(crate) fn give_back(lent: Lent, workspace: &mut Workspace) -> bool
+    requires { workspace.old.size ≡ 0 }
+    ensures back { IsTrue result → (workspace.new.ptr, workspace.new.size) ≡ lent.slot }
+    ensures no_other { 0 < workspace.new.size → (workspace.new.ptr, workspace.new.size) ≡ lent.slot }
+{
+    match lent.into_inner() {
+        Some(memory) => {
+            workspace.put_back(memory);
+            true
+        }
+        None => false,
+    }
+}
+
+/// Makes an arena of all the memory, if that has a page.
+pub(crate) fn arena_in(memory: &Lent) -> Option<Bump<&Lent>> {
+    let bytes = memory.size().saturating_add(UNREQUESTED) / PAGE * PAGE;
+    match Bump::try_with_capacity(memory, bytes.checked_sub(OVERHEAD)?) {
+        Ok(arena) => Some(arena),
+        Err(_) => None,
+    }
+}
+
+/// Makes a demangler of all the memory, if that is enough for one.
+pub(crate) fn demangler_in<'a>(arena: &'a Lent, text: &'a Lent) -> Option<Demangler<&'a Lent>> {
+    let mut declaration = Text::new(text);
+    match declaration.try_reserve(text.size()) {
+        Ok(()) => Some(Demangler::over(arena, arena_in(arena)?, declaration)),
+        Err(_) => None,
+    }
+}
+
+/// Makes one that has no memory for a declaration, and can measure a symbol.
+pub(crate) fn measurer_in(arena: &Lent) -> Option<Demangler<&Lent>> {
+    Some(Demangler::over(arena, arena_in(arena)?, Text::new(arena)))
+}

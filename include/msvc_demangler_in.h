@@ -1,0 +1,138 @@
+/* msvc_demangler 0.11.0 without malloc: the calls of msvc_demangler.h, in memory that the caller lends.
+
+       #include <msvc_demangler_in.h>
+       #include <stdio.h>
+
+       static char work[MSVC_DEMANGLER_SMALL_WORKSPACE];
+
+       int main(void)
+       {
+           const char symbol[] = "?x@ns@@3HA";
+           char text[256];
+           struct msvc_demangler_result result =
+               msvc_demangler_demangle_in(symbol, strlen(symbol), MSVC_DEMANGLER_LLVM, MSVC_DEMANGLER_SMALL_NODES,
+                                          MSVC_DEMANGLER_SMALL_BYTES, work, sizeof work, text, sizeof text);
+           puts(result.status == MSVC_DEMANGLER_OK ? text : symbol);
+           return 0;
+       }
+
+   prints "int ns::x".
+
+   The library is libmsvc_demangler_in.a, which calls memcpy and memmove and nothing else, and has no writable data. So
+   the calls may be made in a signal handler, in the child of a fork, before main, and by any thread, if no two calls
+   that run at the same time share a workspace. Flags, statuses, offsets, texts and the rules of buffers are those of
+   msvc_demangler.h. The differences are:
+
+   - A call takes all its memory from a workspace, which need not be aligned, and may hold any bytes. Nothing is kept in
+     it between calls, so the next call may use it, and so may the caller. It must not overlap the input or the output.
+   - OUT_OF_MEMORY means that the workspace is too small for the symbol. The bytes of the buffer after the NUL are
+     unspecified then. The call may be repeated with a larger workspace, or with lower limits.
+
+   A workspace of MSVC_DEMANGLER_DEFAULT_WORKSPACE bytes suffices for each symbol within the default limits, and one of
+   MSVC_DEMANGLER_SMALL_WORKSPACE bytes for each symbol within the small ones. 12,288 bytes suffice for each of 676 real
+   names. */
+#ifndef MSVC_DEMANGLER_IN_H
+#define MSVC_DEMANGLER_IN_H
+
+#include <msvc_demangler.h>
+
+/* Limits for a workspace that is kept for a crash: no name of 676 real ones has more than 189 nodes. */
+#define MSVC_DEMANGLER_SMALL_NODES ((size_t)1000)
+#define MSVC_DEMANGLER_SMALL_BYTES ((size_t)4096)
+
+/* Bytes of a workspace for each symbol within the small limits, and within the default ones. */
+#define MSVC_DEMANGLER_SMALL_WORKSPACE ((size_t)98304)
+#define MSVC_DEMANGLER_DEFAULT_WORKSPACE ((size_t)1228800)
+
+/* Bytes of stack that a call takes at most under the small limits, and under the default ones, on x86-64 and AArch64. */
+#define MSVC_DEMANGLER_SMALL_STACK ((size_t)136000)
+#define MSVC_DEMANGLER_DEFAULT_STACK ((size_t)1200000)
+
+/* A part of a workspace: memory that is aligned to 16, and a multiple of 16 bytes of it. */
+struct msvc_demangler_part {
+    void *memory;
+    size_t size;
+};
+
+#ifdef __cplusplus
+extern "C" {
+#endif
+
+/* The calls of the library. The inline ones below make the parts. A call takes all its memory from the parts, and after
+   it they are the same; only with OUT_OF_MEMORY a part may have been set to null and 0, and is lost then. */
+struct msvc_demangler_result msvc_demangler_demangle_in_parts(const char *symbol, size_t length, uint32_t flags,
+                                                              size_t max_nodes, size_t max_bytes,
+                                                              struct msvc_demangler_part *arena,
+                                                              struct msvc_demangler_part *text, char *out,
+                                                              size_t size) MSVC_DEMANGLER_NOEXCEPT;
+struct msvc_demangler_result msvc_demangler_prefix_in_parts(const char *symbol, size_t length, size_t max_nodes,
+                                                            struct msvc_demangler_part *arena) MSVC_DEMANGLER_NOEXCEPT;
+struct msvc_demangler_result msvc_demangler_filter_in_parts(const char *input, size_t length, uint32_t flags,
+                                                            struct msvc_demangler_part *arena,
+                                                            struct msvc_demangler_part *text, char *out,
+                                                            size_t size) MSVC_DEMANGLER_NOEXCEPT;
+
+/* Returns what is left of some memory at the first address that is a multiple of 16, in whole units of 16 bytes. */
+static inline struct msvc_demangler_part msvc_demangler_aligned(void *memory, size_t size) MSVC_DEMANGLER_NOEXCEPT
+{
+    size_t before = (size_t)(-(uintptr_t)memory & 15);
+    struct msvc_demangler_part part = {NULL, 0};
+    if (size >= before + 16) {
+        part.memory = (char *)memory + before;
+        part.size = (size - before) / 16 * 16;
+    }
+    return part;
+}
+
+/* Cuts the memory for a declaration off the end of a part, and returns it: as much as the limit asks for, and at most a
+   quarter. */
+static inline struct msvc_demangler_part msvc_demangler_cut(struct msvc_demangler_part *arena,
+                                                            size_t max_bytes) MSVC_DEMANGLER_NOEXCEPT
+{
+    struct msvc_demangler_part text = {NULL, arena->size / 4};
+    if (max_bytes < text.size && max_bytes + 512 < text.size) {
+        text.size = max_bytes + 512;
+    }
+    text.size = text.size / 16 * 16;
+    arena->size -= text.size;
+    if (text.size != 0) {
+        text.memory = (char *)arena->memory + arena->size;
+    }
+    return text;
+}
+
+/* Demangles a symbol as msvc_demangler_demangle does, in a workspace of work_size bytes. */
+static inline struct msvc_demangler_result msvc_demangler_demangle_in(const char *symbol, size_t length, uint32_t flags,
+                                                                      size_t max_nodes, size_t max_bytes, void *work,
+                                                                      size_t work_size, char *out,
+                                                                      size_t size) MSVC_DEMANGLER_NOEXCEPT
+{
+    struct msvc_demangler_part arena = msvc_demangler_aligned(work, work_size);
+    struct msvc_demangler_part text = msvc_demangler_cut(&arena, max_bytes);
+    return msvc_demangler_demangle_in_parts(symbol, length, flags, max_nodes, max_bytes, &arena, &text, out, size);
+}
+
+/* Measures a symbol as msvc_demangler_prefix does, in a workspace of work_size bytes. */
+static inline struct msvc_demangler_result msvc_demangler_prefix_in(const char *symbol, size_t length, size_t max_nodes,
+                                                                    void *work,
+                                                                    size_t work_size) MSVC_DEMANGLER_NOEXCEPT
+{
+    struct msvc_demangler_part arena = msvc_demangler_aligned(work, work_size);
+    return msvc_demangler_prefix_in_parts(symbol, length, max_nodes, &arena);
+}
+
+/* Filters a text as msvc_demangler_filter does, in a workspace of work_size bytes, whatever the length of the text. */
+static inline struct msvc_demangler_result msvc_demangler_filter_in(const char *text, size_t length, uint32_t flags,
+                                                                    void *work, size_t work_size, char *out,
+                                                                    size_t size) MSVC_DEMANGLER_NOEXCEPT
+{
+    struct msvc_demangler_part arena = msvc_demangler_aligned(work, work_size);
+    struct msvc_demangler_part declaration = msvc_demangler_cut(&arena, MSVC_DEMANGLER_DEFAULT_BYTES);
+    return msvc_demangler_filter_in_parts(text, length, flags, &arena, &declaration, out, size);
+}
+
+#ifdef __cplusplus
+}
+#endif
+
+#endif
