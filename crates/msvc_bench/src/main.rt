@@ -5,6 +5,7 @@
 //!     msvc_bench within NODES < symbols
 //!     msvc_bench hostile SEED COUNT < stdin
 //!     msvc_bench measure ROUNDS < names
+//!     msvc_bench kept ROUNDS < names
 #![tactic(auto)]
 
 mod calls;
@@ -30,6 +31,7 @@ fn main(rt: HostRuntime) -> io::Result<()> {
         "prefix" => prefix::compare(&rt),
         "within" => within::refuse(&rt, first),
         "hostile" => hostile::run(&rt, first, second),
+        "kept" => measure::measure_kept(&rt, first),
         _ => measure::measure(&rt, first),
     }
 }

@@ -1,7 +1,8 @@
 //! How long the demangler takes for names, within one process: `msvc_bench measure ROUNDS` with the names as lines of
-//! standard input. `tools/measure/run` runs it beside LLVM's library.
+//! standard input, and `msvc_bench kept ROUNDS` by one demangler that is kept. `tools/measure/run` runs both beside LLVM's
+//! library.
 
-use msvc_demangler::{DemangleFlags, demangle};
+use msvc_demangler::{DemangleFlags, Demangler, demangle};
 use std::alloc::Global;
 use std::io;
 use std::time::{Duration, Instant};
@@ -9,10 +10,7 @@ use std::time::{Duration, Instant};
 /// Demangles all names in each of so many rounds, and prints the nanoseconds of the fastest round and the bytes of its
 /// texts. With no round, prints the names that are demangled: those to measure.
 pub fn measure(rt: &HostRuntime, rounds: u64) -> io::Result<()> {
-    let mut names = Vec::new(rt.alloc());
-    for line in rt.lines(rt.alloc()) {
-        names.push(line?)?;
-    }
+    let names = read_names(rt)?;
     if rounds == 0 {
         return print_demangled(rt, &names);
     }
@@ -23,6 +21,34 @@ pub fn measure(rt: &HostRuntime, rounds: u64) -> io::Result<()> {
         bytes = length_of_texts(rt.alloc(), &names);
         fastest = fastest.min(start.elapsed(rt)?);
     }
+    print_round(rt, fastest, bytes)
+}
+
+/// Does the same by one demangler, which is kept from name to name and from round to round.
+pub fn measure_kept(rt: &HostRuntime, rounds: u64) -> io::Result<()> {
+    let names = read_names(rt)?;
+    let mut demangler = Demangler::new(rt.alloc());
+    let mut fastest = Duration::MAX;
+    let mut bytes = 0;
+    for _ in 0..rounds {
+        let start = Instant::now(rt)?;
+        bytes = length_of_kept_texts(&mut demangler, &names);
+        fastest = fastest.min(start.elapsed(rt)?);
+    }
+    print_round(rt, fastest, bytes)
+}
+
+/// Reads the names, a line each.
+fn read_names(rt: &HostRuntime) -> io::Result<Vec<String>> {
+    let mut names = Vec::new(rt.alloc());
+    for line in rt.lines(rt.alloc()) {
+        names.push(line?)?;
+    }
+    Ok(names)
+}
+
+/// Prints the nanoseconds of the fastest round and the bytes of its texts.
+fn print_round(rt: &HostRuntime, fastest: Duration, bytes: u64) -> io::Result<()> {
     let nanoseconds = fastest.as_nanos();
     println!(rt; "{nanoseconds} {bytes}")
 }
@@ -42,6 +68,17 @@ fn length_of_texts(alloc: Global, names: &[String]) -> u64 {
     let mut bytes = 0u64;
     for name in names {
         if let Ok(text) = demangle(alloc, name.as_str(), DemangleFlags::llvm()) {
+            bytes = bytes.wrapping_add(text.len() as u64);
+        }
+    }
+    bytes
+}
+
+/// How many bytes the texts have together that one demangler makes: one round.
+fn length_of_kept_texts(demangler: &mut Demangler, names: &[String]) -> u64 {
+    let mut bytes = 0u64;
+    for name in names {
+        if let Ok(text) = demangler.demangle(name.as_str(), DemangleFlags::llvm()) {
             bytes = bytes.wrapping_add(text.len() as u64);
         }
     }
