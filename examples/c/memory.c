@@ -4,6 +4,7 @@
 
 #include <msvc_demangler.h>
 #include <stdbool.h>
+#include <stdint.h>
 #include <stdio.h>
 
 void *__real_malloc(size_t size);
@@ -88,9 +89,49 @@ static long requests_for(size_t parameters)
     return result.status == MSVC_DEMANGLER_TOO_MANY_NODES && result.offset < 1000 ? requests : 0;
 }
 
+/* Writes the symbol of a function with so many parameters, each a pointer. */
+static void make_pointers(char *symbol, size_t parameters)
+{
+    memcpy(symbol, "?f@@YAX", 7);
+    for (size_t n = 0; n < parameters; n++)
+        memcpy(symbol + 7 + 3 * n, "PAH", 3);
+    memcpy(symbol + 7 + 3 * parameters, "@Z", 3);
+}
+
+/* Refuses each request of a call on a large symbol in its turn. An arena asks for a smaller block where a large one is
+   refused, so the call says that it wants memory, or returns the whole declaration. Adds to how many calls did each. */
+static long refuse_large(size_t parameters, long *told, long *passed_over)
+{
+    static char symbol[65536];
+    static char whole[131072], text[131072];
+    struct msvc_demangler_result result;
+    long wrong = 0;
+    make_pointers(symbol, parameters);
+    refused = 0;
+    requests = 0;
+    result = msvc_demangler_demangle(symbol, strlen(symbol), MSVC_DEMANGLER_LLVM, SIZE_MAX, SIZE_MAX, whole,
+                                     sizeof whole);
+    wrong += result.status != MSVC_DEMANGLER_OK || result.length >= sizeof whole;
+    long count = requests;
+    for (refused = 1; refused <= count; refused++) {
+        requests = 0;
+        result = msvc_demangler_demangle(symbol, strlen(symbol), MSVC_DEMANGLER_LLVM, SIZE_MAX, SIZE_MAX, text,
+                                         sizeof text);
+        bool out_of_memory = result.status == MSVC_DEMANGLER_OUT_OF_MEMORY && strcmp(text, "out of memory") == 0;
+        bool declared = result.status == MSVC_DEMANGLER_OK && strcmp(text, whole) == 0;
+        *told += out_of_memory;
+        *passed_over += declared;
+        wrong += (!out_of_memory && !declared) || blocks != 0;
+    }
+    refused = 0;
+    return wrong;
+}
+
 int main(void)
 {
     long tried = 0;
+    long told = 0;
+    long passed_over = 0;
     long wrong = 0;
     blocks = 0; /* a C runtime may have requested some before */
     for (size_t n = 0; n < kinds * (sizeof symbols / sizeof symbols[0]); n++) {
@@ -112,6 +153,9 @@ int main(void)
         puts("a longer list of parameters has other requests where a hundred nodes are allowed");
         wrong++;
     }
+    wrong += refuse_large(2000, &told, &passed_over);  /* a tree of 4,000 nodes */
+    wrong += refuse_large(9500, &told, &passed_over);  /* a declaration of 64 KB */
+    printf("of large symbols: %ld calls out of memory, %ld that passed over a refusal\n", told, passed_over);
     printf("%ld refused requests, %ld wrong results\n", tried, wrong);
     return wrong != 0;
 }
