@@ -1,0 +1,27 @@
+//! What .ci/requests runs: a demangler that is kept reads as many of its symbols as standard input has bytes.
+#![tactic(auto)]
+
+use msvc_demangler::{DemangleFlags, Demangler};
+use std::io::{self, Read};
+
+/// The first symbol needs as much as each of the others, or more.
+const SYMBOLS: [&str; 8] = [
+    "?f@?$basic_string@DU?$char_traits@D@std@@V?$allocator@D@2@@std@@QEAAAEAV12@PEBD_KAEBV12@@Z",
+    "?x@@3PEAY1NKM@5HEA",
+    "?f@ns@@YAHPEBDH@Z",
+    "??0Base@@QEAA@XZ",
+    "?x@@3PAYA@HA",
+    "no symbol",
+    "??_7Base@@6B@",
+    "?f@?$basic_string@DU?$char_traits@D@std@@V?$allocator@D@2@@std@@QEAAAEAV12@PEBD_KAEBV12@@Z",
+];
+
+fn main(rt: HostRuntime) -> io::Result<()> {
+    let mut demangler = Demangler::new(rt.alloc());
+    let mut bytes = [0u8; 64];
+    let count = rt.stdin().read(&mut bytes)?;
+    for symbol in &SYMBOLS[..count.min(SYMBOLS.len())] {
+        let _ = demangler.try_demangle(symbol, DemangleFlags::llvm(), usize::MAX, usize::MAX).is_ok();
+    }
+    Ok(())
+}
