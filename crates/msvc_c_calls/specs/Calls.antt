@@ -3,7 +3,6 @@ use Rattle.std.specs.Prelude.{ℕ, List, ◌≡◌, ◌≤◌, length, codes}
 use Rattle.std.specs.Prelude.{Option, Some, None, IfSome, is_some, true}
 use Rattle.std.specs.Str.{IsAscii, IsUtf8, IsValidUpTo}
 use Rattle.msvc_demangler.specs.Counts.{node_count}
-use Rattle.msvc_demangler.specs.Declaration.{declaration}
 use Rattle.msvc_demangler.specs.Demangled.{IsDeclaredWithin}
 use Rattle.msvc_demangler.specs.Errors as errors
 use Rattle.msvc_demangler.specs.Errors.{context_of, context_text_of, message_limit, rejection_text}

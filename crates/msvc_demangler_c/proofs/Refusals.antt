@@ -1,9 +1,7 @@
 -- What C sees of an error of the library is right of the symbol.
-use Rattle.std.proofs.Common.{◌≡◌, ◌≢◌, ◌≤◌, ◌∙◌, ℕ, List, Bool, true, false, Option, Some, None}
+use Rattle.std.proofs.Common.{◌≡◌, ◌≢◌, ◌≤◌, ◌∙◌, ℕ, List, Option, Some, None}
 use Rattle.std.proofs.Common.{IfOk, IfSome, Ok, Result}
 use Rattle.std.proofs.Common.{codes, inl, inr, length, refl, string_bytes, subst, sym}
-use Rattle.std.specs.Prelude.{◌==◌, if◌then◌else◌}
-use Rattle.std.specs.Cmp.Lexicographic.{pointwise, same_text}
 use Rattle.std.specs.Cow.{cow_str_bytes}
 use Rattle.std.specs.Str.{IsAscii, IsUtf8}
 use Rattle.msvc_demangler.specs.Demangled.{IsRefusedUnder}
@@ -11,8 +9,7 @@ use Rattle.msvc_demangler.specs.ErrorRepr.{ErrorRepr}
 use Rattle.msvc_demangler.specs.ErrorRepr.TheVariants as error
 use Rattle.msvc_demangler.specs.Errors as errors
 use Rattle.msvc_demangler.specs.Errors.{context_of, context_text_of, error_text, limit_of, message_limit, offset_of}
-use Rattle.msvc_demangler.specs.Limit.{Limit}
-use Rattle.msvc_demangler.specs.Limit.TheVariants.{Bytes, Nodes}
+use Rattle.msvc_demangler.specs.Limit.TheVariants.{Bytes}
 use Rattle.msvc_demangler.specs.Limits.{IsRejectedUnder, IsTooLong, Limits}
 use Rattle.msvc_demangler.specs.Refusals.{begins_with}
 use Rattle.msvc_c_calls.proofs.Refused.{refused}
