@@ -89,11 +89,9 @@ static inline struct msvc_demangler_part msvc_demangler_aligned(void *memory, si
 static inline struct msvc_demangler_part msvc_demangler_cut(struct msvc_demangler_part *arena,
                                                             size_t max_bytes) MSVC_DEMANGLER_NOEXCEPT
 {
-    struct msvc_demangler_part text = {NULL, arena->size / 4};
-    if (max_bytes < text.size && max_bytes + 512 < text.size) {
-        text.size = max_bytes + 512;
-    }
-    text.size = text.size / 16 * 16;
+    size_t most = arena->size / 4 / 16 * 16;
+    struct msvc_demangler_part text = {NULL, 0};
+    text.size = max_bytes < most ? (max_bytes + 15) / 16 * 16 : most;
     arena->size -= text.size;
     if (text.size != 0) {
         text.memory = (char *)arena->memory + arena->size;
