@@ -23,8 +23,9 @@ use msvc_nodes::list::List;
 use msvc_nodes::nodes::{self, BaseClass, Function, Scope, Template, TypedSymbol};
 use std::alloc::{AllocError, Global};
 
-/// The size in bytes of an arena's first block: more than the nodes of most trees and the stack of the printer take.
-const FIRST_ROOM: usize = 1 << 12;
+/// The size in bytes of an arena's first block: more than the nodes of most trees and the text printed of them take.
+/// Memory that is not written to costs nothing.
+const FIRST_ROOM: usize = 1 << 15;
 
 /// Makes an arena that has room for the nodes of most trees. Fails only when it is out of memory.
 pub fn arena_for_nodes(alloc: Global) -> Result<Bump, AllocError> {
@@ -234,18 +235,6 @@ fn put<'b, T: Copy>(arena: &'b Bump, node: T) -> Result<&'b T, AllocError>
     }
 }
 
-/// Moves a node whose first fields are smaller than a word into the arena, behind a word that is never read. Without
-/// it, the compiler keeps the reference in parts as small as these fields until it is returned.
-#[inline(always)]
-fn put_small<'b, T: Copy>(arena: &'b Bump, node: T) -> Result<&'b T, AllocError>
-    ensures { IfOk result (λ t. t.now ≡ node) }
-{
-    match arena.try_alloc((0usize, node)) {
-        Ok(placed) => Ok(&placed.1),
-        Err(_) => Err(AllocError),
-    }
-}
-
 /// Moves the node of a name into the arena.
 fn put_name<'a, 'b>(
     arena: &'b Bump,
@@ -253,7 +242,7 @@ fn put_name<'a, 'b>(
 ) -> Result<&'b nodes::Name<'a, 'b>, AllocError>
     ensures { IfOk result (λ n. node_name n.now ≡ node_name node.entry) }
 {
-    put_small(arena, node)
+    put(arena, node)
 }
 
 /// Moves the node of a type into the arena.
@@ -263,7 +252,7 @@ fn put_type<'a, 'b>(
 ) -> Result<&'b nodes::Type<'a, 'b>, AllocError>
     ensures { IfOk result (λ t. node_type t.now ≡ node_type node.entry) }
 {
-    put_small(arena, node)
+    put(arena, node)
 }
 
 /// Makes the node of a template with its arguments.
