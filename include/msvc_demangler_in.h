@@ -46,7 +46,7 @@
 
 /* Bytes of stack that a call takes at most under the small limits, and under the default ones, on x86-64 and AArch64. */
 #define MSVC_DEMANGLER_SMALL_STACK ((size_t)136000)
-#define MSVC_DEMANGLER_DEFAULT_STACK ((size_t)1200000)
+#define MSVC_DEMANGLER_DEFAULT_STACK ((size_t)1300000)
 
 /* A part of a workspace: memory that is aligned to 16, and a multiple of 16 bytes of it. */
 struct msvc_demangler_part {
