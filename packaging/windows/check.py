@@ -9,9 +9,9 @@ before its global names.
 
 code: its code may run under Windows. No function has a frame of a page or more that it doesn't write in between, since
 Windows needs each page of a stack to be touched in order; none moves the stack pointer by a number that isn't known
-here. None asks the kernel of Linux for anything, or uses a segment, as thread-local data do. None reads or writes below
-the stack pointer, where Windows may write, but those of the file FUNCTIONS, which are no part of the demangler's own
-crates.
+here, but by a loop that touches each page. None asks the kernel of Linux for anything, or uses a segment, as
+thread-local data do. None reads or writes below the stack pointer, where Windows may write, but those of the file
+FUNCTIONS, which are no part of the demangler's own crates.
 
 image: IMAGE, a program or DLL that was linked of it, has its code and data once, with the same bytes but where they are
 relocated; and each of these places leads to the one address that the symbol has. It needs objdump.
@@ -31,10 +31,21 @@ FUNCTION = re.compile(r"[0-9a-f]+ <(.*)>:$")
 INSTRUCTION = re.compile(r" *[0-9a-f]+:\t(.*)$")
 
 # How the stack pointer may be moved, beside push, pop, call and ret: by a number, or back to a frame's beginning.
-MOVES = re.compile(r"(sub|add) +\$(0x[0-9a-f]+),%rsp$|lea +(-?0x[0-9a-f]+)\(%rsp\),%rsp$|mov +%rbp,%rsp$")
+MOVES = re.compile(
+    r"(sub|add) +\$(0x[0-9a-f]+),%rsp$|lea +(-?0x[0-9a-f]+)\(%rsp\),%rsp$|"
+    r"mov +%rbp,%rsp$|lea +-0x[0-9a-f]+\(%rbp\),%rsp$"
+)
 CHANGES_STACK = re.compile(r".*,%([re]?sp|spl)$|pop +%rsp$")
 COMPARES = re.compile("(cmp|test)")
-TOUCHES = re.compile(r"push|call|mov[a-z]* +[^(]*,\(%rsp\)$")
+TOUCHES = re.compile(r"push|call|(mov[a-z]*|xorq) +[^(]*,\(%rsp\)$")
+
+# How the compiler makes room of a size that it doesn't know: a loop that lowers the stack pointer by less than a page
+# at a time and writes there, down to the address in a register, which the stack pointer gets then.
+TO_A_REGISTER = re.compile(r"mov +(%r[a-z0-9]+),%rsp$")
+PROBES = (
+    r"cmp %rsp,REGISTER;jge [0-9a-f]+;"
+    r"xorq \$0x0,\(%rsp\);sub \$0x[0-9a-f]{1,3},%rsp;cmp %rsp,REGISTER;jl [0-9a-f]+"
+)
 SYSTEM = re.compile(r"^(syscall|sysenter|int +\$)|%[fg]s:")
 BELOW = re.compile(r"-0x[0-9a-f]+\(%rsp(,[^)]*)?\)")
 BELOW_FRAME = re.compile(r"-0x([0-9a-f]+)\(%rbp\)")
@@ -92,6 +103,14 @@ def moves_otherwise(instruction):
     return CHANGES_STACK.match(instruction) and not MOVES.match(instruction) and not COMPARES.match(instruction)
 
 
+def probed(code, at):
+    """Returns whether an instruction gives the stack pointer the address in a register, after a loop that has written
+    in each page on the way there."""
+    move = TO_A_REGISTER.match(code[at])
+    steps = ";".join(re.sub(" +", " ", instruction) for instruction in code[max(0, at - PROBES.count(";") - 1) : at])
+    return move and re.fullmatch(PROBES.replace("REGISTER", move[1]), steps)
+
+
 def below(code):
     """Returns the first instruction that reaches below the stack pointer, if there is one. Where a function calls
     others, the compiler keeps nothing there: an address with an index is that of an array that is written from its end,
@@ -119,7 +138,11 @@ def below(code):
 def faults(name, code, listed):
     """Returns what is wrong with a function, and whether it reaches below the stack pointer, as those listed may."""
     found = [instruction for instruction in code if SYSTEM.search(instruction)]
-    found += [f"moves the stack pointer by {instruction}" for instruction in code if moves_otherwise(instruction)]
+    found += [
+        f"moves the stack pointer by {instruction}"
+        for at, instruction in enumerate(code)
+        if moves_otherwise(instruction) and not probed(code, at)
+    ]
     if frame(code) >= PAGE:
         found.append(f"a frame of {frame(code)} bytes")
     reaching = below(code)

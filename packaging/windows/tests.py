@@ -73,6 +73,14 @@ REJECTED = {
     ".data\n.zero 0x10000001": "section .data: more than 268435456 bytes",
 }
 
+# Room of a size that isn't known, with the value that is written in each step, the bytes of a step, and the register
+# that the stack pointer gets.
+PROBED = (
+    "f: push %%rbp\nmov %%rsp, %%rbp\npush %%rbx\nmov %%rsp, %%rsi\nsub %%rax, %%rsi\ncmp %%rsp, %%rsi\njge 2f\n"
+    "1: xorq %s, (%%rsp)\nsub $%d, %%rsp\ncmp %%rsp, %%rsi\njl 1b\n2: mov %s, %%rsp\n"
+    "lea -8(%%rbp), %%rsp\npop %%rbx\npop %%rbp\nret"
+)
+
 # Code that may not run under Windows, or not unseen, and what the check then says.
 FORBIDDEN = {
     "f: sub $4096, %rsp\nadd $4096, %rsp\nret": "f: a frame of 4096 bytes",
@@ -85,6 +93,9 @@ FORBIDDEN = {
     "f: and $-32, %rsp\nret": "f: moves the stack pointer by and",
     "f: mov %rax, %rsp\nret": "f: moves the stack pointer by mov",
     "f: mov 8(%rax), %rsp\nret": "f: moves the stack pointer by mov",
+    PROBED % ("$0x0", 4096, "%rsi"): "f: moves the stack pointer by mov",
+    PROBED % ("$0x1", 3072, "%rsi"): "f: moves the stack pointer by mov",
+    PROBED % ("$0x0", 3072, "%rdi"): "f: moves the stack pointer by mov",
     "f: xchg %rax, %rsp\nret": "f: moves the stack pointer by xchg",
     "f: pop %rsp\nret": "f: moves the stack pointer by pop",
     "f: mov %fs:0x28, %rax\nret": "f: mov    %fs:0x28,%rax",
@@ -106,6 +117,7 @@ ALLOWED = [
     "f: lea -0x80(%rsp), %rsp\nlea 0x80(%rsp), %rsp\nret",
     "f: push %rbp\nmov %rsp, %rbp\npush %rbx\nsub $24, %rsp\nmov %rax, -0x20(%rbp)\nleave\nret",
     "f: push %rbp\nmov %rsp, %rbp\nleave\nret",
+    PROBED % ("$0x0", 3072, "%rsi"),
     "f: sub $40, %rsp\nmovb %al, -1(%rsp,%rcx)\ncall g\nadd $40, %rsp\nret",
     "\"core::listed::<#12>\": mov %rax, -8(%rsp)\nret",
 ]
