@@ -44,7 +44,7 @@
 #define MSVC_DEMANGLER_SMALL_WORKSPACE ((size_t)98304)
 #define MSVC_DEMANGLER_DEFAULT_WORKSPACE ((size_t)1228800)
 
-/* Bytes of stack that a call takes at most under the small limits, and under the default ones, on x86-64 and AArch64. */
+/* Bytes of stack that a call takes at most under the small and under the default limits, on x86-64 and AArch64. */
 #define MSVC_DEMANGLER_SMALL_STACK ((size_t)136000)
 #define MSVC_DEMANGLER_DEFAULT_STACK ((size_t)1300000)
 

@@ -1,6 +1,6 @@
-/* Makes the calls without malloc in workspaces of each size from 0 to 64 KiB, of other bytes each time. Each call has to
-   return its whole result, or OUT_OF_MEMORY, and to write nothing but that and the workspace: behind the workspace the
-   next page can't be touched, and the bytes before it and in the buffer are compared. The largest workspace has to
+/* Makes the calls without malloc in workspaces of each size from 0 to 64 KiB, of other bytes each time. Each call has
+   to return its whole result, or OUT_OF_MEMORY, and to write nothing but that and the workspace: behind the workspace
+   the next page can't be touched, and the bytes before it and in the buffer are compared. The largest workspace has to
    suffice, and so does each one that is larger than one that did. */
 
 #define _DEFAULT_SOURCE

@@ -21,21 +21,8 @@ while(NOT EXISTS "${_msvc_demangler_prefix}/include/msvc_demangler.h")
   set(_msvc_demangler_prefix "${_msvc_demangler_above}")
 endwhile()
 
-if(NOT TARGET msvc-demangler::msvc-demangler)
-  add_library(msvc-demangler::shared SHARED IMPORTED)
-  set_target_properties(msvc-demangler::shared PROPERTIES
-    IMPORTED_LOCATION "${_msvc_demangler_libraries}/libmsvc_demangler.so.0"
-    IMPORTED_SONAME libmsvc_demangler.so.0
-    INTERFACE_INCLUDE_DIRECTORIES "${_msvc_demangler_prefix}/include")
-  add_library(msvc-demangler::static STATIC IMPORTED)
-  set_target_properties(msvc-demangler::static PROPERTIES
-    IMPORTED_LOCATION "${_msvc_demangler_libraries}/libmsvc_demangler.a"
-    IMPORTED_LINK_INTERFACE_LANGUAGES C
-    INTERFACE_INCLUDE_DIRECTORIES "${_msvc_demangler_prefix}/include")
-  add_library(msvc-demangler::msvc-demangler INTERFACE IMPORTED)
-  if(DEFINED BUILD_SHARED_LIBS AND NOT BUILD_SHARED_LIBS)
-    set_property(TARGET msvc-demangler::msvc-demangler PROPERTY INTERFACE_LINK_LIBRARIES msvc-demangler::static)
-  else()
-    set_property(TARGET msvc-demangler::msvc-demangler PROPERTY INTERFACE_LINK_LIBRARIES msvc-demangler::shared)
-  endif()
-endif()
+set(_msvc_demangler_shared
+  IMPORTED_LOCATION "${_msvc_demangler_libraries}/libmsvc_demangler.so.0"
+  IMPORTED_SONAME libmsvc_demangler.so.0)
+set(_msvc_demangler_archive "${_msvc_demangler_libraries}/libmsvc_demangler.a")
+include("${CMAKE_CURRENT_LIST_DIR}/msvc-demangler-targets.cmake")

@@ -2,7 +2,7 @@
 //! ` 0001:00000010       ?f@ns@@YAHPEBDH@Z          0000000140001010 f   a.obj` it prints
 //! `0000000140001010 int __cdecl ns::f(char const *, int)`. Lines without a symbol are left out.
 //!
-//! One demangler is kept for all lines, so that most of them request no memory. A map is untrusted, so a symbol is shown
+//! One demangler is kept for all lines, so most of them request no memory. A map is untrusted, so a symbol is shown
 //! as it came if it exceeds the default limits.
 #![tactic(auto)]
 
