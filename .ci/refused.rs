@@ -3,7 +3,7 @@
 //! memory, and names it.
 
 use msvc_demangler::{
-    BackReference, DemangleFlags, Error, Fault, Limit, ParseResult, Watched, back_references, demangle,
+    BackReference, DemangleFlags, Demangler, Error, Fault, Limit, ParseResult, Watched, back_references, demangle,
     demangle_within, filter_slice, filter_text, parse, parse_prefix, parse_within, serialize, symbol_length,
     symbol_length_within, undname_lines,
 };
@@ -306,6 +306,19 @@ fn filter(rt: &HostRuntime) -> Result<(), AllocError> {
     }
     check(rt, "filter_text", done == Ok(()) && *out == *FILTERED);
     Ok(())
+}
+
+/// A demangler that is kept: after a call that is out of memory the next one answers.
+fn kept(rt: &HostRuntime, symbol: &str) -> Result<(), AllocError> {
+    let mut demangler = Demangler::new(rt.alloc());
+    let flags = DemangleFlags::COMPLETE;
+    match demangler.demangle(symbol, flags) {
+        Ok(_) => Ok(()),
+        Err(error) => {
+            check(rt, "Demangler", demangler.demangle(symbol, flags).is_ok());
+            granted(rt, "Demangler", &error)
+        }
+    }
 }
 
 /// The filter over a slice.

@@ -1,54 +1,74 @@
-/* msvc_demangler 0.11.0 without malloc: the calls of msvc_demangler.h, in memory that the caller lends.
-
-       #include <msvc_demangler_in.h>
-       #include <stdio.h>
-
-       static char work[MSVC_DEMANGLER_SMALL_WORKSPACE];
-
-       int main(void)
-       {
-           const char symbol[] = "?x@ns@@3HA";
-           char text[256];
-           struct msvc_demangler_result result =
-               msvc_demangler_demangle_in(symbol, strlen(symbol), MSVC_DEMANGLER_LLVM, MSVC_DEMANGLER_SMALL_NODES,
-                                          MSVC_DEMANGLER_SMALL_BYTES, work, sizeof work, text, sizeof text);
-           puts(result.status == MSVC_DEMANGLER_OK ? text : symbol);
-           return 0;
-       }
-
-   prints "int ns::x".
-
-   The library is libmsvc_demangler_in.a, which calls memcpy and memmove and nothing else, and has no writable data. So
-   the calls may be made in a signal handler, in the child of a fork, before main, and by any thread, if no two calls
-   that run at the same time share a workspace. Flags, statuses, offsets, texts and the rules of buffers are those of
-   msvc_demangler.h. The differences are:
-
-   - A call takes all its memory from a workspace, which need not be aligned, and may hold any bytes. Nothing is kept in
-     it between calls, so the next call may use it, and so may the caller. It must not overlap the input or the output.
-   - OUT_OF_MEMORY means that the workspace is too small for the symbol. The bytes of the buffer after the NUL are
-     unspecified then. The call may be repeated with a larger workspace, or with lower limits.
-
-   A workspace of MSVC_DEMANGLER_DEFAULT_WORKSPACE bytes suffices for each symbol within the default limits, and one of
-   MSVC_DEMANGLER_SMALL_WORKSPACE bytes for each symbol within the small ones. 12,288 bytes suffice for each of 676 real
-   names. */
+/**
+ * @file
+ * msvc_demangler 0.11.0 without malloc: the calls of msvc_demangler.h, in memory that the caller lends.
+ *
+ * @code
+ * #include <msvc_demangler_in.h>
+ * #include <stdio.h>
+ *
+ * static char work[MSVC_DEMANGLER_SMALL_WORKSPACE];
+ *
+ * int main(void)
+ * {
+ *     const char symbol[] = "?x@ns@@3HA";
+ *     char text[256];
+ *     struct msvc_demangler_result result =
+ *         msvc_demangler_demangle_in(symbol, strlen(symbol), MSVC_DEMANGLER_LLVM, MSVC_DEMANGLER_SMALL_NODES,
+ *                                    MSVC_DEMANGLER_SMALL_BYTES, work, sizeof work, text, sizeof text);
+ *     puts(result.status == MSVC_DEMANGLER_OK ? text : symbol);
+ *     return 0;
+ * }
+ * @endcode
+ *
+ * Prints "int ns::x".
+ *
+ * The library is libmsvc_demangler_in.a, which calls memcpy and memmove and nothing else, and has no writable data. So
+ * the calls may be made in a signal handler, in the child of a fork, before main, and by any thread, if no two calls
+ * that run at the same time share a workspace. Flags, statuses, offsets, texts and the rules of buffers are those of
+ * msvc_demangler.h. The differences are:
+ *
+ * - A call takes all its memory from a workspace, which need not be aligned, and may hold any bytes. Nothing is kept in
+ *   it between calls. It must not overlap the input or the output.
+ * - OUT_OF_MEMORY means that the workspace is too small for the symbol. The bytes of the buffer after the NUL are
+ *   unspecified then. The call may be repeated with a larger workspace, or with lower limits.
+ *
+ * A workspace of MSVC_DEMANGLER_DEFAULT_WORKSPACE bytes suffices for each symbol within the default limits, and one of
+ * MSVC_DEMANGLER_SMALL_WORKSPACE bytes for each symbol within the small ones. 12,288 bytes suffice for each of 676 real
+ * names.
+ */
 #ifndef MSVC_DEMANGLER_IN_H
 #define MSVC_DEMANGLER_IN_H
 
 #include <msvc_demangler.h>
 
-/* Limits for a workspace that is kept for a crash: no name of 676 real ones has more than 189 nodes. */
+/**
+ * @name Small limits
+ * Suit a workspace that is kept for a crash: no name of 676 real ones has more than 189 nodes.
+ * @{
+ */
 #define MSVC_DEMANGLER_SMALL_NODES ((size_t)1000)
 #define MSVC_DEMANGLER_SMALL_BYTES ((size_t)4096)
+/** @} */
 
-/* Bytes of a workspace for each symbol within the small limits, and within the default ones. */
+/**
+ * @name Sizes of workspaces
+ * Suffice for each symbol within the small limits, and within the default ones.
+ * @{
+ */
 #define MSVC_DEMANGLER_SMALL_WORKSPACE ((size_t)98304)
 #define MSVC_DEMANGLER_DEFAULT_WORKSPACE ((size_t)1228800)
+/** @} */
 
-/* Bytes of stack that a call takes at most under the small and under the default limits, on x86-64 and AArch64. */
+/**
+ * @name Sizes of stacks
+ * Bound, in bytes, what a call takes under the small and under the default limits, on x86-64 and AArch64.
+ * @{
+ */
 #define MSVC_DEMANGLER_SMALL_STACK ((size_t)136000)
 #define MSVC_DEMANGLER_DEFAULT_STACK ((size_t)1300000)
+/** @} */
 
-/* A part of a workspace: memory that is aligned to 16, and a multiple of 16 bytes of it. */
+/** Names a part of a workspace: memory that is aligned to 16, and a multiple of 16 bytes long. */
 struct msvc_demangler_part {
     void *memory;
     size_t size;
@@ -58,21 +78,29 @@ struct msvc_demangler_part {
 extern "C" {
 #endif
 
-/* The calls of the library. The inline ones below make the parts. A call takes all its memory from the parts, and after
-   it they are the same; only with OUT_OF_MEMORY a part may have been set to null and 0, and is lost then. */
+/**
+ * @name Calls of the library
+ * Take all their memory from parts of a workspace, which the inline calls below make. The parts are the same after a
+ * call; only with OUT_OF_MEMORY a part may have been set to null and 0, and is lost then.
+ * @{
+ */
+/** Demangles a symbol, as msvc_demangler_demangle does, in a part for its nodes and one for its declaration. */
 struct msvc_demangler_result msvc_demangler_demangle_in_parts(const char *symbol, size_t length, uint32_t flags,
                                                               size_t max_nodes, size_t max_bytes,
                                                               struct msvc_demangler_part *arena,
                                                               struct msvc_demangler_part *text, char *out,
                                                               size_t size) MSVC_DEMANGLER_NOEXCEPT;
+/** Returns the length of a symbol, as msvc_demangler_prefix does, in a part for its nodes. */
 struct msvc_demangler_result msvc_demangler_prefix_in_parts(const char *symbol, size_t length, size_t max_nodes,
                                                             struct msvc_demangler_part *arena) MSVC_DEMANGLER_NOEXCEPT;
+/** Filters a text, as msvc_demangler_filter does, in a part for the nodes of a symbol and one for its declaration. */
 struct msvc_demangler_result msvc_demangler_filter_in_parts(const char *input, size_t length, uint32_t flags,
                                                             struct msvc_demangler_part *arena,
                                                             struct msvc_demangler_part *text, char *out,
                                                             size_t size) MSVC_DEMANGLER_NOEXCEPT;
+/** @} */
 
-/* Returns what is left of some memory at the first address that is a multiple of 16, in whole units of 16 bytes. */
+/** Returns the part of some memory from the first address on that is a multiple of 16, in whole units of 16 bytes. */
 static inline struct msvc_demangler_part msvc_demangler_aligned(void *memory, size_t size) MSVC_DEMANGLER_NOEXCEPT
 {
     size_t before = (size_t)(-(uintptr_t)memory & 15);
@@ -84,8 +112,7 @@ static inline struct msvc_demangler_part msvc_demangler_aligned(void *memory, si
     return part;
 }
 
-/* Cuts the memory for a declaration off the end of a part, and returns it: as much as the limit asks for, and at most a
-   quarter. */
+/** Cuts memory for a declaration off the end of a part, as much as the limit asks for and at most a quarter. */
 static inline struct msvc_demangler_part msvc_demangler_cut(struct msvc_demangler_part *arena,
                                                             size_t max_bytes) MSVC_DEMANGLER_NOEXCEPT
 {
@@ -99,7 +126,7 @@ static inline struct msvc_demangler_part msvc_demangler_cut(struct msvc_demangle
     return text;
 }
 
-/* Demangles a symbol as msvc_demangler_demangle does, in a workspace of work_size bytes. */
+/** Demangles a symbol, as msvc_demangler_demangle does, in a workspace of work_size bytes. */
 static inline struct msvc_demangler_result msvc_demangler_demangle_in(const char *symbol, size_t length, uint32_t flags,
                                                                       size_t max_nodes, size_t max_bytes, void *work,
                                                                       size_t work_size, char *out,
@@ -110,7 +137,7 @@ static inline struct msvc_demangler_result msvc_demangler_demangle_in(const char
     return msvc_demangler_demangle_in_parts(symbol, length, flags, max_nodes, max_bytes, &arena, &text, out, size);
 }
 
-/* Measures a symbol as msvc_demangler_prefix does, in a workspace of work_size bytes. */
+/** Returns the length of a symbol, as msvc_demangler_prefix does, in a workspace of work_size bytes. */
 static inline struct msvc_demangler_result msvc_demangler_prefix_in(const char *symbol, size_t length, size_t max_nodes,
                                                                     void *work,
                                                                     size_t work_size) MSVC_DEMANGLER_NOEXCEPT
@@ -119,7 +146,7 @@ static inline struct msvc_demangler_result msvc_demangler_prefix_in(const char *
     return msvc_demangler_prefix_in_parts(symbol, length, max_nodes, &arena);
 }
 
-/* Filters a text as msvc_demangler_filter does, in a workspace of work_size bytes, whatever the length of the text. */
+/** Filters a text of any length, as msvc_demangler_filter does, in a workspace of work_size bytes. */
 static inline struct msvc_demangler_result msvc_demangler_filter_in(const char *text, size_t length, uint32_t flags,
                                                                     void *work, size_t work_size, char *out,
                                                                     size_t size) MSVC_DEMANGLER_NOEXCEPT

@@ -98,31 +98,28 @@ static void make_pointers(char *symbol, size_t parameters)
     memcpy(symbol + 7 + 3 * parameters, "@Z", 3);
 }
 
-/* Refuses each request of a call on a large symbol in its turn. An arena asks for a smaller block where a large one is
-   refused, so the call says that it wants memory, or returns the whole declaration. Adds to how many calls did each. */
-static long refuse_large(size_t parameters, long *told, long *passed_over)
+/* Refuses each request of a call on a large symbol in its turn, and counts the calls that don't say then that they are
+   out of memory. Adds the requests to *tried. */
+static long refuse_large(size_t parameters, long *tried)
 {
     static char symbol[65536];
-    static char whole[131072], text[131072];
+    static char text[131072];
     struct msvc_demangler_result result;
     long wrong = 0;
     make_pointers(symbol, parameters);
     refused = 0;
     requests = 0;
-    result = msvc_demangler_demangle(symbol, strlen(symbol), MSVC_DEMANGLER_LLVM, SIZE_MAX, SIZE_MAX, whole,
-                                     sizeof whole);
-    wrong += result.status != MSVC_DEMANGLER_OK || result.length >= sizeof whole;
+    result = msvc_demangler_demangle(symbol, strlen(symbol), MSVC_DEMANGLER_LLVM, SIZE_MAX, SIZE_MAX, text,
+                                     sizeof text);
+    wrong += result.status != MSVC_DEMANGLER_OK || result.length >= sizeof text;
     long count = requests;
     for (refused = 1; refused <= count; refused++) {
         requests = 0;
         result = msvc_demangler_demangle(symbol, strlen(symbol), MSVC_DEMANGLER_LLVM, SIZE_MAX, SIZE_MAX, text,
                                          sizeof text);
-        bool out_of_memory = result.status == MSVC_DEMANGLER_OUT_OF_MEMORY && strcmp(text, "out of memory") == 0;
-        bool declared = result.status == MSVC_DEMANGLER_OK && strcmp(text, whole) == 0;
-        *told += out_of_memory;
-        *passed_over += declared;
-        wrong += (!out_of_memory && !declared) || blocks != 0;
+        wrong += result.status != MSVC_DEMANGLER_OUT_OF_MEMORY || strcmp(text, "out of memory") != 0 || blocks != 0;
     }
+    *tried += count;
     refused = 0;
     return wrong;
 }
@@ -130,8 +127,6 @@ static long refuse_large(size_t parameters, long *told, long *passed_over)
 int main(void)
 {
     long tried = 0;
-    long told = 0;
-    long passed_over = 0;
     long wrong = 0;
     blocks = 0; /* a C runtime may have requested some before */
     for (size_t n = 0; n < kinds * (sizeof symbols / sizeof symbols[0]); n++) {
@@ -153,9 +148,8 @@ int main(void)
         puts("a longer list of parameters has other requests where a hundred nodes are allowed");
         wrong++;
     }
-    wrong += refuse_large(2000, &told, &passed_over);  /* a tree of 4,000 nodes */
-    wrong += refuse_large(9500, &told, &passed_over);  /* a declaration of 64 KB */
-    printf("of large symbols: %ld calls out of memory, %ld that passed over a refusal\n", told, passed_over);
+    wrong += refuse_large(2000, &tried);  /* a tree of 4,000 nodes */
+    wrong += refuse_large(9500, &tried);  /* a declaration of 64 KB */
     printf("%ld refused requests, %ld wrong results\n", tried, wrong);
     return wrong != 0;
 }

@@ -9,7 +9,7 @@ mod tests {
     use std::io::ErrorKind;
     use std::test::Fail;
 
-    /// A line that is demangled, one that is refused, one that is not UTF-8, and one that no line feed ends.
+    /// A line that is demangled, one that is rejected, one that is not UTF-8, and one that no line feed ends.
     const LINES: &[u8] = b"?x@@3HA\r\nnope\n\xFF\n?f@@";
 
     const TEXT: &[u8] = b"int x\nnope\nf\n";
@@ -27,26 +27,26 @@ mod tests {
 
     #[test]
     fn lines(rt: HostRuntime) -> Result<(), Fail> {
-        let refused: &[u8] = b"error: unknown func class (offset: 5, remaining: \"\")\n";
+        let rejected: &[u8] = b"error: unknown func class (offset: 5, remaining: \"\")\n";
         let empty: &[u8] = b"error: does not start with b'?' (offset: 0, remaining: \"\")\n";
         let rows: [(&[u8], &[u8], &[u8]); 9] = [
             (LINES, TEXT, REFUSAL),
             (b"", b"", b""),
             (b"\n", b"\n", empty),
             (b"\r\n", b"\n", empty),
-            (b"?f@@\r", b"?f@@\r\n", refused),
-            (b"?f@@\r\r\n", b"?f@@\r\n", refused),
+            (b"?f@@\r", b"?f@@\r\n", rejected),
+            (b"?f@@\r\r\n", b"?f@@\r\n", rejected),
             (b"?f@@\n?x@@3HA", b"f\nint x\n", b""),
             (b"?f@@\r\n", b"f\n", b""),
             (b"\xFF\r\n?f@@\xFF", b"", b""),
         ];
-        for (bytes, text, refusals) in rows {
+        for (bytes, text, rejections) in rows {
             let (out, err, done) = filtered(rt.alloc(), bytes);
             assert_eq!(rt; done, Ok(()));
             let filtered = (out, err);
             assert!(rt; filtered == run(rt.alloc(), &[], bytes)?);
             assert_eq!(rt; filtered.0.as_slice(), text);
-            assert_eq!(rt; filtered.1.as_slice(), refusals);
+            assert_eq!(rt; filtered.1.as_slice(), rejections);
         }
         Ok(())
     }
@@ -129,7 +129,7 @@ mod tests {
             (9, 14, b"int x\n", b""),
             (14, 21, b"int x\nnope\n", REFUSAL),
         ];
-        for (first, end, text, refusals) in rows {
+        for (first, end, text, rejections) in rows {
             for place in first..end {
                 for (most, error) in &FAILURES[..4] {
                     let fails = Failing::after(place, *error);
@@ -143,7 +143,7 @@ mod tests {
                     assert_eq!(rt; end, failed, "at {place}");
                     assert_eq!(rt;
                         contents(&streams),
-                        (&LINES[place..], text, refusals),
+                        (&LINES[place..], text, rejections),
                         "at {place}"
                     );
                 }
@@ -164,7 +164,7 @@ mod tests {
             (6, 11, b"\xFF\n?f@@", REFUSAL),
             (11, 13, b"", REFUSAL),
         ];
-        for (first, end, left, refusals) in rows {
+        for (first, end, left, rejections) in rows {
             for place in first..end {
                 for (most, error) in &FAILURES {
                     let fails = Failing::after(place, *error);
@@ -178,7 +178,7 @@ mod tests {
                     assert_eq!(rt; end, failed, "at {place}");
                     assert_eq!(rt;
                         contents(&streams),
-                        (left, &TEXT[..place], refusals),
+                        (left, &TEXT[..place], rejections),
                         "at {place}"
                     );
                 }
@@ -187,7 +187,7 @@ mod tests {
     }
 
     #[test]
-    fn failing_writers_of_refusals(rt: HostRuntime) {
+    fn failing_writers_of_rejections(rt: HostRuntime) {
         let failed = End {
             done: Err(Fault::Write),
             marked: (false, false, true),
@@ -240,10 +240,10 @@ mod tests {
             (&[""], b"\n", empty),
             (&["-v", "-v"], b"-v\n", dashed),
         ];
-        for (words, text, refusals) in rows {
+        for (words, text, rejections) in rows {
             let (out, err) = run(rt.alloc(), words, b"?f@@")?;
             assert_eq!(rt; out.as_slice(), text);
-            assert_eq!(rt; err.as_slice(), refusals);
+            assert_eq!(rt; err.as_slice(), rejections);
         }
         let (out, err) = run(rt.alloc(), &["-v"], b"?x@@3PEAY1NKM@5HEA")?;
         assert_eq!(rt; out.as_slice(), b"int (*x)[3500][6]\n".as_slice());

@@ -11,6 +11,7 @@
 mod calls;
 mod digits;
 mod filter;
+mod fuse;
 mod limits;
 mod lines;
 mod measure;
@@ -29,7 +30,7 @@ fn main(rt: HostRuntime) -> io::Result<()> {
     let second = number(words.next());
     match command.as_str() {
         "prefix" => prefix::compare(&rt),
-        "within" => within::refuse(&rt, first),
+        "within" => within::reject(&rt, first),
         "hostile" => hostile::run(&rt, first, second),
         "kept" => measure::measure_kept(&rt, first),
         _ => measure::measure(&rt, first),

@@ -3,7 +3,6 @@
 //! counts. A line that begins with `#` and a space is a heading, which says what the rows below it show.
 
 use msvc_demangler::{DemangleFlags, Flags, demangle};
-use msvc_hostile::references;
 use std::alloc::{AllocError, Global};
 use std::io;
 
@@ -37,9 +36,6 @@ fn agrees(alloc: Global, row: &str) -> Result<bool, AllocError> {
         return Ok(false);
     };
     let flags = DemangleFlags::from_bits_retain(bits);
-    if !references::agrees(alloc, symbol, flags) {
-        return Ok(false);
-    }
     match demangle(alloc, symbol, flags) {
         Ok(text) => Ok(kind == "ok" && text.as_str() == first),
         Err(refusal) => {

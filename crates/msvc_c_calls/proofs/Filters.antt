@@ -8,7 +8,7 @@ use Rattle.std.proofs.lemmas.Str.{utf8_valid_len_le}
 use Rattle.std.specs.Prelude.{◌==◌, if◌then◌else◌, nat_le}
 use Rattle.std.specs.Str.Lossy.{utf8_valid_len}
 use Rattle.msvc_demangler.specs.Filtered.{AreOnlyParts, Part, declared, fitting, kept, text_of_parts}
-use Rattle.msvc_demangler.specs.Words.{utf8_front}
+use Rattle.msvc_demangler.specs.SymbolBounds.{utf8_front}
 use Rattle.msvc_c_calls.proofs.Cuts.{one_more, set-copied}
 use Rattle.msvc_c_calls.specs.Buffers.{ArePartsWritten, IsWritten}
 use Rattle.msvc_c_calls.specs.Calls.{IsFilteredInto, filtered, not_filtered, out_of_memory_text}

@@ -1,3 +1,3 @@
 mod Cuts
 pub mod Filters
-pub mod Refused
+pub mod Rejected

@@ -13,7 +13,7 @@ use Rattle.msvc_demangler.specs.Limit.TheVariants.{Bytes, Nodes}
 use Rattle.msvc_demangler.specs.Limits.{IsBeyond, IsWithin, Limits}
 use Rattle.msvc_demangler.specs.Parsed.{IsParsed, IsSymbolLength}
 use Rattle.msvc_demangler.specs.Reads.{Derives}
-use Rattle.msvc_demangler.specs.Refusals.{begins_with}
+use Rattle.msvc_demangler.specs.Rejections.{begins_with}
 use Rattle.msvc_demangler.specs.State.{Note}
 use Rattle.msvc_demangler.specs.Trees.{SymbolTree}
 use Rattle.msvc_c_calls.specs.Buffers.{ArePartsWritten, IsWritten}
@@ -52,29 +52,29 @@ pub record IsRejection (symbol message : List ℕ) (offset : ℕ) (text : List �
   pub says : Says message context offset text
 
 -- A symbol is not read: the status, the offset, and the text that says why.
-pub data IsRefused (limits : Limits) (symbol : List ℕ) : (status offset : ℕ) (text : List ℕ) → Type 0 where
+pub data IsNotRead (limits : Limits) (symbol : List ℕ) : (status offset : ℕ) (text : List ℕ) → Type 0 where
   -- INVALID: with a message about no limit
   invalid : {offset : ℕ} {message text : List ℕ} → IsUtf8 symbol → IsNoSymbolUnder limits.nodes symbol
       → message_limit message ≡ None
       → IsRejection symbol message offset text
-      → IsRefused limits symbol 1 offset text
+      → IsNotRead limits symbol 1 offset text
   -- NOT_UTF8: the offset is that up to which the symbol is UTF-8
   not_utf8 : {offset : ℕ} → ¬ (IsUtf8 symbol) → IsValidUpTo symbol offset
-      → IsRefused limits symbol 2 offset not_utf8_text
+      → IsNotRead limits symbol 2 offset not_utf8_text
   -- OUT_OF_MEMORY
-  out_of_memory : IsUtf8 symbol → IsRefused limits symbol 3 0 out_of_memory_text
+  out_of_memory : IsUtf8 symbol → IsNotRead limits symbol 3 0 out_of_memory_text
   -- TOO_MANY_NODES: nodes are limited, and the message is the one about their limit
   too_many_nodes : {offset : ℕ} {text : List ℕ} → IsUtf8 symbol → IsNoSymbolUnder limits.nodes symbol
       → is_some limits.nodes ≡ true
       → IsRejection symbol errors.too_many_nodes offset text
-      → IsRefused limits symbol 4 offset text
+      → IsNotRead limits symbol 4 offset text
 
 -- What is found of a symbol: the status, the offset, and its declaration or the text that says why it has none.
 pub data IsFound (limits : Limits) (symbol : List ℕ) (flags : ℕ) : (status offset : ℕ) (text : List ℕ) → Type 0 where
   -- OK
   declared : {text : List ℕ} → IsUtf8 symbol → IsDeclaredWithin limits symbol flags text
       → IsFound limits symbol flags 0 0 text
-  not_read : {status offset : ℕ} {text : List ℕ} → IsRefused limits symbol status offset text
+  not_read : {status offset : ℕ} {text : List ℕ} → IsNotRead limits symbol status offset text
       → IsFound limits symbol flags status offset text
   -- TOO_LONG: the offset is where the symbol ends, and the text shows what follows it
   too_long : {offset : ℕ} {text : List ℕ} → IsUtf8 symbol → IsLonger limits symbol flags offset
@@ -91,7 +91,7 @@ pub data IsMeasured (limits : Limits) (symbol : List ℕ) : (status offset bytes
   -- OK
   measured : {bytes : ℕ} → IsUtf8 symbol → IsLength limits.nodes symbol bytes → IsMeasured limits symbol 0 0 bytes
   -- as of `IsFound`, where no text is written
-  not_measured : {status offset : ℕ} {text : List ℕ} → IsRefused limits symbol status offset text
+  not_measured : {status offset : ℕ} {text : List ℕ} → IsNotRead limits symbol status offset text
       → IsMeasured limits symbol status offset 0
 
 -- What the filter makes of a text, and what it writes into a buffer: the status and the length.

@@ -10,10 +10,10 @@ use Rattle.std.proofs.lemmas.Bool.Decides.{nat_tests}
 use Rattle.std.proofs.Math.Seq.{drop-append_seam, take-append_seam}
 use Rattle.std.proofs.lemmas.List.{drop-drop}
 use Rattle.std.specs.Str.Lossy.{utf8_valid_len}
-use Rattle.msvc_demangler.specs.Fillings.{IsFilling, space_after}
+use Rattle.msvc_demangler.specs.SliceWriters.{IsSliceWriter, space_after}
 use Rattle.msvc_demangler.specs.Filtered.{Part, declared, fitting, kept, text_of_parts}
-use Rattle.msvc_demangler.specs.Words.{utf8_front}
-use Rattle.msvc_demangler.specs.declared.filter.Filling.{Filling}
+use Rattle.msvc_demangler.specs.SymbolBounds.{utf8_front}
+use Rattle.msvc_demangler.specs.declared.filter.SliceWriter.{SliceWriter}
 use Rattle.msvc_demangler.proofs.Replaced.{text-append}
 
 -- a beginning that is UTF-8 is one
@@ -130,9 +130,9 @@ IfOk-map (Ok a) P Q f h = f a h
 IfOk-map (Err e) P Q f h = h
 
 -- before the first part
-pub Filling-start : (given : List ℕ) (filling : Filling) → filling.length ≡ 0 → filling.written ≡ 0
-    → filling.space ≡ length given → IsFilling given [] filling given
-Filling-start given filling none nothing all = record {
+pub SliceWriter-start : (given : List ℕ) (writer : SliceWriter) → writer.length ≡ 0 → writer.written ≡ 0
+    → writer.space ≡ length given → IsSliceWriter given [] writer given
+SliceWriter-start given writer none nothing all = record {
   sent = [];
   length_is = none;
   written_is = nothing;
@@ -142,21 +142,22 @@ Filling-start given filling none nothing all = record {
 }
 
 -- some bytes are written
-pub Filling-more : (given : List ℕ) (parts others : List Part) (filling after : Filling) (out later bytes : List ℕ)
-    (taken : ℕ) → IsFilling given parts filling out → text_of_parts others ≡ bytes
-    → ((rest : List Part) → fitting filling.space (others ++ rest)
-    ≡ take taken bytes ++ fitting (space_after taken (length bytes) filling.space) rest)
-    → taken ≤ filling.space → taken ≤ length bytes
-    → after.length ≡ filling.length + length bytes → after.written ≡ filling.written + taken
-    → after.space ≡ space_after taken (length bytes) filling.space
-    → later ≡ take filling.written out ++ (take taken bytes ++ drop (filling.written + length (take taken bytes)) out)
-    → IsFilling given (parts ++ others) after later
-Filling-more given parts others filling after out later bytes taken so text fits bound within all more left put =
+pub SliceWriter-more : (given : List ℕ) (parts others : List Part) (writer after : SliceWriter) (out later bytes : List
+    ℕ)
+    (taken : ℕ) → IsSliceWriter given parts writer out → text_of_parts others ≡ bytes
+    → ((rest : List Part) → fitting writer.space (others ++ rest)
+    ≡ take taken bytes ++ fitting (space_after taken (length bytes) writer.space) rest)
+    → taken ≤ writer.space → taken ≤ length bytes
+    → after.length ≡ writer.length + length bytes → after.written ≡ writer.written + taken
+    → after.space ≡ space_after taken (length bytes) writer.space
+    → later ≡ take writer.written out ++ (take taken bytes ++ drop (writer.written + length (take taken bytes)) out)
+    → IsSliceWriter given (parts ++ others) after later
+SliceWriter-more given parts others writer after out later bytes taken so text fits bound within all more left put =
     let count : length (take taken bytes) ≡ taken = omega (arith, length-take taken bytes) in
-    let front : take filling.written out ≡ so.sent =
-    ap (take filling.written) so.holds ∙ ap (λ n. take n (so.sent ++ drop (length so.sent) given)) so.written_is
+    let front : take writer.written out ≡ so.sent =
+    ap (take writer.written) so.holds ∙ ap (λ n. take n (so.sent ++ drop (length so.sent) given)) so.written_is
     ∙ take-append_seam so.sent (drop (length so.sent) given) in
-    let past : drop (filling.written + length (take taken bytes)) out
+    let past : drop (writer.written + length (take taken bytes)) out
     ≡ drop (length (so.sent ++ take taken bytes)) given =
     ap (λ n. drop (n + length (take taken bytes)) out) so.written_is
     ∙ sym (drop-drop (length (take taken bytes)) (length so.sent) out)
@@ -171,8 +172,8 @@ Filling-more given parts others filling after out later bytes taken so text fits
           ∙ sym (ap length (text-append parts others) ∙ length-append (text_of_parts parts) (text_of_parts others));
       written_is = more ∙ sym (length-append so.sent (take taken bytes) ∙ ap (λ n. length so.sent + n) count
           ∙ ap (λ n. n + taken) (sym so.written_is));
-      inside = omega (arith, so.inside, space-less taken (length bytes) filling.space, more, left);
-      holds = put ∙ ap (λ l. l ++ (take taken bytes ++ drop (filling.written + length (take taken bytes)) out)) front
+      inside = omega (arith, so.inside, space-less taken (length bytes) writer.space, more, left);
+      holds = put ∙ ap (λ l. l ++ (take taken bytes ++ drop (writer.written + length (take taken bytes)) out)) front
           ∙ ap (λ l. so.sent ++ (take taken bytes ++ l)) past
           ∙ sym (append_assoc so.sent (take taken bytes) (drop (length (so.sent ++ take taken bytes)) given));
       fits = λ rest. ap (fitting (length given)) (append_assoc parts others rest) ∙ so.fits (others ++ rest)
@@ -188,19 +189,19 @@ Filling-more given parts others filling after out later bytes taken so text fits
         at false = omega arith
 
 -- all that fits of the parts
-pub Filling-end : (given : List ℕ) (parts : List Part) (filling : Filling) (out : List ℕ)
-    → IsFilling given parts filling out → (filling.written ≡ length (fitting (length given) parts))
+pub SliceWriter-end : (given : List ℕ) (parts : List Part) (writer : SliceWriter) (out : List ℕ)
+    → IsSliceWriter given parts writer out → (writer.written ≡ length (fitting (length given) parts))
     × (out ≡ fitting (length given) parts ++ drop (length (fitting (length given) parts)) given)
 unfolding fitting
-Filling-end given parts filling out so =
+SliceWriter-end given parts writer out so =
     let all : fitting (length given) parts ≡ so.sent =
     ap (fitting (length given)) (sym (append-nil parts)) ∙ so.fits [] ∙ append-nil so.sent in
     (so.written_is ∙ ap length (sym all), so.holds ∙ ap (λ l. l ++ drop (length l) given) (sym all))
 
 -- the slice keeps its length
-pub Filling-length : (given : List ℕ) (parts : List Part) (filling : Filling) (out : List ℕ)
-    → IsFilling given parts filling out → length out ≡ length given
-Filling-length given parts filling out so =
+pub SliceWriter-length : (given : List ℕ) (parts : List Part) (writer : SliceWriter) (out : List ℕ)
+    → IsSliceWriter given parts writer out → length out ≡ length given
+SliceWriter-length given parts writer out so =
     omega (
       arith,
       ap length so.holds,

@@ -13,29 +13,29 @@ use Rattle.msvc_grammar.specs.Counts.{node_count}
 use Rattle.msvc_grammar.specs.Reads.{Derives, read_name}
 use Rattle.msvc_grammar.specs.Rules.{symbol}
 use Rattle.msvc_grammar.specs.State.{State, beginning}
-use Rattle.msvc_grammar.proofs.Laws.{symbol-derived, symbol-refused}
+use Rattle.msvc_grammar.proofs.Laws.{symbol-derived, symbol-rejected}
 use Rattle.msvc_print.specs.Declaration.{declaration}
 use Rattle.msvc_demangler.specs.Filtered.{AreParts, IsFilteredFrom, IsFilteredText, IsNoSymbol, IsSymbol, Part}
 use Rattle.msvc_demangler.specs.Filtered.{declared}
-use Rattle.msvc_demangler.specs.Filtered.{kept, most_declared, most_nodes, nothing, replaced, stays, text_of_parts}
+use Rattle.msvc_demangler.specs.Filtered.{kept, max_declared, max_nodes, nothing, replaced, stays, text_of_parts}
 use Rattle.msvc_demangler.specs.Runs.{IsLines}
-use Rattle.msvc_demangler.specs.Scans.{AreRest, Keeps}
-use Rattle.msvc_demangler.specs.Words.{blocks_start, candidate, continues, is_of_word, is_visible}
-use Rattle.msvc_demangler.specs.Words.{symbol_extent}
-use Rattle.msvc_demangler.specs.declared.words.Scan.{Scan}
-use Rattle.msvc_demangler.proofs.Local.{AreEnough, no_symbol-more, symbol-inside, symbol-more}
+use Rattle.msvc_demangler.specs.WordStates.{AreRest, Keeps}
+use Rattle.msvc_demangler.specs.SymbolBounds.{blocks_start, candidate, continues, is_word_byte, is_visible}
+use Rattle.msvc_demangler.specs.SymbolBounds.{symbol_extent}
+use Rattle.msvc_demangler.specs.declared.symbol_bounds.WordState.{WordState}
+use Rattle.msvc_demangler.proofs.SymbolLookahead.{AreEnough, no_symbol-more, symbol-inside, symbol-more}
 use Rattle.msvc_demangler.proofs.Starts.{Keeps-more, parts-kept, start-kept}
-use Rattle.msvc_demangler.proofs.Symbols.{symbol-eaten, symbol-of, symbol-only}
+use Rattle.msvc_demangler.proofs.Symbols.{symbol-consumed, symbol-of, symbol-only}
 
 -- One list of parts at most
 
 pub parts-only : (flags : ℕ) (last : ℕ) (passed left : List ℕ) (first second : List Part)
     → IsFilteredFrom flags last passed left first → IsFilteredFrom flags last passed left second → second ≡ first
 parts-only flags _ _ _ _ _ nothing nothing = refl
-parts-only flags _ _ _ _ _ (stays {b = b} refused t) (stays again u) = ap (λ l. kept b ∷ l)
+parts-only flags _ _ _ _ _ (stays {b = b} rejected t) (stays again u) = ap (λ l. kept b ∷ l)
     (parts-only flags _ _ _ _ _ t u)
-parts-only flags _ _ _ _ _ (stays refused t) (replaced start is u) = absurd (refused start _ _ is)
-parts-only flags _ _ _ _ _ (replaced start is t) (stays refused u) = absurd (refused start _ _ is)
+parts-only flags _ _ _ _ _ (stays rejected t) (replaced start is u) = absurd (rejected start _ _ is)
+parts-only flags _ _ _ _ _ (replaced start is t) (stays rejected u) = absurd (rejected start _ _ is)
 parts-only flags _ _ _ _ _
     (replaced {b = b} {bytes = bytes} {left = left} {text = first} {parts = parts} start is t)
     (replaced {bytes = others} {text = other} {parts = more} again so u) =
@@ -52,7 +52,7 @@ symbol-decided flags left =
     at (read_name symbol (candidate left) (beginning (candidate left))) refl
   where
     by-end : (tree : SymbolTree) (rest : List ℕ) (s : State) → Derives (candidate left) tree rest s.notes
-        → node_count tree ≤ most_nodes → length (declaration tree flags) ≤ most_declared
+        → node_count tree ≤ max_nodes → length (declaration tree flags) ≤ max_declared
         → (on : Bool) → continues (drop (symbol_extent left (length (candidate left) - length rest)) left) ≡ on
         → ((bytes : ℕ) × (text : List ℕ) × IsSymbol flags left bytes text) ⊎ IsNoSymbol flags left
     by-end tree rest s d few short false ends =
@@ -76,47 +76,47 @@ symbol-decided flags left =
         let no : true ≡ false = sym ends ∙ ap (λ n. continues (drop n left)) (sym one.3) ∙ other.ends in cc)
 
     by-length : (tree : SymbolTree) (rest : List ℕ) (s : State) → Derives (candidate left) tree rest s.notes
-        → node_count tree ≤ most_nodes
-        → (short : Bool) → nat_le (length (declaration tree flags)) most_declared ≡ short
+        → node_count tree ≤ max_nodes
+        → (short : Bool) → nat_le (length (declaration tree flags)) max_declared ≡ short
         → ((bytes : ℕ) × (text : List ℕ) × IsSymbol flags left bytes text) ⊎ IsNoSymbol flags left
     by-length tree rest s d few true e = by-end tree rest s d few (leb-true _ _ e) _ refl
     by-length tree rest s d few false e = inr (λ bytes text other.
         let one = symbol-of flags left bytes text tree rest s.notes d other in
-        let long = leb-false (length (declaration tree flags)) most_declared e in
+        let long = leb-false (length (declaration tree flags)) max_declared e in
         omega (arith, long, other.short, ap length one.4))
 
     by-nodes : (tree : SymbolTree) (rest : List ℕ) (s : State) → Derives (candidate left) tree rest s.notes
-        → (few : Bool) → nat_le (node_count tree) most_nodes ≡ few
+        → (few : Bool) → nat_le (node_count tree) max_nodes ≡ few
         → ((bytes : ℕ) × (text : List ℕ) × IsSymbol flags left bytes text) ⊎ IsNoSymbol flags left
     by-nodes tree rest s d true e = by-length tree rest s d (leb-true _ _ e) _ refl
     by-nodes tree rest s d false e = inr (λ bytes text other.
         let one = symbol-of flags left bytes text tree rest s.notes d other in
-        let many = leb-false (node_count tree) most_nodes e in
+        let many = leb-false (node_count tree) max_nodes e in
         omega (arith, many, one.2, ap node_count one.1))
 
     at : (found : Option (SymbolTree × List ℕ × State))
         → read_name symbol (candidate left) (beginning (candidate left)) ≡ found
         → ((bytes : ℕ) × (text : List ℕ) × IsSymbol flags left bytes text) ⊎ IsNoSymbol flags left
     at None e = inr (λ bytes text other.
-        symbol-refused (candidate left) e other.tree other.rest other.notes other.derived)
+        symbol-rejected (candidate left) e other.tree other.rest other.notes other.derived)
     at (Some x) e = by-nodes x.0 x.1 x.2 (symbol-derived (candidate left) x.0 x.1 x.2 e) _ refl
 
-next : Scan → ℕ → Scan
-next scan b = record { seen_question_mark = (scan.seen_question_mark || b == 63) && is_of_word b; last = b }
+next : WordState → ℕ → WordState
+next scan b = record { seen_question_mark = (scan.seen_question_mark || b == 63) && is_word_byte b; last = b }
 
-Keeps-next : (scan : Scan) (b last : ℕ) (passed : List ℕ) → Keeps scan last passed
+Keeps-next : (scan : WordState) (b last : ℕ) (passed : List ℕ) → Keeps scan last passed
     → Keeps (next scan b) last (b ∷ passed)
 unfolding next
 Keeps-next scan b last passed so = Keeps-more scan (next scan b) b last passed refl refl so
 
 -- a scan after a line or a symbol
-abbrev pub fresh : ℕ → Scan
+abbrev pub fresh : ℕ → WordState
 fresh last = record { seen_question_mark = false; last = last }
 
 pub Keeps-fresh : (last : ℕ) → Keeps (fresh last) last []
 Keeps-fresh last = record { seen = refl; before = refl }
 
-pub rest-exists : (flags most : ℕ) (scan : Scan) (left : List ℕ) → length left ≤ most
+pub rest-exists : (flags most : ℕ) (scan : WordState) (left : List ℕ) → length left ≤ most
     → (parts : List Part) × AreRest flags scan left parts
 rest-exists flags most scan [] short = ([], λ last passed so. nothing)
 rest-exists flags zero scan (b ∷ left) short = absurd (omega arith)
@@ -140,9 +140,9 @@ rest-exists flags (suc most) scan (b ∷ left) short =
         → ((last : ℕ) (l : List ℕ) → length l ≤ most → (parts : List Part) × AreRest flags (fresh last) l parts)
         → (parts : List Part) × AreRest flags scan (b ∷ left) parts
     decided start (inl s) rest after =
-        let eaten = symbol-eaten flags (b ∷ left) s.0 s.1 s.2 in
+        let consumed = symbol-consumed flags (b ∷ left) s.0 s.1 s.2 in
         let more = after (slice_index (b ∷ left) (s.0 - 1)) (drop s.0 (b ∷ left))
-        (omega (arith, short, eaten, length-drop s.0 (b ∷ left))) in (
+        (omega (arith, short, consumed, length-drop s.0 (b ∷ left))) in (
           declared s.1 ∷ more.0,
           λ last passed so.
               replaced (sym (start-kept scan b last passed so) ∙ start) s.2
@@ -229,9 +229,9 @@ parts-joined flags part more h {last = last} {passed = passed}
     ap (drop bytes) e ∙ drop-append-le bytes front (10 ∷ []) within in
     let past : drop bytes (b ∷ left) ++ part ≡ drop bytes (b ∷ (left ++ part)) =
     sym (drop-append-le bytes (b ∷ left) part (omega arith)) in
-    let eaten = symbol-eaten flags (b ∷ left) bytes text is in
+    let consumed = symbol-consumed flags (b ∷ left) bytes text is in
     let end : slice_index (b ∷ left) (bytes - 1) ≡ slice_index (b ∷ (left ++ part)) (bytes - 1) =
-    sym (get_or_append_left (b ∷ left) part 0 (bytes - 1) (omega (arith, eaten, inside))) in
+    sym (get_or_append_left (b ∷ left) part 0 (bytes - 1) (omega (arith, consumed, inside))) in
     replaced start (symbol-more flags (b ∷ left) part bytes text enough is)
     (subst (λ n. IsFilteredFrom flags n [] (drop bytes (b ∷ (left ++ part))) (parts ++ more)) end
     (subst (λ l. IsFilteredFrom flags (slice_index (b ∷ left) (bytes - 1)) [] l (parts ++ more)) past

@@ -6,9 +6,10 @@ use Rattle.std.specs.Prelude.{◌==◌, ◌&&◌, ◌||◌, not}
 use Rattle.std.proofs.lemmas.List.Elements.{All-head, All-tail}
 use Rattle.std.proofs.lemmas.List.Sums.{take_while-cons}
 use Rattle.msvc_demangler.specs.Filtered.{IsFilteredFrom, Part, nothing, replaced, stays}
-use Rattle.msvc_demangler.specs.Scans.{AreRest, IsPlain, Keeps, past}
-use Rattle.msvc_demangler.specs.Words.{blocks_start, byte_before, has_question_mark, is_of_word, is_start, word_before}
-use Rattle.msvc_demangler.specs.declared.words.Scan.{Scan}
+use Rattle.msvc_demangler.specs.WordStates.{AreRest, IsPlain, Keeps, past}
+use Rattle.msvc_demangler.specs.SymbolBounds.{blocks_start, byte_before, has_question_mark}
+use Rattle.msvc_demangler.specs.SymbolBounds.{is_word_byte, is_start, word_before}
+use Rattle.msvc_demangler.specs.declared.symbol_bounds.WordState.{WordState}
 
 or_swapped : (a b : Bool) → a || b ≡ (b || a) && true
 or_swapped true true = refl
@@ -22,19 +23,19 @@ and_false false = refl
 
 -- whether a word that goes on has had a `?`
 pub seen-more : (b : ℕ) (passed : List ℕ) → has_question_mark (word_before (b ∷ passed))
-    ≡ (has_question_mark (word_before passed) || b == 63) && is_of_word b
-seen-more b passed = ap has_question_mark (take_while-cons is_of_word b passed) ∙ at (is_of_word b)
+    ≡ (has_question_mark (word_before passed) || b == 63) && is_word_byte b
+seen-more b passed = ap has_question_mark (take_while-cons is_word_byte b passed) ∙ at (is_word_byte b)
   where
     at : (w : Bool) → has_question_mark (cond w (b ∷ word_before passed) [])
         ≡ (has_question_mark (word_before passed) || b == 63) && w
     at true = or_swapped (b == 63) (has_question_mark (word_before passed))
     at false = and_false (has_question_mark (word_before passed) || b == 63)
 
-pub Keeps-more : (scan after : Scan) (b last : ℕ) (passed : List ℕ)
-    → after.seen_question_mark ≡ ((scan.seen_question_mark || b == 63) && is_of_word b) → after.last ≡ b
+pub Keeps-more : (scan after : WordState) (b last : ℕ) (passed : List ℕ)
+    → after.seen_question_mark ≡ ((scan.seen_question_mark || b == 63) && is_word_byte b) → after.last ≡ b
     → Keeps scan last passed → Keeps after last (b ∷ passed)
 Keeps-more scan after b last passed seen before so = record {
-  seen = seen ∙ ap (λ s. (s || b == 63) && is_of_word b) so.seen ∙ sym (seen-more b passed);
+  seen = seen ∙ ap (λ s. (s || b == 63) && is_word_byte b) so.seen ∙ sym (seen-more b passed);
   before = before;
 }
 
@@ -45,7 +46,7 @@ and-false_left false w e = refl
 
 -- where more bytes have no `?`
 seen-past : (bytes passed : List ℕ) → IsPlain bytes → has_question_mark (word_before (past bytes passed))
-    ≡ has_question_mark (word_before passed) && list_all is_of_word bytes
+    ≡ has_question_mark (word_before passed) && list_all is_word_byte bytes
 seen-past [] passed plain = and_true (has_question_mark (word_before passed))
   where
     and_true : (a : Bool) → a ≡ a && true
@@ -54,10 +55,10 @@ seen-past [] passed plain = and_true (has_question_mark (word_before passed))
 seen-past (b ∷ bytes) passed plain =
     let none = ne_eqb b 63 (All-head (λ b. b ≢ 63) b bytes plain) in
     let before = has_question_mark (word_before passed) in
-    let all = list_all is_of_word bytes in
+    let all = list_all is_word_byte bytes in
     seen-past bytes (b ∷ passed) (All-tail (λ b. b ≢ 63) b bytes plain)
-    ∙ ap (λ s. s && all) (seen-more b passed ∙ ap (λ q. (before || q) && is_of_word b) none)
-    ∙ and-false_left before (is_of_word b) all
+    ∙ ap (λ s. s && all) (seen-more b passed ∙ ap (λ q. (before || q) && is_word_byte b) none)
+    ∙ and-false_left before (is_word_byte b) all
 
 before-past : (last : ℕ) (bytes passed : List ℕ) → 0 < length bytes
     → byte_before last (past bytes passed) ≡ get_or bytes (length bytes - 1) 0
@@ -67,23 +68,24 @@ before-past last (b ∷ c ∷ bytes) passed some =
     let next : suc (length (c ∷ bytes) - 1) ≡ length (b ∷ c ∷ bytes) - 1 = omega arith in
     before-past last (c ∷ bytes) (b ∷ passed) (omega arith) ∙ ap (λ i. get_or (b ∷ c ∷ bytes) i 0) next
 
-pub Keeps-past : (scan after : Scan) (bytes : List ℕ) (last : ℕ) (passed : List ℕ) → 0 < length bytes → IsPlain bytes
-    → after.seen_question_mark ≡ (scan.seen_question_mark && list_all is_of_word bytes)
+pub Keeps-past : (scan after : WordState) (bytes : List ℕ) (last : ℕ) (passed : List ℕ) → 0 < length bytes → IsPlain
+    bytes
+    → after.seen_question_mark ≡ (scan.seen_question_mark && list_all is_word_byte bytes)
     → after.last ≡ get_or bytes (length bytes - 1) 0 → Keeps scan last passed → Keeps after last (past bytes passed)
 Keeps-past scan after bytes last passed some plain seen before so = record {
-  seen = seen ∙ ap (λ s. s && list_all is_of_word bytes) so.seen ∙ sym (seen-past bytes passed plain);
+  seen = seen ∙ ap (λ s. s && list_all is_word_byte bytes) so.seen ∙ sym (seen-past bytes passed plain);
   before = before ∙ sym (before-past last bytes passed some);
 }
 
 -- a scan tells a start
-pub start-kept : (scan : Scan) (b last : ℕ) (passed : List ℕ) → Keeps scan last passed
+pub start-kept : (scan : WordState) (b last : ℕ) (passed : List ℕ) → Keeps scan last passed
     → (b == 63 && not (scan.seen_question_mark || blocks_start scan.last)) ≡ is_start last passed b
 start-kept scan b last passed so =
     ap (λ s. b == 63 && not (s || blocks_start scan.last)) so.seen
     ∙ ap (λ l. b == 63 && not (has_question_mark (word_before passed) || blocks_start l)) so.before
 
 -- of the bytes passed no more than this matters
-pub parts-kept : (flags : ℕ) (scan : Scan) {last : ℕ} {passed left : List ℕ} {parts : List Part}
+pub parts-kept : (flags : ℕ) (scan : WordState) {last : ℕ} {passed left : List ℕ} {parts : List Part}
     → Keeps scan last passed → IsFilteredFrom flags last passed left parts → AreRest flags scan left parts
 parts-kept flags scan so nothing other more also = nothing
 parts-kept flags scan {last = last} {passed = passed} so (stays {b = b} none rest) other more also =
@@ -92,8 +94,8 @@ parts-kept flags scan {last = last} {passed = passed} so (stays {b = b} none res
     (parts-kept flags (next b) (Keeps-more scan (next b) b last passed refl refl so)
     rest other (b ∷ more) (Keeps-more scan (next b) b other more refl refl also))
   where
-    next : ℕ → Scan
-    next b = record { seen_question_mark = (scan.seen_question_mark || b == 63) && is_of_word b; last = b }
+    next : ℕ → WordState
+    next b = record { seen_question_mark = (scan.seen_question_mark || b == 63) && is_word_byte b; last = b }
 parts-kept flags scan {last = last} {passed = passed} so (replaced {b = b} start is rest) other more also =
     let same = sym (start-kept scan b last passed so) ∙ start-kept scan b other more also in
     replaced (sym same ∙ start) is rest

@@ -13,20 +13,20 @@ use Rattle.std.proofs.KnownBytes.{Appends-nil, Appends-trans, Consumes-kept, Con
 use Rattle.std.proofs.lemmas.List.Elements.{All-nil, All-append}
 use Rattle.msvc_demangler.specs.Filtered.{IsFiltered, IsFilteredText, Part, nothing, text_of_parts}
 use Rattle.msvc_demangler.specs.Runs.{IsLines, IsOfOneLine, LeavesFiltered, Writes, WritesFiltered, WritesPart}
-use Rattle.msvc_demangler.specs.Runs.{most_held}
-use Rattle.msvc_demangler.specs.Scans.{AreRest, IsFilteredUpTo, IsPut, IsPutOf, IsRestText, Keeps}
-use Rattle.msvc_demangler.specs.Scans.{most_looked_at}
+use Rattle.msvc_demangler.specs.Runs.{max_held}
+use Rattle.msvc_demangler.specs.WordStates.{AreRest, IsFilteredUpTo, IsDecidedText, IsDecidedTextOf, IsRestText, Keeps}
+use Rattle.msvc_demangler.specs.WordStates.{max_looked_at}
 use Rattle.msvc_demangler.specs.Taking.{IsWithoutEnd}
 use Rattle.msvc_demangler.specs.declared.watched.Fault.{Fault}
 use Rattle.msvc_demangler.specs.declared.watched.Fault.TheVariants.{Read, Write, Memory}
-use Rattle.msvc_demangler.specs.declared.words.Scan.{Scan}
+use Rattle.msvc_demangler.specs.declared.symbol_bounds.WordState.{WordState}
 use Rattle.msvc_demangler.proofs.Pieces.{IsLines-append}
 use Rattle.msvc_demangler.proofs.Replaced.{Keeps-fresh, filtered-after, filtered-only, fresh, rest-exists, text-append}
 use Rattle.msvc_demangler.proofs.Starts.{parts-kept}
 
 -- Some lines are finished and their text is written. Of the next a part was taken, of which these parts are written
 -- and this piece is left.
-pub record Streaming (flags : ℕ) (reader reads writer writes : Option (List ℕ)) (piece : List ℕ) (scan : Scan)
+pub record Streaming (flags : ℕ) (reader reads writer writes : Option (List ℕ)) (piece : List ℕ) (scan : WordState)
     : Type 0 where
   pub finished : List ℕ
   pub part : List ℕ
@@ -38,11 +38,11 @@ pub record Streaming (flags : ℕ) (reader reads writer writes : Option (List �
   pub unended : IsWithoutEnd part
   pub is : IsFilteredText flags finished before
   pub held : length piece ≤ length part
-  pub short : length part ≤ most_held → parts ≡ []
+  pub short : length part ≤ max_held → parts ≡ []
   pub on : (more : List ℕ) (others : List Part) → AreRest flags scan (piece ++ more) others
       → AreRest flags (fresh 10) (part ++ more) (parts ++ others)
 
-pub Streaming-start : (flags : ℕ) (scan : Scan) (reader writer : Option (List ℕ)) → Keeps scan 10 []
+pub Streaming-start : (flags : ℕ) (scan : WordState) (reader writer : Option (List ℕ)) → Keeps scan 10 []
     → Streaming flags reader reader writer writer [] scan
 Streaming-start flags scan reader writer keeps = record {
   finished = [];
@@ -60,10 +60,10 @@ Streaming-start flags scan reader writer keeps = record {
 }
 
 -- more of the line was taken, and something is written
-pub Streaming-put : (flags : ℕ) (scan after : Scan) (reader reads later writer writes on : Option (List ℕ))
+pub Streaming-put : (flags : ℕ) (scan after : WordState) (reader reads later writer writes on : Option (List ℕ))
     (piece more text rest : List ℕ) → Streaming flags reader reads writer writes piece scan
     → Consumes reads later more → IsWithoutEnd more → Appends writes on text
-    → IsPut flags scan (piece ++ more) text after rest → Streaming flags reader later writer on rest after
+    → IsDecidedText flags scan (piece ++ more) text after rest → Streaming flags reader later writer on rest after
 Streaming-put flags scan after reader reads later writer writes on piece more text rest so taken unended written put =
     let long = length-append piece more in
     let longer = length-append so.part more in
@@ -95,7 +95,7 @@ Streaming-put flags scan after reader reads later writer writes on piece more te
     }
 
 -- the text of the line, where that of what is left comes
-line-text : (flags : ℕ) (scan : Scan) (reader reads writer writes : Option (List ℕ)) (piece more text : List ℕ)
+line-text : (flags : ℕ) (scan : WordState) (reader reads writer writes : Option (List ℕ)) (piece more text : List ℕ)
     → (so : Streaming flags reader reads writer writes piece scan) → IsRestText flags scan (piece ++ more) text
     → IsFilteredText flags (so.part ++ more) (text_of_parts so.parts ++ text)
 line-text flags scan reader reads writer writes piece more text so rest = (
@@ -105,7 +105,7 @@ line-text flags scan reader reads writer writes piece more text so rest = (
 )
 
 -- the line is finished
-pub Streaming-line : (flags : ℕ) (scan after : Scan) (reader reads later writer writes on : Option (List ℕ))
+pub Streaming-line : (flags : ℕ) (scan after : WordState) (reader reads later writer writes on : Option (List ℕ))
     (piece front text : List ℕ) → Streaming flags reader reads writer writes piece scan
     → Consumes reads later (front ++ 10 ∷ []) → Appends writes on text
     → IsRestText flags scan (piece ++ (front ++ 10 ∷ [])) text → Keeps after 10 []
@@ -136,9 +136,9 @@ Streaming-line flags scan after reader reads later writer writes on piece front 
     }
 
 -- what is settled of bytes that are many
-pub put-made : (flags : ℕ) (scan after : Scan) (left text : List ℕ) (until at : ℕ)
-    → IsFilteredUpTo flags scan left until text at after → until + most_looked_at ≤ length left
-    → most_held < length left → IsPut flags scan left text after (drop at left)
+pub put-made : (flags : ℕ) (scan after : WordState) (left text : List ℕ) (until at : ℕ)
+    → IsFilteredUpTo flags scan left until text at after → until + max_looked_at ≤ length left
+    → max_held < length left → IsDecidedText flags scan left text after (drop at left)
 put-made flags scan after left text until at made far many = record {
   parts = made.2;
   is_text = made.3;
@@ -167,7 +167,7 @@ DidPart flags fault reader reads writer writes = (taken text : List ℕ) × Cons
 
 leave : (fault : Fault) (flags : ℕ) (finished part before begun more : List ℕ) → IsLines finished → IsOfOneLine part
     → (fault ≡ Read → IsWithoutEnd part) → IsFilteredText flags finished before
-    → IsFilteredText flags part (begun ++ more) → (fault ≢ Write → length part ≤ most_held → begun ≡ [])
+    → IsFilteredText flags part (begun ++ more) → (fault ≢ Write → length part ≤ max_held → begun ≡ [])
     → LeavesFiltered fault flags (finished ++ part) (before ++ begun)
 leave fault flags finished part before begun more lines one unended is begins short = record {
   finished = finished;
@@ -188,12 +188,12 @@ leave fault flags finished part before begun more lines one unended is begins sh
 }
 
 -- some text of what is left exists
-rest-text : (flags : ℕ) (scan : Scan) (left : List ℕ) → (text : List ℕ) × IsRestText flags scan left text
+rest-text : (flags : ℕ) (scan : WordState) (left : List ℕ) → (text : List ℕ) × IsRestText flags scan left text
 rest-text flags scan left =
     let made = rest-exists flags (length left) scan left (omega arith) in
     (text_of_parts made.0, (made.0, made.1, refl))
 
-put-text : (flags : ℕ) (scan : Scan) (left text : List ℕ) → IsPutOf flags scan left text
+put-text : (flags : ℕ) (scan : WordState) (left text : List ℕ) → IsDecidedTextOf flags scan left text
     → (tail : List ℕ) × IsRestText flags scan left (text ++ tail)
 put-text flags scan left text put =
     let rest = rest-exists flags (length put.1) put.0 put.1 (omega arith) in
@@ -208,7 +208,7 @@ put-text flags scan left text put =
     )
 
 -- a fault while something was written of the line
-fault-begun : (fault : Fault) (flags : ℕ) (scan : Scan) (left text : List ℕ) (P : List ℕ → Type 0)
+fault-begun : (fault : Fault) (flags : ℕ) (scan : WordState) (left text : List ℕ) (P : List ℕ → Type 0)
     → ((whole : List ℕ) → P whole → (tail : List ℕ) × IsRestText flags scan left (whole ++ tail))
     → WritesPart fault P text
     → (tail : List ℕ) × IsRestText flags scan left (text ++ tail) × (fault ≢ Write → text ≡ []) × (fault ≢ Read)
@@ -228,7 +228,8 @@ fault-begun Memory flags scan left text P f h =
       λ e. cc,
     )
 
-pub Streaming-fault : (fault : Fault) (flags : ℕ) (scan : Scan) (reader reads later writer writes on : Option (List ℕ))
+pub Streaming-fault : (fault : Fault) (flags : ℕ) (scan : WordState) (reader reads later writer writes on : Option (List
+    ℕ))
     (piece more text : List ℕ) (P : List ℕ → Type 0) → Streaming flags reader reads writer writes piece scan
     → Consumes reads later more → ((part : List ℕ) → IsWithoutEnd part → IsOfOneLine (part ++ more))
     → Appends writes on text
@@ -249,21 +250,21 @@ Streaming-fault fault flags scan reader reads later writer writes on piece more 
           ∙ ap text_of_parts (so.short (omega (arith, length-append so.part more, few)))),
     )
 
-pub Streaming-put_fault : (fault : Fault) (flags : ℕ) (scan : Scan)
+pub Streaming-put_fault : (fault : Fault) (flags : ℕ) (scan : WordState)
     (reader reads later writer writes on : Option (List ℕ)) (piece more text : List ℕ)
     → Streaming flags reader reads writer writes piece scan → Consumes reads later more → IsWithoutEnd more
-    → Appends writes on text → WritesPart fault (IsPutOf flags scan (piece ++ more)) text
+    → Appends writes on text → WritesPart fault (IsDecidedTextOf flags scan (piece ++ more)) text
     → DidPart flags fault reader later writer on
 Streaming-put_fault fault flags scan reader reads later writer writes on piece more text so taken unended written h =
     Streaming-fault fault flags scan reader reads later writer writes on piece more text _ so taken
     (λ part first. inl (All-append (λ b. b ≢ 10) part more first unended)) written
     (λ whole put. put-text flags scan (piece ++ more) whole put) h
 
-whole-text : (flags : ℕ) (scan : Scan) (left whole : List ℕ) → IsRestText flags scan left whole
+whole-text : (flags : ℕ) (scan : WordState) (left whole : List ℕ) → IsRestText flags scan left whole
     → (tail : List ℕ) × IsRestText flags scan left (whole ++ tail)
 whole-text flags scan left whole is = ([], subst (IsRestText flags scan left) (sym (append-nil whole)) is)
 
-pub Streaming-line_fault : (fault : Fault) (flags : ℕ) (scan : Scan)
+pub Streaming-line_fault : (fault : Fault) (flags : ℕ) (scan : WordState)
     (reader reads later writer writes on : Option (List ℕ)) (piece front text : List ℕ)
     → Streaming flags reader reads writer writes piece scan → Consumes reads later (front ++ 10 ∷ [])
     → IsWithoutEnd front → Appends writes on text
@@ -299,7 +300,8 @@ Consumes-none : (reader reads later : Option (List ℕ)) (bytes more : List ℕ)
 Consumes-none reader reads later bytes more first second none =
     subst (Consumes reader later) (ap (λ l. bytes ++ l) none ∙ append-nil bytes) (Consumes-trans _ _ _ _ _ first second)
 
-pub Streaming-polled : (fault : Fault) (flags : ℕ) (scan : Scan) (reader reads later writer writes : Option (List ℕ))
+pub Streaming-polled : (fault : Fault) (flags : ℕ) (scan : WordState) (reader reads later writer writes : Option (List
+    ℕ))
     (piece more : List ℕ) → Streaming flags reader reads writer writes piece scan → Consumes reads later more
     → more ≡ [] → DidPart flags fault reader later writer writes
 Streaming-polled fault flags scan reader reads later writer writes piece more so taken none =
@@ -316,7 +318,7 @@ Streaming-polled fault flags scan reader reads later writer writes piece more so
     )
 
 -- at the end
-pub Streaming-end : {A : Type 0} (result : Result A Fault) (flags : ℕ) (scan : Scan)
+pub Streaming-end : {A : Type 0} (result : Result A Fault) (flags : ℕ) (scan : WordState)
     (reader reads later writer writes on : Option (List ℕ)) (piece more text : List ℕ)
     → Streaming flags reader reads writer writes piece scan → Consumes reads later more → more ≡ []
     → Appends writes on text → Writes result (IsRestText flags scan piece) text

@@ -6,7 +6,7 @@ use Rattle.msvc_print.specs.Declaration.{declaration}
 use Rattle.msvc_demangler.specs.Lines.{line_of, lines_of}
 use Rattle.msvc_demangler.specs.Answers.{IsAnswer, IsLineText, IsText, line_flags, nothing, left_out}
 use Rattle.msvc_demangler.specs.Answers.{answered}
-use Rattle.msvc_demangler.proofs.Joined.{AreJoined}
+use Rattle.msvc_demangler.proofs.LineTexts.{AreJoined}
 use Rattle.msvc_demangler.proofs.Pieces.{lines_of-append, lines_of-nil}
 
 -- the text of one line

@@ -22,8 +22,8 @@ IsDeclaredWithin limits input flags text = (tree : SymbolTree) × IsDeclared inp
     × IsWithin limits.nodes (node_count tree) × IsWithin limits.bytes (length text)
 
 -- Demangling fails with this error: reading fails with it, or the declaration exceeds the limit on bytes.
-abbrev pub IsRefusedUnder : Limits → List ℕ → ℕ → ErrorRepr → Type 0
-IsRefusedUnder limits input flags e = IsRejectedUnder limits.nodes input e ⊎ IsTooLong limits input flags e
+abbrev pub IsErrorUnder : Limits → List ℕ → ℕ → ErrorRepr → Type 0
+IsErrorUnder limits input flags e = IsRejectedUnder limits.nodes input e ⊎ IsTooLong limits input flags e
 
 -- if the input begins with a hash, which stands for a name that was too long, the text is that hash
 abbrev pub HashesAreShown : (input text : List ℕ) → Type 0

@@ -1,6 +1,6 @@
 -- Why a symbol has no declaration, before an error is made of it.
 use Rattle.std.specs.Prelude.{ℕ, List, ◌-◌, ◌≡◌, ◌≤◌, Option, Some, None, IfSome, codes, length}
-use Rattle.msvc_nodes.specs.Errors.{IsRefusalOrMemory, context_text_of, rejection_text, too_long}
+use Rattle.msvc_nodes.specs.Errors.{IsRejectionOrMemory, context_text_of, rejection_text, too_long}
 use Rattle.msvc_nodes.specs.Trees.{SymbolTree}
 use Rattle.msvc_nodes.specs.declared.error.ErrorRepr.{ErrorRepr}
 use Rattle.msvc_nodes.specs.declared.error.Limit.{Limit}
@@ -60,4 +60,4 @@ IsFailureText input (TooLong read) text =
 -- The error is that of a call that fails for this reason.
 abbrev pub IsErrorFor : List ℕ → Failure → ErrorRepr → Type 0
 IsErrorFor input (Unread reason) e = IsErrorOf reason input e
-IsErrorFor input (TooLong read) e = IsRefusalOrMemory too_long (context_text_of input read) read e
+IsErrorFor input (TooLong read) e = IsRejectionOrMemory too_long (context_text_of input read) read e

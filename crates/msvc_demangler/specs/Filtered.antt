@@ -5,17 +5,17 @@ use Rattle.msvc_nodes.specs.Trees.{SymbolTree}
 use Rattle.msvc_grammar.specs.Counts.{node_count}
 use Rattle.msvc_grammar.specs.Parsed.{IsParsed}
 use Rattle.msvc_grammar.specs.Reads.{Derives}
-use Rattle.msvc_grammar.specs.Refusals.{IsNoSymbolWithin}
+use Rattle.msvc_grammar.specs.Rejections.{IsNoSymbolWithin}
 use Rattle.msvc_grammar.specs.State.{Note}
 use Rattle.msvc_print.specs.Declaration.{declaration}
-use Rattle.msvc_demangler.specs.Words.{candidate, continues, is_start, symbol_extent, utf8_front}
+use Rattle.msvc_demangler.specs.SymbolBounds.{candidate, continues, is_start, symbol_extent, utf8_front}
 
 -- a symbol of a text has at most so many nodes, and its declaration so many bytes
-abbrev pub most_nodes : ℕ
-most_nodes = 10000
+abbrev pub max_nodes : ℕ
+max_nodes = 10000
 
-abbrev pub most_declared : ℕ
-most_declared = 65536
+abbrev pub max_declared : ℕ
+max_declared = 65536
 
 -- The bytes at a start begin with a symbol: the grammar derives a tree from the candidate there that is not too large.
 -- It takes so many bytes, after which it doesn't go on, and this is its declaration.
@@ -24,9 +24,9 @@ pub record IsSymbol (flags : ℕ) (left : List ℕ) (bytes : ℕ) (text : List �
   pub rest : List ℕ
   pub notes : List Note
   pub derived : Derives (candidate left) tree rest notes
-  pub nodes : node_count tree ≤ most_nodes
+  pub nodes : node_count tree ≤ max_nodes
   pub declared : text ≡ declaration tree flags
-  pub short : length text ≤ most_declared
+  pub short : length text ≤ max_declared
   pub takes : bytes ≡ symbol_extent left (length (candidate left) - length rest)
   pub ends : continues (drop bytes left) ≡ false
 
@@ -35,8 +35,8 @@ IsNoSymbol flags left = (bytes : ℕ) (text : List ℕ) → IsSymbol flags left 
 
 -- A candidate has no declaration: no beginning of it is a symbol of so few nodes, or its declaration is too long.
 abbrev pub IsNoneWithin : (flags : ℕ) (input : List ℕ) → Type 0
-IsNoneWithin flags input = IsNoSymbolWithin most_nodes input
-    ⊎ ((tree : SymbolTree) × IsParsed input tree × (most_declared < length (declaration tree flags)))
+IsNoneWithin flags input = IsNoSymbolWithin max_nodes input
+    ⊎ ((tree : SymbolTree) × IsParsed input tree × (max_declared < length (declaration tree flags)))
 
 -- A part of what the filter writes: a byte that stays, or the declaration that replaces a symbol.
 pub data Part : Type 0 where

@@ -2,15 +2,15 @@ pub mod Answers
 pub mod Demangled
 pub mod Failures
 pub mod Faults
-pub mod Fillings
+pub mod SliceWriters
 pub mod Filtered
 pub mod Limits
 pub mod Lines
 pub mod Runs
-pub mod Scans
+pub mod WordStates
 pub mod Streams
 pub mod Taking
-pub mod Words
+pub mod SymbolBounds
 -- what the clauses of the calls at the crate's root cite of the crates below
 pub use Rattle.msvc_grammar.specs.Counts
 pub use Rattle.msvc_grammar.specs.Grammar
@@ -20,7 +20,7 @@ pub use Rattle.msvc_grammar.specs.Parsed
 pub use Rattle.msvc_grammar.specs.Parts
 pub use Rattle.msvc_grammar.specs.Prefix
 pub use Rattle.msvc_grammar.specs.Reads
-pub use Rattle.msvc_grammar.specs.Refusals
+pub use Rattle.msvc_grammar.specs.Rejections
 pub use Rattle.msvc_grammar.specs.State
 pub use Rattle.msvc_grammar.specs.Written
 pub use Rattle.msvc_nodes.specs.EachName

@@ -1,7 +1,7 @@
 -- Limits on a call: how many nodes a tree may have, and how many bytes its declaration.
 use Rattle.std.specs.Prelude.{ℕ, List, ◌-◌, ◌^◌, ◌≡◌, ◌≤◌, ◌<◌, ◌==◌, length}
 use Rattle.std.specs.Prelude.{Option, Some, None, if◌then◌else◌}
-use Rattle.msvc_nodes.specs.Errors.{IsRefusalOrMemory, context_text_of, too_long}
+use Rattle.msvc_nodes.specs.Errors.{IsRejectionOrMemory, context_text_of, too_long}
 use Rattle.msvc_nodes.specs.Trees.{SymbolTree}
 use Rattle.msvc_nodes.specs.declared.error.ErrorRepr.{ErrorRepr}
 use Rattle.msvc_grammar.specs.Counts.{node_count}
@@ -55,4 +55,4 @@ pub record IsTooLong (limits : Limits) (input : List ℕ) (flags : ℕ) (e : Err
   pub read : ℕ
   pub takes : IsSymbolLength read input
   -- the error has the message for this limit, and these bytes as its offset; or memory ran out
-  pub error : IsRefusalOrMemory too_long (context_text_of input read) read e
+  pub error : IsRejectionOrMemory too_long (context_text_of input read) read e

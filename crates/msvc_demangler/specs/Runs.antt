@@ -7,7 +7,7 @@ use Rattle.msvc_demangler.specs.declared.watched.Fault.{Fault}
 use Rattle.msvc_demangler.specs.declared.watched.Fault.TheVariants.{Read, Write, Memory}
 
 -- What a call that failed has written, where P says what a whole text is: a beginning of one where a write failed, and
--- nothing where memory was refused.
+-- nothing where memory was rejected.
 abbrev pub WritesPart : Fault → (List ℕ → Type 0) → List ℕ → Type 0
 WritesPart Read P text = ⊥
 WritesPart Write P text = (more : List ℕ) × P (text ++ more)
@@ -45,8 +45,8 @@ abbrev pub WritesLines : {A : Type 0} → Result A Fault → List ℕ → List �
 WritesLines result taken text = WritesText result IsFilterText taken text
 
 -- a line of at most so many bytes is written whole, and a longer one in pieces
-abbrev pub most_held : ℕ
-most_held = 65536
+abbrev pub max_held : ℕ
+max_held = 65536
 
 -- What the filter has written of what it took from the reader where it failed: the text of the lines finished before,
 -- and a beginning of what it writes for the line after them.
@@ -67,7 +67,7 @@ pub record LeavesFiltered (fault : Fault) (flags : ℕ) (taken text : List ℕ) 
   pub more : List ℕ
   pub begins : IsFiltered flags taken (text ++ more)
   -- nothing is written of a line of so few bytes, unless a write failed
-  pub nothing_of_short : fault ≢ Write → length part ≤ most_held → begun ≡ []
+  pub nothing_of_short : fault ≢ Write → length part ≤ max_held → begun ≡ []
 
 -- and where it came to the end: the text of all that it took
 abbrev pub WritesFiltered : {A : Type 0} → Result A Fault → ℕ → List ℕ → List ℕ → Type 0

@@ -193,8 +193,8 @@ fn show_type<'a, 'b>(
             write!(text, "{word}({number})")
         }
         Type::ConstantString(bytes) => push_literal(alloc, text, *bytes),
-        Type::Pointing(mark, set, inner) => {
-            text.push_str(mark_word(*mark))?;
+        Type::Pointing(affinity, set, inner) => {
+            text.push_str(mark_word(*affinity))?;
             push_inside(stack, text, *set, *inner)
         }
         Type::Array(length, set, inner) => {

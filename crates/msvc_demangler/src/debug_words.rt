@@ -1,7 +1,7 @@
 //! The words and numbers that stand in the text of a tree: what a node without parts is shown as.
 
 use bitflags::Flags;
-use msvc_nodes::kinds::{Guard, Mark, NumberedType, PlainType, Table};
+use msvc_nodes::kinds::{Guard, NumberedType, PlainType, PointerAffinity, SpecialTableKind};
 use msvc_nodes::nodes::BaseClass;
 use std::alloc::{AllocError, Global};
 
@@ -82,17 +82,17 @@ pub(crate) fn numbered_word(kind: NumberedType) -> &'static str {
     }
 }
 
-pub(crate) fn mark_word(mark: Mark) -> &'static str {
-    match mark {
-        Mark::Pointer => "Ptr(",
-        Mark::Reference => "Ref(",
-        Mark::RValueReference => "RValueRef(",
+pub(crate) fn mark_word(affinity: PointerAffinity) -> &'static str {
+    match affinity {
+        PointerAffinity::Pointer => "Ptr(",
+        PointerAffinity::Reference => "Ref(",
+        PointerAffinity::RValueReference => "RValueRef(",
     }
 }
 
-pub(crate) fn table_word(table: Table) -> &'static str {
+pub(crate) fn table_word(table: SpecialTableKind) -> &'static str {
     match table {
-        Table::Functions => "CXXVFTable(",
-        Table::Bases => "CXXVBTable(",
+        SpecialTableKind::Functions => "CXXVFTable(",
+        SpecialTableKind::Bases => "CXXVBTable(",
     }
 }

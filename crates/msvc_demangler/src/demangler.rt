@@ -8,41 +8,53 @@ ghost use Rattle.msvc_grammar.specs.Counts.{node_count};
 ghost use Rattle.msvc_grammar.specs.Parsed.{GrammarLaws, IsParsed, IsRejected, IsSymbolLength};
 ghost use Rattle.msvc_print.specs.Declaration.{declaration};
 ghost use Rattle.msvc_print.specs.Within.{IsPrintedWithin};
-ghost use Rattle.msvc_demangler.specs.Demangled.{HashesAreShown, IsDeclared, IsDeclaredWithin, IsRefusedUnder};
+ghost use Rattle.msvc_demangler.specs.Demangled.{HashesAreShown, IsDeclared, IsDeclaredWithin, IsErrorUnder};
 ghost use Rattle.msvc_demangler.specs.Failures.{FailsUnder, IsFailure, IsInside};
 ghost use Rattle.msvc_demangler.specs.Limits.{IsPrinted, IsRejectedUnder, IsWithin, limit_of_number, limits_of};
 
 use crate::failure::Failure;
+use alloc_fuse::Fuse;
 use bumpalo::Bump;
 use msvc_nodes::error::Error;
 use msvc_nodes::flags::DemangleFlags;
 use msvc_nodes::nodes::TypedSymbol;
 use msvc_parser::refusal::Refusal;
-use msvc_print::{Text, print_within, stack_room, stack_room_within};
-use msvc_read::{read_symbol, read_symbol_within, room_for, room_within};
+use msvc_print::{Text, print_arena_bytes, print_arena_bytes_within, print_within};
+use msvc_read::{parse_arena_bytes, parse_arena_bytes_within, read_symbol, read_symbol_within};
 use std::alloc::{AllocError, Allocator, Global};
 
-/// Bytes that a declaration has room for before it grows, for each byte of its symbol: few names need more.
+/// Bytes to reserve for a declaration, for each byte of its symbol: few names need more.
 const TEXT_OF_A_BYTE: usize = 3;
 
-/// Bytes that it has room for beside these.
+/// Bytes to reserve beside these.
 const TEXT_AT_FIRST: usize = 64;
 
-/// The most bytes that a declaration has room for before it grows.
-const MOST_TEXT: usize = 1 << 16;
+/// The most bytes to reserve for a declaration.
+const MAX_TEXT: usize = 1 << 16;
 
 /// The most bytes that an arena begins with.
-const MOST_ROOM: usize = 1 << 20;
+const MAX_ARENA_BYTES: usize = 1 << 20;
 
 /// The bytes of an arena that is never made anew.
 const FIXED: usize = usize::MAX;
 
 /// A demangler that keeps its memory: a symbol that needs no more than those before it makes no request.
+///
+/// # Examples
+///
+/// ```
+/// let mut demangler = Demangler::new(alloc);
+/// assert_eq!(rt; demangler.demangle("?x@@3HA", DemangleFlags::llvm())?, "int x");
+/// assert_eq!(rt; demangler.demangle("?f@@YAXXZ", DemangleFlags::NAME_ONLY)?, "f");
+/// ```
 #[derive(Drop)]
-pub struct Demangler<A: Allocator + Copy = Global> {
+pub struct Demangler<A: Allocator + Copy = Global>
+where
+    Fuse<A>: Allocator,
+{
     pub(crate) alloc: A,
     /// The nodes of the last symbol, and the stack of the printer.
-    pub(crate) arena: Bump<A>,
+    pub(crate) arena: Bump<Fuse<A>>,
     /// Bytes that the arena began with, or [`FIXED`].
     began: usize,
     /// The declaration of the last symbol that was printed.
@@ -54,7 +66,7 @@ impl<A: Allocator + Copy> Demangler<A> {
     pub fn new(alloc: A) -> Demangler<A> {
         Demangler {
             alloc,
-            arena: Bump::new(alloc),
+            arena: Bump::new(Fuse::new(alloc)),
             began: 0,
             text: Text::new(alloc),
         }
@@ -62,7 +74,7 @@ impl<A: Allocator + Copy> Demangler<A> {
 
     /// Makes a demangler of an arena and a text that have all the memory that there is: neither is made anew, and for
     /// no symbol is more reserved than it takes.
-    pub fn over(alloc: A, arena: Bump<A>, text: Text<A>) -> Demangler<A> {
+    pub fn over(alloc: A, arena: Bump<Fuse<A>>, text: Text<A>) -> Demangler<A> {
         Demangler {
             alloc,
             arena,
@@ -109,17 +121,19 @@ impl<A: Allocator + Copy> Demangler<A> {
         if self.prepare(input, nodes).is_err() {
             return Err(Refusal::Memory);
         }
-        match read(&self.arena, input, nodes) {
+        let measured = match read(&self.arena, input, nodes) {
             Ok((_, bytes)) => Ok(bytes),
             Err(refusal) => Err(refusal),
+        };
+        if let Err(Refusal::Memory) = measured {
+            self.drop_arena_next();
         }
+        measured
     }
 
     /// Gives all memory back. The next symbol requests it again.
     pub fn clear(&mut self) {
-        self.arena = Bump::new(self.alloc);
-        self.began = 0;
-        self.text = Text::new(self.alloc);
+        *self = Demangler::new(self.alloc);
     }
 
     /// Reads the symbol that `input` begins with, if its tree has at most `nodes` nodes, and prints its declaration as
@@ -138,7 +152,7 @@ impl<A: Allocator + Copy> Demangler<A> {
     {
         self.prepare(input, nodes)?;
         let reserved = self.text_bytes(input);
-        demangle_in(
+        let done = demangle_in(
             &self.arena,
             &mut self.text,
             reserved,
@@ -146,10 +160,25 @@ impl<A: Allocator + Copy> Demangler<A> {
             flags,
             nodes,
             bytes,
-        )
+        );
+        if let Err(Failure::Unread(Refusal::Memory)) = done {
+            self.drop_arena_next();
+        }
+        done
+    }
+
+    /// Has the next symbol make a new arena, unless this one is fixed: an arena that has failed once fails for good.
+    #[cold]
+    fn drop_arena_next(&mut self)
+        ensures { self.new.text ≡ self.old.text }
+    {
+        if self.began != FIXED {
+            self.began = 0;
+        }
     }
 
     /// Returns how many bytes to reserve for the declaration of the symbol that `input` begins with.
+    #[inline(always)]
     pub(crate) fn text_bytes(&self, input: &str) -> usize {
         if self.began == FIXED {
             0
@@ -160,12 +189,13 @@ impl<A: Allocator + Copy> Demangler<A> {
 
     /// Empties the arena, and makes it large enough to read and to print a symbol of at most `nodes` nodes, unless it
     /// is fixed. Requests no memory for a text that doesn't begin with `?`.
+    #[inline(always)]
     pub(crate) fn prepare(&mut self, input: &str, nodes: usize) -> Result<(), AllocError> {
         // An arena that some list was not given back to stays as it is, and can still be used.
         let _ = self.arena.reset();
         let bytes = arena_bytes(input, nodes);
         if self.began < bytes {
-            self.arena = Bump::try_with_capacity(self.alloc, bytes)?;
+            self.arena = Bump::try_with_capacity(Fuse::new(self.alloc), bytes)?;
             self.began = bytes;
         }
         Ok(())
@@ -203,7 +233,7 @@ impl Demangler<Global> {
     ) -> Result<&str, Error>
         ensures declared { IfOk result (λ text.
             IsDeclaredWithin (limits_of nodes bytes) input.now flags.0 text.now) }
-        ensures rejected { IfErr result (λ e. IsRefusedUnder (limits_of nodes bytes) input.now flags.0 e) }
+        ensures rejected { IfErr result (λ e. IsErrorUnder (limits_of nodes bytes) input.now flags.0 e) }
         ensures hashes { IfOk result (λ text. HashesAreShown input.now text.now) }
     {
         match self.run(input, flags, nodes, bytes) {
@@ -246,7 +276,7 @@ pub(crate) fn demangle_once<A: Allocator + Copy>(
     ensures fails { IfErr result (λ failure. IsFailure (limits_of nodes bytes) input.now flags.0 failure) }
     ensures inside { IfErr result (λ failure. IsInside input.now failure) }
 {
-    let arena = Bump::try_with_capacity(alloc, arena_bytes(input, nodes))?;
+    let arena = Bump::try_with_capacity(Fuse::new(alloc), arena_bytes(input, nodes))?;
     demangle_in(&arena, text, text_bytes(input), input, flags, nodes, bytes)
 }
 
@@ -298,7 +328,7 @@ pub(crate) fn print_in<'a, 'b, B: Allocator, A: Allocator>(
     text.try_reserve(reserved)?;
     let within = print_within(arena, symbol, flags, bytes, text)?;
     if !within && bytes == usize::MAX {
-        // No memory has room for so many bytes.
+        // No allocation has so many bytes.
         return Err(AllocError);
     }
     Ok(within)
@@ -311,7 +341,7 @@ fn text_bytes(input: &str) -> usize {
         .len()
         .saturating_mul(TEXT_OF_A_BYTE)
         .saturating_add(TEXT_AT_FIRST)
-        .min(MOST_TEXT)
+        .min(MAX_TEXT)
 }
 
 /// Returns how many bytes of an arena it takes to read and to print a symbol of at most `nodes` nodes: none if `input`
@@ -322,12 +352,12 @@ fn arena_bytes(input: &str, nodes: usize) -> usize {
         return 0;
     };
     let (tree, stack) = if nodes == usize::MAX {
-        (room_for(input), stack_room(input.len()))
+        (parse_arena_bytes(input), print_arena_bytes(input.len()))
     } else {
-        let stack = stack_room_within(input.len(), nodes);
-        (room_within(input, nodes), stack)
+        let stack = print_arena_bytes_within(input.len(), nodes);
+        (parse_arena_bytes_within(input, nodes), stack)
     };
-    tree.saturating_add(stack).min(MOST_ROOM)
+    tree.saturating_add(stack).min(MAX_ARENA_BYTES)
 }
 
 /// Reads the symbol that `input` begins with as nodes in `arena`, if it has at most `nodes` nodes, and returns it and

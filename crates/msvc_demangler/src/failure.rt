@@ -84,7 +84,7 @@ impl Failure {
 impl From<AllocError> for Failure {
     ghost from_gives = { λ _ failure. failure ≡ Unread refusal.Memory };
 
-    fn from(_refused: AllocError) -> Failure {
+    fn from(_error: AllocError) -> Failure {
         Failure::Unread(Refusal::Memory)
     }
 }

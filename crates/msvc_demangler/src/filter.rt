@@ -9,27 +9,28 @@ ghost use Rattle.msvc_grammar.specs.Counts.{node_count};
 ghost use Rattle.msvc_grammar.specs.Parsed.{IsParsed, IsSymbolLength};
 ghost use Rattle.msvc_print.specs.Declaration.{declaration};
 ghost use Rattle.msvc_demangler.specs.Faults.{SetsFailureFlag, failure_flag, no_stream};
-ghost use Rattle.msvc_demangler.specs.Fillings.{IsFilling, space_after};
+ghost use Rattle.msvc_demangler.specs.SliceWriters.{IsSliceWriter, space_after};
 ghost use Rattle.msvc_demangler.specs.Filtered.{AreOnlyParts, IsNoSymbol, IsNoneWithin, Part, declared, fitting};
-ghost use Rattle.msvc_demangler.specs.Filtered.{kept, most_declared, most_nodes, text_of_parts};
+ghost use Rattle.msvc_demangler.specs.Filtered.{kept, max_declared, max_nodes, text_of_parts};
 ghost use Rattle.msvc_demangler.specs.Runs.{Writes, WritesFiltered, WritesPart};
-ghost use Rattle.msvc_demangler.specs.Scans.{ArePartsUpTo, IsFilteredUpTo, IsFound, IsPut, IsPutOf, IsRestText};
-ghost use Rattle.msvc_demangler.specs.Scans.{IsSymbolShown, Keeps};
-ghost use Rattle.msvc_demangler.specs.Words.{is_start};
+ghost use Rattle.msvc_demangler.specs.WordStates.{ArePartsUpTo, IsFilteredUpTo, IsFound};
+ghost use Rattle.msvc_demangler.specs.WordStates.{IsDecidedText, IsDecidedTextOf, IsRestText};
+ghost use Rattle.msvc_demangler.specs.WordStates.{IsSymbolShown, Keeps};
+ghost use Rattle.msvc_demangler.specs.SymbolBounds.{is_start};
 
 use crate::demangler::Demangler;
-use crate::output::put_all;
-use crate::watched::{Fault, Taken, Watched, cut};
-use crate::words::{
-    MOST_LOOKED_AT, Scan, candidate, continues, plain_len, symbol_extent, utf8_front,
+use crate::output::write_all;
+use crate::symbol_bounds::{
+    MAX_LOOKED_AT, WordState, candidate, continues, plain_len, symbol_extent, utf8_front,
 };
+use crate::watched::{Fault, Taken, Watched, line_end};
 use crate::{DEFAULT_BYTE_LIMIT, DEFAULT_NODE_LIMIT};
 use msvc_nodes::flags::DemangleFlags;
 use std::alloc::{AllocError, Allocator, Global};
 use std::io::{BufRead, Write};
 
 /// The most bytes of a line that are held before a piece of the line is written.
-const MOST_HELD: usize = 65_536;
+const MAX_HELD: usize = 65_536;
 
 /// Copies `input` to `out`, with each symbol in it replaced by its declaration under `flags`. All other bytes stay as
 /// they are.
@@ -55,70 +56,70 @@ pub fn filter_text<R: BufRead, W: Write>(
         × Appends (W.contents out.old.stream) (W.contents out.new.stream) text
         × WritesFiltered result flags.0 taken text }
     ensures end { OnOk result (OnSome (R.remaining input.old.stream) (IsAtEnd (R.remaining input.new.stream))) }
-    ensures marks { SetsFailureFlag result (failure_flag input.old input.new) (failure_flag out.old out.new)
+    ensures sets_failed { SetsFailureFlag result (failure_flag input.old input.new) (failure_flag out.old out.new)
         no_stream }
 {
     let mut demangler = Demangler::new(alloc);
     let mut text = Vec::new(alloc);
     let mut piece = Vec::new(alloc);
-    let mut scan = Scan::new(b'\n');
+    let mut scan = WordState::new(b'\n');
     'pieces: for _ in 0..u64::MAX {
-        let Ok(shown) = input.show() else {
+        let Ok(shown) = input.fill_buf() else {
             return Err(input.fail());
         };
-        let (end, taken) = cut(shown);
+        let (end, taken) = line_end(shown);
         match taken {
             Taken::Line if piece.is_empty() => {
                 // A line that the reader shows whole is not copied.
-                let put = put_rest(&mut demangler, &mut text, &shown[..end], scan, out, flags);
+                let put = write_rest(&mut demangler, &mut text, &shown[..end], scan, out, flags);
                 input.consume(end);
                 put?;
-                scan = Scan::new(b'\n');
+                scan = WordState::new(b'\n');
             }
             Taken::Line => {
                 if piece.extend_from_slice(&shown[..end]).is_err() {
                     return Err(Fault::Memory);
                 }
                 input.consume(end);
-                put_rest(&mut demangler, &mut text, &piece, scan, out, flags)?;
+                write_rest(&mut demangler, &mut text, &piece, scan, out, flags)?;
                 piece.clear();
-                scan = Scan::new(b'\n');
+                scan = WordState::new(b'\n');
             }
             Taken::Part => {
                 if piece.extend_from_slice(&shown[..end]).is_err() {
                     return Err(Fault::Memory);
                 }
                 input.consume(end);
-                put_settled(&mut demangler, &mut text, &mut piece, &mut scan, out, flags)?;
+                write_decided(&mut demangler, &mut text, &mut piece, &mut scan, out, flags)?;
             }
-            Taken::End => return put_rest(&mut demangler, &mut text, &piece, scan, out, flags),
+            Taken::End => return write_rest(&mut demangler, &mut text, &piece, scan, out, flags),
         }
     }
     Err(input.fail())
 }
 
-/// Writes what is settled of a line whose end has not come, if more bytes of it are held than [`MOST_HELD`], and leaves
+/// Writes what is settled of a line whose end has not come, if more bytes of it are held than [`MAX_HELD`], and leaves
 /// the other bytes in `piece`.
-fn put_settled<W: Write>(
+fn write_decided<W: Write>(
     demangler: &mut Demangler,
     text: &mut Vec<u8>,
     piece: &mut Vec<u8>,
-    scan: &mut Scan,
+    scan: &mut WordState,
     out: &mut Watched<W>,
     flags: DemangleFlags,
 ) -> Result<(), Fault>
     ensures text { (written : List ℕ) × Appends (W.contents out.old.stream) (W.contents out.new.stream) written
-        × MatchResult result (λ _. IsPut flags.0 scan.old piece.old.items written scan.new piece.new.items)
-        (λ fault. WritesPart fault (IsPutOf flags.0 scan.old piece.old.items) written) }
-    ensures marks { SetsFailureFlag result no_stream (failure_flag out.old out.new) no_stream }
+        × MatchResult result (λ _. IsDecidedText flags.0 scan.old piece.old.items written scan.new piece.new.items)
+        (λ fault. WritesPart fault (IsDecidedTextOf flags.0 scan.old piece.old.items) written) }
+    ensures sets_failed { SetsFailureFlag result no_stream (failure_flag out.old out.new) no_stream }
 {
-    if piece.len() <= MOST_HELD {
+    if piece.len() <= MAX_HELD {
         return Ok(());
     }
-    let until = piece.len() - MOST_LOOKED_AT;
+    let until = piece.len() - MAX_LOOKED_AT;
     match filter_piece(demangler, piece, until, scan, text, flags) {
         Ok(at) => {
-            put_all(out, text)?;
+            write_all(out, text)?;
             drop_front(piece, at);
             Ok(())
         }
@@ -137,24 +138,24 @@ fn drop_front(bytes: &mut Vec<u8>, count: usize)
 }
 
 /// Writes the filtered text of the rest of a line, for which `text` has room.
-fn put_rest<W: Write>(
+fn write_rest<W: Write>(
     demangler: &mut Demangler,
     text: &mut Vec<u8>,
     piece: &[u8],
-    mut scan: Scan,
+    mut scan: WordState,
     out: &mut Watched<W>,
     flags: DemangleFlags,
 ) -> Result<(), Fault>
     ensures text { (written : List ℕ) × Appends (W.contents out.old.stream) (W.contents out.new.stream) written
         × Writes result (IsRestText flags.0 scan piece.now) written }
-    ensures marks { SetsFailureFlag result no_stream (failure_flag out.old out.new) no_stream }
+    ensures sets_failed { SetsFailureFlag result no_stream (failure_flag out.old out.new) no_stream }
 {
     // Most lines have no symbol, and stay as they are.
     if !piece.contains(&b'?') {
-        return put_all(out, piece);
+        return write_all(out, piece);
     }
     match filter_piece(demangler, piece, piece.len(), &mut scan, text, flags) {
-        Ok(_) => put_all(out, text),
+        Ok(_) => write_all(out, text),
         Err(_) => Err(Fault::Memory),
     }
 }
@@ -168,15 +169,23 @@ pub struct Filtered {
     pub written: usize,
 }
 
-/// Writes `text` into `out` with each symbol in it replaced by its declaration under `flags`: as much as fits, in whole
-/// characters of declarations. Bytes of `out` after these are unchanged.
+/// Writes `text` into `out` with each symbol in it replaced by its declaration under `flags`.
 ///
-/// Requests memory for symbols, and none for the text.
+/// Writes as much as fits, in whole characters of declarations. Bytes of `out` after these are unchanged. Requests
+/// memory for symbols, and none for the text.
 ///
 /// # Errors
 ///
 /// Fails if an allocation fails, or if the filtered text has more bytes than a `usize` counts. The contents of `out`
 /// are unspecified then.
+///
+/// # Examples
+///
+/// ```
+/// let mut out = [0; 64];
+/// let filtered = filter_slice(alloc, b"at ?f@@YAXXZ+0x5", DemangleFlags::llvm(), &mut out)?;
+/// assert_eq!(rt; &out[..filtered.written], b"at void __cdecl f(void)+0x5".as_slice());
+/// ```
 pub fn filter_slice(
     alloc: Global,
     text: &[u8],
@@ -205,8 +214,8 @@ pub fn filter_slice_in<A: Allocator + Copy>(
         × (f.length ≡ length (text_of_parts parts)) × (f.written ≡ length (fitting (length out.old) parts))
         × (out.new ≡ fitting (length out.old) parts ++ drop (length (fitting (length out.old) parts)) out.old)) }
 {
-    let mut scan = Scan::new(b'\n');
-    let mut filling = Filling {
+    let mut scan = WordState::new(b'\n');
+    let mut writer = SliceWriter {
         length: 0,
         written: 0,
         space: out.len(),
@@ -215,25 +224,25 @@ pub fn filter_slice_in<A: Allocator + Copy>(
     'symbols: while at < text.len() {
         match next_symbol(demangler, &text[at..], text.len() - at, &mut scan, flags)? {
             Some(found) => {
-                filling = fill_kept(out, filling, &text[at..at + found.before])?;
-                filling = fill_declared(out, filling, demangler.text.as_bytes())?;
+                writer = write_verbatim(out, writer, &text[at..at + found.before])?;
+                writer = write_declaration(out, writer, demangler.text.as_bytes())?;
                 at += found.before + found.bytes;
             }
             None => {
-                filling = fill_kept(out, filling, &text[at..])?;
+                writer = write_verbatim(out, writer, &text[at..])?;
                 at = text.len();
             }
         }
     }
     Ok(Filtered {
-        length: filling.length,
-        written: filling.written,
+        length: writer.length,
+        written: writer.written,
     })
 }
 
 /// How far a slice is filled.
 #[derive(Clone, Copy)]
-struct Filling {
+struct SliceWriter {
     /// Bytes of the filtered text, whether they fitted or not.
     length: usize,
     /// Bytes written.
@@ -243,22 +252,30 @@ struct Filling {
 }
 
 /// Writes as many bytes that stay as fit.
-fn fill_kept(out: &mut [u8], filling: Filling, bytes: &[u8]) -> Result<Filling, AllocError>
-    requires { filling.written + filling.space ≤ length out.old }
-    ensures { IfOk result (λ f. (given : List ℕ) (parts : List Part) → IsFilling given parts filling out.old
-        → IsFilling given (parts ++ map kept bytes.now) f out.new) }
+fn write_verbatim(
+    out: &mut [u8],
+    writer: SliceWriter,
+    bytes: &[u8],
+) -> Result<SliceWriter, AllocError>
+    requires { writer.written + writer.space ≤ length out.old }
+    ensures { IfOk result (λ f. (given : List ℕ) (parts : List Part) → IsSliceWriter given parts writer out.old
+        → IsSliceWriter given (parts ++ map kept bytes.now) f out.new) }
 {
-    fill(out, filling, bytes, bytes.len().min(filling.space))
+    write_first(out, writer, bytes, bytes.len().min(writer.space))
 }
 
 /// Writes as many whole characters of a declaration as fit.
-fn fill_declared(out: &mut [u8], filling: Filling, text: &[u8]) -> Result<Filling, AllocError>
-    requires { filling.written + filling.space ≤ length out.old }
-    ensures { IfOk result (λ f. (given : List ℕ) (parts : List Part) → IsFilling given parts filling out.old
-        → IsFilling given (parts ++ declared text.now ∷ []) f out.new) }
+fn write_declaration(
+    out: &mut [u8],
+    writer: SliceWriter,
+    text: &[u8],
+) -> Result<SliceWriter, AllocError>
+    requires { writer.written + writer.space ≤ length out.old }
+    ensures { IfOk result (λ f. (given : List ℕ) (parts : List Part) → IsSliceWriter given parts writer out.old
+        → IsSliceWriter given (parts ++ declared text.now ∷ []) f out.new) }
 {
-    let taken = fitting_len(text, filling.space);
-    fill(out, filling, text, taken)
+    let taken = fitting_len(text, writer.space);
+    write_first(out, writer, text, taken)
 }
 
 /// Counts the bytes of a declaration that fit into `space` bytes in whole characters.
@@ -276,33 +293,38 @@ fn fitting_len(text: &[u8], space: usize) -> usize
 }
 
 /// Writes the first `taken` of some bytes.
-fn fill(out: &mut [u8], filling: Filling, bytes: &[u8], taken: usize) -> Result<Filling, AllocError>
-    requires room { filling.written + filling.space ≤ length out.old }
-    requires bound { taken ≤ filling.space }
+fn write_first(
+    out: &mut [u8],
+    writer: SliceWriter,
+    bytes: &[u8],
+    taken: usize,
+) -> Result<SliceWriter, AllocError>
+    requires room { writer.written + writer.space ≤ length out.old }
+    requires bound { taken ≤ writer.space }
     requires within { taken ≤ length bytes.now }
     ensures { IfOk result (λ f. (given : List ℕ) (parts others : List Part) → text_of_parts others ≡ bytes.now
-        → ((rest : List Part) → fitting filling.space (others ++ rest)
-        ≡ take taken bytes.now ++ fitting (space_after taken (length bytes.now) filling.space) rest)
-        → IsFilling given parts filling out.old → IsFilling given (parts ++ others) f out.new) }
+        → ((rest : List Part) → fitting writer.space (others ++ rest)
+        ≡ take taken bytes.now ++ fitting (space_after taken (length bytes.now) writer.space) rest)
+        → IsSliceWriter given parts writer out.old → IsSliceWriter given (parts ++ others) f out.new) }
 {
-    let length = match filling.length.checked_add(bytes.len()) {
+    let length = match writer.length.checked_add(bytes.len()) {
         Some(length) => length,
         None => return Err(AllocError),
     };
-    put_bytes(out, filling.written, &bytes[..taken]);
-    Ok(Filling {
+    copy_into(out, writer.written, &bytes[..taken]);
+    Ok(SliceWriter {
         length,
-        written: filling.written + taken,
+        written: writer.written + taken,
         space: if taken < bytes.len() {
             0
         } else {
-            filling.space - taken
+            writer.space - taken
         },
     })
 }
 
 /// Writes some bytes into a slice from a place on.
-fn put_bytes(out: &mut [u8], at: usize, bytes: &[u8])
+fn copy_into(out: &mut [u8], at: usize, bytes: &[u8])
     requires { at + length bytes.now ≤ length out.old }
     ensures { out.new ≡ take at out.old ++ (bytes.now ++ drop (at + length bytes.now) out.old) }
 {
@@ -315,7 +337,7 @@ fn filter_piece(
     demangler: &mut Demangler,
     piece: &[u8],
     until: usize,
-    scan: &mut Scan,
+    scan: &mut WordState,
     text: &mut Vec<u8>,
     flags: DemangleFlags,
 ) -> Result<usize, AllocError>
@@ -356,7 +378,7 @@ fn next_symbol<A: Allocator + Copy>(
     demangler: &mut Demangler<A>,
     left: &[u8],
     until: usize,
-    scan: &mut Scan,
+    scan: &mut WordState,
     flags: DemangleFlags,
 ) -> Result<Option<Found>, AllocError>
     requires { until ≤ length left.now }
@@ -376,7 +398,7 @@ fn next_symbol<A: Allocator + Copy>(
         }
         match symbol_at(demangler, &left[at..], *scan, flags)? {
             Some(bytes) => {
-                *scan = Scan::new(left[at + bytes - 1]);
+                *scan = WordState::new(left[at + bytes - 1]);
                 return Ok(Some(Found { before: at, bytes }));
             }
             None => {
@@ -392,7 +414,7 @@ fn next_symbol<A: Allocator + Copy>(
 fn symbol_at<A: Allocator + Copy>(
     demangler: &mut Demangler<A>,
     left: &[u8],
-    scan: Scan,
+    scan: WordState,
     flags: DemangleFlags,
 ) -> Result<Option<usize>, AllocError>
     ensures none { IfOk result (λ found. IfNone found ((last : ℕ) (passed : List ℕ) → Keeps scan last passed
@@ -402,14 +424,14 @@ fn symbol_at<A: Allocator + Copy>(
         × IsSymbolShown flags.0 left.now bytes demangler.new.text.text)) }
 {
     match left {
-        [byte, ..] if scan.is_start(*byte) => symbol(demangler, left, flags),
+        [byte, ..] if scan.is_start(*byte) => match_symbol(demangler, left, flags),
         _ => Ok(None),
     }
 }
 
 /// Returns how many bytes the symbol takes that begins at a start, if one does, with its declaration as the demangler's
 /// text.
-fn symbol<A: Allocator + Copy>(
+fn match_symbol<A: Allocator + Copy>(
     demangler: &mut Demangler<A>,
     left: &[u8],
     flags: DemangleFlags,
@@ -418,7 +440,7 @@ fn symbol<A: Allocator + Copy>(
     ensures some { IfOk result (λ found. IfSome found (λ bytes.
         IsSymbolShown flags.0 left.now bytes demangler.new.text.text)) }
 {
-    match declare(demangler, candidate(left), flags)? {
+    match demangle_candidate(demangler, candidate(left), flags)? {
         Some(read) => {
             let bytes = symbol_extent(left, read);
             if continues(left, bytes) {
@@ -432,14 +454,14 @@ fn symbol<A: Allocator + Copy>(
 
 /// Prints the declaration of the symbol that `input` begins with as the demangler's text, and returns how many bytes
 /// were read for it. Returns none if there is no symbol, or one that exceeds a limit; the text is no declaration then.
-fn declare<A: Allocator + Copy>(
+fn demangle_candidate<A: Allocator + Copy>(
     demangler: &mut Demangler<A>,
     input: &str,
     flags: DemangleFlags,
 ) -> Result<Option<usize>, AllocError>
     ensures declared { IfOk result (λ found. IfSome found (λ bytes. (tree : SymbolTree) × IsParsed input.now tree
-        × (demangler.new.text.text ≡ Some (declaration tree flags.0)) × (node_count tree ≤ most_nodes)
-        × IsSymbolLength bytes input.now × (length (declaration tree flags.0) ≤ most_declared))) }
+        × (demangler.new.text.text ≡ Some (declaration tree flags.0)) × (node_count tree ≤ max_nodes)
+        × IsSymbolLength bytes input.now × (length (declaration tree flags.0) ≤ max_declared))) }
     ensures none { IfOk result (λ found. IfNone found (IsNoneWithin flags.0 input.now)) }
 {
     match demangler.run(input, flags, DEFAULT_NODE_LIMIT, DEFAULT_BYTE_LIMIT) {

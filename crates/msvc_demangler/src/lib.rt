@@ -6,7 +6,7 @@
 ghost use Rattle.std.specs.Prelude.{IfErr, IfOk, string_bytes};
 ghost use Rattle.msvc_nodes.specs.Trees.{SymbolTree};
 ghost use Rattle.msvc_grammar.specs.Parsed.{GrammarLaws, IsRejected};
-ghost use Rattle.msvc_demangler.specs.Demangled.{HashesAreShown, IsDeclared, IsDeclaredWithin, IsRefusedUnder};
+ghost use Rattle.msvc_demangler.specs.Demangled.{HashesAreShown, IsDeclared, IsDeclaredWithin, IsErrorUnder};
 ghost use Rattle.msvc_demangler.specs.Limits.{limits_of};
 
 mod debug;
@@ -17,9 +17,10 @@ mod filter;
 mod lines;
 mod output;
 mod run;
+mod symbol_bounds;
 mod watched;
-mod words;
 
+pub use alloc_fuse::Fuse;
 pub use bitflags::Flags;
 pub use demangler::Demangler;
 use demangler::demangle_once;
@@ -43,22 +44,30 @@ use std::alloc::Global;
 pub use watched::{Fault, Watched};
 
 /// The most nodes to allow for a symbol that is not trusted. A call takes stack by the nodes that are allowed
-/// (`docs/speed.md` has the figures), so a thread with a small stack needs a lower limit.
+/// (`docs/limits.md` has the figures), so a thread with a small stack needs a lower limit.
 pub const DEFAULT_NODE_LIMIT: usize = 10_000;
 
 /// The most bytes to allow for the declaration of a symbol that is not trusted.
 pub const DEFAULT_BYTE_LIMIT: usize = 65_536;
 
-/// Returns the declaration of the symbol that `input` begins with, under `flags`: the text that [`serialize`] prints of
-/// the tree that [`parse`] reads. Bytes after a complete symbol are ignored.
+/// Returns the declaration of the symbol that `input` begins with, under `flags`.
+///
+/// It is the text that [`serialize`] prints of the tree that [`parse`] reads. Bytes after a complete symbol are ignored.
 ///
 /// A tree, and a declaration, can be far larger than its symbol: for symbols that are not trusted call
 /// [`demangle_within`].
 ///
 /// # Errors
 ///
-/// The error of [`parse`] if `input` begins with no symbol, with an offset into `input` in bytes; an error for memory
-/// if an allocation fails.
+/// Fails if `input` begins with no symbol; the error then has an offset into `input`, in bytes. Fails out of memory if
+/// an allocation fails; that error has no offset.
+///
+/// # Examples
+///
+/// ```
+/// let text = demangle(alloc, "?x@@3PEAY1NKM@5HEA", DemangleFlags::llvm())?;
+/// assert_eq!(rt; text.as_str(), "int (*x)[3500][6]");
+/// ```
 pub fn demangle(alloc: Global, input: &str, flags: DemangleFlags) -> Result<String, Error>
     ensures declared { IfOk result (λ text. (tree : SymbolTree)
         × IsDeclared input.now tree flags.0 (string_bytes text)) }
@@ -69,18 +78,28 @@ pub fn demangle(alloc: Global, input: &str, flags: DemangleFlags) -> Result<Stri
     demangle_within(alloc, input, flags, usize::MAX, usize::MAX)
 }
 
-/// Returns the declaration of the symbol that `input` begins with, as [`demangle`] does, if its tree has at most
-/// `nodes` nodes and its declaration at most `bytes` bytes. Each name and each type in a tree is a node, at every
-/// depth. `usize::MAX` is no limit, and leaves the other limit in force. [`DEFAULT_NODE_LIMIT`] and
-/// [`DEFAULT_BYTE_LIMIT`] suit symbols that are not trusted.
+/// Returns the declaration of the symbol that `input` begins with, as [`demangle`] does, within two limits.
 ///
-/// Together the limits bound the memory that a call takes, whatever the length of `input`. They and, linearly, the
-/// length of `input` bound its time.
+/// # Limits
+///
+/// The tree has at most `nodes` nodes: each name and each type in a tree is a node, at every depth. The declaration has
+/// at most `bytes` bytes. `usize::MAX` is no limit, and leaves the other limit in force. [`DEFAULT_NODE_LIMIT`] and
+/// [`DEFAULT_BYTE_LIMIT`] suit symbols that are not trusted. Together the limits bound the memory that a call takes,
+/// whatever the length of `input`. They and, linearly, the length of `input` bound its time.
 ///
 /// # Errors
 ///
-/// Those of [`parse_within`], for the same inputs. Fails with "longer than allowed" if the declaration has more than
-/// `bytes` bytes; the offset is the number of bytes read. [`Error::limit`] returns the limit that a symbol exceeds.
+/// Fails where [`parse_within`] does. Fails with "longer than allowed" if the declaration has more than `bytes` bytes;
+/// the offset is the number of bytes read. [`Error::limit`] returns the limit that a symbol exceeds.
+///
+/// # Examples
+///
+/// ```
+/// let short = demangle_within(alloc, "?x@ns@@3HA", DemangleFlags::llvm(), 4, 9)?;
+/// assert_eq!(rt; short.as_str(), "int ns::x");
+/// let long = demangle_within(alloc, "?xy@ns@@3HA", DemangleFlags::llvm(), 4, 9);
+/// assert!(rt; long.is_err_and(|error| error.is_over_limit()));
+/// ```
 pub fn demangle_within(
     alloc: Global,
     input: &str,
@@ -90,7 +109,7 @@ pub fn demangle_within(
 ) -> Result<String, Error>
     ensures declared { IfOk result (λ text.
         IsDeclaredWithin (limits_of nodes bytes) input.now flags.0 (string_bytes text)) }
-    ensures rejected { IfErr result (λ e. IsRefusedUnder (limits_of nodes bytes) input.now flags.0 e) }
+    ensures rejected { IfErr result (λ e. IsErrorUnder (limits_of nodes bytes) input.now flags.0 e) }
     ensures hashes { IfOk result (λ text. HashesAreShown input.now (string_bytes text)) }
 {
     let mut text = Text::new(alloc);

@@ -12,7 +12,7 @@ ghost use Rattle.msvc_demangler.specs.Runs.{Writes, WritesLines};
 
 use crate::debug::write_tree;
 use crate::demangler::{Demangler, print_in, read};
-use crate::output::{put_all, put_line};
+use crate::output::{write_all, write_line};
 use crate::watched::{Fault, Taken, Watched};
 use msvc_nodes::error::Error;
 use msvc_nodes::flags::DemangleFlags;
@@ -20,7 +20,7 @@ use std::alloc::{AllocError, Global};
 use std::io::{BufRead, Write};
 use std::str::from_utf8;
 
-/// Bytes that the line of an error has demangler for before it grows. Few errors of symbols take more.
+/// Bytes to reserve for the line of an error. Few errors of symbols take more.
 const ERROR_TEXT: usize = 256;
 
 /// Demangles one symbol: writes its declaration and a line feed to `out`. If the symbol is rejected, writes the error
@@ -39,7 +39,7 @@ pub fn undname_one<W: Write, E: Write>(
 ) -> Result<(), Fault>
     ensures text { (text : List ℕ) × Appends (W.contents out.old.stream) (W.contents out.new.stream) text
         × Writes result (IsLineText symbol.now) text }
-    ensures marks { SetsFailureFlag result no_stream (failure_flag out.old out.new) (failure_flag err.old err.new) }
+    ensures sets_failed { SetsFailureFlag result no_stream (failure_flag out.old out.new) (failure_flag err.old err.new) }
 {
     undname_in(&mut Demangler::new(alloc), symbol, out, err, verbose)
 }
@@ -54,20 +54,20 @@ pub(crate) fn undname_in<W: Write, E: Write>(
 ) -> Result<(), Fault>
     ensures text { (text : List ℕ) × Appends (W.contents out.old.stream) (W.contents out.new.stream) text
         × Writes result (IsLineText symbol.now) text }
-    ensures marks { SetsFailureFlag result no_stream (failure_flag out.old out.new) (failure_flag err.old err.new) }
+    ensures sets_failed { SetsFailureFlag result no_stream (failure_flag out.old out.new) (failure_flag err.old err.new) }
 {
     let mut tree = String::new(demangler.alloc);
     match answer(demangler, symbol, verbose, &mut tree) {
         Ok(()) => {
-            put_all(err, tree.as_bytes())?;
-            put_line(out, demangler.text.as_bytes())
+            write_all(err, tree.as_bytes())?;
+            write_line(out, demangler.text.as_bytes())
         }
         Err(error) => {
             if error.is_out_of_memory() {
                 return Err(Fault::Memory);
             }
             report(demangler.alloc, &error, err)?;
-            put_line(out, symbol.as_bytes())
+            write_line(out, symbol.as_bytes())
         }
     }
 }
@@ -108,10 +108,10 @@ fn answer(
 
 /// Writes why a symbol was rejected.
 fn report<E: Write>(alloc: Global, error: &Error, err: &mut Watched<E>) -> Result<(), Fault>
-    ensures marks { SetsFailureFlag result no_stream no_stream (failure_flag err.old err.new) }
+    ensures sets_failed { SetsFailureFlag result no_stream no_stream (failure_flag err.old err.new) }
 {
     match error_line(alloc, error) {
-        Ok(text) => put_all(err, text.as_bytes()),
+        Ok(text) => write_all(err, text.as_bytes()),
         Err(_) => Err(Fault::Memory),
     }
 }
@@ -142,13 +142,13 @@ pub fn undname_lines<R: BufRead, W: Write, E: Write>(
     ensures text { (taken text : List ℕ) × Consumes (R.remaining input.old.stream) (R.remaining input.new.stream) taken
         × Appends (W.contents out.old.stream) (W.contents out.new.stream) text × WritesLines result taken text }
     ensures end { OnOk result (OnSome (R.remaining input.old.stream) (IsAtEnd (R.remaining input.new.stream))) }
-    ensures marks { SetsFailureFlag result (failure_flag input.old input.new) (failure_flag out.old out.new)
+    ensures sets_failed { SetsFailureFlag result (failure_flag input.old input.new) (failure_flag out.old out.new)
         (failure_flag err.old err.new) }
 {
     let mut demangler = Demangler::new(alloc);
     let mut piece = Vec::new(alloc);
     'pieces: for polls in 0..u64::MAX {
-        match input.take(polls, &mut piece)? {
+        match input.read_piece(polls, &mut piece)? {
             Taken::Part => {}
             Taken::Line => {
                 undname_line(&mut demangler, &piece, out, err, verbose)?;
@@ -162,7 +162,7 @@ pub fn undname_lines<R: BufRead, W: Write, E: Write>(
             }
         }
     }
-    match input.take(u64::MAX, &mut piece) {
+    match input.read_piece(u64::MAX, &mut piece) {
         Ok(_) => Ok(()),
         Err(fault) => Err(fault),
     }
@@ -178,7 +178,7 @@ fn undname_line<W: Write, E: Write>(
 ) -> Result<(), Fault>
     ensures text { (text : List ℕ) × Appends (W.contents out.old.stream) (W.contents out.new.stream) text
         × Writes result (IsText (line_of piece.now ∷ [])) text }
-    ensures marks { SetsFailureFlag result no_stream (failure_flag out.old out.new) (failure_flag err.old err.new) }
+    ensures sets_failed { SetsFailureFlag result no_stream (failure_flag out.old out.new) (failure_flag err.old err.new) }
 {
     match from_utf8(without_end(piece)) {
         Ok(line) => undname_in(demangler, line, out, err, verbose),

@@ -9,25 +9,25 @@ use crate::watched::{Fault, Watched};
 use std::io::Write;
 
 /// Writes all of some bytes.
-pub(crate) fn put_all<W: Write>(out: &mut Watched<W>, bytes: &[u8]) -> Result<(), Fault>
+pub(crate) fn write_all<W: Write>(out: &mut Watched<W>, bytes: &[u8]) -> Result<(), Fault>
     ensures text { (written : List ℕ) × Appends (W.contents out.old.stream) (W.contents out.new.stream) written
         × Writes result (λ whole. whole ≡ bytes.now) written }
     ensures fault { IfErr result (λ fault. fault ≡ Fault.Write) }
-    ensures marks { SetsFailureFlag result no_stream (failure_flag out.old out.new) no_stream }
+    ensures sets_failed { SetsFailureFlag result no_stream (failure_flag out.old out.new) no_stream }
 {
     let mut sent = 0;
     'writes: while sent < bytes.len() {
-        sent += out.put(&bytes[sent..])?;
+        sent += out.write_some(&bytes[sent..])?;
     }
     Ok(())
 }
 
 /// Writes some bytes and a line feed.
-pub(crate) fn put_line<W: Write>(out: &mut Watched<W>, bytes: &[u8]) -> Result<(), Fault>
+pub(crate) fn write_line<W: Write>(out: &mut Watched<W>, bytes: &[u8]) -> Result<(), Fault>
     ensures text { (written : List ℕ) × Appends (W.contents out.old.stream) (W.contents out.new.stream) written
         × Writes result (λ whole. whole ≡ bytes.now ++ 10 ∷ []) written }
-    ensures marks { SetsFailureFlag result no_stream (failure_flag out.old out.new) no_stream }
+    ensures sets_failed { SetsFailureFlag result no_stream (failure_flag out.old out.new) no_stream }
 {
-    put_all(out, bytes)?;
-    put_all(out, b"\n")
+    write_all(out, bytes)?;
+    write_all(out, b"\n")
 }

@@ -22,7 +22,7 @@ pub fn undname_run<R: BufRead, W: Write, E: Write>(
     out: &mut Watched<W>,
     err: &mut Watched<E>,
 ) -> Result<(), Fault>
-    ensures marks { SetsFailureFlag result (failure_flag input.old input.new) (failure_flag out.old out.new)
+    ensures sets_failed { SetsFailureFlag result (failure_flag input.old input.new) (failure_flag out.old out.new)
         (failure_flag err.old err.new) }
 {
     let (symbols, verbose) = options(words);
@@ -48,7 +48,7 @@ fn undname_all<W: Write, E: Write>(
     err: &mut Watched<E>,
     verbose: bool,
 ) -> Result<(), Fault>
-    ensures marks { SetsFailureFlag result no_stream (failure_flag out.old out.new) (failure_flag err.old err.new) }
+    ensures sets_failed { SetsFailureFlag result no_stream (failure_flag out.old out.new) (failure_flag err.old err.new) }
 {
     let mut demangler = Demangler::new(alloc);
     for symbol in symbols {

@@ -1,5 +1,5 @@
-//! Streams that are watched: whether a call on a reader or a writer has failed. Only `consume` and `put` move bytes,
-//! and only `fail` and `put` set the failure flag of a stream.
+//! Streams that are watched: whether a call on a reader or a writer has failed. Only `consume` and `write_some` move
+//! bytes, and only `fail` and `write_some` set the failure flag of a stream.
 
 ghost use Rattle.std.specs.Prelude.{◌≡◌, ◌+◌, ◌≤◌, ◌<◌, ◌^◌, ◌-◌, ◌++◌, ℕ, List, [], Err, IfErr, IfOk, IfSome};
 ghost use Rattle.std.specs.Prelude.{OnErr, OnSome, false, length, take, true};
@@ -83,7 +83,7 @@ impl<T> Watched<T> {
 impl<R: BufRead> Watched<R> {
     /// Polls the reader once, and returns the bytes that it shows: none only at its end. Takes none of them.
     #[inline(always)]
-    pub(crate) fn show(&mut self) -> io::Result<&[u8]>
+    pub(crate) fn fill_buf(&mut self) -> io::Result<&[u8]>
         ensures front { IfSome (R.remaining self.old.stream) (λ xs. IfOk result (λ s. StartsWith xs s.now)) }
         ensures end { IfSome (R.remaining self.old.stream) (λ xs. IfOk result (λ s. length s.now ≡ 0 → xs ≡ [])) }
         ensures* after_borrow { sem 𝓛 (Rests (the_row R.row) self.entry (λ new.
@@ -118,21 +118,21 @@ impl<R: BufRead> Watched<R> {
     ///
     /// Returns the fault of a failed call at once, also of an interrupted one, and takes nothing then. No clause says
     /// that the reader is polled no second time, since a reader's contract tells its bytes and counts no calls.
-    pub(crate) fn take(&mut self, polls: u64, bytes: &mut Vec<u8>) -> Result<Taken, Fault>
+    pub(crate) fn read_piece(&mut self, polls: u64, bytes: &mut Vec<u8>) -> Result<Taken, Fault>
         ensures taken { (taken : List ℕ) × (bytes.new.items ≡ bytes.old.items ++ taken)
             × Consumes (R.remaining self.old.stream) (R.remaining self.new.stream) taken × TakenAs result taken }
         ensures end { IfOk result (λ t. t ≡ Taken.End →
             OnSome (R.remaining self.old.stream) (IsAtEnd (R.remaining self.new.stream))) }
-        ensures marks { SetsFailureFlag result (failure_flag self.old self.new) no_stream no_stream }
+        ensures sets_failed { SetsFailureFlag result (failure_flag self.old self.new) no_stream no_stream }
         ensures too_many { polls ≡ 2 ^ 64 - 1 → result ≡ Err Fault.Read }
     {
         if polls == u64::MAX {
             return Err(self.fail());
         }
-        let Ok(shown) = self.show() else {
+        let Ok(shown) = self.fill_buf() else {
             return Err(self.fail());
         };
-        let (end, taken) = cut(shown);
+        let (end, taken) = line_end(shown);
         if matches!(taken, Taken::End) {
             return Ok(taken);
         }
@@ -146,7 +146,7 @@ impl<R: BufRead> Watched<R> {
 
 /// Finds how many of the bytes shown are taken at once, and what they are.
 #[inline(always)]
-pub(crate) fn cut(shown: &[u8]) -> (usize, Taken)
+pub(crate) fn line_end(shown: &[u8]) -> (usize, Taken)
     ensures bound { result.0 ≤ length shown.now }
     ensures taken { IsCut result.1 (take result.0 shown.now) }
     ensures end { result.1 ≡ Taken.End → shown.now ≡ [] }
@@ -162,15 +162,15 @@ impl<W: Write> Watched<W> {
     /// Writes some bytes once, and returns how many of them the writer took. A writer that takes none has failed.
     ///
     /// Returns the fault of a failed call at once, also of an interrupted one. No clause says that nothing is written
-    /// after it, for the reason given at `take`.
-    pub(crate) fn put(&mut self, bytes: &[u8]) -> Result<usize, Fault>
+    /// after it, for the reason given at `read_piece`.
+    pub(crate) fn write_some(&mut self, bytes: &[u8]) -> Result<usize, Fault>
         ensures bound { IfOk result (λ n. n ≤ length bytes.now) }
         ensures moves { IfOk result (λ n. 0 < n) }
         ensures ok { IfOk result (λ n.
             Appends (W.contents self.old.stream) (W.contents self.new.stream) (take n bytes.now)) }
         ensures err { OnErr result (Keeps (W.contents self.old.stream) (W.contents self.new.stream)) }
         ensures fault { IfErr result (λ f. f ≡ Fault.Write) }
-        ensures marks { SetsFailureFlag result no_stream (failure_flag self.old self.new) no_stream }
+        ensures sets_failed { SetsFailureFlag result no_stream (failure_flag self.old self.new) no_stream }
     {
         match self.stream.write(bytes) {
             Ok(n) if n > 0 => Ok(n),

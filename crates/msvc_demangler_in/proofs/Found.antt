@@ -13,11 +13,11 @@ use Rattle.msvc_demangler.specs.Failures.{FailsUnder, IsFailure, IsFailureText, 
 use Rattle.msvc_demangler.specs.Limit.{Limit}
 use Rattle.msvc_demangler.specs.Limit.TheVariants.{Bytes, Nodes}
 use Rattle.msvc_demangler.specs.Limits.{Limits}
-use Rattle.msvc_demangler.specs.Refusals.{begins_with}
+use Rattle.msvc_demangler.specs.Rejections.{begins_with}
 use Rattle.msvc_demangler.specs.declared.failure.Failure.{Failure}
 use Rattle.msvc_demangler.specs.declared.failure.Failure.TheVariants.{Unread, TooLong}
-use Rattle.msvc_c_calls.proofs.Refused.{refused}
-use Rattle.msvc_c_calls.specs.Calls.{IsFound, IsMeasured, IsNoSymbolUnder, IsRefused, IsRejection, IsStatus, Says}
+use Rattle.msvc_c_calls.proofs.Rejected.{rejected}
+use Rattle.msvc_c_calls.specs.Calls.{IsFound, IsMeasured, IsNoSymbolUnder, IsNotRead, IsRejection, IsStatus, Says}
 use Rattle.msvc_c_calls.specs.Calls.{not_measured, not_read, out_of_memory, out_of_memory_text, too_long}
 use Rattle.msvc_c_calls.specs.Buffers.{IsWritten}
 
@@ -71,7 +71,7 @@ unread : (limits : Limits) (symbol : List ℕ) (status : ℕ) (message : Message
     → IsStatus limits (limit_of_message message) status → message_limit words ≡ limit_of_message message
     → (IsAscii symbol → context ≡ context_of symbol (length symbol - left))
     → Says words context (length symbol - left) text
-    → IsRefused limits symbol status (length symbol - left) text
+    → IsNotRead limits symbol status (length symbol - left) text
 unread limits symbol status message left words context text u fails is about shows says =
     let rejection : IsRejection symbol words (length symbol - left) text = record {
       inside = omega arith;
@@ -80,7 +80,7 @@ unread limits symbol status message left words context text u fails is about sho
       shows = shows;
       says = says;
     } in
-    refused limits symbol status (length symbol - left) words text (limit_of_message message) u
+    rejected limits symbol status (length symbol - left) words text (limit_of_message message) u
     (no-symbol limits.nodes symbol message left fails) rejection about (not-bytes message) is
 
 -- what is found of a symbol that has no declaration, for a reason other than memory

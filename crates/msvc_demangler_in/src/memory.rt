@@ -4,7 +4,7 @@ ghost use Rattle.std.specs.Prelude.{◌≡◌, ◌<◌, IsTrue};
 
 use bumpalo::Bump;
 use lent_memory::{Lent, Workspace};
-use msvc_demangler::{Demangler, Text};
+use msvc_demangler::{Demangler, Fuse, Text};
 
 /// Bytes of the pages that an arena's first chunk comes to.
 const PAGE: usize = 4096;
@@ -39,9 +39,9 @@ pub(crate) fn give_back(lent: Lent, workspace: &mut Workspace) -> bool
 }
 
 /// Makes an arena of all the memory, if that has a page.
-pub(crate) fn arena_in(memory: &Lent) -> Option<Bump<&Lent>> {
+pub(crate) fn arena_in(memory: &Lent) -> Option<Bump<Fuse<&Lent>>> {
     let bytes = memory.size().saturating_add(UNREQUESTED) / PAGE * PAGE;
-    match Bump::try_with_capacity(memory, bytes.checked_sub(OVERHEAD)?) {
+    match Bump::try_with_capacity(Fuse::new(memory), bytes.checked_sub(OVERHEAD)?) {
         Ok(arena) => Some(arena),
         Err(_) => None,
     }

@@ -6,7 +6,7 @@ use Rattle.std.proofs.Common.{None, ◌*◌, length, nat_lt, map, arith, cond, r
 use Rattle.std.proofs.lemmas.Bool.{eq-eqb, le-ltb}
 use Rattle.std.specs.Prelude.{codes, if◌then◌else◌}
 use Rattle.msvc_nodes.specs.Trees as tree
-use Rattle.msvc_nodes.specs.declared.kinds.BaseType.TheVariants as base_kind
+use Rattle.msvc_nodes.specs.declared.kinds.PrimitiveKind.TheVariants as base_kind
 use Rattle.msvc_nodes.specs.declared.kinds.PlainType.TheVariants as plain_kind
 use Rattle.msvc_nodes.specs.declared.kinds.Spelling.TheVariants as spelling_kind
 use Rattle.msvc_nodes.specs.Trees.{spelled, plain}
@@ -18,16 +18,17 @@ use Rattle.msvc_grammar.specs.Sorts.{untyped, encoded_string, virtual_call, plai
 use Rattle.msvc_grammar.specs.Rules.{Production, symbol, symbol_body, guard_index, unsigned, decimal, encoding}
 use Rattle.msvc_grammar.specs.Rules.{encoding_after, characters, character, thunk_number}
 use Rattle.msvc_grammar.specs.Rules.{this_qualifiers, function_qualifiers, signature, return_qualifiers, returned}
-use Rattle.msvc_grammar.specs.Rules.{function_parameters, parameters, parameter, any_type, plain_type, type_after}
+use Rattle.msvc_grammar.specs.Rules.{function_parameters, parameters, parameter, type_, plain_type, type_after}
 use Rattle.msvc_grammar.specs.Rules.{pointee, array, dimension, positive, lengths, qualified_name, unqualified_name}
-use Rattle.msvc_grammar.specs.Rules.{template_name, scope, nested_name, marked_name, anonymous_namespace}
+use Rattle.msvc_grammar.specs.Rules.{template_name, scope, nested_name, locally_scoped_name, anonymous_namespace}
 use Rattle.msvc_grammar.specs.Rules.{hexadecimal_digits, source_name, number, magnitude, letters, required, Condition}
 use Rattle.msvc_grammar.specs.Rules.{none_of}
 use Rattle.msvc_grammar.specs.Rules.{at_end, every, some_of, is_nil, Rule, letter, literal, up_to, here, ◌>>=◌, ◌or◌, call}
-use Rattle.msvc_grammar.specs.Rules.{noted, entering, apart, node, type_form, function_type, member_pointer, class_part}
+use Rattle.msvc_grammar.specs.Rules.{noted, entering, apart, node}
+use Rattle.msvc_grammar.specs.Rules.{prefixed_type, function_type, member_pointer, class_part}
 use Rattle.msvc_grammar.specs.Rules.{special_name, special_after, literal_or, texts_of, text_and, text_or}
 use Rattle.msvc_grammar.specs.Letters.{type_texts, special_texts}
-use Rattle.msvc_grammar.specs.declared.forms.TypeForm.TheVariants as form
+use Rattle.msvc_grammar.specs.declared.forms.TypePrefix.TheVariants as form
 use Rattle.msvc_grammar.specs.declared.forms.SpecialForm.TheVariants as special
 use Rattle.msvc_grammar.specs.Grammar.{grammar}
 use Rattle.msvc_grammar.specs.Reads.{ranks}
@@ -55,7 +56,7 @@ some_value (both a b) = (some_value a, some_value b)
 
 -- Which production calls which
 
--- a production that calls another before it has eaten a byte stands above it
+-- a production that calls another before it has consumed a byte stands above it
 unfoldable pub rank : {a : Sort} → Production a → ℕ
 rank symbol = 0
 rank symbol_body = 3
@@ -75,10 +76,10 @@ rank (returned member q) = 2
 rank function_parameters = 4
 rank parameters = 3
 rank parameter = 2
-rank (any_type q) = 1
+rank (type_ q) = 1
 rank (plain_type q) = 0
 rank (type_after q l) = 5
-rank (type_form q f) = 5
+rank (prefixed_type q f) = 5
 rank (function_type bare) = 2
 rank (member_pointer qualified) = 3
 rank (class_part qualified) = 0
@@ -94,7 +95,7 @@ rank (special_after f) = 3
 rank template_name = 2
 rank scope = 2
 rank nested_name = 1
-rank marked_name = 3
+rank locally_scoped_name = 3
 rank anonymous_namespace = 0
 rank hexadecimal_digits = 0
 rank source_name = 0
@@ -107,77 +108,77 @@ rank (required there) = 0
 unfoldable pub depth : {a : Sort} → Production a → List ℕ → ℕ
 depth n left = ranks * length left + rank n
 
--- How many bytes a rule eats at least
+-- How many bytes a rule consumes at least
 
 -- by the name of a production
-unfoldable pub eater : {a : Sort} → Production a → ℕ
-eater (guard_index guarded) = 0
-eater (unsigned z) = 0
-eater encoding = 0
-eater (encoding_after l) = 0
-eater (characters n) = 0
-eater (thunk_number there) = 0
-eater (this_qualifiers static) = 0
-eater function_qualifiers = 0
-eater return_qualifiers = 0
-eater parameters = 0
-eater (type_after q (points mark on_pointer)) = 1
-eater (type_after q l) = 0
-eater (type_form q f) = 0
-eater (class_part qualified) = 0
-eater (positive z) = 0
-eater (lengths n) = 0
-eater (qualified_name of_symbol) = 2
-eater (special_after f) = 0
-eater (required there) = 0
-eater _ = 1
+unfoldable pub consumer : {a : Sort} → Production a → ℕ
+consumer (guard_index guarded) = 0
+consumer (unsigned z) = 0
+consumer encoding = 0
+consumer (encoding_after l) = 0
+consumer (characters n) = 0
+consumer (thunk_number there) = 0
+consumer (this_qualifiers static) = 0
+consumer function_qualifiers = 0
+consumer return_qualifiers = 0
+consumer parameters = 0
+consumer (type_after q (points mark on_pointer)) = 1
+consumer (type_after q l) = 0
+consumer (prefixed_type q f) = 0
+consumer (class_part qualified) = 0
+consumer (positive z) = 0
+consumer (lengths n) = 0
+consumer (qualified_name of_symbol) = 2
+consumer (special_after f) = 0
+consumer (required there) = 0
+consumer _ = 1
 
 abbrev pub least : ℕ → ℕ → ℕ
 least a b = if nat_lt a b then a else b
 
-unfoldable pub eats : {a : Sort} → Rule a → ℕ
-unfolding eater
-eats (letter a table) = 1
-eats (literal l) = length l
-eats (up_to b) = 1
-eats (here c r) = eats r
-eats (◌>>=◌ {a = a} r f) = eats r + eats (f (some_value a))
-eats (r or q) = least (eats r) (eats q)
-eats (call n) = eater n
-eats (noted table) = 1
-eats (entering r) = eats r
-eats (node r) = eats r
-eats (apart r) = eats r
-eats _ = 0
+unfoldable pub consumes : {a : Sort} → Rule a → ℕ
+unfolding consumer
+consumes (letter a table) = 1
+consumes (literal l) = length l
+consumes (up_to b) = 1
+consumes (here c r) = consumes r
+consumes (◌>>=◌ {a = a} r f) = consumes r + consumes (f (some_value a))
+consumes (r or q) = least (consumes r) (consumes q)
+consumes (call n) = consumer n
+consumes (noted table) = 1
+consumes (entering r) = consumes r
+consumes (node r) = consumes r
+consumes (apart r) = consumes r
+consumes _ = 0
 
 -- Where a rule begins
 
--- a text that begins there, conditions that hold there, and how many bytes are eaten at least
+-- a text that begins there, conditions that hold there, and how many bytes are consumed at least
 abbrev pub Row : Type 0
 Row = List ℕ × List Condition × ℕ
 
 -- rows of which one is so, where a rule reads
 unfoldable pub firsts_by : ((b : Sort) → Production b → List Row) → {a : Sort} → Rule a → List Row
-unfolding eats
+unfolding consumes
 firsts_by calls (letter a table) = map (λ row. (row.0 ∷ [], [], 1)) table
 firsts_by calls (literal l) = (l, [], length l) ∷ []
 firsts_by calls (up_to b) = (b ∷ [], [], 1) ∷ ([], [], 2) ∷ []
 firsts_by calls (here c r) = map (λ row. (row.0, c ∷ row.1, row.2)) (firsts_by calls r)
-firsts_by calls ((letter a table) >>= f) = map (λ row. (row.0 ∷ [], [], 1 + eats (f row.1))) table
+firsts_by calls ((letter a table) >>= f) = map (λ row. (row.0 ∷ [], [], 1 + consumes (f row.1))) table
 firsts_by calls ((literal l) >>= f) = map (λ row. (l ++ row.0, [], length l + row.2)) (firsts_by calls (f tt))
 firsts_by calls (◌>>=◌ {a = a} r f) =
-    map (λ row. (row.0, row.1, row.2 + eats (f (some_value a)))) (firsts_by calls r)
+    map (λ row. (row.0, row.1, row.2 + consumes (f (some_value a)))) (firsts_by calls r)
 firsts_by calls (r or q) = firsts_by calls r ++ firsts_by calls q
 firsts_by calls (call n) = calls _ n
 firsts_by calls (noted table) = map (λ row. (row.0 ∷ [], [], 1)) table
 firsts_by calls (entering r) = firsts_by calls r
 firsts_by calls (node r) = firsts_by calls r
 firsts_by calls (apart r) = firsts_by calls r
-firsts_by calls r = ([], [], eats r) ∷ []
+firsts_by calls r = ([], [], consumes r) ∷ []
 
 unfoldable pub firsts_within : ℕ → {a : Sort} → Production a → List Row
-unfolding firsts_by grammar eater
-firsts_within zero n = ([], [], eater n) ∷ []
+unfolding firsts_by grammar consumer
+firsts_within zero n = ([], [], consumer n) ∷ []
 firsts_within (suc k) n = firsts_by (λ b m. firsts_within k m) (grammar n)
 
 unfoldable pub firsts : {a : Sort} → Rule a → List Row
@@ -210,19 +211,19 @@ clash r q =
 unfoldable pub exclude : List Row → List Row → Bool
 exclude rs qs = every (λ r. every (clash r) qs) rs
 
--- Alternatives, and bytes that are eaten before a call
+-- Alternatives, and bytes that are consumed before a call
 
--- the rules after one eat no less at any value than at some
+-- the rules after one consume no less at any value than at some
 unfoldable pub Even : {a b : Sort} → Rule a → (Value a → Rule b) → Type 0
-unfolding eats
-Even {a = a} r f = (v : Value a) → nat_lt (eats (f v)) (eats (f (some_value a))) ≡ false
+unfolding consumes
+Even {a = a} r f = (v : Value a) → nat_lt (consumes (f v)) (consumes (f (some_value a))) ≡ false
 
--- before a byte is eaten, a rule calls only productions below the floor
+-- before a byte is consumed, a rule calls only productions below the floor
 unfoldable pub Fine : ℕ → {a : Sort} → Rule a → Type 0
-unfolding eats firsts exclude rank Even
+unfolding consumes firsts exclude rank Even
 Fine floor (here c r) = Fine floor r
 Fine floor (◌>>=◌ {a = a} r f) =
-    Fine floor r × ((v : Value a) → Fine (if nat_lt 0 (eats r) then ranks else floor) (f v)) × Even r f
+    Fine floor r × ((v : Value a) → Fine (if nat_lt 0 (consumes r) then ranks else floor) (f v)) × Even r f
 Fine floor (r or q) = (exclude (firsts r) (firsts q) ≡ true) × Fine floor r × Fine floor q
 Fine floor (call n) = nat_lt (rank n) floor ≡ true
 Fine floor (entering r) = Fine floor r
@@ -243,7 +244,7 @@ needs symbol_body = 1
 needs (unqualified_name of_symbol) = 1
 needs template_name = 1
 needs nested_name = 1
-needs marked_name = 1
+needs locally_scoped_name = 1
 needs (guard_index guarded) = 1
 needs encoding = 1
 needs (encoding_after l) = 1
@@ -259,7 +260,7 @@ unfoldable pub needs_inside : {a : Sort} → Production a → ℕ
 needs_inside symbol = 1
 needs_inside symbol_body = 1
 needs_inside nested_name = 1
-needs_inside marked_name = 1
+needs_inside locally_scoped_name = 1
 needs_inside encoding = 1
 needs_inside (encoding_after l) = 1
 needs_inside (this_qualifiers static) = 1
@@ -273,25 +274,25 @@ asks the_same n = 0
 asks others n = needs_inside n
 asks anything n = needs n
 
--- bytes that are eaten say whether a text begins: as many as it has, or one that differs from it
+-- bytes that are consumed say whether a text begins: as many as it has, or one that differs from it
 unfoldable pub settled : ℕ → List Row → List ℕ → Bool
 settled followed rows l =
     every (λ row. if nat_lt (followed + row.2) (length l) then differ row.0 l else true) rows
 
 unfoldable pub decided : After → ℕ → ℕ → List Row → Condition → Bool
 unfolding settled
-decided the_same followed eaten rows c = true
-decided others followed eaten rows (none_of ls) = every (settled followed rows) ls
-decided others followed eaten rows at_end = true
-decided anything followed eaten rows (none_of ls) = every (settled followed rows) ls
-decided anything followed eaten rows at_end = nat_lt 0 (followed + eaten)
+decided the_same followed consumed rows c = true
+decided others followed consumed rows (none_of ls) = every (settled followed rows) ls
+decided others followed consumed rows at_end = true
+decided anything followed consumed rows (none_of ls) = every (settled followed rows) ls
+decided anything followed consumed rows at_end = nat_lt 0 (followed + consumed)
 
--- the guards of a rule are decided, where so many bytes follow it that are eaten
+-- the guards of a rule are decided, where so many bytes follow it that are consumed
 unfoldable pub Local : After → ℕ → {a : Sort} → Rule a → Type 0
-unfolding decided eats firsts needs needs_inside
-Local k followed (here c r) = (decided k followed (eats r) (firsts r) c ≡ true) × Local k followed r
+unfolding decided consumes firsts needs needs_inside
+Local k followed (here c r) = (decided k followed (consumes r) (firsts r) c ≡ true) × Local k followed r
 Local k followed (◌>>=◌ {a = a} r f) =
-    Local k (followed + eats (f (some_value a))) r × ((v : Value a) → Local k followed (f v))
+    Local k (followed + consumes (f (some_value a))) r × ((v : Value a) → Local k followed (f v))
 Local k followed (r or q) = Local k followed r × Local k followed q
 Local k followed (call n) = nat_lt followed (asks k n) ≡ false
 Local k followed (entering r) = Local k followed r
@@ -359,7 +360,7 @@ others_clash l x cs n (row ∷ table) f h =
 
 pub fine_texts : {a : Sort} {A : Type 0} (floor : ℕ) (table : List (List ℕ × A)) (f : A → Rule a)
     → apart_texts table ≡ true → some_bytes table ≡ true → ((x : A) → Fine ranks (f x)) → Fine floor (text_and table f)
-unfolding Fine Even exclude firsts firsts_by eats
+unfolding Fine Even exclude firsts firsts_by consumes
 fine_texts floor [] f h k go = tt
 fine_texts floor (row ∷ table) f h k go =
     let parts : (every (λ other. differ row.0 other.0) table ≡ true) × (apart_texts table ≡ true) = both_if _ _ h in
@@ -369,7 +370,7 @@ fine_texts floor (row ∷ table) f h k go =
       (
         tt,
         λ _. subst (λ t. Fine (cond t ranks floor) (f row.1)) (sym some.0) (go row.1),
-        λ _. le-ltb (eats (f row.1)) (eats (f row.1)) (omega arith),
+        λ _. le-ltb (consumes (f row.1)) (consumes (f row.1)) (omega arith),
       ),
       fine_texts floor table f parts.1 some.1 go,
     )
@@ -448,11 +449,11 @@ none_below n = le-ltb n 0 (omega arith)
 unfoldable pub Checked : {a : Sort} → Production a → Type 0
 unfolding Fine Local
 Checked n =
-    Fine (rank n) (grammar n) × (nat_lt (rank n) ranks ≡ true) × (nat_lt (eats (grammar n)) (eater n) ≡ false)
+    Fine (rank n) (grammar n) × (nat_lt (rank n) ranks ≡ true) × (nat_lt (consumes (grammar n)) (consumer n) ≡ false)
     × Local anything (needs n) (grammar n) × Local others (needs_inside n) (grammar n)
 
 pub checked : {a : Sort} (n : Production a) → Checked n
-unfolding Checked grammar rank eater needs needs_inside
+unfolding Checked grammar rank consumer needs needs_inside
 checked (guard_index true) = search
 checked (guard_index false) = search
 checked (unsigned (pos n)) = search
@@ -480,21 +481,21 @@ checked (type_after q (points mark on_pointer)) = search
 checked (type_after q arrayed) = search
 checked (type_after q indexed) = search
 checked (type_after q (referred i)) = search
-checked (type_form q form.Enumeration) = search
-checked (type_form q form.ReferenceToFunction) = search
-checked (type_form q form.PointerToFunction) = search
-checked (type_form q form.QualifiedMemberPointer) = search
-checked (type_form q form.Constant) = search
-checked (type_form q form.TemplateParameter) = search
-checked (type_form q form.Array) = search
-checked (type_form q form.RValueReference) = search
-checked (type_form q form.EmptyPack) = search
-checked (type_form q form.Nullptr) = search
-checked (type_form q form.Function) = search
-checked (type_form q form.QualifiedFunction) = search
-checked (type_form q form.Alias) = search
-checked (type_form q form.Requalified) = search
-checked (type_form q form.MemberPointer) = search
+checked (prefixed_type q form.Enumeration) = search
+checked (prefixed_type q form.ReferenceToFunction) = search
+checked (prefixed_type q form.PointerToFunction) = search
+checked (prefixed_type q form.QualifiedMemberPointer) = search
+checked (prefixed_type q form.Constant) = search
+checked (prefixed_type q form.TemplateParameter) = search
+checked (prefixed_type q form.Array) = search
+checked (prefixed_type q form.RValueReference) = search
+checked (prefixed_type q form.EmptyPack) = search
+checked (prefixed_type q form.Nullptr) = search
+checked (prefixed_type q form.Function) = search
+checked (prefixed_type q form.QualifiedFunction) = search
+checked (prefixed_type q form.Alias) = search
+checked (prefixed_type q form.CvQualified) = search
+checked (prefixed_type q form.MemberPointer) = search
 checked (function_type true) = search depth 20
 checked (function_type false) = search depth 20
 checked (class_part true) = search
@@ -507,14 +508,14 @@ checked (lengths (suc n)) = search
 checked (plain_type q) = search none_below
 checked (unqualified_name true) = search
 checked (unqualified_name false) = search
-checked (any_type q) = (
-  fine_text_or 1 type_texts (λ f. call (type_form q f))
+checked (type_ q) = (
+  fine_text_or 1 type_texts (λ f. call (prefixed_type q f))
       (literal_or (codes "$") (call (plain_type q)) (call (plain_type q)))
       no_text_begins_another refl (λ f. refl) search,
   refl,
   refl,
-  (local_texts anything 0 type_texts (λ f. call (type_form q f)) (λ f. refl), search),
-  (local_texts others 0 type_texts (λ f. call (type_form q f)) (λ f. refl), search),
+  (local_texts anything 0 type_texts (λ f. call (prefixed_type q f)) (λ f. refl), search),
+  (local_texts others 0 type_texts (λ f. call (prefixed_type q f)) (λ f. refl), search),
 )
 checked special_name = (
   fine_texts 0 special_texts (λ f. call (special_after f)) no_code_begins_another refl (λ f. refl),
@@ -539,16 +540,16 @@ pub rank_small : {a : Sort} (n : Production a) → nat_lt (rank n) ranks ≡ tru
 unfolding Checked
 rank_small n = (checked n).1
 
-pub eaters : {a : Sort} (n : Production a) → nat_lt (eats (grammar n)) (eater n) ≡ false
+pub consumers : {a : Sort} (n : Production a) → nat_lt (consumes (grammar n)) (consumer n) ≡ false
 unfolding Checked
-eaters n = (checked n).2
+consumers n = (checked n).2
 
 -- the same bytes after decide each guard as before
 pub same_local : {a : Sort} (r : Rule a) (followed : ℕ) → Local the_same followed r
 unfolding Local decided
 same_local (here c r) followed = (refl, same_local r followed)
 same_local (◌>>=◌ {a = a} r f) followed =
-    (same_local r (followed + eats (f (some_value a))), λ v. same_local (f v) followed)
+    (same_local r (followed + consumes (f (some_value a))), λ v. same_local (f v) followed)
 same_local (r or q) followed = (same_local r followed, same_local q followed)
 same_local (call n) followed = none_below followed
 same_local (entering r) followed = same_local r followed

@@ -14,7 +14,7 @@ use Rattle.msvc_grammar.specs.Reads.{entered_by}
 use Rattle.msvc_grammar.specs.Reads.{nodes_of_name, nodes_of_type, put_apart, read_by, read_name, read, ranks}
 use Rattle.msvc_grammar.specs.Rules.{Production, every, after, Rule, call}
 use Rattle.msvc_grammar.proofs.Soundness.{IfFound, Derived, read-sound}
-use Rattle.msvc_grammar.proofs.Checks.{rank, Fine, fine, eats}
+use Rattle.msvc_grammar.proofs.Checks.{rank, Fine, fine, consumes}
 use Rattle.msvc_grammar.proofs.FirstSets.{exclude-never, after-text}
 use Rattle.msvc_grammar.proofs.CountsMonotone.{allowed_before, count_if, uncounted_allowed}
 use Rattle.msvc_grammar.proofs.FuelIndependence.{read_name-is}
@@ -57,7 +57,7 @@ complete (where_it_holds {r = r} {left = left} {s = s} e h) floor f ok =
     ap (λ z. cond z (read r left s) None) e ∙ complete h floor f ok
 complete (in_a_row {r = r} {f = g} {v = v} h k) floor f ok =
     ap (λ o. and_then o (λ x. read (g x))) (complete h floor f.0 (allowed_before k ok))
-    ∙ complete k (cond (nat_lt 0 (eats r)) ranks floor) (f.1 v) ok
+    ∙ complete k (cond (nat_lt 0 (consumes r)) ranks floor) (f.1 v) ok
 complete (the_first {r = r} {q = q} {left = left} {s = s} h) floor f ok =
     ap (λ o. or_else o (read q left s)) (complete h floor f.1 ok)
 complete (the_second {r = r} {q = q} {left = left} {s = s} h) floor f ok =

@@ -16,7 +16,7 @@ use Rattle.msvc_grammar.specs.Rules.{Rule}
 
 -- the second count has the weight and the limit of the first, and no fewer nodes
 abbrev pub Rises : Count → Count → Type 0
-Rises c d = (d.weight ≡ c.weight) × (d.most ≡ c.most) × (c.made ≤ d.made)
+Rises c d = (d.weight ≡ c.weight) × (d.max ≡ c.max) × (c.used ≤ d.used)
 
 stays : (c : Count) → Rises c c
 stays c = (refl, refl, omega arith)
@@ -59,11 +59,11 @@ rises (entered {v = v} {left = left} {rest = rest} {s = s} {t = t} d) =
 rises (set_apart d) = rises d
 
 allowed_below : (c d : Count) → Rises c d → is_allowed d ≡ true → is_allowed c ≡ true
-allowed_below c d h ok = go (nat_lt d.most d.made) refl ok
+allowed_below c d h ok = go (nat_lt d.max d.used) refl ok
   where
-    go : (t : Bool) → nat_lt d.most d.made ≡ t → not t ≡ true → is_allowed c ≡ true
+    go : (t : Bool) → nat_lt d.max d.used ≡ t → not t ≡ true → is_allowed c ≡ true
     go true e k = absurd (cc)
-    go false e k = ap not (le-ltb c.most c.made (omega (arith, h.1, h.2, ltb-false d.most d.made e)))
+    go false e k = ap not (le-ltb c.max c.used (omega (arith, h.1, h.2, ltb-false d.max d.used e)))
 
 -- where the count after is allowed, so is the one before
 pub allowed_before : {a : Sort} {r : Rule a} {left : List ℕ} {s : State} {v : Value a} {rest : List ℕ} {t : State}

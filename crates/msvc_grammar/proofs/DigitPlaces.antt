@@ -9,17 +9,17 @@ use Rattle.msvc_grammar.specs.Sorts.{referred, variable_of, table_of, type_infor
 use Rattle.msvc_grammar.specs.Sorts.{virtual_call, plain_function, member_of}
 use Rattle.msvc_grammar.specs.Rules.{Production, guard_index, unsigned, encoding_after, characters, thunk_number}
 use Rattle.msvc_grammar.specs.Rules.{this_qualifiers, returned, required}
-use Rattle.msvc_grammar.specs.Rules.{function_parameters, parameters, parameter, any_type, type_after, positive, lengths}
+use Rattle.msvc_grammar.specs.Rules.{function_parameters, parameters, parameter, type_, type_after, positive, lengths}
 use Rattle.msvc_grammar.specs.Rules.{plain_type, Condition, none_of, at_end, every, some_of, Rule, letter, literal, up_to}
 use Rattle.msvc_grammar.specs.Rules.{here, ◌>>=◌, ◌or◌, call}
-use Rattle.msvc_grammar.specs.Rules.{noted, entering, apart, node, begins_of, type_form, function_type, class_part}
+use Rattle.msvc_grammar.specs.Rules.{noted, entering, apart, node, begins_of, prefixed_type, function_type, class_part}
 use Rattle.msvc_grammar.specs.Rules.{special_name}
 use Rattle.msvc_grammar.specs.Rules.{special_after, unqualified_name, text_and}
 use Rattle.msvc_grammar.specs.Grammar.{grammar}
 use Rattle.msvc_grammar.specs.Letters.{type_texts, special_texts}
 use Rattle.msvc_grammar.specs.declared.forms.SpecialForm.TheVariants as special
-use Rattle.msvc_grammar.specs.declared.forms.TypeForm.TheVariants as form
-use Rattle.msvc_grammar.proofs.Checks.{some_value, least, eats, eater, differ, bars, others, needs_inside, Local}
+use Rattle.msvc_grammar.specs.declared.forms.TypePrefix.TheVariants as form
+use Rattle.msvc_grammar.proofs.Checks.{some_value, least, consumes, consumer, differ, bars, others, needs_inside, Local}
 
 -- How many bytes a rule reads at least before a digit that it notes
 
@@ -32,9 +32,9 @@ runs_up _ = 1
 
 -- as many as one likes where it notes none
 unfoldable pub ahead : {a : Sort} → Rule a → ℕ
-unfolding eats runs_up
+unfolding consumes runs_up
 ahead (here c r) = ahead r
-ahead (◌>>=◌ {a = a} r f) = least (ahead r) (eats r + ahead (f (some_value a)))
+ahead (◌>>=◌ {a = a} r f) = least (ahead r) (consumes r + ahead (f (some_value a)))
 ahead (r or q) = least (ahead r) (ahead q)
 ahead (call n) = runs_up n
 ahead (noted table) = 0
@@ -78,7 +78,7 @@ misses l r = misses_by (λ b m. misses_within 3 l m) l r
 -- Whether a text that stands where the rule begins ends before a digit that the rule notes, or goes on there with a
 -- byte that no type of more than one byte begins with.
 unfoldable pub clear_by : (List ℕ → (b : Sort) → Production b → Bool) → List ℕ → {a : Sort} → Rule a → Bool
-unfolding ahead eats runs_up misses
+unfolding ahead consumes runs_up misses
 clear_by calls l (here c r) = if bars l c then true else clear_by calls l r
 clear_by calls l ((literal m) >>= f) =
     if differ m l then true else clear_by calls (drop (length m) l) (f tt)
@@ -86,7 +86,7 @@ clear_by calls l ((letter a table) >>= f) =
     every (λ row. if differ (row.0 ∷ []) l then true else clear_by calls (drop 1 l) (f row.1)) table
 clear_by calls l (◌>>=◌ {a = a} r f) =
     if clear_by calls l r
-    then (if misses l r then true else every (is_in stops) (drop (eats r + ahead (f (some_value a))) l))
+    then (if misses l r then true else every (is_in stops) (drop (consumes r + ahead (f (some_value a))) l))
     else false
 clear_by calls l (r or q) = if clear_by calls l r then clear_by calls l q else false
 clear_by calls l (call n) = if every (is_in stops) (drop (runs_up n) l) then true else calls l _ n
@@ -111,7 +111,7 @@ keeps at_end r = true
 
 -- what is read where a noted digit was written out: a type, which enters the table
 abbrev pub instead : List (ℕ × ℕ) → Rule type_tree
-instead table = here (none_of (begins_of table)) (entering (call (any_type 0)))
+instead table = here (none_of (begins_of table)) (entering (call (type_ 0)))
 
 -- a digit is noted beside what is read in its place; of another rule this is asked
 unfoldable pub Beside : {a : Sort} → Type 0 → Rule a → Rule a → Type 0
@@ -121,14 +121,14 @@ Beside asked r q = asked
 -- A digit is noted beside what is read in its place, and nowhere else; and what stands before it is read again,
 -- whatever stands in its place.
 unfoldable pub Placed : {a : Sort} → Rule a → Type 0
-unfolding ahead keeps Local eats Beside
+unfolding ahead keeps Local consumes Beside
 Placed (here c r) = (keeps c r ≡ true) × Placed r
 Placed (◌>>=◌ {a = a} r f) =
     Placed r × ((v : Value a) → Placed (f v)) × Local others (ahead (f (some_value a))) r
     × ((v : Value a) → nat_lt (ahead (f v)) (ahead (f (some_value a))) ≡ false)
 Placed (r or q) = Beside (Placed r) r q × Placed q
 Placed (noted table) = ⊥
-Placed (entering r) = r ≡ call (any_type 0)
+Placed (entering r) = r ≡ call (type_ 0)
 Placed (apart r) = Placed r
 Placed (node r) = Placed r
 Placed _ = Unit {0}
@@ -150,7 +150,7 @@ placed_texts (row ∷ table) f go = (
 )
 
 pub well_placed : {a : Sort} (n : Production a) → WellPlaced n
-unfolding WellPlaced Placed Beside grammar runs_up eater needs_inside
+unfolding WellPlaced Placed Beside grammar runs_up consumer needs_inside
 well_placed (guard_index true) = search depth 12
 well_placed (guard_index false) = search depth 12
 well_placed (unsigned (pos n)) = search depth 12
@@ -178,21 +178,21 @@ well_placed (type_after q (points mark on_pointer)) = search depth 12
 well_placed (type_after q arrayed) = search depth 12
 well_placed (type_after q indexed) = search depth 12
 well_placed (type_after q (referred i)) = search depth 12
-well_placed (type_form q form.Enumeration) = search depth 12
-well_placed (type_form q form.ReferenceToFunction) = search depth 12
-well_placed (type_form q form.PointerToFunction) = search depth 12
-well_placed (type_form q form.QualifiedMemberPointer) = search depth 12
-well_placed (type_form q form.Constant) = search depth 12
-well_placed (type_form q form.TemplateParameter) = search depth 12
-well_placed (type_form q form.Array) = search depth 12
-well_placed (type_form q form.RValueReference) = search depth 12
-well_placed (type_form q form.EmptyPack) = search depth 12
-well_placed (type_form q form.Nullptr) = search depth 12
-well_placed (type_form q form.Function) = search depth 12
-well_placed (type_form q form.QualifiedFunction) = search depth 12
-well_placed (type_form q form.Alias) = search depth 12
-well_placed (type_form q form.Requalified) = search depth 12
-well_placed (type_form q form.MemberPointer) = search depth 12
+well_placed (prefixed_type q form.Enumeration) = search depth 12
+well_placed (prefixed_type q form.ReferenceToFunction) = search depth 12
+well_placed (prefixed_type q form.PointerToFunction) = search depth 12
+well_placed (prefixed_type q form.QualifiedMemberPointer) = search depth 12
+well_placed (prefixed_type q form.Constant) = search depth 12
+well_placed (prefixed_type q form.TemplateParameter) = search depth 12
+well_placed (prefixed_type q form.Array) = search depth 12
+well_placed (prefixed_type q form.RValueReference) = search depth 12
+well_placed (prefixed_type q form.EmptyPack) = search depth 12
+well_placed (prefixed_type q form.Nullptr) = search depth 12
+well_placed (prefixed_type q form.Function) = search depth 12
+well_placed (prefixed_type q form.QualifiedFunction) = search depth 12
+well_placed (prefixed_type q form.Alias) = search depth 12
+well_placed (prefixed_type q form.CvQualified) = search depth 12
+well_placed (prefixed_type q form.MemberPointer) = search depth 12
 well_placed (function_type true) = search depth 12
 well_placed (function_type false) = search depth 12
 well_placed (class_part true) = search depth 12
@@ -205,7 +205,7 @@ well_placed (lengths (suc n)) = search depth 12
 well_placed (plain_type q) = search depth 12
 well_placed (unqualified_name true) = search depth 12
 well_placed (unqualified_name false) = search depth 12
-well_placed (any_type q) = ((placed_texts type_texts (λ f. call (type_form q f)) (λ f. tt), search), refl)
+well_placed (type_ q) = ((placed_texts type_texts (λ f. call (prefixed_type q f)) (λ f. tt), search), refl)
 well_placed special_name = (placed_texts special_texts (λ f. call (special_after f)) (λ f. tt), refl)
 well_placed (special_after (special.Plain o)) = search depth 12
 well_placed (special_after (special.Guard kind)) = search depth 12

@@ -14,7 +14,7 @@ use Rattle.msvc_grammar.specs.State.{remember_type}
 use Rattle.msvc_grammar.specs.Reads.{enter, note_digit, put_back, Reads, given, a_letter, a_literal, a_part}
 use Rattle.msvc_grammar.specs.Reads.{where_it_holds, in_a_row, the_first, the_second, called, a_known_name, remembered}
 use Rattle.msvc_grammar.specs.Reads.{a_known_type, a_node, a_noted_type, entered, nodes_of_type, set_apart}
-use Rattle.msvc_grammar.specs.Rules.{any_type, Rule, call}
+use Rattle.msvc_grammar.specs.Rules.{type_, Rule, call}
 use Rattle.msvc_grammar.proofs.Progress.{IsTail, tail, tail_of_tail}
 use Rattle.msvc_grammar.proofs.Locality.{later-refl, later-trans, later-type, grows}
 use Rattle.msvc_grammar.proofs.DigitPlaces.{Placed, Beside, placed}
@@ -34,7 +34,7 @@ pub record Source (text : List ℕ) (e : Entry) : Type 0 where
   pub long : 1 < length span
   pub found : State
   pub left : State
-  pub read : Reads type_tree (call (any_type 0)) (span ++ rest) found e.entered rest left
+  pub read : Reads type_tree (call (type_ 0)) (span ++ rest) found e.entered rest left
 
 -- an entry of these tables, which are later than those that it entered
 abbrev pub From : List ℕ → Entry → State → Type 0
@@ -100,15 +100,15 @@ kept text s t h later same i e k = from_later text e s t (h i e (sym (same i) �
 
 -- what was read enters with its places
 new_source : (text left rest : List ℕ) (s t : State) (v : TypeTree) → Within text left s
-    → Reads _ (call (any_type 0)) left s v rest t → 1 < length left - length rest
+    → Reads _ (call (type_ 0)) left s v rest t → 1 < length left - length rest
     → Source text (span_of v left rest t)
 new_source text left rest s t v within d long =
-    let eaten : IsTail left rest = tail d in
+    let consumed : IsTail left rest = tail d in
     record {
       before = within.1.0;
-      span = eaten.0;
+      span = consumed.0;
       rest = rest;
-      stands = within.1.1 ∙ ap (λ z. within.1.0 ++ z) eaten.1;
+      stands = within.1.1 ∙ ap (λ z. within.1.0 ++ z) consumed.1;
       starts = omega (arith, whole_same d, within.0, ap length within.1.1, length-append within.1.0 left);
       ends =
           omega (
@@ -117,17 +117,17 @@ new_source text left rest s t v within d long =
             within.0,
             ap length within.1.1,
             length-append within.1.0 left,
-            ap length eaten.1,
-            length-append eaten.0 rest,
+            ap length consumed.1,
+            length-append consumed.0 rest,
           );
-      long = omega (arith, long, ap length eaten.1, length-append eaten.0 rest);
+      long = omega (arith, long, ap length consumed.1, length-append consumed.0 rest);
       found = s;
       left = t;
-      read = subst (λ z. Reads _ (call (any_type 0)) z s v rest t) eaten.1 d;
+      read = subst (λ z. Reads _ (call (type_ 0)) z s v rest t) consumed.1 d;
     }
 
 with_new : (text left rest : List ℕ) (s t : State) (v : TypeTree) → Within text left s
-    → Reads _ (call (any_type 0)) left s v rest t → Sourced text t → Sourced text (enter v left rest t)
+    → Reads _ (call (type_ 0)) left s v rest t → Sourced text t → Sourced text (enter v left rest t)
 unfolding new_source
 with_new text left rest s t v within d h = go (nat_lt 1 (length left - length rest)) refl
   where
@@ -148,10 +148,10 @@ with_new text left rest s t v within d h = go (nat_lt 1 (length left - length re
     go false long = h
 
 type_read : {r : Rule type_tree} {left : List ℕ} {s : State} {v : TypeTree} {rest : List ℕ} {t : State}
-    → r ≡ call (any_type 0) → Reads _ r left s v rest t → Reads _ (call (any_type 0)) left s v rest t
+    → r ≡ call (type_ 0) → Reads _ r left s v rest t → Reads _ (call (type_ 0)) left s v rest t
 type_read {left = left} {s = s} {v = v} {rest = rest} {t = t} e d = subst (λ q. Reads _ q left s v rest t) e d
 
-pub type_placed : {r : Rule type_tree} → r ≡ call (any_type 0) → Placed r
+pub type_placed : {r : Rule type_tree} → r ≡ call (type_ 0) → Placed r
 unfolding Placed
 type_placed e = subst (λ (q : Rule type_tree). Placed q) (sym e) tt
 

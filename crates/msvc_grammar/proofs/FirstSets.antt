@@ -13,7 +13,7 @@ use Rattle.msvc_grammar.specs.Reads.{Reads, given, a_letter, a_literal, a_part, 
 use Rattle.msvc_grammar.specs.Reads.{a_node, the_second, called, a_known_name, remembered, a_known_type, a_noted_type}
 use Rattle.msvc_grammar.specs.Reads.{entered}
 use Rattle.msvc_grammar.specs.Reads.{set_apart, ranks}
-use Rattle.msvc_grammar.proofs.Checks.{some_value, rank, Row, Fine, Even, fine, eats, eater, firsts, firsts_by}
+use Rattle.msvc_grammar.proofs.Checks.{some_value, rank, Row, Fine, Even, fine, consumes, consumer, firsts, firsts_by}
 use Rattle.msvc_grammar.proofs.Checks.{firsts_within, differ, is_prefix, bars, clash, exclude, settled, decided, After}
 use Rattle.msvc_grammar.proofs.Checks.{the_same, others, anything}
 use Rattle.msvc_grammar.proofs.Progress.{Less, shorter}
@@ -145,7 +145,7 @@ prefix-begins (a ∷ m) (b ∷ l) (x ∷ left) d h =
 
 -- Rows
 
--- a row that p says yes of, that stands at the bytes left, and whose count of bytes was eaten
+-- a row that p says yes of, that stands at the bytes left, and whose count of bytes was consumed
 abbrev pub First : (Row → Bool) → List ℕ → List ℕ → Type 0
 First p left rest =
     (row : Row) × (p row ≡ true) × (begins left row.0 ≡ true) × (every (λ c. holds c left) row.1 ≡ true)
@@ -176,7 +176,7 @@ letter-begins b rest = both-begins b b rest [] (eq-eqb b b refl) refl
 pub first_of : {a : Sort} {r : Rule a} {left : List ℕ} {s : State} {v : Value a} {rest : List ℕ} {t : State}
     → Reads a r left s v rest t → (floor : ℕ) → Fine floor r → (k : ℕ) (p : Row → Bool)
     → every p (firsts_by (λ b m. firsts_within k m) r) ≡ true → First p left rest
-unfolding firsts_by firsts_within Fine eats Even
+unfolding firsts_by firsts_within Fine consumes Even
 first_of (a_letter {table = table} {b = b} {v = v} {rest = rest} e) floor f k p h =
     ((b ∷ [], [], 1), of_letter p (λ _. 1) table b v e h, letter-begins b rest, refl, omega arith)
 first_of (a_literal {l = l} {left = left} {rest = rest} e) floor f k p h = (
@@ -194,8 +194,8 @@ first_of (where_it_holds {c = c} {r = r} {left = left} e d) floor f k p h =
     (every-map p (λ row. (row.0, c ∷ row.1, row.2)) (firsts_by (λ b m. firsts_within k m) r) h) in
     ((first.0.0, c ∷ first.0.1, first.0.2), first.1, first.2, both_if (holds c left) _ e first.3, first.4)
 first_of (in_a_row {f = g} (a_letter {table = table} {b = b} {v = v} {rest = l} e) d) floor f k p h = (
-  (b ∷ [], [], 1 + eats (g v)),
-  of_letter p (λ x. 1 + eats (g x)) table b v e h,
+  (b ∷ [], [], 1 + consumes (g v)),
+  of_letter p (λ x. 1 + consumes (g x)) table b v e h,
   letter-begins b l,
   refl,
   omega (arith, shorter d ranks (f.1 v)),
@@ -211,19 +211,19 @@ first_of (in_a_row {f = g} {rest = rest} (a_literal {l = m} {left = left} {rest 
       omega (arith, first.4, ap length e, length-append m l),
     )
 first_of (in_a_row {a = a} {r = r} {f = g} {v = v} {left = left} {l = l} c d) floor f k p h =
-    let first : First (λ row. p (row.0, row.1, row.2 + eats (g (some_value a)))) left l =
-    first_of c floor f.0 k (λ row. p (row.0, row.1, row.2 + eats (g (some_value a))))
-    (every-map p (λ row. (row.0, row.1, row.2 + eats (g (some_value a))))
+    let first : First (λ row. p (row.0, row.1, row.2 + consumes (g (some_value a)))) left l =
+    first_of c floor f.0 k (λ row. p (row.0, row.1, row.2 + consumes (g (some_value a))))
+    (every-map p (λ row. (row.0, row.1, row.2 + consumes (g (some_value a))))
     (firsts_by (λ b m. firsts_within k m) r) h) in (
-      (first.0.0, first.0.1, first.0.2 + eats (g (some_value a))),
+      (first.0.0, first.0.1, first.0.2 + consumes (g (some_value a))),
       first.1,
       first.2,
       first.3,
       omega (
         arith,
         first.4,
-        shorter d (cond (nat_lt 0 (eats r)) ranks floor) (f.1 v),
-        ltb-false (eats (g v)) (eats (g (some_value a))) (f.2 v),
+        shorter d (cond (nat_lt 0 (consumes r)) ranks floor) (f.1 v),
+        ltb-false (consumes (g v)) (consumes (g (some_value a))) (f.2 v),
       ),
     )
 first_of (the_first {r = r} {q = q} d) floor f k p h =
@@ -233,7 +233,7 @@ first_of (the_second {r = r} {q = q} d) floor f k p h =
     first_of d floor f.2 k p
     (every-both p (firsts_by (λ b m. firsts_within k m) r) (firsts_by (λ b m. firsts_within k m) q) h).1
 first_of (called {n = n} d) floor f zero p h =
-    (([], [], eater n), single p ([], [], eater n) h, refl, refl, shorter (called {n = n} d) floor f)
+    (([], [], consumer n), single p ([], [], consumer n) h, refl, refl, shorter (called {n = n} d) floor f)
 first_of (called {n = n} d) floor f (suc k) p h = first_of d (rank n) (fine n) k p h
 first_of (a_noted_type {table = table} {b = b} {i = i} {rest = rest} e d) floor f k p h =
     ((b ∷ [], [], 1), of_letter p (λ _. 1) table b i e h, letter-begins b rest, refl, omega arith)
@@ -323,7 +323,7 @@ Follows anything w w' = Unit {0}
 
 pub holds_same : {a : Sort} {r : Rule a} {left rest : List ℕ} {s t : State} {v : Value a} (k : After) (c : Condition)
     (followed floor : ℕ) (w w' : List ℕ) → Follows k w w'
-    → decided k followed (eats r) (firsts r) c ≡ true → followed ≤ length rest → Fine floor r
+    → decided k followed (consumes r) (firsts r) c ≡ true → followed ≤ length rest → Fine floor r
     → Reads a r left s v rest t
     → holds c (left ++ w) ≡ true → holds c (left ++ w') ≡ true
 unfolding decided settled firsts
@@ -341,5 +341,5 @@ holds_same {left = left} {rest = rest} anything (none_of ls) followed floor w w'
     (λ l e b. settled_same l followed left rest w w' some (first_of h floor f 3 _ e) b) d) k
 holds_same {r = r} {left = left} anything at_end followed floor w w' whatever d some f h k =
     let clash : true ≡ false =
-    sym k ∙ nil_more left w (omega (arith, some, shorter h floor f, ltb-true 0 (followed + eats r) d)) in
+    sym k ∙ nil_more left w (omega (arith, some, shorter h floor f, ltb-true 0 (followed + consumes r) d)) in
     absurd (cc)

@@ -11,7 +11,7 @@ use Rattle.msvc_grammar.specs.Rules.{Production, holds, Rule, here, ◌>>=◌, �
 use Rattle.msvc_grammar.specs.Grammar.{grammar}
 use Rattle.msvc_grammar.proofs.Soundness.{IfFound, Derived, Sound, sound_by, within-sound, name-sound}
 use Rattle.msvc_grammar.proofs.Progress.{Less, shorter}
-use Rattle.msvc_grammar.proofs.Checks.{rank, depth, Fine, fine, eats, rank_small}
+use Rattle.msvc_grammar.proofs.Checks.{rank, depth, Fine, fine, consumes, rank_small}
 
 then_same : {A B : Type 0} (P : A × List ℕ × State → Type 0) (o p : Found A) (f g : A → List ℕ → State → Found B)
     → o ≡ p → IfFound P p
@@ -50,8 +50,8 @@ module _ (calls others : (b : Sort) → Production b → Reader b) (bound : ℕ)
   stable_by floor (r >>= g) left s f h =
       then_same (Derived r left s) (read_by calls r left s) (read_by others r left s) _ _
       (stable_by floor r left s f.0 h) (sound_by others sound r left s)
-      (λ x d. stable_by (cond (nat_lt 0 (eats r)) ranks floor) (g x.0) x.1 x.2 (f.1 x.0)
-      (floor_after (eats r) floor bound left x.1 h (shorter d floor f.0)))
+      (λ x d. stable_by (cond (nat_lt 0 (consumes r)) ranks floor) (g x.0) x.1 x.2 (f.1 x.0)
+      (floor_after (consumes r) floor bound left x.1 h (shorter d floor f.0)))
   stable_by floor (r or q) left s f h =
       ap (λ z. or_else z (read_by calls q left s)) (stable_by floor r left s f.1 h)
       ∙ ap (λ z. or_else (read_by others r left s) z) (stable_by floor q left s f.2 h)

@@ -14,7 +14,7 @@ use Rattle.msvc_grammar.specs.Grammar.{grammar, hashed_symbol, is_hash}
 use Rattle.msvc_grammar.specs.Letters.{hexadecimal_codes}
 use Rattle.msvc_nodes.specs.Trees.{md5_symbol}
 use Rattle.msvc_grammar.specs.Hashes.{HashesAreRead, HashesStand, hashed_text}
-use Rattle.msvc_grammar.specs.Refusals.{IsRefusedRightly}
+use Rattle.msvc_grammar.specs.Rejections.{IsRejectedRightly}
 use Rattle.msvc_grammar.specs.Reads.{Derives, Reads, a_literal, a_node, a_part, called, given, in_a_row, the_first}
 use Rattle.msvc_grammar.proofs.FirstSets.{both_if, if_both}
 use Rattle.msvc_grammar.proofs.Laws.{derived-only}
@@ -74,14 +74,14 @@ pub hashes-stand : (text : List ℕ) (tree : SymbolTree) (rest : List ℕ) (note
 hashes-stand text tree rest notes d digits remaining h same =
     (hash_only digits remaining h tree rest notes (subst (λ z. Derives z tree rest notes) same d)).0
 
--- a text that begins with a hash is refused for memory alone, if it is refused rightly
-pub hashes-read : (text : List ℕ) (e : ErrorRepr) → IsRefusedRightly text e → HashesAreRead text e
-hashes-read text e refused digits rest hash begins = go e refused
+-- a text that begins with a hash is rejected for memory alone, if it is rejected rightly
+pub hashes-read : (text : List ℕ) (e : ErrorRepr) → IsRejectedRightly text e → HashesAreRead text e
+hashes-read text e rejected digits rest hash begins = go e rejected
   where
     derived : Derives text (md5_symbol digits) rest []
     derived = subst (λ z. Derives z (md5_symbol digits) rest []) (sym begins) (hash_derived digits rest hash)
 
-    go : (e : ErrorRepr) → IsRefusedRightly text e → e ≡ error.Memory
+    go : (e : ErrorRepr) → IsRejectedRightly text e → e ≡ error.Memory
     go (error.ParseError message context at) h = absurd (h.1 (md5_symbol digits) rest [] derived)
     go error.Memory h = refl
     go (error.Other m) h = absurd h

@@ -26,9 +26,9 @@ symbol-derived text tree rest s e = (
 )
 
 -- where nothing is read, nothing is derived
-pub symbol-refused : (text : List ℕ) → read_name symbol text (beginning text) ≡ None
+pub symbol-rejected : (text : List ℕ) → read_name symbol text (beginning text) ≡ None
     → (tree : SymbolTree) (rest : List ℕ) (notes : List Note) → Derives text tree rest notes → ⊥
-symbol-refused text none tree rest notes d =
+symbol-rejected text none tree rest notes d =
     let some : read_name symbol text (beginning text) ≡ Some (tree, rest, d.0) =
     name-complete symbol text (beginning text) tree rest d.0 d.1 (uncounted_allowed d.1 refl) in absurd (cc)
 

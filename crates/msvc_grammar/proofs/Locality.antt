@@ -13,10 +13,10 @@ use Rattle.msvc_grammar.specs.Reads.{where_it_holds, in_a_row, the_first, the_se
 use Rattle.msvc_grammar.specs.Reads.{a_known_type, a_node, a_noted_type, entered, nodes_of_name, nodes_of_type, set_apart}
 use Rattle.msvc_grammar.specs.Reads.{ranks}
 use Rattle.msvc_nodes.specs.Equality.{same_type}
-use Rattle.msvc_grammar.specs.Rules.{any_type, known_type, holds, Rule}
+use Rattle.msvc_grammar.specs.Rules.{type_, known_type, holds, Rule}
 use Rattle.msvc_grammar.specs.Grammar.{grammar}
 use Rattle.msvc_grammar.proofs.Checks.{some_value, rank, After, anything, Local, locals, needs, asks, Fine, Even, fine}
-use Rattle.msvc_grammar.proofs.Checks.{eats, rank_small}
+use Rattle.msvc_grammar.proofs.Checks.{consumes, rank_small}
 use Rattle.msvc_grammar.proofs.Progress.{tail, shorter}
 use Rattle.msvc_grammar.proofs.PrefixClosed.{cut, before_cut, moved}
 use Rattle.msvc_grammar.proofs.FirstSets.{Follows, holds_same}
@@ -248,19 +248,19 @@ local (in_a_row {a = a} {r = r} {f = g} {v = v} {l = l} {rest = remaining} {s = 
     followed c left rest w w' y h k some m s' ready =
     let p : List ℕ = (tail e).0 in
     let middle : l ≡ (p ++ rest) ++ w = (tail e).1 ∙ ap (λ z. p ++ z) k ∙ sym (append_assoc p rest w) in
-    let less : length (rest ++ w) + eats (g (some_value a)) ≤ length l =
+    let less : length (rest ++ w) + consumes (g (some_value a)) ≤ length l =
     omega (
       arith,
-      shorter e (cond (nat_lt 0 (eats r)) ranks floor) (f.1 v),
-      ltb-false (eats (g v)) (eats (g (some_value a))) (f.2 v),
+      shorter e (cond (nat_lt 0 (consumes r)) ranks floor) (f.1 v),
+      ltb-false (consumes (g v)) (consumes (g (some_value a))) (f.2 v),
       ap length k,
     ) in
     let first : Again m r (left ++ w') ((p ++ rest) ++ w') v s t s' =
-    local d floor f.0 j (followed + eats (g (some_value a))) c.0 left (p ++ rest) w w' y h middle
-    (filled_next followed (eats (g (some_value a))) l rest w p some middle less) m s'
+    local d floor f.0 j (followed + consumes (g (some_value a))) c.0 left (p ++ rest) w w' y h middle
+    (filled_next followed (consumes (g (some_value a))) l rest w p some middle less) m s'
     (ready-first m s t u s' (grows e) ready) in
     let second : Again m (g v) ((p ++ rest) ++ w') (rest ++ w') _ t u first.0 =
-    local e (cond (nat_lt 0 (eats r)) ranks floor) (f.1 v) j followed (c.1 v)
+    local e (cond (nat_lt 0 (consumes r)) ranks floor) (f.1 v) j followed (c.1 v)
     (p ++ rest) rest w w' y middle k some m first.0 (ready-next m s t u s' first.0 ready first.2) in (
       second.0,
       in_a_row {t = first.0} {u = second.0} first.1 second.1,
@@ -339,5 +339,5 @@ local (set_apart {r = r} {v = v} {s = s} {t = t} d) floor f j followed c left re
 pub types-are-local : TypesAreLocal
 unfolding Fine Local needs
 types-are-local q left rest s v t d others later goes =
-    local d ranks (rank_small (any_type q)) anything 0 refl left [] rest others tt refl refl
+    local d ranks (rank_small (type_ q)) anything 0 refl left [] rest others tt refl refl
     (omega arith) true later goes

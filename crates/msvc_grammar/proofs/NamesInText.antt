@@ -24,11 +24,11 @@ use Rattle.msvc_grammar.specs.Rules.{Production, symbol_body, guard_index, unsig
 use Rattle.msvc_grammar.specs.Rules.{character}
 use Rattle.msvc_grammar.specs.Rules.{thunk_number, this_qualifiers, returned, special_name, special_after, required}
 use Rattle.msvc_grammar.specs.Rules.{text_and, call}
-use Rattle.msvc_grammar.specs.Rules.{any_type, type_after, array, positive, lengths, template_name, unqualified_name}
+use Rattle.msvc_grammar.specs.Rules.{type_, type_after, array, positive, lengths, template_name, unqualified_name}
 use Rattle.msvc_grammar.specs.Rules.{every, lookup, Rule, give, letter}
 use Rattle.msvc_grammar.specs.Rules.{literal, up_to, here, ◌>>=◌, ◌or◌, remember, node, noted, entering, apart}
-use Rattle.msvc_grammar.specs.Rules.{type_form, function_type, member_pointer, class_part}
-use Rattle.msvc_grammar.specs.declared.forms.TypeForm.TheVariants as form
+use Rattle.msvc_grammar.specs.Rules.{prefixed_type, function_type, member_pointer, class_part}
+use Rattle.msvc_grammar.specs.declared.forms.TypePrefix.TheVariants as form
 use Rattle.msvc_grammar.specs.declared.forms.SpecialForm.TheVariants as special
 use Rattle.msvc_grammar.specs.Grammar.{grammar, arrays, escaped_character, hashed_symbol, named_symbol, numbered_guard}
 use Rattle.msvc_grammar.specs.Grammar.{template_symbol, with_index}
@@ -60,7 +60,7 @@ module _ (P : List ℕ → Type 0) where
   In (both a b) v = In a v.0 × In b v.1
   In _ v = Unit {0}
 
-  -- what a rule gives has the names that it was given, and what it eats beside names is ASCII
+  -- what a rule gives has the names that it was given, and what it consumes beside names is ASCII
   unfoldable Gives : {a : Sort} → Rule a → Type 0
   Gives (give {a = a} v) = In a v
   Gives (letter a table) = (every (λ row. ascii row.0) table ≡ true) × Each (λ row. In a row.1) table
@@ -181,21 +181,21 @@ module _ (P : List ℕ → Type 0) where
   gives (unqualified_name true) = search depth 60
   gives (unqualified_name false) = search depth 60
   gives template_name = (tt, λ n h. (tt, λ ts k. (h, in-types ts k)))
-  gives (type_form q form.Enumeration) = (tt, λ n h. (h.0, in-names n.1 h.1))
-  gives (type_form q form.ReferenceToFunction) = search depth 60
-  gives (type_form q form.PointerToFunction) = search depth 60
-  gives (type_form q form.QualifiedMemberPointer) = search depth 60
-  gives (type_form q form.Constant) = search depth 60
-  gives (type_form q form.TemplateParameter) = search depth 60
-  gives (type_form q form.Array) = search depth 60
-  gives (type_form q form.RValueReference) = search depth 60
-  gives (type_form q form.EmptyPack) = search depth 60
-  gives (type_form q form.Nullptr) = search depth 60
-  gives (type_form q form.Function) = search depth 60
-  gives (type_form q form.QualifiedFunction) = search depth 60
-  gives (type_form q form.Alias) = (tt, λ n h. (h.0, in-names n.1 h.1))
-  gives (type_form q form.Requalified) = search depth 60
-  gives (type_form q form.MemberPointer) = search depth 60
+  gives (prefixed_type q form.Enumeration) = (tt, λ n h. (h.0, in-names n.1 h.1))
+  gives (prefixed_type q form.ReferenceToFunction) = search depth 60
+  gives (prefixed_type q form.PointerToFunction) = search depth 60
+  gives (prefixed_type q form.QualifiedMemberPointer) = search depth 60
+  gives (prefixed_type q form.Constant) = search depth 60
+  gives (prefixed_type q form.TemplateParameter) = search depth 60
+  gives (prefixed_type q form.Array) = search depth 60
+  gives (prefixed_type q form.RValueReference) = search depth 60
+  gives (prefixed_type q form.EmptyPack) = search depth 60
+  gives (prefixed_type q form.Nullptr) = search depth 60
+  gives (prefixed_type q form.Function) = search depth 60
+  gives (prefixed_type q form.QualifiedFunction) = search depth 60
+  gives (prefixed_type q form.Alias) = (tt, λ n h. (h.0, in-names n.1 h.1))
+  gives (prefixed_type q form.CvQualified) = search depth 60
+  gives (prefixed_type q form.MemberPointer) = search depth 60
   gives (function_type bare) =
       (tt, λ _ _. (search, λ _ _. (search depth 60, λ _ _. (tt, λ t h. (tt, λ ts k. (in-types ts k, h))))))
   gives (member_pointer qualified) = (
@@ -213,7 +213,7 @@ module _ (P : List ℕ → Type 0) where
   )
   gives (class_part true) = search depth 60
   gives (class_part false) = search depth 60
-  gives (any_type q) = search depth 200
+  gives (type_ q) = search depth 200
   gives array = search in-arrays depth 60
   gives _ = search depth 60
 

@@ -153,42 +153,42 @@ read_name-allowed n left s v rest t e ok =
     if_is Allowed (read_name n left s) (v, rest, t) e (name-allowed _ n left s ok)
 
 -- before anything is read, there are no nodes too many
-pub none_allowed : (most : ℕ) → is_allowed (at_most most) ≡ true
-none_allowed most = ap not (le-ltb most 0 (omega arith))
+pub none_allowed : (max : ℕ) → is_allowed (at_most max) ≡ true
+none_allowed max = ap not (le-ltb max 0 (omega arith))
 
 -- as many nodes are allowed as may be
-pub allowed_most : (most n : ℕ) → is_allowed (more n (at_most most)) ≡ true → n ≤ most
-allowed_most most n ok = go (nat_lt most (0 + n)) refl ok
+pub allowed_most : (max n : ℕ) → is_allowed (more n (at_most max)) ≡ true → n ≤ max
+allowed_most max n ok = go (nat_lt max (0 + n)) refl ok
   where
-    go : (t : Bool) → nat_lt most (0 + n) ≡ t → not t ≡ true → n ≤ most
+    go : (t : Bool) → nat_lt max (0 + n) ≡ t → not t ≡ true → n ≤ max
     go true e k = absurd (cc)
-    go false e k = omega (arith, ltb-false most (0 + n) e)
+    go false e k = omega (arith, ltb-false max (0 + n) e)
 
 -- what is read within a limit is derived, and has no more nodes
-pub within_derived : (text : List ℕ) (most : ℕ) (tree : SymbolTree) (rest : List ℕ) (s : State)
-    → read_name symbol text (beginning_with (at_most most) text) ≡ Some (tree, rest, s)
-    → Derives text tree rest s.notes × (node_count tree ≤ most)
-within_derived text most tree rest s e =
-    let start : State = beginning_with (at_most most) text in
+pub within_derived : (text : List ℕ) (max : ℕ) (tree : SymbolTree) (rest : List ℕ) (s : State)
+    → read_name symbol text (beginning_with (at_most max) text) ≡ Some (tree, rest, s)
+    → Derives text tree rest s.notes × (node_count tree ≤ max)
+within_derived text max tree rest s e =
+    let start : State = beginning_with (at_most max) text in
     let derived : Reads _ (call symbol) text start tree rest s =
     if_is (Derived (call symbol) text start) (read_name symbol text start) (tree, rest, s) e
     (name-sound _ symbol text start) in
     let free = recounted derived uncounted in
-    let ok : is_allowed s.count ≡ true = read_name-allowed symbol text start tree rest s e (none_allowed most) in (
+    let ok : is_allowed s.count ≡ true = read_name-allowed symbol text start tree rest s e (none_allowed max) in (
       (with_count free.0 s, free.1, refl),
-      allowed_most most (node_count tree) (ap is_allowed (sym (symbol_counts derived)) ∙ ok),
+      allowed_most max (node_count tree) (ap is_allowed (sym (symbol_counts derived)) ∙ ok),
     )
 
 -- where nothing is read within a limit, whatever is derived has more nodes
-pub within_refused : (text : List ℕ) (most : ℕ) → read_name symbol text (beginning_with (at_most most) text) ≡ None
-    → (tree : SymbolTree) (rest : List ℕ) (notes : List Note) → Derives text tree rest notes → most < node_count tree
-within_refused text most none tree rest notes d = go (nat_lt most (0 + node_count tree)) refl
+pub within_rejected : (text : List ℕ) (max : ℕ) → read_name symbol text (beginning_with (at_most max) text) ≡ None
+    → (tree : SymbolTree) (rest : List ℕ) (notes : List Note) → Derives text tree rest notes → max < node_count tree
+within_rejected text max none tree rest notes d = go (nat_lt max (0 + node_count tree)) refl
   where
-    go : (t : Bool) → nat_lt most (0 + node_count tree) ≡ t → most < node_count tree
-    go true e = omega (arith, ltb-true most (0 + node_count tree) e)
+    go : (t : Bool) → nat_lt max (0 + node_count tree) ≡ t → max < node_count tree
+    go true e = omega (arith, ltb-true max (0 + node_count tree) e)
     go false e =
-        let start : State = beginning_with (at_most most) text in
-        let limited = recounted d.1 (at_most most) in
+        let start : State = beginning_with (at_most max) text in
+        let limited = recounted d.1 (at_most max) in
         let ok : is_allowed limited.0 ≡ true = ap is_allowed (symbol_counts limited.1) ∙ ap not e in
         let some : read_name symbol text start ≡ Some (tree, rest, with_count limited.0 d.0) =
         name-complete symbol text start tree rest (with_count limited.0 d.0) limited.1 ok in absurd (cc)

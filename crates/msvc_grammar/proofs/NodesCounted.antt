@@ -13,14 +13,16 @@ use Rattle.msvc_grammar.specs.Sorts.{untyped, encoded_string, virtual_call, plai
 use Rattle.msvc_grammar.specs.Rules.{Production, symbol_body, guard_index, unsigned, encoding, encoding_after}
 use Rattle.msvc_grammar.specs.Rules.{characters, character, plain_type, function_parameters, parameters, signature}
 use Rattle.msvc_grammar.specs.Rules.{thunk_number, this_qualifiers, returned, special_name, special_after, required}
-use Rattle.msvc_grammar.specs.Rules.{text_and, call, qualified_name, scope, nested_name, marked_name, anonymous_namespace}
-use Rattle.msvc_grammar.specs.Rules.{any_type, type_after, array, positive, lengths, template_name, unqualified_name}
+use Rattle.msvc_grammar.specs.Rules.{text_and, call, qualified_name}
+use Rattle.msvc_grammar.specs.Rules.{scope, nested_name, locally_scoped_name, anonymous_namespace}
+use Rattle.msvc_grammar.specs.Rules.{type_, type_after, array, positive, lengths, template_name, unqualified_name}
 use Rattle.msvc_grammar.specs.Rules.{◌>>=◌, lookup, Rule, give, letter, node, optional}
 use Rattle.msvc_grammar.specs.Rules.{here, ◌or◌, entering, apart}
-use Rattle.msvc_grammar.specs.Rules.{type_form, function_type, member_pointer, class_part}
-use Rattle.msvc_grammar.specs.declared.forms.TypeForm.TheVariants as form
+use Rattle.msvc_grammar.specs.Rules.{prefixed_type, function_type, member_pointer, class_part}
+use Rattle.msvc_grammar.specs.declared.forms.TypePrefix.TheVariants as form
 use Rattle.msvc_grammar.specs.declared.forms.SpecialForm.TheVariants as special
-use Rattle.msvc_grammar.specs.Grammar.{grammar, arrays, class_of_returned, entering_name, hashed_symbol, named_symbol}
+use Rattle.msvc_grammar.specs.Grammar.{grammar, arrays, pointed_return_qualifiers}
+use Rattle.msvc_grammar.specs.Grammar.{entering_name, hashed_symbol, named_symbol}
 use Rattle.msvc_grammar.specs.Grammar.{nested_symbol, new_interface, new_source_name, numbered_guard, template_inside}
 use Rattle.msvc_grammar.specs.Grammar.{template_kept, template_symbol, with_index}
 use Rattle.msvc_grammar.specs.Letters.{conventions, digits, encoding_letters, extended_types, function_classes}
@@ -134,7 +136,7 @@ module _ (w : ℕ) where
   unfolding Makes
   makes_named = (refl, λ n. (refl, λ index. (refl, λ t. omega (arith, in_indexed index n.0))))
 
-  makes_returned : Makes 0 class_of_returned
+  makes_returned : Makes 0 pointed_return_qualifiers
   unfolding Makes
   makes_returned = ((refl, λ _. makes_optional storage_classes), refl)
 
@@ -172,8 +174,8 @@ module _ (w : ℕ) where
       ((refl, λ _. (refl, λ _. omega arith)), (refl, λ ts. (refl, λ _. omega arith)))
   makes parameters =
       (refl, ((refl, λ _. refl), ((refl, λ _. omega arith), (refl, λ t. (refl, λ ts. omega arith)))))
-  makes (any_type q) =
-      (makes_texts type_texts (λ f. call (type_form q f)) (λ f. refl), ((refl, λ _. refl), refl))
+  makes (type_ q) =
+      (makes_texts type_texts (λ f. call (prefixed_type q f)) (λ f. refl), ((refl, λ _. refl), refl))
   makes (plain_type q) = (no_nodes type_letters, λ _. refl)
   makes (type_after q (based b)) = omega arith
   makes (type_after q extended) = (no_nodes extended_types, λ _. omega arith)
@@ -182,21 +184,21 @@ module _ (w : ℕ) where
   makes (type_after q arrayed) = refl
   makes (type_after q indexed) = (refl, λ _. omega arith)
   makes (type_after q (referred i)) = refl
-  makes (type_form q form.Enumeration) = (refl, λ n. omega arith)
-  makes (type_form q form.ReferenceToFunction) = (refl, λ t. omega arith)
-  makes (type_form q form.PointerToFunction) = (refl, λ t. omega arith)
-  makes (type_form q form.QualifiedMemberPointer) = refl
-  makes (type_form q form.Constant) = (refl, λ _. omega arith)
-  makes (type_form q form.TemplateParameter) = (refl, λ _. omega arith)
-  makes (type_form q form.Array) = refl
-  makes (type_form q form.RValueReference) = (refl, λ t. omega arith)
-  makes (type_form q form.EmptyPack) = omega arith
-  makes (type_form q form.Nullptr) = omega arith
-  makes (type_form q form.Function) = refl
-  makes (type_form q form.QualifiedFunction) = refl
-  makes (type_form q form.Alias) = (refl, λ n. omega arith)
-  makes (type_form q form.Requalified) = (makes_optional qualifiers, λ _. refl)
-  makes (type_form q form.MemberPointer) = (refl, λ _. refl)
+  makes (prefixed_type q form.Enumeration) = (refl, λ n. omega arith)
+  makes (prefixed_type q form.ReferenceToFunction) = (refl, λ t. omega arith)
+  makes (prefixed_type q form.PointerToFunction) = (refl, λ t. omega arith)
+  makes (prefixed_type q form.QualifiedMemberPointer) = refl
+  makes (prefixed_type q form.Constant) = (refl, λ _. omega arith)
+  makes (prefixed_type q form.TemplateParameter) = (refl, λ _. omega arith)
+  makes (prefixed_type q form.Array) = refl
+  makes (prefixed_type q form.RValueReference) = (refl, λ t. omega arith)
+  makes (prefixed_type q form.EmptyPack) = omega arith
+  makes (prefixed_type q form.Nullptr) = omega arith
+  makes (prefixed_type q form.Function) = refl
+  makes (prefixed_type q form.QualifiedFunction) = refl
+  makes (prefixed_type q form.Alias) = (refl, λ n. omega arith)
+  makes (prefixed_type q form.CvQualified) = (makes_optional qualifiers, λ _. refl)
+  makes (prefixed_type q form.MemberPointer) = (refl, λ _. refl)
   makes (function_type bare) =
       (refl, λ _. (no_nodes conventions, λ _. (makes_returned, λ _. (refl, λ t. (refl, λ ts. omega arith)))))
   makes (member_pointer qualified) =
@@ -230,7 +232,7 @@ module _ (w : ℕ) where
   makes template_name = makes_template
   makes scope = ((refl, λ _. refl), (refl, λ n. (refl, λ ns. omega arith)))
   makes nested_name = ((no_nodes digits, λ _. refl), ((refl, λ _. refl), makes_source))
-  makes marked_name = (
+  makes locally_scoped_name = (
     (refl, λ _. makes_nested),
     (
       (refl, λ _. (refl, λ n. (refl, λ _. omega arith))),
@@ -251,22 +253,22 @@ module _ (w : ℕ) where
 
   adds_none : (g n : ℕ) (c : Count) → n ≡ g → Adds g n c c
   adds_none g n c h =
-      let same : c.made ≡ c.made + 0 = omega arith in
-      (0, ap (λ m. record c { made = m }) same, omega (arith, h))
+      let same : c.used ≡ c.used + 0 = omega arith in
+      (0, ap (λ m. record c { used = m }) same, omega (arith, h))
 
   adds_both : (g n k : ℕ) (b c d : Count) → Adds 0 n b c → Adds (g + n) k c d → Adds g k b d
   adds_both g n k b c d h e =
-      let same : b.made + h.0 + e.0 ≡ b.made + (h.0 + e.0) = omega arith in (
+      let same : b.used + h.0 + e.0 ≡ b.used + (h.0 + e.0) = omega arith in (
         h.0 + e.0,
-        e.1 ∙ ap (more e.0) h.1 ∙ ap (λ m. record b { made = m }) same,
+        e.1 ∙ ap (more e.0) h.1 ∙ ap (λ m. record b { used = m }) same,
         omega (arith, h.2, e.2),
       )
 
   -- a node counts before what is in it
   adds_node : (g n : ℕ) (c d : Count) → c.weight ≡ w → Adds (g + w) n (more c.weight c) d → Adds g n c d
   adds_node g n c d same h =
-      let joined : c.made + c.weight + h.0 ≡ c.made + (c.weight + h.0) = omega arith in
-      (c.weight + h.0, h.1 ∙ ap (λ m. record c { made = m }) joined, omega (arith, h.2, same))
+      let joined : c.used + c.weight + h.0 ≡ c.used + (c.weight + h.0) = omega arith in
+      (c.weight + h.0, h.1 ∙ ap (λ m. record c { used = m }) joined, omega (arith, h.2, same))
 
   adds_entry : (g : ℕ) (nodes : ℕ → ℕ) (c : Count) → c.weight ≡ w → g ≡ 0 → Adds g (nodes w) c (more (nodes c.weight) c)
   adds_entry g nodes c same h = (nodes c.weight, refl, omega (arith, h, ap nodes same))
@@ -387,11 +389,11 @@ read-interface-counts left s v rest t e = interface_counts (read_derived new_int
 -- how much is made when a type was read, and the inside of a template
 
 pub type_made : (q : ℕ) (left : List ℕ) (s : State) (v : TypeTree) (rest : List ℕ) (t : State)
-    → read_name (any_type q) left s ≡ Some (v, rest, t)
-    → t.count.made ≡ s.count.made + type_count s.count.weight v
-type_made q left s v rest t e = ap (λ (k : Count). k.made) (read_name-counts (any_type q) left s v rest t e)
+    → read_name (type_ q) left s ≡ Some (v, rest, t)
+    → t.count.used ≡ s.count.used + type_count s.count.weight v
+type_made q left s v rest t e = ap (λ (k : Count). k.used) (read_name-counts (type_ q) left s v rest t e)
 
 pub template_made : (left : List ℕ) (s : State) (v : NameTree) (rest : List ℕ) (t : State)
     → read template_inside left s ≡ Some (v, rest, t)
-    → t.count.made ≡ s.count.made + name_count s.count.weight v
-template_made left s v rest t e = ap (λ (k : Count). k.made) (read-template-counts left s v rest t e)
+    → t.count.used ≡ s.count.used + name_count s.count.weight v
+template_made left s v rest t e = ap (λ (k : Count). k.used) (read-template-counts left s v rest t e)

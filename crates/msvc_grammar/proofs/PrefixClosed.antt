@@ -10,7 +10,7 @@ use Rattle.msvc_grammar.specs.Reads.{in_a_row, the_first, the_second, called, a_
 use Rattle.msvc_grammar.specs.Reads.{a_node, a_noted_type, entered, nodes_of_name, nodes_of_type, set_apart, ranks}
 use Rattle.msvc_grammar.specs.Rules.{Production, call, noted, entering, Condition, none_of, at_end, holds, some_of, begins}
 use Rattle.msvc_grammar.specs.Rules.{Rule}
-use Rattle.msvc_grammar.proofs.Checks.{rank, Fine, fine, eats, rank_small}
+use Rattle.msvc_grammar.proofs.Checks.{rank, Fine, fine, consumes, rank_small}
 use Rattle.msvc_grammar.proofs.Progress.{tail}
 use Rattle.msvc_grammar.proofs.FirstSets.{all, some-every, not_if, begins-longer}
 
@@ -18,7 +18,7 @@ use Rattle.msvc_grammar.proofs.FirstSets.{all, some-every, not_if, begins-longer
 abbrev pub less : ℕ → State → State
 less n s = record s { whole = s.whole - n }
 
--- what is eaten is eaten of the bytes before the cut
+-- what is consumed is consumed of the bytes before the cut
 pub before_cut : (p left rest w : List ℕ) → p ++ (rest ++ w) ≡ left ++ w → left ≡ p ++ rest
 before_cut p left rest w e = append_cancel_right left (p ++ rest) w (sym e ∙ sym (append_assoc p rest w))
 
@@ -101,7 +101,7 @@ cut (in_a_row {r = r} {f = g} {v = v} {l = l} {rest = remaining} d c) floor f le
     let middle : l ≡ (tail c).0 ++ rest ++ w =
     (tail c).1 ∙ ap (λ z. (tail c).0 ++ z) k ∙ sym (append_assoc (tail c).0 rest w) in
     in_a_row (cut d floor f.0 left ((tail c).0 ++ rest) w h middle)
-    (cut c (cond (nat_lt 0 (eats r)) ranks floor) (f.1 v) ((tail c).0 ++ rest) rest w middle k)
+    (cut c (cond (nat_lt 0 (consumes r)) ranks floor) (f.1 v) ((tail c).0 ++ rest) rest w middle k)
 cut (the_first d) floor f left rest w h k = the_first (cut d floor f.1 left rest w h k)
 cut (the_second d) floor f left rest w h k = the_second (cut d floor f.2 left rest w h k)
 cut (called {n = n} d) floor f left rest w h k = called (cut d (rank n) (fine n) left rest w h k)

@@ -9,10 +9,10 @@ use Rattle.msvc_grammar.specs.Grammar.{grammar}
 use Rattle.msvc_grammar.specs.Reads.{Reads, given, a_letter, a_literal, a_part, where_it_holds, in_a_row, the_first}
 use Rattle.msvc_grammar.specs.Reads.{the_second, called, a_known_name, remembered, a_known_type, a_noted_type, entered}
 use Rattle.msvc_grammar.specs.Reads.{a_node, set_apart, ranks}
-use Rattle.msvc_grammar.proofs.Checks.{some_value, rank, Fine, fine, Even, least, eats, eater, eaters}
+use Rattle.msvc_grammar.proofs.Checks.{some_value, rank, Fine, fine, Even, least, consumes, consumer, consumers}
 
 abbrev pub IsTail : List ℕ → List ℕ → Type 0
-IsTail left rest = (eaten : List ℕ) × (left ≡ eaten ++ rest)
+IsTail left rest = (consumed : List ℕ) × (left ≡ consumed ++ rest)
 
 pub tail_of_tail : {left l rest : List ℕ} → IsTail left l → IsTail l rest → IsTail left rest
 tail_of_tail {rest = rest} h k = (h.0 ++ k.0, h.1 ∙ ap (λ z. h.0 ++ z) k.1 ∙ sym (append_assoc h.0 k.0 rest))
@@ -33,7 +33,7 @@ tail (entered h) = tail h
 tail (set_apart h) = tail h
 tail _ = ([], refl)
 
--- a number of bytes were eaten
+-- a number of bytes were consumed
 abbrev pub Less : List ℕ → ℕ → List ℕ → Type 0
 Less left n rest = length rest + n ≤ length left
 
@@ -52,8 +52,8 @@ least_second d e = go (nat_lt d e) refl
     go false h = omega arith
 
 pub shorter : {a : Sort} {r : Rule a} {left : List ℕ} {s : State} {v : Value a} {rest : List ℕ} {t : State}
-    → Reads a r left s v rest t → (floor : ℕ) → Fine floor r → Less left (eats r) rest
-unfolding eats Fine Even
+    → Reads a r left s v rest t → (floor : ℕ) → Fine floor r → Less left (consumes r) rest
+unfolding consumes Fine Even
 shorter (a_letter e) floor f = omega arith
 shorter (a_literal {l = l} {rest = rest} e) floor f = omega (arith, ap length e, length-append l rest)
 shorter (a_part {b = b} {v = v} {rest = rest} e h) floor f = omega (arith, ap length e, length-append v (b ∷ rest))
@@ -62,13 +62,23 @@ shorter (in_a_row {a = a} {r = r} {f = g} {v = v} h k) floor f =
     omega (
       arith,
       shorter h floor f.0,
-      shorter k (cond (nat_lt 0 (eats r)) ranks floor) (f.1 v),
-      ltb-false (eats (g v)) (eats (g (some_value a))) (f.2 v),
+      shorter k (cond (nat_lt 0 (consumes r)) ranks floor) (f.1 v),
+      ltb-false (consumes (g v)) (consumes (g (some_value a))) (f.2 v),
     )
-shorter (the_first {r = r} {q = q} h) floor f = omega (arith, shorter h floor f.1, least_first (eats r) (eats q))
-shorter (the_second {r = r} {q = q} h) floor f = omega (arith, shorter h floor f.2, least_second (eats r) (eats q))
+shorter (the_first {r = r} {q = q} h) floor f = omega (
+  arith,
+  shorter h floor f.1,
+  least_first (consumes r) (consumes
+      q),
+)
+shorter (the_second {r = r} {q = q} h) floor f = omega (
+  arith,
+  shorter h floor f.2,
+  least_second (consumes r) (consumes
+      q),
+)
 shorter (called {n = n} h) floor f =
-    omega (arith, shorter h (rank n) (fine n), ltb-false (eats (grammar n)) (eater n) (eaters n))
+    omega (arith, shorter h (rank n) (fine n), ltb-false (consumes (grammar n)) (consumer n) (consumers n))
 shorter (a_noted_type e h) floor f = omega arith
 shorter (a_node h) floor f = shorter h floor f
 shorter (entered h) floor f = shorter h floor f

@@ -6,7 +6,7 @@ use Rattle.std.proofs.lemmas.Bool.{eqb-true}
 use Rattle.msvc_nodes.specs.Trees.{TypeTree}
 use Rattle.msvc_grammar.specs.Sorts.{Sort, Value}
 use Rattle.msvc_grammar.specs.State.{State}
-use Rattle.msvc_grammar.specs.Rules.{Production, any_type, every, some_of, begins, lookup, Rule, give, letter, literal}
+use Rattle.msvc_grammar.specs.Rules.{Production, type_, every, some_of, begins, lookup, Rule, give, letter, literal}
 use Rattle.msvc_grammar.specs.Rules.{up_to}
 use Rattle.msvc_grammar.specs.Rules.{here, ◌>>=◌, ◌or◌, call, known_name, remember, known_type, node, noted, entering}
 use Rattle.msvc_grammar.specs.Rules.{apart}
@@ -141,7 +141,7 @@ short (a_part e d) x bytes is k h = absurd (cc)
 
 unfoldable pub ShortAtStops : Type 0
 unfolding short_by short_within
-ShortAtStops = every (λ x. short_by x (λ b m. short_within x 4 m) (call (any_type 0))) stops ≡ true
+ShortAtStops = every (λ x. short_by x (λ b m. short_within x 4 m) (call (type_ 0))) stops ≡ true
 
 short_at_stops : ShortAtStops
 unfolding ShortAtStops short_by short_within quiet_by quiet_within grammar
@@ -164,7 +164,7 @@ starts_free [] = false
 starts_free (x ∷ xs) = if is_in stops x then false else true
 
 pub long_start : (span rest : List ℕ) (s : State) (v : TypeTree) (t : State)
-    → Reads _ (call (any_type 0)) (span ++ rest) s v rest t → 1 < length span
+    → Reads _ (call (type_ 0)) (span ++ rest) s v rest t → 1 < length span
     → starts_free span ≡ true
 unfolding ShortAtStops
 long_start [] rest s v t d long = absurd (omega arith)
@@ -174,6 +174,6 @@ long_start (x ∷ xs) rest s v t d long = go (is_in stops x) refl
     go true stop =
         let brief : IsShort (x ∷ (xs ++ rest)) rest =
         short d x (xs ++ rest) refl 4
-        (one_of (λ y. short_by y (λ b m. short_within y 4 m) (call (any_type 0))) x stops short_at_stops stop) in
+        (one_of (λ y. short_by y (λ b m. short_within y 4 m) (call (type_ 0))) x stops short_at_stops stop) in
         absurd (omega (arith, brief, long, length-append xs rest))
     go false free = refl

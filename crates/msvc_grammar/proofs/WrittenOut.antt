@@ -16,10 +16,10 @@ use Rattle.msvc_grammar.specs.Reads.{a_part, where_it_holds, in_a_row, the_first
 use Rattle.msvc_grammar.specs.Reads.{remembered, a_known_type, a_node, a_noted_type, entered, nodes_of_type, set_apart}
 use Rattle.msvc_grammar.specs.Reads.{ranks}
 use Rattle.msvc_grammar.specs.Rules.{Production, Condition, none_of, at_end, holds, every, some_of, begins, begins_of}
-use Rattle.msvc_grammar.specs.Rules.{any_type, Rule}
+use Rattle.msvc_grammar.specs.Rules.{type_, Rule}
 use Rattle.msvc_grammar.specs.Rules.{◌>>=◌, ◌or◌, apart, call, here, node, noted, entering, symbol, lookup, is_nil}
 use Rattle.msvc_grammar.specs.Grammar.{grammar}
-use Rattle.msvc_grammar.proofs.Checks.{some_value, rank, eats, Fine, fine, bars, differ, the_same, others}
+use Rattle.msvc_grammar.proofs.Checks.{some_value, rank, consumes, Fine, fine, bars, differ, the_same, others}
 use Rattle.msvc_grammar.proofs.Checks.{Local, same_local, rank_small}
 use Rattle.msvc_grammar.proofs.Progress.{IsTail, tail, tail_of_tail, least_first, least_second, shorter}
 use Rattle.msvc_grammar.proofs.FirstSets.{after-text, barred, differ-never, begins-both, begins-inside, if_both, both_if}
@@ -135,22 +135,22 @@ not_both : (u : Bool) → not u ≡ true → u ≡ true → ⊥
 not_both true h k = absurd (cc)
 not_both false h k = absurd (cc)
 
-eaten_is : (p q left rest : List ℕ) → left ≡ p ++ rest → left ≡ q ++ rest → p ≡ q
-eaten_is p q left rest h k = append_cancel_right p q rest (sym h ∙ k)
+consumed_is : (p q left rest : List ℕ) → left ≡ p ++ rest → left ≡ q ++ rest → p ≡ q
+consumed_is p q left rest h k = append_cancel_right p q rest (sym h ∙ k)
 
 lacks : {a : Sort} {r : Rule a} {left : List ℕ} {s : State} {v : Value a} {rest : List ℕ} {t : State}
     → Reads a r left s v rest t → (k : ℕ) (l p : List ℕ) → left ≡ p ++ rest
     → misses_by (λ b m. misses_within k l m) l r ≡ true → every (is_in l) p ≡ true → ⊥
 unfolding misses_by misses_within
 lacks (a_letter {table = table} {b = b} {v = v} {rest = rest} e) k l p is h all =
-    let same : p ≡ b ∷ [] = eaten_is p (b ∷ []) (b ∷ rest) rest is refl in
+    let same : p ≡ b ∷ [] = consumed_is p (b ∷ []) (b ∷ rest) rest is refl in
     not_both (is_in l b) (has_row (λ row. not (is_in l row.0)) table b v e h)
     (if_both (is_in l b) true (ap (every (is_in l)) (sym same) ∙ all)).0
 lacks (a_literal {l = m} {left = left} {rest = rest} e) k l p is h all =
-    not_both (every (is_in l) m) h (ap (every (is_in l)) (sym (eaten_is p m left rest is e)) ∙ all)
+    not_both (every (is_in l) m) h (ap (every (is_in l)) (sym (consumed_is p m left rest is e)) ∙ all)
 lacks (a_part {b = b} {v = v} {left = left} {rest = rest} e d) k l p is h all =
     let same : p ≡ v ++ b ∷ [] =
-    eaten_is p (v ++ b ∷ []) left rest is (e ∙ sym (append_assoc v (b ∷ []) rest)) in
+    consumed_is p (v ++ b ∷ []) left rest is (e ∙ sym (append_assoc v (b ∷ []) rest)) in
     not_both (is_in l b) h
     (if_both (is_in l b) true
     (every-both (is_in l) v (b ∷ []) (ap (every (is_in l)) (sym same) ∙ all)).1).0
@@ -159,7 +159,7 @@ lacks (in_a_row {left = left} {l = m} {rest = rest} c d) k l p is h all =
     let first : IsTail left m = tail c in
     let second : IsTail m rest = tail d in
     let same : p ≡ first.0 ++ second.0 =
-    eaten_is p (first.0 ++ second.0) left rest is
+    consumed_is p (first.0 ++ second.0) left rest is
     (first.1 ∙ ap (λ z. first.0 ++ z) second.1 ∙ sym (append_assoc first.0 second.0 rest)) in
     lacks c k l first.0 first.1 h
     (every-both (is_in l) first.0 second.0 (ap (every (is_in l)) (sym same) ∙ all)).0
@@ -297,22 +297,23 @@ same_again : {a : Sort} {r : Rule a} {left : List ℕ} {s : State} {v : Value a}
     → Reads a r left s v rest t → (floor : ℕ) → Fine floor r → (s' : State) → Alike s s'
     → (t' : State) × Reads a r left s' v rest t' × Alike t t'
 same_again {a = a} {r = r} {left = left} {s = s} {v = v} {rest = rest} {t = t} d floor f s' alike =
-    let eaten : IsTail left rest = tail d in
-    subst (λ z. (t' : State) × Reads a r z s' v rest t' × Alike t t') (sym eaten.1)
-    (local d floor f the_same 0 (same_local r 0) eaten.0 [] rest rest refl eaten.1 refl (omega arith) false s' alike)
+    let consumed : IsTail left rest = tail d in
+    subst (λ z. (t' : State) × Reads a r z s' v rest t' × Alike t t') (sym consumed.1)
+    (local d floor f the_same 0 (same_local r 0) consumed.0 [] rest rest refl consumed.1 refl (omega arith) false s'
+    alike)
 
 -- The digit itself
 
 -- the type that a digit stands for, read where it is written out
 type_there : (text : List ℕ) (e : Entry) (s : State) (remaining : List ℕ) (h : From text e s) (s' : State) → Alike s s'
-    → (t' : State) × Reads _ (entering (call (any_type 0))) (h.0.span ++ remaining) s' e.entered remaining t'
+    → (t' : State) × Reads _ (entering (call (type_ 0))) (h.0.span ++ remaining) s' e.entered remaining t'
     × Alike s t'
 type_there text e s remaining h s' alike =
     let src : Source text e = h.0 in
     let entry_later : Later (remember_type e src.left) s' = alike_later (remember_type e src.left) s s' h.1 alike in
     let later : Later src.left s' =
     later-trans src.left (remember_type e src.left) s' (later-type e src.left) entry_later in
-    let again : (t' : State) × Reads _ (call (any_type 0)) (src.span ++ remaining) s' e.entered remaining t'
+    let again : (t' : State) × Reads _ (call (type_ 0)) (src.span ++ remaining) s' e.entered remaining t'
     × SameTables t' s' =
     types-are-local 0 src.span src.rest src.found e.entered src.left src.read remaining s' later in
     let entry : Entry = span_of e.entered (src.span ++ remaining) remaining again.0 in
@@ -398,7 +399,7 @@ within_first {a = a} {r = r} {f = f} go d floor g h =
       stands = h.stands;
       at = h.at;
       goes_on = tail_of_tail h.goes_on (tail d);
-      far = omega (arith, least_first (ahead r) (eats r + ahead (f (some_value a))), h.far);
+      far = omega (arith, least_first (ahead r) (consumes r + ahead (f (some_value a))), h.far);
       bytes = h.bytes;
       clears = go h.before (h.bytes.span ++ h.remaining) h.clears;
       again =
@@ -411,7 +412,7 @@ within_first {a = a} {r = r} {f = f} go d floor g h =
 far_after : {a b : Sort} {r : Rule a} (f : Value a → Rule b) {left l : List ℕ} {s t : State} {v : Value a}
     (p before : List ℕ) → left ≡ p ++ l
     → Reads a r left s v l t → (floor : ℕ) → Fine floor r → nat_lt (ahead (f v)) (ahead (f (some_value a))) ≡ false
-    → ahead (f v) ≤ length before → eats r + ahead (f (some_value a)) ≤ length (p ++ before)
+    → ahead (f v) ≤ length before → consumes r + ahead (f (some_value a)) ≤ length (p ++ before)
 far_after {a = a} f {l = l} {v = v} p before is d floor g even far =
     omega (
       arith,
@@ -443,7 +444,7 @@ within_second {a = a} {r = r} {f = f} {left = left} {l = l} {s = s} {t = t} {v =
       far =
           omega (
             arith,
-            least_second (ahead r) (eats r + ahead (f (some_value a))),
+            least_second (ahead r) (consumes r + ahead (f (some_value a))),
             far_after f p h.before is d floor g even h.far,
           );
       bytes = h.bytes;
@@ -492,8 +493,8 @@ after_guard {r = r} {c = c} e k h =
     go l x false bar d clears guard b = clears d b
 
 within_entered : {left rest : List ℕ} {s t : State} {v : TypeTree} {text : List ℕ} {n : Note}
-    → Digit text n (call (any_type 0)) left s v rest t
-    → Digit text n (entering (call (any_type 0))) left s v rest (enter v left rest t)
+    → Digit text n (call (type_ 0)) left s v rest t
+    → Digit text n (entering (call (type_ 0))) left s v rest (enter v left rest t)
 unfolding ahead runs_up clear_by
 within_entered {left = left} {rest = rest} {s = s} {t = t} {v = v} h =
     let again_left : List ℕ = h.before ++ (h.bytes.span ++ h.remaining) in
@@ -644,7 +645,7 @@ then_maybe f g (inl a) = f a
 then_maybe f g (inr b) = inr (g b)
 
 entered_digit : {r : Rule type_tree} {left rest : List ℕ} {s t : State} {v : TypeTree} {text : List ℕ} {n : Note}
-    → r ≡ call (any_type 0)
+    → r ≡ call (type_ 0)
     → Digit text n r left s v rest t → Digit text n (entering r) left s v rest (enter v left rest t)
 entered_digit {left = left} {rest = rest} {s = s} {t = t} {v = v} {text = text} {n = n} is =
     subst (λ q. Digit text n q left s v rest t → Digit text n (entering q) left s v rest (enter v left rest t)) (sym is)
@@ -675,14 +676,14 @@ digits_inside (in_a_row {a = a} {r = r} {f = g} {v = v} c d) floor f p text w h 
     then_maybe
     (λ m. maybe (within_first {f = g}
     (λ before remaining x j l e. x j l (if_both (clear_by (λ m b q. clear_within j m q) l r) _ e).0)
-    d (cond (nat_lt 0 (eats r)) ranks floor) (f.1 v))
+    d (cond (nat_lt 0 (consumes r)) ranks floor) (f.1 v))
     (digits_inside c floor f.0 p.0 text w h i n m))
     (within_second {f = g} (tail c).0 (tail c).1 c floor f.0 p.2 (p.3 v)
-    (λ x j l e z. row_clears c (tail c).0 x.before x.bytes.span x.remaining l (eats r + ahead (g (some_value a)))
+    (λ x j l e z. row_clears c (tail c).0 x.before x.bytes.span x.remaining l (consumes r + ahead (g (some_value a)))
     (tail c).1
     (far_after g (tail c).0 x.before (tail c).1 c floor f.0 (p.3 v) x.far) x.bytes.free
     (if_both (clear_by (λ m b q. clear_within j m q) l r) _ e).1 z))
-    (digits_inside d (cond (nat_lt 0 (eats r)) ranks floor) (f.1 v) (p.1 v) text (within_next text w c)
+    (digits_inside d (cond (nat_lt 0 (consumes r)) ranks floor) (f.1 v) (p.1 v) text (within_next text w c)
     (sourced c p.0 text w h) i n k)
 digits_inside (the_first (a_noted_type {b = b} {i = j} {e = e} {rest = rest} {s = s} c d)) floor f p text w h i n k =
     maybe (noted_digit {s = s} p.0.0 p.0.1 text w (h j e d) n)

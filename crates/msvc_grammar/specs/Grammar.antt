@@ -6,9 +6,9 @@ use Rattle.std.specs.Prelude.{negsuc, Option, bit_and, bit_or, suc, zero, codes,
 use Rattle.std.specs.Prelude.{if◌then◌else◌, unwrap_or}
 use Rattle.std.specs.Int.{cast_signed, int_wrapping_neg, w32}
 use Rattle.msvc_nodes.specs.Trees as tree
-use Rattle.msvc_nodes.specs.declared.kinds.Tag.TheVariants as tag_kind
-use Rattle.msvc_nodes.specs.declared.kinds.BaseType.TheVariants as base_kind
-use Rattle.msvc_nodes.specs.declared.kinds.Mark.TheVariants as mark_kind
+use Rattle.msvc_nodes.specs.declared.kinds.TagKind.TheVariants as tag_kind
+use Rattle.msvc_nodes.specs.declared.kinds.PrimitiveKind.TheVariants as base_kind
+use Rattle.msvc_nodes.specs.declared.kinds.PointerAffinity.TheVariants as mark_kind
 use Rattle.msvc_nodes.specs.declared.kinds.NumberedType.TheVariants as number_kind
 use Rattle.msvc_nodes.specs.declared.kinds.PlainType.TheVariants as plain_kind
 use Rattle.msvc_nodes.specs.declared.kinds.Spelling.TheVariants as spelling_kind
@@ -17,7 +17,7 @@ use Rattle.msvc_nodes.specs.Trees.{plain}
 use Rattle.msvc_nodes.specs.Trees.{operator, guard, type_descriptor, base_class_descriptor, base, tagged, numbered}
 use Rattle.msvc_nodes.specs.Trees.{pointing, constant_string, vcall_thunk, function}
 use Rattle.msvc_nodes.specs.Trees.{member_function, variable, name_trees, type_trees}
-use Rattle.msvc_grammar.specs.declared.forms.TypeForm.TheVariants as form
+use Rattle.msvc_grammar.specs.declared.forms.TypePrefix.TheVariants as form
 use Rattle.msvc_grammar.specs.declared.forms.SpecialForm.TheVariants as special
 use Rattle.msvc_grammar.specs.Sorts.{based, extended, named, points, arrayed, indexed, referred}
 use Rattle.msvc_grammar.specs.Sorts.{variable_of, table_of, type_information, untyped, encoded_string}
@@ -26,15 +26,17 @@ use Rattle.msvc_grammar.specs.Sorts.{name_tree, base_type, type_letter, encoding
 use Rattle.msvc_grammar.specs.Rules.{Production, symbol, symbol_body, guard_index, unsigned, decimal, encoding}
 use Rattle.msvc_grammar.specs.Rules.{encoding_after, characters, character, thunk_number, this_qualifiers}
 use Rattle.msvc_grammar.specs.Rules.{function_qualifiers, signature, return_qualifiers, returned, function_parameters}
-use Rattle.msvc_grammar.specs.Rules.{parameters, parameter, any_type, plain_type, type_after, pointee, array, dimension}
+use Rattle.msvc_grammar.specs.Rules.{parameters, parameter, type_, plain_type, type_after, pointee, array, dimension}
 use Rattle.msvc_grammar.specs.Rules.{positive, lengths, qualified_name, unqualified_name, template_name, scope}
 use Rattle.msvc_grammar.specs.Rules.{nested_name}
-use Rattle.msvc_grammar.specs.Rules.{marked_name, anonymous_namespace, hexadecimal_digits, source_name, number, magnitude}
+use Rattle.msvc_grammar.specs.Rules.{locally_scoped_name, anonymous_namespace, hexadecimal_digits}
+use Rattle.msvc_grammar.specs.Rules.{source_name, number, magnitude}
 use Rattle.msvc_grammar.specs.Rules.{letters, required, none_of, at_end, Rule, give, letter, literal, up_to, here, ◌>>=◌}
 use Rattle.msvc_grammar.specs.Rules.{◌>>◌, ◌or◌, lookup, every}
 use Rattle.msvc_grammar.specs.Rules.{call, known_name, remember, known_type, noted, entering, apart, begins_of, letter_or}
 use Rattle.msvc_grammar.specs.Rules.{literal_or, node, text_and, text_or, optional, never}
-use Rattle.msvc_grammar.specs.Rules.{type_form, function_type, member_pointer, class_part, special_name, special_after}
+use Rattle.msvc_grammar.specs.Rules.{prefixed_type, function_type, member_pointer}
+use Rattle.msvc_grammar.specs.Rules.{class_part, special_name, special_after}
 use Rattle.msvc_grammar.specs.Letters.{digits, hexadecimal, hexadecimal_codes, qualifiers, storage_classes}
 use Rattle.msvc_grammar.specs.Letters.{qualifiers_of_returns, qualifiers_of_arrays, pointer_sizes, restricts, alignments}
 use Rattle.msvc_grammar.specs.Letters.{reference_qualifiers, extended_types, type_letters, type_texts, conventions, static}
@@ -137,8 +139,8 @@ signed_letters = do
   give (signed v)
 
 -- the qualifiers of what a function returns that is part of a type
-abbrev pub class_of_returned : Rule bits
-class_of_returned = literal_or (codes "?") (optional storage_classes) (give 0)
+abbrev pub pointed_return_qualifiers : Rule bits
+pointed_return_qualifiers = literal_or (codes "?") (optional storage_classes) (give 0)
 
 -- the qualifiers of each level of an array
 abbrev pub array_class : Rule bits
@@ -222,7 +224,7 @@ grammar encoding =
     here at_end (node (give (plain plain_kind.None)))
     or (do l ← letter encoding_letter encoding_letters; call (encoding_after l))
 grammar (encoding_after (variable_of kind)) = node (do
-  t ← call (any_type 0)
+  t ← call (type_ 0)
   class ← optional storage_classes
   give (variable t kind class))
 grammar (encoding_after (table_of kind)) = node (do
@@ -284,8 +286,8 @@ grammar (signature member) = do
   give (c, (t, ts))
 grammar return_qualifiers = literal_or (codes "?") (letter bits qualifiers_of_returns) (give 0)
 -- an @ for no type, as a constructor has none, or a type
-grammar (returned true q) = literal_or (codes "@") (node (give (plain plain_kind.None))) (call (any_type q))
-grammar (returned false q) = call (any_type q)
+grammar (returned true q) = literal_or (codes "@") (node (give (plain plain_kind.None))) (call (type_ q))
+grammar (returned false q) = call (type_ q)
 -- X for one void, or parameters; and a Z
 grammar function_parameters =
     literal_or (codes "X")
@@ -300,10 +302,11 @@ grammar parameters =
 -- a digit is the type of an entry, and is noted; a type that was read enters the table
 grammar parameter =
     noted digits
-    or here (none_of (begins_of digits)) (entering (call (any_type 0)))
+    or here (none_of (begins_of digits)) (entering (call (type_ 0)))
 -- A type with qualifiers: by its text, or a plain type, before which a $ is dropped.
-grammar (any_type q) =
-    text_or type_texts (λ f. call (type_form q f)) (literal_or (codes "$") (call (plain_type q)) (call (plain_type q)))
+grammar (type_ q) =
+    text_or type_texts (λ f. call (prefixed_type q f)) (literal_or (codes "$") (call (plain_type q)) (call (plain_type
+    q)))
 grammar (plain_type q) = do
   l ← letter type_letter type_letters
   call (type_after q l)
@@ -323,46 +326,46 @@ grammar (type_after q indexed) = node (do
   give (numbered number_kind.TemplateParameter (int_wrapping_neg w32 z)))
 -- whatever the qualifiers are
 grammar (type_after q (referred i)) = known_type i
-grammar (type_form q form.Enumeration) = node (do
+grammar (prefixed_type q form.Enumeration) = node (do
   n ← call (qualified_name false)
   give (tagged tag_kind.Enum n.0 (name_trees n.1) q))
-grammar (type_form q form.ReferenceToFunction) = node (do
+grammar (prefixed_type q form.ReferenceToFunction) = node (do
   t ← call (function_type true)
   give (pointing mark_kind.Reference t q))
-grammar (type_form q form.PointerToFunction) = node (do
+grammar (prefixed_type q form.PointerToFunction) = node (do
   t ← call (function_type true)
   give (pointing mark_kind.Pointer t q))
-grammar (type_form q form.QualifiedMemberPointer) = call (member_pointer true)
-grammar (type_form q form.Constant) = node (do
+grammar (prefixed_type q form.QualifiedMemberPointer) = call (member_pointer true)
+grammar (prefixed_type q form.Constant) = node (do
   z ← call number
   give (numbered number_kind.Constant z))
-grammar (type_form q form.TemplateParameter) = node (do
+grammar (prefixed_type q form.TemplateParameter) = node (do
   z ← call number
   give (numbered number_kind.TemplateParameter z))
-grammar (type_form q form.Array) = call array
-grammar (type_form q form.RValueReference) = node (do
+grammar (prefixed_type q form.Array) = call array
+grammar (prefixed_type q form.RValueReference) = node (do
   t ← call pointee
   give (pointing mark_kind.RValueReference t q))
-grammar (type_form q form.EmptyPack) = node (give (plain plain_kind.EmptyPack))
-grammar (type_form q form.Nullptr) = node (give (plain plain_kind.Nullptr))
-grammar (type_form q form.Function) = call (function_type true)
-grammar (type_form q form.QualifiedFunction) = call (function_type false)
-grammar (type_form q form.Alias) = node (do
+grammar (prefixed_type q form.EmptyPack) = node (give (plain plain_kind.EmptyPack))
+grammar (prefixed_type q form.Nullptr) = node (give (plain plain_kind.Nullptr))
+grammar (prefixed_type q form.Function) = call (function_type true)
+grammar (prefixed_type q form.QualifiedFunction) = call (function_type false)
+grammar (prefixed_type q form.Alias) = node (do
   n ← call (qualified_name true)
   give (tagged tag_kind.Alias n.0 (name_trees n.1) q))
 -- whatever the qualifiers before it are
-grammar (type_form q form.Requalified) = do
+grammar (prefixed_type q form.CvQualified) = do
   q ← optional qualifiers
   call (plain_type q)
-grammar (type_form q form.MemberPointer) = do
+grammar (prefixed_type q form.MemberPointer) = do
   literal (codes "?")
   call (member_pointer false)
 -- what is returned has other qualifiers than those of a symbol's function
 grammar (function_type bare) = node (do
   on_this ← call (this_qualifiers bare)
   c ← letter convention conventions
-  q ← class_of_returned
-  t ← call (any_type q)
+  q ← pointed_return_qualifiers
+  t ← call (type_ q)
   ts ← call function_parameters
   give (function c (type_trees ts) on_this t))
 grammar (member_pointer qualified) = node (do
@@ -383,15 +386,15 @@ grammar (class_part false) = do
 grammar pointee = do
   size ← optional pointer_sizes
   class ← optional storage_classes
-  call (any_type (bit_or size class))
+  call (type_ (bit_or size class))
 -- A number above 0, as many lengths, the qualifiers of each level after $$C, and the type of the elements. The type
 -- stands in both alternatives, since it is its bytes that tell where $$C does not begin.
 grammar array = do
   n ← call dimension
   zs ← call (lengths n)
   literal_or (codes "$$C")
-      (do q ← letter bits qualifiers_of_arrays; t ← call (any_type 0); give (arrays zs t q))
-      (do t ← call (any_type 0); give (arrays zs t 0))
+      (do q ← letter bits qualifiers_of_arrays; t ← call (type_ 0); give (arrays zs t q))
+      (do t ← call (type_ 0); give (arrays zs t 0))
 grammar dimension = do
   z ← call number
   call (positive z)
@@ -421,7 +424,7 @@ grammar (special_after (special.Guard kind)) = node (give (guard kind None))
 grammar (special_after special.TypeDescriptor) = node (do
   literal (codes "?")
   q ← optional storage_classes
-  t ← call (any_type q)
+  t ← call (type_ q)
   give (type_descriptor q t))
 grammar (special_after special.BaseClass) = node (do
   a ← call number
@@ -433,10 +436,11 @@ grammar (special_after special.BaseClass) = node (do
 grammar template_name = apart template_inside
 -- names up to an @
 grammar scope = literal_or (codes "@") (give []) (do n ← call nested_name; ns ← call scope; give (n ∷ ns))
-grammar nested_name = letter_or digits (λ i. known_name i) (literal_or (codes "?") (call marked_name) new_source_name)
+grammar nested_name = letter_or digits (λ i. known_name i) (literal_or (codes "?") (call locally_scoped_name)
+    new_source_name)
 -- What follows a ?: a whole symbol from a second ? on, a template, an anonymous namespace, an interface, or a number,
 -- which tells apart what one function declares.
-grammar marked_name =
+grammar locally_scoped_name =
     literal_or (codes "?") nested_symbol
     (literal_or (codes "$") (entering_name (call template_name))
     (literal_or (codes "A") (call anonymous_namespace)

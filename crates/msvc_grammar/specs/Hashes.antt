@@ -14,7 +14,7 @@ abbrev pub HashesStand : List ℕ → SymbolTree → Type 0
 HashesStand text tree =
     (digits rest : List ℕ) → is_hash digits ≡ true → text ≡ hashed_text digits rest → tree ≡ md5_symbol digits
 
--- where a text begins with a hash, it is refused for memory alone
+-- where a text begins with a hash, it is rejected for memory alone
 abbrev pub HashesAreRead : List ℕ → ErrorRepr → Type 0
 HashesAreRead text e =
     (digits rest : List ℕ) → is_hash digits ≡ true → text ≡ hashed_text digits rest → e ≡ error.Memory

@@ -3,7 +3,7 @@
 use Rattle.std.specs.Prelude.{ℕ, List, [], ◌∷◌, ◌++◌, ◌≡◌}
 use Rattle.msvc_nodes.specs.Trees.{SymbolTree, TypeTree}
 use Rattle.msvc_grammar.specs.Reads.{Derives, Reads}
-use Rattle.msvc_grammar.specs.Rules.{Rule, any_type, apart, call}
+use Rattle.msvc_grammar.specs.Rules.{Rule, type_, apart, call}
 use Rattle.msvc_grammar.specs.Sorts.{Sort, Value}
 use Rattle.msvc_grammar.specs.State.{Entry, Note, State}
 
@@ -33,9 +33,9 @@ SameTables s t = (s.names ≡ t.names) × (s.types ≡ t.types)
 -- A type that was read with some tables is read again with later ones, whatever follows, and leaves these as they are.
 abbrev pub TypesAreLocal : Type 0
 TypesAreLocal = (q : ℕ) (left rest : List ℕ) (s : State) (v : TypeTree) (t : State)
-    → Reads _ (call (any_type q)) (left ++ rest) s v rest t
+    → Reads _ (call (type_ q)) (left ++ rest) s v rest t
     → (others : List ℕ) (later : State) → Later t later
-    → (next : State) × Reads _ (call (any_type q)) (left ++ others) later v others next × SameTables next later
+    → (next : State) × Reads _ (call (type_ q)) (left ++ others) later v others next × SameTables next later
 
 -- what is read with tables of its own, as a template is, leaves those before it as they were
 abbrev pub TablesAreHandedBack : Type 0

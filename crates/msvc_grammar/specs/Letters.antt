@@ -6,16 +6,16 @@ use Rattle.msvc_nodes.specs.declared.kinds.CallingConv.{CallingConv}
 use Rattle.msvc_nodes.specs.declared.kinds.CallingConv.TheVariants.{Cdecl, Pascal, Thiscall, Stdcall, Fastcall}
 use Rattle.msvc_nodes.specs.declared.kinds.VarStorageKind.TheVariants.{PrivateStatic, ProtectedStatic, PublicStatic}
 use Rattle.msvc_nodes.specs.declared.kinds.VarStorageKind.TheVariants.{Global, FunctionLocalStatic}
-use Rattle.msvc_nodes.specs.declared.kinds.Tag.TheVariants as tag_kind
-use Rattle.msvc_nodes.specs.declared.kinds.BaseType.{BaseType}
-use Rattle.msvc_nodes.specs.declared.kinds.BaseType.TheVariants as base_kind
+use Rattle.msvc_nodes.specs.declared.kinds.TagKind.TheVariants as tag_kind
+use Rattle.msvc_nodes.specs.declared.kinds.PrimitiveKind.{PrimitiveKind}
+use Rattle.msvc_nodes.specs.declared.kinds.PrimitiveKind.TheVariants as base_kind
 use Rattle.msvc_nodes.specs.declared.kinds.Guard.TheVariants as guard_kind
-use Rattle.msvc_nodes.specs.declared.kinds.Mark.TheVariants as mark_kind
-use Rattle.msvc_nodes.specs.declared.kinds.Table.TheVariants as table_kind
-use Rattle.msvc_nodes.specs.PlainOperators.{OperatorRow, first_operators, second_operators, third_operators}
+use Rattle.msvc_nodes.specs.declared.kinds.PointerAffinity.TheVariants as mark_kind
+use Rattle.msvc_nodes.specs.declared.kinds.SpecialTableKind.TheVariants as table_kind
+use Rattle.msvc_nodes.specs.PlainOperators.{OperatorRow, basic_operators, under_operators, double_under_operators}
 use Rattle.msvc_nodes.specs.PlainOperators.{type_information_operators}
-use Rattle.msvc_grammar.specs.declared.forms.TypeForm.{TypeForm}
-use Rattle.msvc_grammar.specs.declared.forms.TypeForm.TheVariants as form
+use Rattle.msvc_grammar.specs.declared.forms.TypePrefix.{TypePrefix}
+use Rattle.msvc_grammar.specs.declared.forms.TypePrefix.TheVariants as form
 use Rattle.msvc_grammar.specs.declared.forms.SpecialForm.{SpecialForm}
 use Rattle.msvc_grammar.specs.declared.forms.SpecialForm.TheVariants as special
 use Rattle.msvc_grammar.specs.Sorts.{TypeLetter, based, extended, named, points, arrayed, indexed, referred}
@@ -173,7 +173,7 @@ reference_qualifiers = by_letter ((codes "G", lvalue) ∷ (codes "H", rvalue) �
 
 -- Types
 
-abbrev pub base_types : List (ℕ × BaseType)
+abbrev pub base_types : List (ℕ × PrimitiveKind)
 base_types = by_letter (
     (codes "X", base_kind.Void)
     ∷ (codes "C", base_kind.Schar)
@@ -191,7 +191,7 @@ base_types = by_letter (
     ∷ [])
 
 -- the base types of a second letter, after _
-abbrev pub extended_types : List (ℕ × BaseType)
+abbrev pub extended_types : List (ℕ × PrimitiveKind)
 extended_types = by_letter (
     (codes "N", base_kind.Bool)
     ∷ (codes "W", base_kind.Wchar)
@@ -226,7 +226,7 @@ abbrev pub type_letters : List (ℕ × TypeLetter)
 type_letters = rows_of based base_types compound_letters
 
 -- The texts that are tried before a plain type, and the form that each stands for. None begins another.
-abbrev pub type_texts : List (List ℕ × TypeForm)
+abbrev pub type_texts : List (List ℕ × TypePrefix)
 type_texts =
     (codes "W4", form.Enumeration)
     ∷ (codes "A6", form.ReferenceToFunction)
@@ -244,7 +244,7 @@ type_texts =
     ∷ (codes "$$A6", form.Function)
     ∷ (codes "$$A8@@", form.QualifiedFunction)
     ∷ (codes "$$Y", form.Alias)
-    ∷ (codes "$$C", form.Requalified)
+    ∷ (codes "$$C", form.CvQualified)
     ∷ (codes "$1", form.MemberPointer)
     ∷ (codes "$H", form.MemberPointer)
     ∷ (codes "$I", form.MemberPointer)
@@ -341,12 +341,12 @@ abbrev pub operators_of : List OperatorRow → List (ℕ × SpecialForm) → Lis
 operators_of [] others = others
 operators_of (row ∷ table) others = (row.0, special.Plain row.1) ∷ operators_of table others
 
-abbrev pub special_letters : List (ℕ × SpecialForm)
-special_letters = operators_of first_operators []
+abbrev pub basic_special_letters : List (ℕ × SpecialForm)
+basic_special_letters = operators_of basic_operators []
 
 -- after _
-abbrev pub second_special_letters : List (ℕ × SpecialForm)
-second_special_letters = operators_of second_operators (by_letter ((codes "B", special.Guard guard_kind.Static) ∷ []))
+abbrev pub under_special_letters : List (ℕ × SpecialForm)
+under_special_letters = operators_of under_operators (by_letter ((codes "B", special.Guard guard_kind.Static) ∷ []))
 
 -- of run-time type information, after _R
 abbrev pub type_information_letters : List (ℕ × SpecialForm)
@@ -354,16 +354,20 @@ type_information_letters = operators_of type_information_operators
     (by_letter ((codes "0", special.TypeDescriptor) ∷ (codes "1", special.BaseClass) ∷ []))
 
 -- after __
-abbrev pub third_special_letters : List (ℕ × SpecialForm)
-third_special_letters = operators_of third_operators (by_letter ((codes "J", special.Guard guard_kind.Thread) ∷ []))
+abbrev pub double_under_special_letters : List (ℕ × SpecialForm)
+double_under_special_letters = operators_of double_under_operators (by_letter ((
+  codes "J",
+  special.Guard
+      guard_kind.Thread,
+) ∷ []))
 
 -- none begins another
 abbrev pub special_texts : List (List ℕ × SpecialForm)
 special_texts =
-    texts_after [] special_letters
-    (texts_after (codes "_") second_special_letters
+    texts_after [] basic_special_letters
+    (texts_after (codes "_") under_special_letters
     (texts_after (codes "_R") type_information_letters
-    (texts_after (codes "__") third_special_letters [])))
+    (texts_after (codes "__") double_under_special_letters [])))
 
 -- Strings
 

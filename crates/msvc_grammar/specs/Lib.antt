@@ -11,7 +11,7 @@ pub mod Parsed
 pub mod Parts
 pub mod Prefix
 pub mod Reads
-pub mod Refusals
+pub mod Rejections
 pub mod Rules
 pub mod Sorts
 pub mod State

@@ -12,7 +12,7 @@ use Rattle.msvc_grammar.specs.Laws.{HasOneTree, TablesAreHandedBack, TypesAreLoc
 use Rattle.msvc_grammar.specs.Parts.{NamesAreParts}
 use Rattle.msvc_grammar.specs.Prefix.{IsReadTo}
 use Rattle.msvc_grammar.specs.Reads.{Derives, IsOnly}
-use Rattle.msvc_grammar.specs.Refusals.{IsRefusalAt, IsRefusedRightly, IsRefusedWithin, begins_with}
+use Rattle.msvc_grammar.specs.Rejections.{IsRejectionAt, IsRejectedRightly, IsRejectedRightlyWithin, begins_with}
 use Rattle.msvc_grammar.specs.State.{Note}
 use Rattle.msvc_grammar.specs.Written.{AreRising, CanBeWrittenOut, DigitsCanBeWrittenOut}
 
@@ -49,9 +49,9 @@ pub record GrammarLaws (text : List ℕ) : Type 0 where
 -- Reading the text fails with this error.
 pub record IsRejected (text : List ℕ) (e : ErrorRepr) : Type 0 where
   -- out of memory, or the text begins with no symbol: then the error has an offset in the text
-  pub refused : IsRefusedRightly text e
+  pub rejected : IsRejectedRightly text e
   -- a text without a question mark at its beginning is rejected at offset 0
-  pub begins : (begins_with (codes "?") text → ⊥) → IsRefusalAt text 0 e
+  pub begins : (begins_with (codes "?") text → ⊥) → IsRejectionAt text 0 e
   -- a text that begins with a hash is rejected only out of memory
   pub hashes : HashesAreRead text e
   -- the message is not that of a declaration that is too long
@@ -60,9 +60,9 @@ pub record IsRejected (text : List ℕ) (e : ErrorRepr) : Type 0 where
 -- Reading the text fails with this error, where at most so many nodes are allowed.
 pub record IsRejectedWithin (nodes : ℕ) (text : List ℕ) (e : ErrorRepr) : Type 0 where
   -- out of memory, or the text begins with no symbol of so few nodes: then the error has an offset in the text
-  pub refused : IsRefusedWithin nodes text e
+  pub rejected : IsRejectedRightlyWithin nodes text e
   -- a text without a question mark at its beginning is rejected at offset 0
-  pub begins : (begins_with (codes "?") text → ⊥) → IsRefusalAt text 0 e
+  pub begins : (begins_with (codes "?") text → ⊥) → IsRejectionAt text 0 e
   -- the message is not that of a declaration that is too long
   pub limit : limit_of e ≢ Some Bytes
 

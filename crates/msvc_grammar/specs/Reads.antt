@@ -183,7 +183,7 @@ unfoldable pub read_within : ℕ → {a : Sort} → Production a → Reader a
 read_within zero n left s = None
 read_within (suc k) n left s = read_by (λ b m. read_within k m) (grammar n) left s
 
--- no production calls so many others, one within another, before a byte is eaten
+-- no production calls so many others, one within another, before a byte is consumed
 abbrev pub ranks : ℕ
 ranks = 6
 

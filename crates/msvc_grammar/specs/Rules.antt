@@ -4,7 +4,7 @@
 use Rattle.std.specs.Prelude.{ℕ, ℤ, List, [], ◌∷◌, ◌==◌, Bool, true, false, not, Option, Some, None, if◌then◌else◌}
 use Rattle.std.specs.Prelude.{is_some}
 use Rattle.msvc_grammar.specs.declared.forms.SpecialForm.{SpecialForm}
-use Rattle.msvc_grammar.specs.declared.forms.TypeForm.{TypeForm}
+use Rattle.msvc_grammar.specs.declared.forms.TypePrefix.{TypePrefix}
 use Rattle.msvc_nodes.specs.Trees.{NameTree}
 use Rattle.msvc_grammar.specs.Sorts.{TypeLetter, EncodingLetter, Sort, nothing, bits, integer, bytes, name_tree, type_tree}
 use Rattle.msvc_grammar.specs.Sorts.{symbol_tree, convention, perhaps, list, both, Value}
@@ -36,10 +36,10 @@ pub data Production : Sort → Type 0 where
   parameters : Production (list type_tree)
   parameter : Production type_tree
   -- types
-  any_type : ℕ → Production type_tree
+  type_ : ℕ → Production type_tree
   plain_type : ℕ → Production type_tree
   type_after : ℕ → TypeLetter → Production type_tree
-  type_form : ℕ → TypeForm → Production type_tree
+  prefixed_type : ℕ → TypePrefix → Production type_tree
   -- without (true) or with qualifiers on this
   function_type : Bool → Production type_tree
   -- with qualifiers (true) or of a class
@@ -58,7 +58,7 @@ pub data Production : Sort → Type 0 where
   template_name : Production name_tree
   scope : Production (list name_tree)
   nested_name : Production name_tree
-  marked_name : Production name_tree
+  locally_scoped_name : Production name_tree
   anonymous_namespace : Production name_tree
   hexadecimal_digits : Production (list bits)
   source_name : Production bytes
@@ -83,7 +83,7 @@ pub data Rule : Sort → Type 0 where
   letter : (a : Sort) → List (ℕ × Value a) → Rule a
   -- this text
   literal : List ℕ → Rule nothing
-  -- the bytes before the first one of this kind, which is eaten too
+  -- the bytes before the first one of this kind, which is consumed too
   up_to : ℕ → Rule bytes
   -- a rule where a condition holds
   here : {a : Sort} → Condition → Rule a → Rule a

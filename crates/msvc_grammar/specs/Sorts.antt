@@ -3,21 +3,21 @@
 use Rattle.std.specs.Prelude.{ℕ, ℤ, List, Option}
 use Rattle.msvc_nodes.specs.declared.kinds.CallingConv.{CallingConv}
 use Rattle.msvc_nodes.specs.declared.kinds.VarStorageKind.{VarStorageKind}
-use Rattle.msvc_nodes.specs.declared.kinds.BaseType.{BaseType}
-use Rattle.msvc_nodes.specs.declared.kinds.Mark.{Mark}
-use Rattle.msvc_nodes.specs.declared.kinds.Table.{Table}
-use Rattle.msvc_nodes.specs.declared.kinds.Tag.{Tag}
+use Rattle.msvc_nodes.specs.declared.kinds.PrimitiveKind.{PrimitiveKind}
+use Rattle.msvc_nodes.specs.declared.kinds.PointerAffinity.{PointerAffinity}
+use Rattle.msvc_nodes.specs.declared.kinds.SpecialTableKind.{SpecialTableKind}
+use Rattle.msvc_nodes.specs.declared.kinds.TagKind.{TagKind}
 use Rattle.msvc_nodes.specs.Trees.{NameTree, SymbolTree, TypeTree}
 
 -- what a plain type begins with, by its first byte
 pub data TypeLetter : Type 0 where
-  based : BaseType → TypeLetter
+  based : PrimitiveKind → TypeLetter
   -- a second letter follows
   extended : TypeLetter
   -- a class, and its name follows
-  named : Tag → TypeLetter
+  named : TagKind → TypeLetter
   -- a pointer or a reference, with the qualifiers on itself if it has any, and what it points to follows
-  points : Mark → Option ℕ → TypeLetter
+  points : PointerAffinity → Option ℕ → TypeLetter
   arrayed : TypeLetter
   -- a parameter of a template, and its number follows
   indexed : TypeLetter
@@ -28,7 +28,7 @@ pub data TypeLetter : Type 0 where
 pub data EncodingLetter : Type 0 where
   variable_of : VarStorageKind → EncodingLetter
   -- a table of a class
-  table_of : Table → EncodingLetter
+  table_of : SpecialTableKind → EncodingLetter
   type_information : EncodingLetter
   untyped : EncodingLetter
   -- the characters of a text
@@ -58,7 +58,7 @@ Value bytes = List ℕ
 Value name_tree = NameTree
 Value type_tree = TypeTree
 Value symbol_tree = SymbolTree
-Value base_type = BaseType
+Value base_type = PrimitiveKind
 Value type_letter = TypeLetter
 Value encoding_letter = EncodingLetter
 Value convention = CallingConv

@@ -21,8 +21,8 @@ pub record Note : Type 0 where
 pub record Count : Type 0 where
   -- what each counts for: one, or nothing where there is no limit
   pub weight : ℕ
-  pub made : ℕ
-  pub most : ℕ
+  pub used : ℕ
+  pub max : ℕ
 
 pub record State : Type 0 where
   -- how many bytes the whole text has
@@ -41,11 +41,11 @@ span_of t left remaining s = record { entered = t; start = place left s; end = p
 
 -- no limit: nothing is counted
 abbrev pub uncounted : Count
-uncounted = record { weight = 0; made = 0; most = 0 }
+uncounted = record { weight = 0; used = 0; max = 0 }
 
 -- at most so many nodes
 abbrev pub at_most : ℕ → Count
-at_most n = record { weight = 1; made = 0; most = n }
+at_most n = record { weight = 1; used = 0; max = n }
 
 -- the state in which the reading of a text begins, with a limit or without
 abbrev pub beginning_with : Count → List ℕ → State
@@ -56,14 +56,14 @@ beginning text = beginning_with uncounted text
 
 -- so many nodes more
 abbrev pub more : ℕ → Count → Count
-more n count = record count { made = count.made + n }
+more n count = record count { used = count.used + n }
 
 abbrev pub counted : ℕ → State → State
 counted n s = record s { count = more n s.count }
 
 -- whether no more nodes were made than may be
 abbrev pub is_allowed : Count → Bool
-is_allowed count = not (nat_lt count.most count.made)
+is_allowed count = not (nat_lt count.max count.used)
 
 -- how many entries a table has at most
 abbrev pub most_memorized : ℕ

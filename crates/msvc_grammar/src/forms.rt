@@ -4,7 +4,7 @@ use msvc_nodes::kinds::{Guard, PlainOperator};
 
 /// What a type begins with, where it begins with one of the texts that are tried before a plain type.
 #[derive(Clone, Copy)]
-pub enum TypeForm {
+pub enum TypePrefix {
     /// An enumeration, and its name follows.
     Enumeration,
     /// A reference to a function.
@@ -32,7 +32,7 @@ pub enum TypeForm {
     /// A type by another name.
     Alias,
     /// A plain type with qualifiers of its own.
-    Requalified,
+    CvQualified,
     /// A pointer to a member function as an argument of a template.
     MemberPointer,
 }

@@ -4,7 +4,7 @@
 //! - the symbol of each row, its beginnings, and the symbol with another character in the place of each of its own,
 //! - symbols whose digits multiply,
 //! - COUNT texts that are drawn from an alphabet, and COUNT that are drawn so after a question mark,
-//! - COUNT texts that the grammar writes; these are read whole, or refused for a digit that has no entry.
+//! - COUNT texts that the grammar writes; these are read whole, or rejected for a digit that has no entry.
 //!
 //! A text for which they don't is printed. Each kind of text has a line that counts, and so has each table of the
 //! grammar: how many of its rows were read in texts that were accepted. It has to be all.
@@ -57,7 +57,7 @@ impl Tally {
                 self.accepted = self.accepted.saturating_add(1);
                 self.digits = self.digits.saturating_add(digits as u64);
             }
-            Answer::Refused => {}
+            Answer::Rejected => {}
             Answer::Contradicted => self.blame(rt, text)?,
         }
         Ok(answer)
@@ -71,9 +71,7 @@ impl Tally {
 
     fn print(&self, rt: &HostRuntime, kind: &str) -> io::Result<()> {
         let (texts, accepted, digits, wrong) = (self.texts, self.accepted, self.digits, self.wrong);
-        println!(rt;
-            "{kind}: {texts} texts, {accepted} accepted, {digits} digits written out, {wrong} wrong"
-        )
+        println!(rt; "{kind}: {texts} texts, {accepted} accepted, {digits} digits, {wrong} wrong")
     }
 }
 
@@ -207,13 +205,13 @@ fn read_back(
             draft.count_rows(tables);
             bytes == text.len()
         }
-        Answer::Refused => lacks_an_entry(rt.alloc(), text)?,
+        Answer::Rejected => lacks_an_entry(rt.alloc(), text)?,
         Answer::Contradicted => true,
     };
     if right { Ok(()) } else { tally.blame(rt, text) }
 }
 
-/// Whether a text is refused for a digit that has no entry in its table.
+/// Whether a text is rejected for a digit that has no entry in its table.
 fn lacks_an_entry(alloc: Global, text: &str) -> Result<bool, AllocError> {
     let Some(refusal) = back_references(alloc, text).err() else {
         return Ok(false);

@@ -10,6 +10,5 @@ pub mod hostile;
 mod made;
 pub mod multiplied;
 pub mod prefix;
-pub mod references;
 pub mod within;
 mod written;

@@ -4,16 +4,13 @@
 use msvc_demangler::Error;
 use std::alloc::{AllocError, Global};
 
-/// Whether a call made this.
-pub fn is_made<T: PartialEq + Drop>(made: Result<T, Error>, wanted: &T) -> bool {
-    match made {
-        Ok(other) => other == *wanted,
-        Err(_) => false,
-    }
+/// Whether a call made anything.
+pub fn is_made<T: Drop>(made: Result<T, Error>) -> bool {
+    made.is_ok()
 }
 
 /// Why a call made nothing.
-pub fn refusal_of<T: Drop>(made: Result<T, Error>) -> Option<Error> {
+pub fn rejection_of<T: Drop>(made: Result<T, Error>) -> Option<Error> {
     match made {
         Ok(_) => None,
         Err(refusal) => Some(refusal),
@@ -21,14 +18,14 @@ pub fn refusal_of<T: Drop>(made: Result<T, Error>) -> Option<Error> {
 }
 
 /// Whether a call made nothing, for a reason that is shown so.
-pub fn is_refused_so<T: Drop>(alloc: Global, made: Result<T, Error>, shown: &str) -> bool {
+pub fn is_rejected_so<T: Drop>(alloc: Global, made: Result<T, Error>, shown: &str) -> bool {
     match made {
         Ok(_) => false,
         Err(refusal) => is_shown(alloc, &refusal, shown),
     }
 }
 
-/// Whether a refusal is shown so.
+/// Whether a rejection is shown so.
 fn is_shown(alloc: Global, refusal: &Error, shown: &str) -> bool {
     match shown_as(alloc, refusal) {
         Ok(other) => other.as_str() == shown,
@@ -36,12 +33,12 @@ fn is_shown(alloc: Global, refusal: &Error, shown: &str) -> bool {
     }
 }
 
-/// What a refusal is shown as.
+/// What a rejection is shown as.
 pub fn shown_as(alloc: Global, refusal: &Error) -> Result<String, AllocError> {
     format!(in alloc; "{refusal}")
 }
 
-/// Whether the place of a refusal is in the text.
+/// Whether the place of a rejection is in the text.
 pub fn is_within(refusal: &Error, text: &str) -> bool {
     match refusal.offset() {
         Some(offset) => offset <= text.len(),

@@ -1,8 +1,9 @@
 //! Compares with rows how much of a text is read. Each line of standard input is a text, how many of its bytes are
-//! read, and how many nodes its tree has, or a text and the word `refused`, parted by tabs. A row that differs is
-//! printed; the last line counts.
+//! read, and how many nodes its tree has, or a text and the word `refused`, parted by tabs. With one node less allowed
+//! the calls have to name that limit. A row that differs is printed; the last line counts.
 
 use crate::answers::{Answer, all_answers};
+use crate::within::{fewest_nodes, wants_nodes};
 use std::alloc::Global;
 use std::io;
 
@@ -28,9 +29,12 @@ fn agrees(alloc: Global, row: &str) -> bool {
     let wanted = fields.next().unwrap_or("");
     let count = fields.next().unwrap_or("");
     match all_answers(alloc, text) {
-        Answer::Refused => wanted == "refused",
-        Answer::Accepted { bytes, nodes, .. } => {
-            wanted.parse() == Ok(bytes) && count.parse() == Ok(nodes)
+        Answer::Rejected => wanted == "refused",
+        Answer::Accepted { bytes, .. } => {
+            let nodes = fewest_nodes(alloc, text);
+            wanted.parse() == Ok(bytes)
+                && count.parse() == Ok(nodes)
+                && wants_nodes(alloc, text, nodes.saturating_sub(1))
         }
         Answer::Contradicted => false,
     }

@@ -4,8 +4,8 @@ use Rattle.std.specs.Borrow.{Bor}
 use Rattle.msvc_nodes.specs.Trees as tree
 use Rattle.msvc_nodes.specs.NodeView.{name_of, type_of, names_of, types_of, names_in, types_in}
 use Rattle.msvc_nodes.specs.declared.flags.StorageClass.{StorageClass}
-use Rattle.msvc_nodes.specs.declared.kinds.Table.{Table}
-use Rattle.msvc_nodes.specs.declared.kinds.Tag.{Tag}
+use Rattle.msvc_nodes.specs.declared.kinds.SpecialTableKind.{SpecialTableKind}
+use Rattle.msvc_nodes.specs.declared.kinds.TagKind.{TagKind}
 use Rattle.msvc_nodes.specs.declared.nodes.Name as n
 use Rattle.msvc_nodes.specs.declared.nodes.Name.{Name, Row_of-Function-parameters-1, Row_of-Scope-names-1}
 use Rattle.msvc_nodes.specs.declared.nodes.Name.{items-the_row-Function-parameters-1, items-the_row-Scope-names-1}
@@ -61,7 +61,7 @@ pub name_of-TypeDescriptor : (q : StorageClass) (b : Bor «Type»)
 unfolding name_of type_of
 name_of-TypeDescriptor q b = refl
 
-pub type_of-Tagged : (k : Tag) (q : StorageClass) (b : Bor Symbol)
+pub type_of-Tagged : (k : TagKind) (q : StorageClass) (b : Bor Symbol)
     → type_of (t.Tagged k q b) ≡ tree.tagged k (name_of b.now.name.now) (names_in b.now.scope.now) q.0
 unfolding type_of name_of names_of
 type_of-Tagged k q b = ap (λ ns. tree.tagged k (name_of b.now.name.now) ns q.0) (names_of-hidden b.now.scope.now)
@@ -96,7 +96,7 @@ type_of-MemberPointer s b =
     ∙ ap (λ x. tree.member_pointer (name_of s.now.name.now) (names_in s.now.scope.now) b.now.class.0 b.now.convention
     x b.now.qualifiers.0 (type_of b.now.returned.now)) (types_of-hidden b.now.parameters.now)
 
-pub type_of-Table : (k : Table) (q : StorageClass) (b : Bor Scope)
+pub type_of-Table : (k : SpecialTableKind) (q : StorageClass) (b : Bor Scope)
     → type_of (t.Table k q b) ≡ tree.table k (names_in b.now.names.now) q.0
 unfolding type_of names_of
 type_of-Table k q b = ap (λ ns. tree.table k ns q.0) (names_of-hidden b.now.names.now)

@@ -10,26 +10,26 @@ use mathlib.Core.List.{List-discrete}
 use native.Mathlib.Decide.{ℕ_discrete}
 use Rattle.msvc_nodes.specs.Trees.{NameTree, NameTrees, TypeTree, TypeTrees, SymbolTree, NameTree-discrete}
 use Rattle.msvc_nodes.specs.Trees.{NameTrees-discrete, TypeTree-discrete, TypeTrees-discrete}
-use Rattle.msvc_nodes.specs.contracts.kinds.BaseType.{the_type as bases}
+use Rattle.msvc_nodes.specs.contracts.kinds.PrimitiveKind.{the_type as bases}
 use Rattle.msvc_nodes.specs.contracts.kinds.Guard.{the_type as guards}
-use Rattle.msvc_nodes.specs.contracts.kinds.Mark.{the_type as marks}
+use Rattle.msvc_nodes.specs.contracts.kinds.PointerAffinity.{the_type as marks}
 use Rattle.msvc_nodes.specs.contracts.kinds.NumberedType.{the_type as numbers}
 use Rattle.msvc_nodes.specs.contracts.kinds.PlainOperator.{the_type as operators}
 use Rattle.msvc_nodes.specs.contracts.kinds.PlainType.{the_type as plains}
 use Rattle.msvc_nodes.specs.contracts.kinds.Spelling.{the_type as spellings}
-use Rattle.msvc_nodes.specs.contracts.kinds.Table.{the_type as tables}
-use Rattle.msvc_nodes.specs.contracts.kinds.Tag.{the_type as tags}
+use Rattle.msvc_nodes.specs.contracts.kinds.SpecialTableKind.{the_type as tables}
+use Rattle.msvc_nodes.specs.contracts.kinds.TagKind.{the_type as tags}
 use Rattle.msvc_nodes.specs.contracts.kinds.CallingConv.{the_type as conventions}
 use Rattle.msvc_nodes.specs.contracts.kinds.VarStorageKind.{the_type as kinds}
-use Rattle.msvc_nodes.specs.declared.kinds.BaseType.{BaseType}
+use Rattle.msvc_nodes.specs.declared.kinds.PrimitiveKind.{PrimitiveKind}
 use Rattle.msvc_nodes.specs.declared.kinds.Guard.{Guard}
-use Rattle.msvc_nodes.specs.declared.kinds.Mark.{Mark}
+use Rattle.msvc_nodes.specs.declared.kinds.PointerAffinity.{PointerAffinity}
 use Rattle.msvc_nodes.specs.declared.kinds.NumberedType.{NumberedType}
 use Rattle.msvc_nodes.specs.declared.kinds.PlainOperator.{PlainOperator}
 use Rattle.msvc_nodes.specs.declared.kinds.PlainType.{PlainType}
 use Rattle.msvc_nodes.specs.declared.kinds.Spelling.{Spelling}
-use Rattle.msvc_nodes.specs.declared.kinds.Table.{Table}
-use Rattle.msvc_nodes.specs.declared.kinds.Tag.{Tag}
+use Rattle.msvc_nodes.specs.declared.kinds.SpecialTableKind.{SpecialTableKind}
+use Rattle.msvc_nodes.specs.declared.kinds.TagKind.{TagKind}
 use Rattle.msvc_nodes.specs.declared.kinds.CallingConv.{CallingConv}
 use Rattle.msvc_nodes.specs.declared.kinds.VarStorageKind.{VarStorageKind}
 
@@ -41,13 +41,13 @@ by_tags D bare a b (no n) = no (λ e. n (ap (tag_of D) e))
 bare_discrete : (D : Declared) → Bare D.parts → Discrete D.D
 bare_discrete D bare a b = by_tags D bare a b (ℕ_discrete (tag_of D a) (tag_of D b))
 
-base_discrete : Discrete BaseType
+base_discrete : Discrete PrimitiveKind
 base_discrete = bare_discrete bases tt
 
 guard_discrete : Discrete Guard
 guard_discrete = bare_discrete guards tt
 
-mark_discrete : Discrete Mark
+mark_discrete : Discrete PointerAffinity
 mark_discrete = bare_discrete marks tt
 
 number_discrete : Discrete NumberedType
@@ -62,10 +62,10 @@ plain_discrete = bare_discrete plains tt
 spelling_discrete : Discrete Spelling
 spelling_discrete = bare_discrete spellings tt
 
-table_discrete : Discrete Table
+table_discrete : Discrete SpecialTableKind
 table_discrete = bare_discrete tables tt
 
-tag_discrete : Discrete Tag
+tag_discrete : Discrete TagKind
 tag_discrete = bare_discrete tags tt
 
 convention_discrete : Discrete CallingConv

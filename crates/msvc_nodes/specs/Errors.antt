@@ -1,4 +1,4 @@
--- What an error says, and the part of an input that a refusal shows.
+-- What an error says, and the part of an input that a rejection shows.
 use Rattle.std.specs.Prelude.{◌≡◌, ℕ, List, ◌++◌, Option, Some, None, length, take, drop, nat_le, if◌then◌else◌}
 use Rattle.std.specs.Prelude.{◌==◌, codes, string_bytes}
 use Rattle.std.specs.Cmp.Lexicographic.{pointwise}
@@ -11,11 +11,11 @@ use Rattle.msvc_nodes.specs.declared.error.ErrorRepr.TheVariants.{ParseError, Ot
 use Rattle.msvc_nodes.specs.declared.error.Limit.{Limit}
 use Rattle.msvc_nodes.specs.declared.error.Limit.TheVariants.{Nodes, Bytes}
 
--- what a refusal shows of the bytes that remain at its offset: the first 20 and three dots where there are more
+-- what a rejection shows of the bytes that remain at its offset: the first 20 and three dots where there are more
 abbrev pub shortened : List ℕ → List ℕ
 shortened bytes = if nat_le (length bytes) 20 then bytes else take 20 bytes ++ codes "..."
 
--- the context of a refusal of an ASCII input at this offset
+-- the context of a rejection of an ASCII input at this offset
 abbrev pub context_of : List ℕ → ℕ → List ℕ
 context_of input offset = shortened (drop offset input)
 
@@ -28,11 +28,11 @@ abbrev pub shortened_text : List ℕ → List ℕ
 shortened_text bytes =
     if nat_le (length bytes) 20 then text_of bytes else text_of (take 20 bytes) ++ codes "..."
 
--- the context of a refusal of any input at this offset
+-- the context of a rejection of any input at this offset
 abbrev pub context_text_of : List ℕ → ℕ → List ℕ
 context_text_of input offset = shortened_text (drop offset input)
 
--- the offset of a refusal
+-- the offset of a rejection
 abbrev pub offset_of : ErrorRepr → Option ℕ
 offset_of (ParseError message context offset) = Some offset
 offset_of _ = None
@@ -55,12 +55,12 @@ abbrev pub limit_of : ErrorRepr → Option Limit
 limit_of (ParseError message context offset) = message_limit (cow_str_bytes message)
 limit_of _ = None
 
--- out of memory, or else a refusal with this message, this context and this offset
-abbrev pub IsRefusalOrMemory : List ℕ → List ℕ → ℕ → ErrorRepr → Type 0
-IsRefusalOrMemory message context offset (ParseError m c o) =
+-- out of memory, or else a rejection with this message, this context and this offset
+abbrev pub IsRejectionOrMemory : List ℕ → List ℕ → ℕ → ErrorRepr → Type 0
+IsRejectionOrMemory message context offset (ParseError m c o) =
     (cow_str_bytes m ≡ message) × (string_bytes c ≡ context) × (o ≡ offset)
-IsRefusalOrMemory message context offset Memory = Unit {0}
-IsRefusalOrMemory message context offset _ = ⊥
+IsRejectionOrMemory message context offset Memory = Unit {0}
+IsRejectionOrMemory message context offset _ = ⊥
 
 -- out of memory, or else an error of this message alone
 abbrev pub IsMessageOrMemory : List ℕ → ErrorRepr → Type 0

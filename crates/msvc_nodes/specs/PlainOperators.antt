@@ -9,8 +9,8 @@ abbrev pub OperatorRow : Type 0
 OperatorRow = ℕ × PlainOperator × List ℕ
 
 -- whose code is the letter alone
-abbrev pub first_operators : List OperatorRow
-first_operators =
+abbrev pub basic_operators : List OperatorRow
+basic_operators =
     (code "0", o.Ctor, codes "ctor")
     ∷ (code "1", o.Dtor, codes "dtor")
     ∷ (code "2", o.New, codes "operator new")
@@ -50,8 +50,8 @@ first_operators =
     ∷ []
 
 -- after _
-abbrev pub second_operators : List OperatorRow
-second_operators =
+abbrev pub under_operators : List OperatorRow
+under_operators =
     (code "0", o.SlashEqual, codes "operator/=")
     ∷ (code "1", o.PercentEqual, codes "operator%=")
     ∷ (code "2", o.GreaterGreaterEqual, codes "operator>>=")
@@ -93,8 +93,8 @@ type_information_operators =
     ∷ []
 
 -- after __
-abbrev pub third_operators : List OperatorRow
-third_operators =
+abbrev pub double_under_operators : List OperatorRow
+double_under_operators =
     (code "E", o.DynamicInitializer, codes "`dynamic initializer'")
     ∷ (code "F", o.DynamicAtexitDtor, codes "`dynamic atexit destructor'")
     ∷ (code "K", o.LiteralOperatorName, codes "operator \"\"")

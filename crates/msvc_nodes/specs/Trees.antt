@@ -2,17 +2,17 @@
 -- An integer is a number, a set is its bits, a name or a text is its bytes. Variants with the same fields stand
 -- under one constructor, which says by an enumeration which one it is.
 use Rattle.std.specs.Prelude.{ℕ, ℤ, List, [], ◌∷◌, Option}
-use Rattle.msvc_nodes.specs.declared.kinds.BaseType.{BaseType}
+use Rattle.msvc_nodes.specs.declared.kinds.PrimitiveKind.{PrimitiveKind}
 use Rattle.msvc_nodes.specs.declared.kinds.Guard.{Guard}
-use Rattle.msvc_nodes.specs.declared.kinds.Mark.{Mark}
+use Rattle.msvc_nodes.specs.declared.kinds.PointerAffinity.{PointerAffinity}
 use Rattle.msvc_nodes.specs.declared.kinds.NumberedType.{NumberedType}
 use Rattle.msvc_nodes.specs.declared.kinds.PlainOperator.{PlainOperator}
 use Rattle.msvc_nodes.specs.declared.kinds.PlainType.{PlainType}
 use Rattle.msvc_nodes.specs.declared.kinds.PlainType.TheVariants as plain_kind
 use Rattle.msvc_nodes.specs.declared.kinds.Spelling.{Spelling}
 use Rattle.msvc_nodes.specs.declared.kinds.Spelling.TheVariants as spelling_kind
-use Rattle.msvc_nodes.specs.declared.kinds.Table.{Table}
-use Rattle.msvc_nodes.specs.declared.kinds.Tag.{Tag}
+use Rattle.msvc_nodes.specs.declared.kinds.SpecialTableKind.{SpecialTableKind}
+use Rattle.msvc_nodes.specs.declared.kinds.TagKind.{TagKind}
 use Rattle.msvc_nodes.specs.declared.kinds.CallingConv.{CallingConv}
 use Rattle.msvc_nodes.specs.declared.kinds.VarStorageKind.{VarStorageKind}
 
@@ -39,12 +39,12 @@ mutual
 
   pub data TypeTree : Type 0 where
     plain : PlainType → TypeTree
-    base : BaseType → ℕ → TypeTree
+    base : PrimitiveKind → ℕ → TypeTree
     -- name, scope, qualifiers
-    tagged : Tag → NameTree → NameTrees → ℕ → TypeTree
+    tagged : TagKind → NameTree → NameTrees → ℕ → TypeTree
     numbered : NumberedType → ℤ → TypeTree
     constant_string : List ℕ → TypeTree
-    pointing : Mark → TypeTree → ℕ → TypeTree
+    pointing : PointerAffinity → TypeTree → ℕ → TypeTree
     -- the length of the outermost level, the elements, the qualifiers of the level
     array : ℤ → TypeTree → ℕ → TypeTree
     -- convention, parameters, the function's qualifiers, what it returns
@@ -54,7 +54,7 @@ mutual
     -- name and scope of the class first
     member_pointer : NameTree → NameTrees → ℕ → CallingConv → TypeTrees → ℕ → TypeTree → TypeTree
     variable : TypeTree → VarStorageKind → ℕ → TypeTree
-    table : Table → NameTrees → ℕ → TypeTree
+    table : SpecialTableKind → NameTrees → ℕ → TypeTree
     vcall_thunk : ℤ → CallingConv → TypeTree
     deriving Discrete as TypeTree-discrete
 

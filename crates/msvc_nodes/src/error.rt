@@ -6,7 +6,7 @@ ghost use Rattle.std.specs.Cow.{cow_str_bytes};
 ghost use Rattle.std.specs.Str.{IsAscii};
 ghost use Rattle.msvc_nodes.specs.declared.error.ErrorRepr.{ErrorRepr};
 ghost use Rattle.msvc_nodes.specs.declared.error.ErrorRepr.TheVariants.{FromUtf8, Memory, Utf8};
-ghost use Rattle.msvc_nodes.specs.Errors.{IsMessageOrMemory, IsRefusalOrMemory, context_of};
+ghost use Rattle.msvc_nodes.specs.Errors.{IsMessageOrMemory, IsRejectionOrMemory, context_of};
 ghost use Rattle.msvc_nodes.specs.Errors.{context_text_of, error_text, limit_of, message_limit, offset_of};
 ghost use Rattle.msvc_nodes.specs.Errors.{rejection_text, shortened_text};
 
@@ -127,9 +127,10 @@ fn message_limit(message: &[u8]) -> Option<Limit>
 /// memory.
 pub fn parse_error(alloc: Global, message: CowStr<'static>, input: &[u8], offset: usize) -> Error
     requires { offset ≤ length input.now }
-    ensures refusal { IsRefusalOrMemory (cow_str_bytes message.entry) (context_text_of input.now offset) offset result }
+    ensures rejection { IsRejectionOrMemory (cow_str_bytes message.entry) (context_text_of input.now offset) offset
+        result }
     ensures ascii { IsAscii input.now →
-        IsRefusalOrMemory (cow_str_bytes message.entry) (context_of input.now offset) offset result }
+        IsRejectionOrMemory (cow_str_bytes message.entry) (context_of input.now offset) offset result }
 {
     let repr = match context(alloc, &input[offset..]) {
         Ok(context) => ErrorRepr::ParseError(message, context, offset),
@@ -240,7 +241,7 @@ impl From<FromUtf8Error> for Error {
 impl From<AllocError> for Error {
     ghost from_gives = { λ _ e. e ≡ Memory };
 
-    fn from(_refused: AllocError) -> Error {
+    fn from(_error: AllocError) -> Error {
         Error {
             repr: ErrorRepr::Memory,
         }
@@ -250,7 +251,7 @@ impl From<AllocError> for Error {
 impl<T: Drop> From<AllocFailed<T>> for Error {
     ghost from_gives = { λ _ e. e ≡ Memory };
 
-    fn from(_refused: AllocFailed<T>) -> Error {
+    fn from(_error: AllocFailed<T>) -> Error {
         Error {
             repr: ErrorRepr::Memory,
         }

@@ -209,7 +209,7 @@ pub enum PlainType {
 
 /// The types that are one word of the language, or a few, as `Type` names them.
 #[derive(Clone, Copy, PartialEq, Eq, Debug)]
-pub enum BaseType {
+pub enum PrimitiveKind {
     Void,
     Char,
     Schar,
@@ -236,7 +236,7 @@ pub enum BaseType {
 
 /// The types that are named.
 #[derive(Clone, Copy, PartialEq, Eq, Debug)]
-pub enum Tag {
+pub enum TagKind {
     Class,
     Struct,
     Union,
@@ -257,7 +257,7 @@ pub enum NumberedType {
 
 /// Pointers and references.
 #[derive(Clone, Copy, PartialEq, Eq)]
-pub enum Mark {
+pub enum PointerAffinity {
     /// `*`.
     Pointer,
     /// `&`.
@@ -268,7 +268,7 @@ pub enum Mark {
 
 /// Tables that the compiler makes.
 #[derive(Clone, Copy, PartialEq, Eq)]
-pub enum Table {
+pub enum SpecialTableKind {
     /// Of virtual functions.
     Functions,
     /// Of virtual bases.

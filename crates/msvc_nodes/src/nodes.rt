@@ -3,8 +3,8 @@
 
 use crate::flags::{FuncClass, StorageClass};
 use crate::kinds::{
-    BaseType, CallingConv, Guard, Mark, NumberedType, PlainOperator, PlainType, Table, Tag,
-    VarStorageKind,
+    CallingConv, Guard, NumberedType, PlainOperator, PlainType, PointerAffinity, PrimitiveKind,
+    SpecialTableKind, TagKind, VarStorageKind,
 };
 
 /// The name of a symbol, or one name of a scope.
@@ -112,15 +112,15 @@ pub enum Type<'a, 'b> {
     /// What stands in the place of a type and has nothing in it, as no type, or `...`.
     Plain(PlainType),
     /// A type that is one word of the language, or a few, with its qualifiers.
-    Base(BaseType, StorageClass),
+    Base(PrimitiveKind, StorageClass),
     /// A class, a struct, a union, an enumeration or an alias, its qualifiers, and its name in its scope, in the arena.
-    Tagged(Tag, StorageClass, &'b Symbol<'a, 'b>),
+    Tagged(TagKind, StorageClass, &'b Symbol<'a, 'b>),
     /// A number, or what is known by its number: a parameter of a template, or a guard.
     Numbered(NumberedType, i32),
     /// The bytes of a string literal, decoded, in the arena.
     ConstantString(&'b [u8]),
     /// A pointer or a reference, its qualifiers, and what it points to, in the arena.
-    Pointing(Mark, StorageClass, &'b Type<'a, 'b>),
+    Pointing(PointerAffinity, StorageClass, &'b Type<'a, 'b>),
     /// An array: the length of the outermost level in elements, the qualifiers, and the elements, in the arena.
     Array(i32, StorageClass, &'b Type<'a, 'b>),
     /// A plain function, in the arena.
@@ -132,7 +132,7 @@ pub enum Type<'a, 'b> {
     /// A variable: who may name it and where it lives, the storage class after its type, and its type, in the arena.
     Variable(VarStorageKind, StorageClass, &'b Type<'a, 'b>),
     /// A table of virtual functions or bases, its qualifiers, and the scope of the base that it is for, in the arena.
-    Table(Table, StorageClass, &'b Scope<'a, 'b>),
+    Table(SpecialTableKind, StorageClass, &'b Scope<'a, 'b>),
     /// A thunk of a virtual call: the offset in the table of virtual functions, in bytes, and the convention.
     VcallThunk(i32, CallingConv),
 }

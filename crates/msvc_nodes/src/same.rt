@@ -5,7 +5,7 @@ ghost use Rattle.msvc_nodes.specs.Equality.{same_name as name_is, same_type as t
 ghost use Rattle.msvc_nodes.specs.NodeView.{name_of, type_of, names_in, types_in, typed_symbol_of};
 
 use crate::flags::StorageClass;
-use crate::kinds::{Table, Tag};
+use crate::kinds::{SpecialTableKind, TagKind};
 use crate::nodes::{BaseClass, Function, Name, Scope, Symbol, Template, Type, TypedSymbol};
 
 /// Tests whether two names are seen as the same.
@@ -98,9 +98,9 @@ fn same_name<'a, 'b>(left: &'b Name<'a, 'b>, right: &'b Name<'a, 'b>) -> bool
             Name::Guard(other, others) => *guard == *other && *number == *others,
             _ => false,
         },
-        Name::TypeDescriptor(set, described) => match right {
+        Name::TypeDescriptor(qualifiers, described) => match right {
             Name::TypeDescriptor(others, other) => {
-                *set == *others && same_type(*described, *other)
+                *qualifiers == *others && same_type(*described, *other)
             }
             _ => false,
         },
@@ -124,17 +124,22 @@ fn same_name<'a, 'b>(left: &'b Name<'a, 'b>, right: &'b Name<'a, 'b>) -> bool
 }
 
 /// Tests whether two types that are named are of one kind, with the same qualifiers.
-fn same_tag(tag: Tag, set: StorageClass, other: Tag, others: StorageClass) -> bool
-    ensures { IsTrue result ↔ ((tag ≡ other) × (set.0 ≡ others.0)) }
+fn same_tag(tag: TagKind, qualifiers: StorageClass, other: TagKind, others: StorageClass) -> bool
+    ensures { IsTrue result ↔ ((tag ≡ other) × (qualifiers.0 ≡ others.0)) }
 {
-    tag == other && set == others
+    tag == other && qualifiers == others
 }
 
 /// Tests whether two tables are of one kind, with the same qualifiers.
-fn same_table(table: Table, set: StorageClass, other: Table, others: StorageClass) -> bool
-    ensures { IsTrue result ↔ ((table ≡ other) × (set.0 ≡ others.0)) }
+fn same_table(
+    table: SpecialTableKind,
+    qualifiers: StorageClass,
+    other: SpecialTableKind,
+    others: StorageClass,
+) -> bool
+    ensures { IsTrue result ↔ ((table ≡ other) × (qualifiers.0 ≡ others.0)) }
 {
-    table == other && set == others
+    table == other && qualifiers == others
 }
 
 /// Tests whether the scopes of two tables have the same names.
@@ -240,13 +245,13 @@ fn same_type<'a, 'b>(left: &'b Type<'a, 'b>, right: &'b Type<'a, 'b>) -> bool
             Type::Plain(other) => *plain == *other,
             _ => false,
         },
-        Type::Base(base, set) => match right {
-            Type::Base(other, others) => *base == *other && *set == *others,
+        Type::Base(base, qualifiers) => match right {
+            Type::Base(other, others) => *base == *other && *qualifiers == *others,
             _ => false,
         },
-        Type::Tagged(tag, set, symbol) => match right {
-            Type::Tagged(mark, others, other) => {
-                same_tag(*tag, *set, *mark, *others) && same_symbol(*symbol, *other)
+        Type::Tagged(tag, qualifiers, symbol) => match right {
+            Type::Tagged(other_tag, others, other) => {
+                same_tag(*tag, *qualifiers, *other_tag, *others) && same_symbol(*symbol, *other)
             }
             _ => false,
         },
@@ -258,15 +263,15 @@ fn same_type<'a, 'b>(left: &'b Type<'a, 'b>, right: &'b Type<'a, 'b>) -> bool
             Type::ConstantString(other) => same_text(*text, *other),
             _ => false,
         },
-        Type::Pointing(mark, set, inner) => match right {
-            Type::Pointing(sign, others, other) => {
-                *mark == *sign && *set == *others && same_type(*inner, *other)
+        Type::Pointing(affinity, qualifiers, inner) => match right {
+            Type::Pointing(other_affinity, others, other) => {
+                *affinity == *other_affinity && *qualifiers == *others && same_type(*inner, *other)
             }
             _ => false,
         },
-        Type::Array(length, set, inner) => match right {
+        Type::Array(length, qualifiers, inner) => match right {
             Type::Array(count, others, other) => {
-                *length == *count && *set == *others && same_type(*inner, *other)
+                *length == *count && *qualifiers == *others && same_type(*inner, *other)
             }
             _ => false,
         },
@@ -284,15 +289,15 @@ fn same_type<'a, 'b>(left: &'b Type<'a, 'b>, right: &'b Type<'a, 'b>) -> bool
             }
             _ => false,
         },
-        Type::Variable(kind, set, inner) => match right {
+        Type::Variable(kind, qualifiers, inner) => match right {
             Type::Variable(storage, others, other) => {
-                *kind == *storage && *set == *others && same_type(*inner, *other)
+                *kind == *storage && *qualifiers == *others && same_type(*inner, *other)
             }
             _ => false,
         },
-        Type::Table(table, set, scope) => match right {
+        Type::Table(table, qualifiers, scope) => match right {
             Type::Table(other, others, names) => {
-                same_table(*table, *set, *other, *others) && same_scope(*scope, *names)
+                same_table(*table, *qualifiers, *other, *others) && same_scope(*scope, *names)
             }
             _ => false,
         },

@@ -3,17 +3,17 @@
 use Rattle.std.proofs.Common.{ℕ, List, [], ◌∷◌, Option, Some, None, Bool, true, false, cond, ◌≡◌, refl, ap, ◌∙◌}
 use Rattle.std.specs.Prelude.{slice_get, codes, bit_or}
 use Rattle.msvc_nodes.specs.Trees as tree
-use Rattle.msvc_nodes.specs.declared.kinds.BaseType.TheVariants as base_kind
+use Rattle.msvc_nodes.specs.declared.kinds.PrimitiveKind.TheVariants as base_kind
 use Rattle.msvc_nodes.specs.declared.kinds.PlainType.TheVariants as plain_kind
 use Rattle.msvc_nodes.specs.Trees.{NameTree, TypeTree, function, name_trees, plain, type_trees}
 use Rattle.msvc_parser.specs.Parser.{byte_here}
 use Rattle.msvc_grammar.specs.State.{State}
 use Rattle.msvc_grammar.specs.Sorts.{bits, type_tree, list}
 use Rattle.msvc_grammar.specs.Rules.{thunk_number, this_qualifiers, function_qualifiers, signature, return_qualifiers}
-use Rattle.msvc_grammar.specs.Rules.{returned, function_parameters, parameters, parameter, any_type, qualified_name}
+use Rattle.msvc_grammar.specs.Rules.{returned, function_parameters, parameters, parameter, type_, qualified_name}
 use Rattle.msvc_grammar.specs.Rules.{number, holds, none_of, after, lookup, give, letter, literal, call, begins_of}
 use Rattle.msvc_grammar.specs.Rules.{optional, class_part, function_type, member_pointer, node}
-use Rattle.msvc_grammar.specs.Grammar.{grammar, has, class_of_returned}
+use Rattle.msvc_grammar.specs.Grammar.{grammar, has, pointed_return_qualifiers}
 use Rattle.msvc_grammar.specs.Letters.{digits, pointer_sizes, restricts, alignments, reference_qualifiers, qualifiers}
 use Rattle.msvc_grammar.specs.Letters.{storage_classes, conventions, qualifiers_of_returns, function_classes}
 use Rattle.msvc_grammar.specs.Reads.{read_name, read, read_by, letter_here, with_value, type_noted, noted_by, entered_by}
@@ -80,14 +80,14 @@ pub ruleset return_qualifiers_is = (return_qualifiers_step)
 
 pub returned_member : (q : ℕ) (left : List ℕ) (s : State) → read_name (returned true q) left s
     ≡ chosen (after (codes "@") left) (λ rest. in_node rest s (λ l t. Some (plain plain_kind.None, l, t)))
-    (read_name (any_type q) left s)
+    (read_name (type_ q) left s)
 unfolding grammar read read_by
 returned_member q left s =
     read_name-is (returned true q) left s
-    ∙ literal_or-is {a = type_tree} (codes "@") (node (give (plain plain_kind.None))) (call (any_type q)) left s
+    ∙ literal_or-is {a = type_tree} (codes "@") (node (give (plain plain_kind.None))) (call (type_ q)) left s
 
 pub returned_other : (q : ℕ) (left : List ℕ) (s : State)
-    → read_name (returned false q) left s ≡ read_name (any_type q) left s
+    → read_name (returned false q) left s ≡ read_name (type_ q) left s
 unfolding grammar read read_by
 returned_other q left s = read_name-is (returned false q) left s
 
@@ -108,7 +108,7 @@ function_parameters_step left s =
 
 pub parameter_step : (left : List ℕ) (s : State) → read_name parameter left s
     ≡ choose (letter_here digits left s) (λ i l t. type_noted (slice_get t.types i) left l t)
-    (entered_by left (read_name (any_type 0) left s))
+    (entered_by left (read_name (type_ 0) left s))
 unfolding grammar read read_by
 parameter_step [] s = read_name-is parameter [] s
 parameter_step (b ∷ bs) s =
@@ -116,30 +116,30 @@ parameter_step (b ∷ bs) s =
     ∙ go (lookup b digits) (holds (none_of (begins_of digits)) (b ∷ bs)) (no_letter digits b bs)
   where
     go : (o : Option ℕ) (t : Bool) → (o ≡ None → t ≡ true) × ((i : ℕ) → o ≡ Some i → t ≡ false)
-        → or_else (noted_by o (b ∷ bs) bs s) (cond t (entered_by (b ∷ bs) (read_name (any_type 0) (b ∷ bs) s)) None)
+        → or_else (noted_by o (b ∷ bs) bs s) (cond t (entered_by (b ∷ bs) (read_name (type_ 0) (b ∷ bs) s)) None)
         ≡ choose (with_value o bs s) (λ i l u. type_noted (slice_get u.types i) (b ∷ bs) l u)
-        (entered_by (b ∷ bs) (read_name (any_type 0) (b ∷ bs) s))
-    go None t h = ap (λ z. cond z (entered_by (b ∷ bs) (read_name (any_type 0) (b ∷ bs) s)) None) (h.0 refl)
+        (entered_by (b ∷ bs) (read_name (type_ 0) (b ∷ bs) s))
+    go None t h = ap (λ z. cond z (entered_by (b ∷ bs) (read_name (type_ 0) (b ∷ bs) s)) None) (h.0 refl)
     go (Some i) t h =
         ap (λ z. or_else (type_noted (slice_get s.types i) (b ∷ bs) bs s)
-        (cond z (entered_by (b ∷ bs) (read_name (any_type 0) (b ∷ bs) s)) None)) (h.1 i refl)
+        (cond z (entered_by (b ∷ bs) (read_name (type_ 0) (b ∷ bs) s)) None)) (h.1 i refl)
         ∙ or_none (type_noted (slice_get s.types i) (b ∷ bs) bs s)
 
 pub ruleset parameter_is = (parameter_step)
 
 -- Function types and member pointers
 
-pub class_of_returned_step : (left : List ℕ) (s : State) → read class_of_returned left s
+pub pointed_return_qualifiers_step : (left : List ℕ) (s : State) → read pointed_return_qualifiers left s
     ≡ chosen (after (codes "?") left) (λ rest. read (optional storage_classes) rest s) (Some (0, left, s))
 unfolding read read_by
-class_of_returned_step left s = literal_or-is {a = bits} (codes "?") (optional storage_classes) (give 0) left s
+pointed_return_qualifiers_step left s = literal_or-is {a = bits} (codes "?") (optional storage_classes) (give 0) left s
 
-pub ruleset class_of_returned_is = (class_of_returned_step)
+pub ruleset pointed_return_qualifiers_is = (pointed_return_qualifiers_step)
 
 pub function_type_step : (bare : Bool) (left : List ℕ) (s : State) → read_name (function_type bare) left s
     ≡ in_node left s (λ m a. and_then (read_name (this_qualifiers bare) m a)
     (λ on_this l t. and_then (letter_here conventions l t)
-    (λ c k u. and_then (read class_of_returned k u) (λ q j v. and_then (read_name (any_type q) j v)
+    (λ c k u. and_then (read pointed_return_qualifiers k u) (λ q j v. and_then (read_name (type_ q) j v)
     (λ x i w. and_then (read_name function_parameters i w)
     (λ xs h y. Some (function c (type_trees xs) on_this x, h, y)))))))
 unfolding grammar read read_by
@@ -150,8 +150,8 @@ pub function_type_reads : (bare : Bool) (left h l k j i rest : List ℕ) (s r t 
     → counting s.count.weight left s ≡ Some (tt, h, r)
     → read_name (this_qualifiers bare) h r ≡ Some (on_this, l, t)
     → letter_here conventions l t ≡ Some (c, k, u)
-    → read class_of_returned k u ≡ Some (q, j, v)
-    → read_name (any_type q) j v ≡ Some (x, i, w)
+    → read pointed_return_qualifiers k u ≡ Some (q, j, v)
+    → read_name (type_ q) j v ≡ Some (x, i, w)
     → read_name function_parameters i w ≡ Some (xs, rest, z)
     → read_name (function_type bare) left s ≡ Some (function c (type_trees xs) on_this x, rest, z)
 function_type_reads bare left h l k j i rest s r t u v w z on_this c q x xs n e f g o m =

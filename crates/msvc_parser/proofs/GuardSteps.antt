@@ -168,10 +168,10 @@ decimal_ends value (b ∷ bs) rest s h e =
     go false k e = absurd (cc)
 
 -- neither another digit nor the end
-pub decimal_refused : (value : ℕ) (left : List ℕ) (s : State) → after (codes "@") left ≡ None
+pub decimal_rejected : (value : ℕ) (left : List ℕ) (s : State) → after (codes "@") left ≡ None
     → letter_here digits left s ≡ None → read_name (decimal value) left s ≡ None
 unfolding read read_by
-decimal_refused value left s e none =
+decimal_rejected value left s e none =
     decimal_step value left s
     ∙ ap (λ o. cond (is_in_range value) (choose o (λ d l u. read_name (decimal (value * 10 + d)) l u)
     (and_then (after_literal (after (codes "@") left) s) (λ _ l u. Some (value, l, u)))) None) none
@@ -218,4 +218,4 @@ kept n m = go (is_in_range n)
     go true e = cc
     go false e = absurd (cc)
 
-pub ruleset decimal_goes_on = (decimal_ends, decimal_refused, decimal_too_large)
+pub ruleset decimal_goes_on = (decimal_ends, decimal_rejected, decimal_too_large)

@@ -7,11 +7,12 @@ use Rattle.std.proofs.lemmas.Bool.{lt-ltb, le-ltb, ltb-true, ltb-false}
 use Rattle.std.proofs.Math.Numerals.{one-add, add-one}
 use Rattle.msvc_nodes.specs.declared.kinds.Spelling.TheVariants as spelling_kind
 use Rattle.msvc_nodes.specs.Trees.{NameTree, anonymous, discriminator, nested, spelled, template, type_trees}
-use Rattle.msvc_parser.specs.Parser.{cut_at, kept_name, name_length}
+use Rattle.msvc_parser.specs.Parser.{cut_at, add_template_name, name_length}
 use Rattle.msvc_grammar.specs.State.{State, remember_name}
 use Rattle.msvc_grammar.specs.Sorts.{name_tree}
 use Rattle.msvc_grammar.specs.Rules.{symbol_body, parameters, qualified_name, unqualified_name, template_name, scope}
-use Rattle.msvc_grammar.specs.Rules.{nested_name, marked_name, anonymous_namespace, hexadecimal_digits, source_name}
+use Rattle.msvc_grammar.specs.Rules.{nested_name, locally_scoped_name}
+use Rattle.msvc_grammar.specs.Rules.{anonymous_namespace, hexadecimal_digits, source_name}
 use Rattle.msvc_grammar.specs.Rules.{number, after, Rule, give, literal, known_name, call, literal_or, node, special_name}
 use Rattle.msvc_grammar.specs.Grammar.{grammar, entering_name, nested_symbol, new_interface, new_source_name}
 use Rattle.msvc_grammar.specs.Grammar.{template_inside, template_kept}
@@ -85,7 +86,7 @@ unqualified_name_step of_symbol left s =
 pub ruleset unqualified_name_is = (unqualified_name_step)
 
 kept_or_not : (of_symbol : Bool) (left : List ℕ) (s : State) → read (template_kept of_symbol) left s
-    ≡ and_then (read_name template_name left s) (λ n l t. Some (n, l, kept_name of_symbol n t))
+    ≡ and_then (read_name template_name left s) (λ n l t. Some (n, l, add_template_name of_symbol n t))
 unfolding read read_by
 kept_or_not true left s = go (read_name template_name left s)
   where
@@ -100,10 +101,15 @@ unfolding grammar read read_by
 template_name_step left s = read_name-is template_name left s
 
 pub template_kept_step : (of_symbol : Bool) (left : List ℕ) (s : State) → read (template_kept of_symbol) left s
-    ≡ and_then (put_apart s (read template_inside left (emptied s))) (λ n l t. Some (n, l, kept_name of_symbol n t))
+    ≡ and_then (put_apart s (read template_inside left (emptied s))) (λ n l t. Some (
+      n,
+      l,
+      add_template_name of_symbol n
+          t,
+    ))
 template_kept_step of_symbol left s =
     kept_or_not of_symbol left s
-    ∙ ap (λ o. and_then o (λ n l t. Some (n, l, kept_name of_symbol n t))) (template_name_step left s)
+    ∙ ap (λ o. and_then o (λ n l t. Some (n, l, add_template_name of_symbol n t))) (template_name_step left s)
 
 pub ruleset template_kept_is = (template_kept_step)
 
@@ -115,17 +121,17 @@ template_inside_step left s = refl
 
 pub nested_name_step : (left : List ℕ) (s : State) → read_name nested_name left s
     ≡ choose (letter_here digits left s) (λ i l t. name_known (slice_get t.names i) l t)
-    (chosen (after (codes "?") left) (λ rest. read_name marked_name rest s) (read new_source_name left s))
+    (chosen (after (codes "?") left) (λ rest. read_name locally_scoped_name rest s) (read new_source_name left s))
 unfolding grammar read read_by
 nested_name_step left s =
     read_name-is nested_name left s
-    ∙ letter_or-is digits (λ i. known_name i) (literal_or (codes "?") (call marked_name) new_source_name) left s
+    ∙ letter_or-is digits (λ i. known_name i) (literal_or (codes "?") (call locally_scoped_name) new_source_name) left s
     ∙ ap (choose (letter_here digits left s) (λ i l t. name_known (slice_get t.names i) l t))
-    (literal_or-is {a = name_tree} (codes "?") (call marked_name) new_source_name left s)
+    (literal_or-is {a = name_tree} (codes "?") (call locally_scoped_name) new_source_name left s)
 
 pub ruleset nested_name_is = (nested_name_step)
 
-pub marked_name_step : (left : List ℕ) (s : State) → read_name marked_name left s
+pub marked_name_step : (left : List ℕ) (s : State) → read_name locally_scoped_name left s
     ≡ chosen (after (codes "?") left) (λ rest. read nested_symbol rest s)
     (chosen (after (codes "$") left) (λ rest. read (template_kept false) rest s)
     (chosen (after (codes "A") left) (λ rest. read_name anonymous_namespace rest s)
@@ -133,7 +139,7 @@ pub marked_name_step : (left : List ℕ) (s : State) → read_name marked_name l
     (in_node left s (λ j a. and_then (read_name number j a) (λ z l t. Some (discriminator z, l, t)))))))
 unfolding grammar read read_by
 marked_name_step left s =
-    read_name-is marked_name left s
+    read_name-is locally_scoped_name left s
     ∙ literal_or-is {a = name_tree} (codes "?") nested_symbol from_template left s
     ∙ ap (chosen (after (codes "?") left) (λ rest. read nested_symbol rest s))
     (literal_or-is {a = name_tree} (codes "$") (template_kept false) from_anonymous left s

@@ -81,7 +81,7 @@ pub ruleset views = (
   type_of-Table,
 )
 
-pub ruleset marked_split = (marked_name_step, nested_symbol_step)
+pub ruleset locally_scoped_split = (marked_name_step, nested_symbol_step)
 
 pub ruleset special_split = (special_name_here, plain_operator_step, guard_step)
 

@@ -46,9 +46,9 @@ module _ {A : Type 0} (row : List ℕ → State → Found (List A)) (item : List
       → with_front xs (row left s) ≡ Some (xs ++ ys, rest, s)
   row_ends xs ys left rest s e = ap (with_front xs) (step left s ∙ ap (λ o. row_by row o (item left s) s) e)
 
-  pub row_refused : (xs : List A) (left : List ℕ) (s : State) → stop left ≡ None → item left s ≡ None
+  pub row_rejected : (xs : List A) (left : List ℕ) (s : State) → stop left ≡ None → item left s ≡ None
       → with_front xs (row left s) ≡ None
-  row_refused xs left s e none =
+  row_rejected xs left s e none =
       ap (with_front xs) (step left s ∙ ap (λ o. row_by row o (item left s) s) e ∙ ap (λ o. row_by row None o s) none)
 
   pub row_more : (xs : List A) (left l : List ℕ) (s t : State) (x : A) → stop left ≡ None → item left s ≡ Some (x, l, t)
@@ -91,10 +91,10 @@ scope_ends xs left rest s e =
     (λ l. scope_stop (after (codes "@") l)) scope_step xs [] left rest s (ap scope_stop e)
     ∙ ap (λ z. Some (z, rest, s)) (append-nil xs)
 
-pub scope_refused : (xs : List NameTree) (left : List ℕ) (s : State) → after (codes "@") left ≡ None
+pub scope_rejected : (xs : List NameTree) (left : List ℕ) (s : State) → after (codes "@") left ≡ None
     → read_name nested_name left s ≡ None → with_front xs (read_name scope left s) ≡ None
-scope_refused xs left s e none =
-    row_refused (read_name scope) (read_name nested_name)
+scope_rejected xs left s e none =
+    row_rejected (read_name scope) (read_name nested_name)
     (λ l. scope_stop (after (codes "@") l)) scope_step xs left s (ap scope_stop e) none
 
 pub scope_more : (xs : List NameTree) (left l : List ℕ) (s t : State) (x : NameTree) → after (codes "@") left ≡ None
@@ -104,7 +104,7 @@ scope_more xs left l s t x e some =
     row_more (read_name scope) (read_name nested_name)
     (λ m. scope_stop (after (codes "@") m)) scope_step xs left l s t x (ap scope_stop e) some
 
-pub ruleset scope_goes_on = (scope_starts, scope_ends, scope_refused)
+pub ruleset scope_goes_on = (scope_starts, scope_ends, scope_rejected)
 
 -- digits up to an @
 
@@ -146,10 +146,10 @@ digits_end xs left rest s e =
     (λ l. digits_stop (after (codes "@") l)) hexadecimal_digits_step xs [] left rest s (ap digits_stop e)
     ∙ ap (λ z. Some (z, rest, s)) (append-nil xs)
 
-pub digits_refused : (xs : List ℕ) (left : List ℕ) (s : State) → after (codes "@") left ≡ None
+pub digits_rejected : (xs : List ℕ) (left : List ℕ) (s : State) → after (codes "@") left ≡ None
     → letter_here hexadecimal_codes left s ≡ None → with_front xs (read_name hexadecimal_digits left s) ≡ None
-digits_refused xs left s e none =
-    row_refused (read_name hexadecimal_digits) (letter_here hexadecimal_codes)
+digits_rejected xs left s e none =
+    row_rejected (read_name hexadecimal_digits) (letter_here hexadecimal_codes)
     (λ l. digits_stop (after (codes "@") l)) hexadecimal_digits_step xs left s (ap digits_stop e) none
 
 pub digits_more : (xs : List ℕ) (left l : List ℕ) (s t : State) (x : ℕ) → after (codes "@") left ≡ None
@@ -159,7 +159,7 @@ digits_more xs left l s t x e some =
     row_more (read_name hexadecimal_digits) (letter_here hexadecimal_codes)
     (λ m. digits_stop (after (codes "@") m)) hexadecimal_digits_step xs left l s t x (ap digits_stop e) some
 
-pub ruleset hexadecimal_digits_go_on = (digits_start, digits_end, digits_refused)
+pub ruleset hexadecimal_digits_go_on = (digits_start, digits_end, digits_rejected)
 
 -- parameters up to their end
 
@@ -226,10 +226,10 @@ parameters_uncounted xs left rest more s e none =
     parameters_ends xs left rest more s e
     ∙ ap (λ o. and_then o (λ _ k u. Some (xs ++ ellipsis_types more, k, u))) none
 
-pub parameters_refused : (xs : List TypeTree) (left : List ℕ) (s : State) → parameters_stop left ≡ None
+pub parameters_rejected : (xs : List TypeTree) (left : List ℕ) (s : State) → parameters_stop left ≡ None
     → read_name parameter left s ≡ None
     → with_front xs (read_name parameters left s) ≡ None
-parameters_refused xs left s e none =
+parameters_rejected xs left s e none =
     ap (with_front xs) (parameters_step left s ∙ ap (λ o. parameters_by o (read_name parameter left s) s) e
     ∙ ap (λ o. parameters_by None o s) none)
 
@@ -241,7 +241,7 @@ parameters_more xs left l s t x e some =
     ∙ ap (λ o. parameters_by None o s) some)
     ∙ front_first xs x (read_name parameters l t)
 
-pub ruleset parameters_go_on = (parameters_starts, parameters_ended, parameters_uncounted, parameters_refused)
+pub ruleset parameters_go_on = (parameters_starts, parameters_ended, parameters_uncounted, parameters_rejected)
 
 -- as many numbers, each of which counts before it is read
 
@@ -274,11 +274,11 @@ lengths_uncounted zs zero left s h none = absurd (omega arith)
 lengths_uncounted zs (suc n) left s h none =
     ap (with_front zs) (lengths_step n left s ∙ ap (λ o. and_then o (λ _. one_more n)) none)
 
-pub lengths_refused : (zs : List ℤ) (n : ℕ) (left j : List ℕ) (s a : State) → 0 < n
+pub lengths_rejected : (zs : List ℤ) (n : ℕ) (left j : List ℕ) (s a : State) → 0 < n
     → counting s.count.weight left s ≡ Some (tt, j, a) → read_name number j a ≡ None
     → with_front zs (read_name (lengths n) left s) ≡ None
-lengths_refused zs zero left j s a h e none = absurd (omega arith)
-lengths_refused zs (suc n) left j s a h e none =
+lengths_rejected zs zero left j s a h e none = absurd (omega arith)
+lengths_rejected zs (suc n) left j s a h e none =
     ap (with_front zs) (lengths_step n left s ∙ ap (λ o. and_then o (λ _. one_more n)) e
     ∙ ap (λ o. and_then o (λ z l t. and_then (read_name (lengths n) l t) (λ ys k u. Some (z ∷ ys, k, u)))) none)
 
@@ -292,4 +292,4 @@ lengths_more zs (suc n) m left j l s a t z h e some =
     ∙ front_first zs z (read_name (lengths n) l t)
     ∙ ap (λ k. with_front (zs ++ z ∷ []) (read_name (lengths k) l t)) (let same : n ≡ m = omega arith in same)
 
-pub ruleset lengths_go_on = (lengths_starts, lengths_ends, lengths_uncounted, lengths_refused)
+pub ruleset lengths_go_on = (lengths_starts, lengths_ends, lengths_uncounted, lengths_rejected)

@@ -9,13 +9,13 @@ use Rattle.msvc_nodes.specs.declared.kinds.PlainOperator.{PlainOperator}
 use Rattle.msvc_nodes.specs.Trees.{operator, guard, type_descriptor, base_class_descriptor}
 use Rattle.msvc_grammar.specs.declared.forms.SpecialForm.{SpecialForm}
 use Rattle.msvc_grammar.specs.declared.forms.SpecialForm.TheVariants as special
-use Rattle.msvc_parser.specs.Parser.{at_rest, letter_at, marked_at, special_at, this_or, text_at}
+use Rattle.msvc_parser.specs.Parser.{at_rest, letter_at, special_at_after_under, special_at, this_or, text_at}
 use Rattle.msvc_grammar.specs.State.{State}
-use Rattle.msvc_grammar.specs.Rules.{after, any_type, call, literal, lookup, number, optional, special_after}
+use Rattle.msvc_grammar.specs.Rules.{after, type_, call, literal, lookup, number, optional, special_after}
 use Rattle.msvc_grammar.specs.Rules.{special_name}
 use Rattle.msvc_grammar.specs.Grammar.{grammar}
-use Rattle.msvc_grammar.specs.Letters.{second_special_letters, special_letters, special_texts, storage_classes}
-use Rattle.msvc_grammar.specs.Letters.{texts_after, third_special_letters, type_information_letters}
+use Rattle.msvc_grammar.specs.Letters.{under_special_letters, basic_special_letters, special_texts, storage_classes}
+use Rattle.msvc_grammar.specs.Letters.{texts_after, double_under_special_letters, type_information_letters}
 use Rattle.msvc_grammar.specs.Reads.{and_then, counting, in_node, read, read_by, read_name}
 use Rattle.msvc_grammar.proofs.Checks.{no_code_begins_another}
 use Rattle.msvc_grammar.proofs.FuelIndependence.{read_name-is}
@@ -91,58 +91,58 @@ following-is l (row ∷ table) others left =
 -- the four tables, one after another
 abbrev by_tables : List ℕ → Option (SpecialForm × List ℕ)
 by_tables left =
-    first_of (letter_at special_letters left)
-    (first_of (letter_after second_special_letters (after (codes "_") left))
+    first_of (letter_at basic_special_letters left)
+    (first_of (letter_after under_special_letters (after (codes "_") left))
     (first_of (letter_after type_information_letters (after (codes "_R") left))
-    (first_of (letter_after third_special_letters (after (codes "__") left)) None)))
+    (first_of (letter_after double_under_special_letters (after (codes "__") left)) None)))
 
 by_tables-is : (left : List ℕ) → text_at special_texts left ≡ by_tables left
 unfolding text_at
 by_tables-is left =
-    following-is [] special_letters after_mark left
-    ∙ ap (first_of (letter_at special_letters left))
-    (following-is (codes "_") second_special_letters after_two left
-    ∙ ap (first_of (letter_after second_special_letters (after (codes "_") left)))
+    following-is [] basic_special_letters after_mark left
+    ∙ ap (first_of (letter_at basic_special_letters left))
+    (following-is (codes "_") under_special_letters after_two left
+    ∙ ap (first_of (letter_after under_special_letters (after (codes "_") left)))
     (following-is (codes "_R") type_information_letters last left
     ∙ ap (first_of (letter_after type_information_letters (after (codes "_R") left)))
-    (following-is (codes "__") third_special_letters [] left)))
+    (following-is (codes "__") double_under_special_letters [] left)))
   where
     last : List (List ℕ × SpecialForm)
-    last = texts_after (codes "__") third_special_letters []
+    last = texts_after (codes "__") double_under_special_letters []
 
     after_two : List (List ℕ × SpecialForm)
     after_two = texts_after (codes "_R") type_information_letters last
 
     after_mark : List (List ℕ × SpecialForm)
-    after_mark = texts_after (codes "_") second_special_letters after_two
+    after_mark = texts_after (codes "_") under_special_letters after_two
 
 -- after _
-marked : (bs : List ℕ) → by_tables (95 ∷ bs) ≡ marked_at bs
-unfolding marked_at
+marked : (bs : List ℕ) → by_tables (95 ∷ bs) ≡ special_at_after_under bs
+unfolding special_at_after_under
 marked [] = refl
 marked (c ∷ cs) = go (c == 95) refl
   where
     other : (t : Bool) → (c == 82) ≡ t
-        → first_of (letter_at second_special_letters (c ∷ cs))
+        → first_of (letter_at under_special_letters (c ∷ cs))
         (first_of (letter_after type_information_letters (cond t (Some cs) None)) None)
-        ≡ cond t (letter_at type_information_letters cs) (letter_at second_special_letters (c ∷ cs))
+        ≡ cond t (letter_at type_information_letters cs) (letter_at under_special_letters (c ∷ cs))
     other true e =
-        ap (λ x. first_of (letter_at second_special_letters (x ∷ cs))
+        ap (λ x. first_of (letter_at under_special_letters (x ∷ cs))
         (first_of (letter_at type_information_letters cs) None)) (eqb-true c 82 e)
         ∙ first_none (letter_at type_information_letters cs)
-    other false e = first_none (letter_at second_special_letters (c ∷ cs))
+    other false e = first_none (letter_at under_special_letters (c ∷ cs))
 
     go : (t : Bool) → (c == 95) ≡ t
-        → first_of (letter_at second_special_letters (c ∷ cs))
+        → first_of (letter_at under_special_letters (c ∷ cs))
         (first_of (letter_after type_information_letters (cond (c == 82) (Some cs) None))
-        (first_of (letter_after third_special_letters (cond t (Some cs) None)) None))
-        ≡ cond t (letter_at third_special_letters cs)
-        (cond (c == 82) (letter_at type_information_letters cs) (letter_at second_special_letters (c ∷ cs)))
+        (first_of (letter_after double_under_special_letters (cond t (Some cs) None)) None))
+        ≡ cond t (letter_at double_under_special_letters cs)
+        (cond (c == 82) (letter_at type_information_letters cs) (letter_at under_special_letters (c ∷ cs)))
     go true e =
-        ap (λ x. first_of (letter_at second_special_letters (x ∷ cs))
+        ap (λ x. first_of (letter_at under_special_letters (x ∷ cs))
         (first_of (letter_after type_information_letters (cond (x == 82) (Some cs) None))
-        (first_of (letter_at third_special_letters cs) None))) (eqb-true c 95 e)
-        ∙ first_none (letter_at third_special_letters cs)
+        (first_of (letter_at double_under_special_letters cs) None))) (eqb-true c 95 e)
+        ∙ first_none (letter_at double_under_special_letters cs)
     go false e = other (c == 82) refl
 
 -- the code that begins, letter by letter
@@ -152,18 +152,18 @@ special_texts-are [] = by_tables-is []
 special_texts-are (b ∷ bs) = by_tables-is (b ∷ bs) ∙ go (b == 95) refl
   where
     go : (t : Bool) → (b == 95) ≡ t
-        → first_of (letter_at special_letters (b ∷ bs))
-        (first_of (letter_after second_special_letters (cond (b == 95) (Some bs) None))
+        → first_of (letter_at basic_special_letters (b ∷ bs))
+        (first_of (letter_after under_special_letters (cond (b == 95) (Some bs) None))
         (first_of (letter_after type_information_letters (cond (b == 95) (after (codes "R") bs) None))
-        (first_of (letter_after third_special_letters (cond (b == 95) (after (codes "_") bs) None)) None)))
-        ≡ cond t (marked_at bs) (letter_at special_letters (b ∷ bs))
+        (first_of (letter_after double_under_special_letters (cond (b == 95) (after (codes "_") bs) None)) None)))
+        ≡ cond t (special_at_after_under bs) (letter_at basic_special_letters (b ∷ bs))
     go true e = ap (λ x. by_tables (x ∷ bs)) (eqb-true b 95 e) ∙ marked bs
     go false e =
-        ap (λ t. first_of (letter_at special_letters (b ∷ bs))
-        (first_of (letter_after second_special_letters (cond t (Some bs) None))
+        ap (λ t. first_of (letter_at basic_special_letters (b ∷ bs))
+        (first_of (letter_after under_special_letters (cond t (Some bs) None))
         (first_of (letter_after type_information_letters (cond t (after (codes "R") bs) None))
-        (first_of (letter_after third_special_letters (cond t (after (codes "_") bs) None)) None)))) e
-        ∙ first_none (letter_at special_letters (b ∷ bs))
+        (first_of (letter_after double_under_special_letters (cond t (after (codes "_") bs) None)) None)))) e
+        ∙ first_none (letter_at basic_special_letters (b ∷ bs))
 
 pub special_name_here : (left : List ℕ) (s : State) → read_name special_name left s
     ≡ by_text (special_at left) (λ f rest. read_name (special_after f) rest s) None
@@ -187,7 +187,7 @@ pub type_descriptor_step : (left : List ℕ) (s : State)
     → read_name (special_after special.TypeDescriptor) left s
     ≡ in_node left s (λ i a. and_then (read (literal (codes "?")) i a)
     (λ _ l t. and_then (read (optional storage_classes) l t)
-    (λ q k u. and_then (read_name (any_type q) k u) (λ x j v. Some (type_descriptor q x, j, v)))))
+    (λ q k u. and_then (read_name (type_ q) k u) (λ x j v. Some (type_descriptor q x, j, v)))))
 unfolding grammar read read_by
 type_descriptor_step left s = read_name-is (special_after special.TypeDescriptor) left s
 

@@ -39,10 +39,10 @@ characters_end cs zero left s e =
     ap (with_front cs) (read_name-is (characters zero) left s) ∙ ap (λ ds. Some (ds, left, s)) (append-nil cs)
 characters_end cs (suc n) left s e = absurd (omega arith)
 
-pub characters_refused : (cs : List ℕ) (n : ℕ) (left : List ℕ) (s : State) → 0 < n → read_name character left s ≡ None
+pub characters_rejected : (cs : List ℕ) (n : ℕ) (left : List ℕ) (s : State) → 0 < n → read_name character left s ≡ None
     → with_front cs (read_name (characters n) left s) ≡ None
-characters_refused cs zero left s h none = absurd (omega arith)
-characters_refused cs (suc n) left s h none =
+characters_rejected cs zero left s h none = absurd (omega arith)
+characters_rejected cs (suc n) left s h none =
     ap (with_front cs) (characters_step n left s
     ∙ ap (λ o. and_then o (λ c l t. and_then (read_name (characters n) l t) (λ ds k u. Some (c ∷ ds, k, u)))) none)
 
@@ -56,7 +56,7 @@ characters_more cs (suc n) m left l s t c h some =
     ∙ front_first cs c (read_name (characters n) l t)
     ∙ ap (λ k. with_front (cs ++ c ∷ []) (read_name (characters k) l t)) (let same : n ≡ m = omega arith in same)
 
-pub ruleset characters_go_on = (characters_start, characters_end, characters_refused)
+pub ruleset characters_go_on = (characters_start, characters_end, characters_rejected)
 
 -- a byte, and what follows one byte, or what a table has for another
 by_byte : {A : Type 0} (table : List (ℕ × A)) (first : ℕ) (f : List ℕ → State → Found A) (left : List ℕ) (s : State)

@@ -14,7 +14,7 @@ use Rattle.msvc_grammar.specs.State.{State}
 use Rattle.msvc_grammar.specs.Sorts.{symbol_tree, EncodingLetter, member_of, plain_function, untyped, variable_of}
 use Rattle.msvc_grammar.specs.Sorts.{table_of, type_information, virtual_call}
 use Rattle.msvc_grammar.specs.Rules.{symbol, symbol_body, guard_index, encoding, encoding_after, thunk_number}
-use Rattle.msvc_grammar.specs.Rules.{this_qualifiers, signature, any_type, qualified_name, scope, number, after, lookup}
+use Rattle.msvc_grammar.specs.Rules.{this_qualifiers, signature, type_, qualified_name, scope, number, after, lookup}
 use Rattle.msvc_grammar.specs.Rules.{Rule, literal, literal_or, optional, required, source_name}
 use Rattle.msvc_grammar.specs.Grammar.{grammar, has, named_symbol, hashed_symbol, is_guard, numbered_guard, with_index}
 use Rattle.msvc_grammar.specs.Grammar.{template_kept, template_symbol, is_hash}
@@ -23,7 +23,7 @@ use Rattle.msvc_grammar.specs.Letters.{encoding_letters}
 use Rattle.msvc_grammar.specs.Reads.{Found, read_name, read, read_by, letter_here, with_value, after_literal, and_then}
 use Rattle.msvc_grammar.specs.Reads.{in_node}
 use Rattle.msvc_grammar.proofs.FuelIndependence.{read_name-is}
-use Rattle.msvc_nodes.specs.declared.kinds.Table.{Table}
+use Rattle.msvc_nodes.specs.declared.kinds.SpecialTableKind.{SpecialTableKind}
 use Rattle.msvc_nodes.specs.Trees.{md5_symbol}
 use Rattle.msvc_parser.proofs.Choices.{choose, chosen, literal_or-is, lookup-rows, if_required, or_none, then_is}
 use Rattle.msvc_parser.proofs.NameSteps.{source_name_step}
@@ -186,7 +186,7 @@ no_member_letter b left s e =
 
 pub variable_step : (kind : VarStorageKind) (left : List ℕ) (s : State)
     → read_name (encoding_after (variable_of kind)) left s
-    ≡ in_node left s (λ j a. and_then (read_name (any_type 0) j a)
+    ≡ in_node left s (λ j a. and_then (read_name (type_ 0) j a)
     (λ x l t. and_then (read (optional storage_classes) l t)
     (λ class k u. Some (variable x kind class, k, u))))
 unfolding grammar read read_by
@@ -213,7 +213,8 @@ member_step class left s = read_name-is (encoding_after (member_of class)) left 
 
 -- types of tables, of run-time type information and of thunks
 
-pub table_step : (kind : Table) (left : List ℕ) (s : State) → read_name (encoding_after (table_of kind)) left s
+pub table_step : (kind : SpecialTableKind) (left : List ℕ) (s : State) → read_name (encoding_after (table_of kind)) left
+    s
     ≡ in_node left s (λ j a. and_then (read (optional qualifiers) j a)
     (λ q l t. and_then (read_name scope l t) (λ ns k u. Some (tree.table kind (name_trees ns) q, k, u))))
 unfolding grammar read read_by

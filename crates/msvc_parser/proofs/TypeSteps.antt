@@ -5,9 +5,9 @@ use Rattle.std.specs.Prelude.{is_some, slice_get, codes, bit_or, unwrap_or}
 use Rattle.std.specs.Option.{option_map, option_map_or}
 use Rattle.std.specs.Int.{int_wrapping_neg, w32}
 use Rattle.msvc_nodes.specs.Trees as tree
-use Rattle.msvc_nodes.specs.declared.kinds.BaseType.{BaseType}
-use Rattle.msvc_nodes.specs.declared.kinds.Mark.{Mark}
-use Rattle.msvc_nodes.specs.declared.kinds.Tag.{Tag}
+use Rattle.msvc_nodes.specs.declared.kinds.PrimitiveKind.{PrimitiveKind}
+use Rattle.msvc_nodes.specs.declared.kinds.PointerAffinity.{PointerAffinity}
+use Rattle.msvc_nodes.specs.declared.kinds.TagKind.{TagKind}
 use Rattle.msvc_nodes.specs.declared.kinds.NumberedType.TheVariants as number_kind
 use Rattle.msvc_nodes.specs.declared.kinds.PlainType.TheVariants as plain_kind
 use Rattle.msvc_nodes.specs.Trees.{TypeTree, name_trees, numbered, plain, pointing, tagged}
@@ -15,9 +15,9 @@ use Rattle.msvc_parser.specs.Parser.{byte_here, found_or, this_or, text_at}
 use Rattle.msvc_grammar.specs.State.{State}
 use Rattle.msvc_grammar.specs.Sorts.{Sort, bits, type_tree, TypeLetter, arrayed, based, extended, indexed, named, points}
 use Rattle.msvc_grammar.specs.Sorts.{referred}
-use Rattle.msvc_grammar.specs.Rules.{any_type, plain_type, type_after, pointee, array, dimension, positive, lengths}
+use Rattle.msvc_grammar.specs.Rules.{type_, plain_type, type_after, pointee, array, dimension, positive, lengths}
 use Rattle.msvc_grammar.specs.Rules.{qualified_name, number, some_of, begins, after, lookup, Rule, give, letter, literal}
-use Rattle.msvc_grammar.specs.Rules.{call, literal_or, optional, function_type, member_pointer, type_form, every}
+use Rattle.msvc_grammar.specs.Rules.{call, literal_or, optional, function_type, member_pointer, prefixed_type, every}
 use Rattle.msvc_grammar.specs.Rules.{text_and, text_or, texts_of}
 use Rattle.msvc_grammar.specs.Grammar.{grammar, array_class, arrays}
 use Rattle.msvc_grammar.specs.Letters.{rows_of, digits, pointer_sizes, qualifiers, storage_classes, qualifiers_of_arrays}
@@ -25,9 +25,9 @@ use Rattle.msvc_grammar.specs.Letters.{base_types, extended_types, compound_lett
 use Rattle.msvc_grammar.specs.Reads.{Found, read_name, read, read_by, letter_here, with_value, type_known}
 use Rattle.msvc_grammar.specs.Reads.{after_literal, and_then, in_node, or_else}
 use Rattle.msvc_grammar.proofs.FuelIndependence.{read_name-is}
-use Rattle.msvc_nodes.specs.declared.kinds.Mark.TheVariants as mark_kind
-use Rattle.msvc_nodes.specs.declared.kinds.Tag.TheVariants as tag_kind
-use Rattle.msvc_grammar.specs.declared.forms.TypeForm.TheVariants as form
+use Rattle.msvc_nodes.specs.declared.kinds.PointerAffinity.TheVariants as mark_kind
+use Rattle.msvc_nodes.specs.declared.kinds.TagKind.TheVariants as tag_kind
+use Rattle.msvc_grammar.specs.declared.forms.TypePrefix.TheVariants as form
 use Rattle.msvc_grammar.proofs.Checks.{apart_texts, differ, no_text_begins_another}
 use Rattle.msvc_grammar.proofs.FirstSets.{differ-never, if_both}
 use Rattle.msvc_parser.proofs.Choices.{or_none, chosen, literal_or-is, lookup-rows, letter_step, letter_following}
@@ -108,110 +108,114 @@ text_or-is table f q left s h =
 
 -- Types
 
-pub any_type_step : (q : ℕ) (left : List ℕ) (s : State) → read_name (any_type q) left s
-    ≡ by_text (text_at type_texts left) (λ f rest. read_name (type_form q f) rest s)
+pub type_step : (q : ℕ) (left : List ℕ) (s : State) → read_name (type_ q) left s
+    ≡ by_text (text_at type_texts left) (λ f rest. read_name (prefixed_type q f) rest s)
     (chosen (after (codes "$") left) (λ rest. read_name (plain_type q) rest s) (read_name (plain_type q) left s))
 unfolding grammar read read_by
-any_type_step q left s =
-    read_name-is (any_type q) left s
-    ∙ text_or-is {a = type_tree} type_texts (λ f. call (type_form q f)) dropped left s no_text_begins_another
-    ∙ ap (by_text (text_at type_texts left) (λ f rest. read_name (type_form q f) rest s))
+type_step q left s =
+    read_name-is (type_ q) left s
+    ∙ text_or-is {a = type_tree} type_texts (λ f. call (prefixed_type q f)) dropped left s no_text_begins_another
+    ∙ ap (by_text (text_at type_texts left) (λ f rest. read_name (prefixed_type q f) rest s))
     (literal_or-is {a = type_tree} (codes "$") (call (plain_type q)) (call (plain_type q)) left s)
   where
     dropped : Rule type_tree
     dropped = literal_or (codes "$") (call (plain_type q)) (call (plain_type q))
 
-pub ruleset any_type_is = (any_type_step)
+pub ruleset type_is = (type_step)
 
 -- Forms of a type, after its text
 
-pub enumeration_step : (q : ℕ) (left : List ℕ) (s : State) → read_name (type_form q form.Enumeration) left s
+pub enumeration_step : (q : ℕ) (left : List ℕ) (s : State) → read_name (prefixed_type q form.Enumeration) left s
     ≡ in_node left s (λ l t. and_then (read_name (qualified_name false) l t)
     (λ n k u. Some (tagged tag_kind.Enum n.0 (name_trees n.1) q, k, u)))
 unfolding grammar read read_by
-enumeration_step q left s = read_name-is (type_form q form.Enumeration) left s
+enumeration_step q left s = read_name-is (prefixed_type q form.Enumeration) left s
 
-pub alias_step : (q : ℕ) (left : List ℕ) (s : State) → read_name (type_form q form.Alias) left s
+pub alias_step : (q : ℕ) (left : List ℕ) (s : State) → read_name (prefixed_type q form.Alias) left s
     ≡ in_node left s (λ l t. and_then (read_name (qualified_name true) l t)
     (λ n k u. Some (tagged tag_kind.Alias n.0 (name_trees n.1) q, k, u)))
 unfolding grammar read read_by
-alias_step q left s = read_name-is (type_form q form.Alias) left s
+alias_step q left s = read_name-is (prefixed_type q form.Alias) left s
 
 pub reference_to_function_step : (q : ℕ) (left : List ℕ) (s : State)
-    → read_name (type_form q form.ReferenceToFunction) left s
+    → read_name (prefixed_type q form.ReferenceToFunction) left s
     ≡ in_node left s (λ l t. and_then (read_name (function_type true) l t)
     (λ x k u. Some (pointing mark_kind.Reference x q, k, u)))
 unfolding grammar read read_by
-reference_to_function_step q left s = read_name-is (type_form q form.ReferenceToFunction) left s
+reference_to_function_step q left s = read_name-is (prefixed_type q form.ReferenceToFunction) left s
 
 pub pointer_to_function_step : (q : ℕ) (left : List ℕ) (s : State)
-    → read_name (type_form q form.PointerToFunction) left s
+    → read_name (prefixed_type q form.PointerToFunction) left s
     ≡ in_node left s (λ l t. and_then (read_name (function_type true) l t)
     (λ x k u. Some (pointing mark_kind.Pointer x q, k, u)))
 unfolding grammar read read_by
-pointer_to_function_step q left s = read_name-is (type_form q form.PointerToFunction) left s
+pointer_to_function_step q left s = read_name-is (prefixed_type q form.PointerToFunction) left s
 
 pub rvalue_reference_step : (q : ℕ) (left : List ℕ) (s : State)
-    → read_name (type_form q form.RValueReference) left s
+    → read_name (prefixed_type q form.RValueReference) left s
     ≡ in_node left s (λ l t. and_then (read_name pointee l t)
     (λ x k u. Some (pointing mark_kind.RValueReference x q, k, u)))
 unfolding grammar read read_by
-rvalue_reference_step q left s = read_name-is (type_form q form.RValueReference) left s
+rvalue_reference_step q left s = read_name-is (prefixed_type q form.RValueReference) left s
 
-pub constant_step : (q : ℕ) (left : List ℕ) (s : State) → read_name (type_form q form.Constant) left s
+pub constant_step : (q : ℕ) (left : List ℕ) (s : State) → read_name (prefixed_type q form.Constant) left s
     ≡ in_node left s (λ l t. and_then (read_name number l t)
     (λ z k u. Some (numbered number_kind.Constant z, k, u)))
 unfolding grammar read read_by
-constant_step q left s = read_name-is (type_form q form.Constant) left s
+constant_step q left s = read_name-is (prefixed_type q form.Constant) left s
 
 pub template_parameter_step : (q : ℕ) (left : List ℕ) (s : State)
-    → read_name (type_form q form.TemplateParameter) left s
+    → read_name (prefixed_type q form.TemplateParameter) left s
     ≡ in_node left s (λ l t. and_then (read_name number l t)
     (λ z k u. Some (numbered number_kind.TemplateParameter z, k, u)))
 unfolding grammar read read_by
-template_parameter_step q left s = read_name-is (type_form q form.TemplateParameter) left s
+template_parameter_step q left s = read_name-is (prefixed_type q form.TemplateParameter) left s
 
 pub array_form_step : (q : ℕ) (left : List ℕ) (s : State)
-    → read_name (type_form q form.Array) left s ≡ read_name array left s
+    → read_name (prefixed_type q form.Array) left s ≡ read_name array left s
 unfolding grammar read read_by
-array_form_step q left s = read_name-is (type_form q form.Array) left s
+array_form_step q left s = read_name-is (prefixed_type q form.Array) left s
 
 pub empty_pack_step : (q : ℕ) (left : List ℕ) (s : State)
-    → read_name (type_form q form.EmptyPack) left s ≡ in_node left s (λ l t. Some (plain plain_kind.EmptyPack, l, t))
+    → read_name (prefixed_type q form.EmptyPack) left s ≡ in_node left s (λ l t. Some (
+      plain plain_kind.EmptyPack,
+      l,
+      t,
+    ))
 unfolding grammar read read_by
-empty_pack_step q left s = read_name-is (type_form q form.EmptyPack) left s
+empty_pack_step q left s = read_name-is (prefixed_type q form.EmptyPack) left s
 
 pub nullptr_step : (q : ℕ) (left : List ℕ) (s : State)
-    → read_name (type_form q form.Nullptr) left s ≡ in_node left s (λ l t. Some (plain plain_kind.Nullptr, l, t))
+    → read_name (prefixed_type q form.Nullptr) left s ≡ in_node left s (λ l t. Some (plain plain_kind.Nullptr, l, t))
 unfolding grammar read read_by
-nullptr_step q left s = read_name-is (type_form q form.Nullptr) left s
+nullptr_step q left s = read_name-is (prefixed_type q form.Nullptr) left s
 
 pub function_form_step : (q : ℕ) (left : List ℕ) (s : State)
-    → read_name (type_form q form.Function) left s ≡ read_name (function_type true) left s
+    → read_name (prefixed_type q form.Function) left s ≡ read_name (function_type true) left s
 unfolding grammar read read_by
-function_form_step q left s = read_name-is (type_form q form.Function) left s
+function_form_step q left s = read_name-is (prefixed_type q form.Function) left s
 
 pub qualified_function_step : (q : ℕ) (left : List ℕ) (s : State)
-    → read_name (type_form q form.QualifiedFunction) left s ≡ read_name (function_type false) left s
+    → read_name (prefixed_type q form.QualifiedFunction) left s ≡ read_name (function_type false) left s
 unfolding grammar read read_by
-qualified_function_step q left s = read_name-is (type_form q form.QualifiedFunction) left s
+qualified_function_step q left s = read_name-is (prefixed_type q form.QualifiedFunction) left s
 
-pub requalified_step : (q : ℕ) (left : List ℕ) (s : State) → read_name (type_form q form.Requalified) left s
+pub cv_type_step : (q : ℕ) (left : List ℕ) (s : State) → read_name (prefixed_type q form.CvQualified) left s
     ≡ and_then (read (optional qualifiers) left s) (λ q l t. read_name (plain_type q) l t)
 unfolding grammar read read_by
-requalified_step q left s = read_name-is (type_form q form.Requalified) left s
+cv_type_step q left s = read_name-is (prefixed_type q form.CvQualified) left s
 
 pub qualified_member_step : (q : ℕ) (left : List ℕ) (s : State)
-    → read_name (type_form q form.QualifiedMemberPointer) left s ≡ read_name (member_pointer true) left s
+    → read_name (prefixed_type q form.QualifiedMemberPointer) left s ≡ read_name (member_pointer true) left s
 unfolding grammar read read_by
-qualified_member_step q left s = read_name-is (type_form q form.QualifiedMemberPointer) left s
+qualified_member_step q left s = read_name-is (prefixed_type q form.QualifiedMemberPointer) left s
 
-pub member_form_step : (q : ℕ) (left : List ℕ) (s : State) → read_name (type_form q form.MemberPointer) left s
+pub member_form_step : (q : ℕ) (left : List ℕ) (s : State) → read_name (prefixed_type q form.MemberPointer) left s
     ≡ and_then (read (literal (codes "?")) left s) (λ _ l t. read_name (member_pointer false) l t)
 unfolding grammar read read_by
-member_form_step q left s = read_name-is (type_form q form.MemberPointer) left s
+member_form_step q left s = read_name-is (prefixed_type q form.MemberPointer) left s
 
-pub ruleset type_form_is = (
+pub ruleset prefixed_type_is = (
   enumeration_step,
   alias_step,
   reference_to_function_step,
@@ -224,7 +228,7 @@ pub ruleset type_form_is = (
   nullptr_step,
   function_form_step,
   qualified_function_step,
-  requalified_step,
+  cv_type_step,
   qualified_member_step,
   member_form_step,
 )
@@ -252,7 +256,7 @@ plain_type_step q (b ∷ bs) s =
     remaining None = refl
     remaining (Some x) = refl
 
-    go : (o : Option BaseType)
+    go : (o : Option PrimitiveKind)
         → and_then (with_value (option_map_or (λ x. Some (based x)) o (lookup b compound_letters)) bs s)
         (λ x. read_name (type_after q x))
         ≡ found_or (option_map (λ x. tree.base x q) o) bs s
@@ -277,7 +281,7 @@ extended_step q left s =
     read_name-is (type_after q extended) left s
     ∙ λ i. in_node left s (λ l t. go l t i)
   where
-    found : (o : Option BaseType) (l : List ℕ) (t : State)
+    found : (o : Option PrimitiveKind) (l : List ℕ) (t : State)
         → and_then (with_value o l t) (λ x k u. Some (tree.base x q, k, u))
         ≡ with_value (option_map (λ x. tree.base x q) o) l t
     found None l t = refl
@@ -292,13 +296,13 @@ extended_step q left s =
 
 pub ruleset extended_is = (extended_step)
 
-pub named_step : (q : ℕ) (tag : Tag) (left : List ℕ) (s : State) → read_name (type_after q (named tag)) left s
+pub named_step : (q : ℕ) (tag : TagKind) (left : List ℕ) (s : State) → read_name (type_after q (named tag)) left s
     ≡ in_node left s (λ l t. and_then (read_name (qualified_name false) l t)
     (λ n k u. Some (tagged tag n.0 (name_trees n.1) q, k, u)))
 unfolding grammar read read_by
 named_step q tag left s = read_name-is (type_after q (named tag)) left s
 
-pub points_step : (q : ℕ) (mark : Mark) (on_pointer : Option ℕ) (left : List ℕ) (s : State)
+pub points_step : (q : ℕ) (mark : PointerAffinity) (on_pointer : Option ℕ) (left : List ℕ) (s : State)
     → read_name (type_after q (points mark on_pointer)) left s
     ≡ in_node left s (λ l t. and_then (read_name pointee l t)
     (λ x k u. Some (pointing mark x (unwrap_or on_pointer q), k, u)))
@@ -332,7 +336,7 @@ referred_step q b left s =
 
 pub pointee_step : (left : List ℕ) (s : State) → read_name pointee left s
     ≡ and_then (read (optional pointer_sizes) left s) (λ size l t. and_then (read (optional storage_classes) l t)
-    (λ class. read_name (any_type (bit_or size class))))
+    (λ class. read_name (type_ (bit_or size class))))
 unfolding grammar read read_by
 pointee_step left s = read_name-is pointee left s
 
@@ -349,7 +353,7 @@ array_class_step left s =
 pub ruleset array_class_is = (array_class_step)
 
 abbrev elements : List ℤ → ℕ → List ℕ → State → Found TypeTree
-elements zs q left s = and_then (read_name (any_type 0) left s) (λ x l t. Some (arrays zs x q, l, t))
+elements zs q left s = and_then (read_name (type_ 0) left s) (λ x l t. Some (arrays zs x q, l, t))
 
 pub array_step : (left : List ℕ) (s : State) → read_name array left s
     ≡ and_then (read_name dimension left s) (λ n l t. and_then (read_name (lengths n) l t)
@@ -359,8 +363,8 @@ array_step left s =
     read_name-is array left s
     ∙ λ i. and_then (read_name dimension left s) (λ n l t. and_then (read_name (lengths n) l t)
     (λ zs k u. (literal_or-is {a = type_tree} (codes "$$C")
-    (do q ← letter bits qualifiers_of_arrays; t ← call (any_type 0); give (arrays zs t q))
-    (do t ← call (any_type 0); give (arrays zs t 0)) k u
+    (do q ← letter bits qualifiers_of_arrays; t ← call (type_ 0); give (arrays zs t q))
+    (do t ← call (type_ 0); give (arrays zs t 0)) k u
     ∙ go zs k u (after (codes "$$C") k) ∙ ap (λ o. and_then o (elements zs)) (sym (array_class_step k u))) i))
   where
     go : (zs : List ℤ) (k : List ℕ) (u : State) (o : Option (List ℕ))

@@ -6,7 +6,7 @@ use Rattle.msvc_nodes.specs.declared.error.ErrorRepr.{ErrorRepr}
 use Rattle.msvc_nodes.specs.declared.error.ErrorRepr.TheVariants as error
 use Rattle.msvc_nodes.specs.declared.error.Limit.{Limit}
 use Rattle.msvc_nodes.specs.declared.error.Limit.TheVariants.{Bytes, Nodes}
-use Rattle.msvc_grammar.specs.Refusals.{IsRefusalAt}
+use Rattle.msvc_grammar.specs.Rejections.{IsRejectionAt}
 use Rattle.msvc_parser.specs.declared.refusal.Message.{Message}
 use Rattle.msvc_parser.specs.declared.refusal.Message.TheVariants as messages
 use Rattle.msvc_parser.specs.declared.refusal.MessageText.{MessageText}
@@ -19,7 +19,7 @@ use Rattle.msvc_parser.specs.declared.refusal.Refusal.TheVariants as refusal
 abbrev pub IsErrorOf : Refusal → List ℕ → ErrorRepr → Type 0
 IsErrorOf refusal.Memory text e = e ≡ error.Memory
 IsErrorOf (refusal.Unread message left) text e =
-    IsRefusalAt text (length text - left) e × (limit_of e ≢ Some Bytes)
+    IsRejectionAt text (length text - left) e × (limit_of e ≢ Some Bytes)
 
 -- the limit that a message is about
 abbrev pub limit_of_message : Message → Option Limit

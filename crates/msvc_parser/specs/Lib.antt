@@ -1,12 +1,12 @@
 pub mod Errors
 pub mod Parser
 pub mod Rows
-pub mod Stack
+pub mod NestedList
 pub use Rattle.msvc_nodes.specs.NodeView
 pub use Rattle.msvc_grammar.specs.Counts
 pub use Rattle.msvc_grammar.specs.Letters
 pub use Rattle.msvc_grammar.specs.Reads
-pub use Rattle.msvc_grammar.specs.Refusals
+pub use Rattle.msvc_grammar.specs.Rejections
 pub use Rattle.msvc_grammar.specs.Rules
 pub use Rattle.msvc_grammar.specs.Sorts
 pub use Rattle.msvc_grammar.specs.State

@@ -10,20 +10,21 @@ use Rattle.std.specs.Borrow.{Bor}
 use Rattle.msvc_nodes.specs.declared.list.List.{List as NodeList}
 use Rattle.msvc_nodes.specs.declared.nodes.Name.{Name}
 use Rattle.msvc_nodes.specs.declared.nodes.Type.{«Type»}
-use Rattle.msvc_parser.specs.Stack.{here, outer}
+use Rattle.msvc_parser.specs.NestedList.{current, enclosing}
 use Rattle.msvc_grammar.specs.Grammar.{is_guard, is_hash, with_index}
 use Rattle.msvc_grammar.specs.Letters.{at_sign, base_types, digits, dollar_sign, ellipsis_letter}
 use Rattle.msvc_grammar.specs.Letters.{type_information_letter, underscore}
-use Rattle.msvc_grammar.specs.Letters.{qualifiers, reference_qualifiers, second_special_letters, special_letters}
-use Rattle.msvc_grammar.specs.Letters.{storage_classes, third_special_letters, type_information_letters, type_texts}
+use Rattle.msvc_grammar.specs.Letters.{qualifiers, reference_qualifiers, under_special_letters, basic_special_letters}
+use Rattle.msvc_grammar.specs.Letters.{storage_classes, double_under_special_letters}
+use Rattle.msvc_grammar.specs.Letters.{type_information_letters, type_texts}
 use Rattle.msvc_grammar.specs.declared.forms.SpecialForm.{SpecialForm}
 use Rattle.msvc_grammar.specs.Reads.{Found, and_then, counting, in_node, read_name, type_known, with_value}
-use Rattle.msvc_grammar.specs.declared.forms.TypeForm.{TypeForm}
+use Rattle.msvc_grammar.specs.declared.forms.TypePrefix.{TypePrefix}
 use Rattle.msvc_parser.specs.declared.letters.OptionalLetters.{OptionalLetters}
 use Rattle.msvc_parser.specs.declared.letters.OptionalLetters.TheVariants as letters
 use Rattle.msvc_grammar.specs.Rules.{after, guard_index, lookup}
 use Rattle.msvc_grammar.specs.State as state
-use Rattle.msvc_parser.specs.declared.memorized.BackReference.{BackReference}
+use Rattle.msvc_parser.specs.declared.back_references.BackReference.{BackReference}
 use Rattle.msvc_parser.specs.declared.entries.MemorizedName.{MemorizedName}
 use Rattle.msvc_parser.specs.declared.entries.MemorizedType.{MemorizedType}
 use Rattle.msvc_parser.specs.declared.forms.FunctionKind.{FunctionKind}
@@ -38,7 +39,7 @@ use Rattle.msvc_parser.specs.declared.forms.TemplateNames.{TemplateNames}
 use Rattle.msvc_parser.specs.declared.forms.TemplateNames.TheVariants as templates
 use Rattle.msvc_parser.specs.declared.parser.Parser.{Parser}
 use Rattle.msvc_parser.specs.declared.refusal.Refusal.{Refusal}
-use Rattle.msvc_parser.specs.declared.refusal.Refused.{Refused}
+use Rattle.msvc_parser.specs.declared.refusal.Failed.{Failed}
 use Rattle.msvc_parser.specs.declared.refusal.Refusal.TheVariants as refusal
 
 abbrev pub known_name_of : {L : Type 0} {g : _} → MemorizedName L g → NameTree
@@ -53,16 +54,16 @@ note_of n = record { at = n.at; start = n.start; end = n.end }
 -- the count of nodes
 abbrev pub count_of : {L A : Type 0} {g h : _} → Parser L A g h → state.Count
 count_of {g = g} p =
-    record { weight = g.weight; made = g.made p.limit; most = g.most p.limit }
+    record { weight = g.weight; used = g.used p.limit; max = g.max p.limit }
 
 abbrev pub state_of : {L A : Type 0} {g h : _} → Parser L A g h → state.State
 state_of p =
     record {
       whole = p.text_length;
       count = count_of p;
-      names = map known_name_of (here p.memorized.names);
-      types = map memorized_of (here p.memorized.types);
-      notes = map note_of p.notes.items;
+      names = map known_name_of (current p.backrefs.names);
+      types = map memorized_of (current p.backrefs.types);
+      notes = map note_of p.back_references.items;
     }
 
 -- what a reader leaves unchanged: the entries before the tables in use, and the lists that its callers fill
@@ -77,55 +78,58 @@ pub record Frame (N E : Type 0) : Type 0 where
 abbrev pub frame_of : {L A : Type 0} {g h : _} → Parser L A g h → Frame (MemorizedName L g) (MemorizedType L g)
 frame_of p =
     record {
-      names = outer p.memorized.names;
-      types = outer p.memorized.types;
-      listed_names = here p.listed_names;
-      names_before = outer p.listed_names;
-      listed_types = here p.listed_types;
-      types_before = outer p.listed_types;
+      names = enclosing p.backrefs.names;
+      types = enclosing p.backrefs.types;
+      listed_names = current p.listed_names;
+      names_before = enclosing p.listed_names;
+      listed_types = current p.listed_types;
+      types_before = enclosing p.listed_types;
     }
 
 -- an error other than an allocation failure means that the rule reads nothing
-abbrev pub Refuses : {Y : Type 0} → Refusal → Option Y → Type 0
-Refuses refusal.Memory read = Unit {0}
-Refuses (refusal.Unread message left) read = read ≡ None
+abbrev pub Rejects : {Y : Type 0} → Refusal → Option Y → Type 0
+Rejects refusal.Memory read = Unit {0}
+Rejects (refusal.Unread message left) read = read ≡ None
 
 -- the result of a reader, seen by view, is what its rule reads; on failure, why holds the reason
-abbrev pub Gives : {X Y : Type 0} → (X → Y) → Refusal → Result X Refused → Option Y → Type 0
-Gives view why (Ok x) read = read ≡ Some (view x)
-Gives view why (Err e) read = Refuses why read
+abbrev pub Gives : {X Y : Type 0} → (X → Y) → Refusal → Result X Failed → Option Y → Type 0
+Gives view last_error (Ok x) read = read ≡ Some (view x)
+Gives view last_error (Err e) read = Rejects last_error read
 
 -- the same for a function that returns the reason
 abbrev pub IsRead : {X Y : Type 0} → (X → Y) → Result X Refusal → Option Y → Type 0
 IsRead view (Ok x) read = read ≡ Some (view x)
-IsRead view (Err e) read = Refuses e read
+IsRead view (Err e) read = Rejects e read
 
 -- The result of a reader, seen by view, is what its rule reads of the unread bytes: its value, the bytes left and the
 -- state after it.
-abbrev pub ReadsAs : {L A : Type 0} {g h : _} {X Y : Type 0} → (X → Y) → Parser L A g h → Parser L A g h → Result X Refused
+abbrev pub ReadsAs : {L A : Type 0} {g h : _} {X Y : Type 0} → (X → Y) → Parser L A g h → Parser L A g h → Result X
+    Failed
     → (List ℕ → state.State → Found Y) → Type 0
 ReadsAs view before after result reading =
-    Gives (λ x. (view x, after.rest.now, state_of after)) after.why result (reading before.rest.now (state_of before))
+    Gives (λ x. (view x, after.rest.now, state_of after)) after.last_error result (reading before.rest.now (state_of
+    before))
 
 -- on success, a reader has read at least one byte and has left the frame unchanged
-abbrev pub Eats : {L A : Type 0} {g h : _} {X : Type 0} → Parser L A g h → Parser L A g h → Result X Refused → Type 0
-Eats before after result =
+abbrev pub Consumes : {L A : Type 0} {g h : _} {X : Type 0} → Parser L A g h → Parser L A g h → Result X Failed → Type 0
+Consumes before after result =
     IfOk result (λ _. (length after.rest.now < length before.rest.now) × (frame_of after ≡ frame_of before))
 
 -- the same, and it may have read no byte
-abbrev pub MayEat : {L A : Type 0} {g h : _} {X : Type 0} → Parser L A g h → Parser L A g h → Result X Refused → Type 0
-MayEat before after result =
+abbrev pub MayConsume : {L A : Type 0} {g h : _} {X : Type 0} → Parser L A g h → Parser L A g h → Result X Failed → Type
+    0
+MayConsume before after result =
     IfOk result (λ _. (length after.rest.now ≤ length before.rest.now) × (frame_of after ≡ frame_of before))
 
 -- the same, and it has read no byte
-abbrev pub Stays : {L A : Type 0} {g h : _} {X : Type 0} → Parser L A g h → Parser L A g h → Result X Refused → Type 0
+abbrev pub Stays : {L A : Type 0} {g h : _} {X : Type 0} → Parser L A g h → Parser L A g h → Result X Failed → Type 0
 Stays before after result =
     IfOk result (λ _. (after.rest.now ≡ before.rest.now) × (frame_of after ≡ frame_of before))
 
 -- the bytes after a literal, if it was read
-abbrev pub eaten : Bool → List ℕ → Option (List ℕ)
-eaten true rest = Some rest
-eaten false rest = None
+abbrev pub consumed : Bool → List ℕ → Option (List ℕ)
+consumed true rest = Some rest
+consumed false rest = None
 
 -- the symbol at the start of a text, and its length in bytes
 abbrev pub with_length : List ℕ → Found SymbolTree → Option (SymbolTree × ℕ)
@@ -150,8 +154,8 @@ byte_here [] s = None
 byte_here (b ∷ bs) s = Some (b, bs, s)
 
 -- a template name is memorized unless it names a symbol
-abbrev pub kept_name : Bool → NameTree → state.State → state.State
-kept_name of_symbol n s = if of_symbol then s else state.remember_name n s
+abbrev pub add_template_name : Bool → NameTree → state.State → state.State
+add_template_name of_symbol n s = if of_symbol then s else state.remember_name n s
 
 -- the entry of a table whose text the bytes begin with, and the bytes after that text
 abbrev pub this_or : {A : Type 0} → A → Option (List ℕ) → Option (A × List ℕ) → Option (A × List ℕ)
@@ -172,10 +176,10 @@ abbrev pub one_less : {A : Type 0} → ℕ → List (List ℕ × A) → List (Li
 one_less b [] = []
 one_less b (row ∷ others) = begun_by b row.0 row.1 (one_less b others)
 
-abbrev pub dollar_texts : List (List ℕ × TypeForm)
+abbrev pub dollar_texts : List (List ℕ × TypePrefix)
 dollar_texts = one_less dollar_sign type_texts
 
-abbrev pub double_dollar_texts : List (List ℕ × TypeForm)
+abbrev pub double_dollar_texts : List (List ℕ × TypePrefix)
 double_dollar_texts = one_less dollar_sign dollar_texts
 
 -- how many bytes precede the first @
@@ -232,18 +236,19 @@ abbrev pub letter_at : {A : Type 0} → List (ℕ × A) → List ℕ → Option 
 letter_at table [] = None
 letter_at table (b ∷ bs) = at_rest (lookup b table) bs
 
--- the special name whose code the bytes begin with, letter by letter; marked_at is for a code that begins with _
+-- the special name whose code the bytes begin with, letter by letter; special_at_after_under is for a code that begins
+-- with _
 
-unfoldable pub marked_at : List ℕ → Option (SpecialForm × List ℕ)
-marked_at [] = None
-marked_at (b ∷ bs) =
-    if b == underscore then letter_at third_special_letters bs
+unfoldable pub special_at_after_under : List ℕ → Option (SpecialForm × List ℕ)
+special_at_after_under [] = None
+special_at_after_under (b ∷ bs) =
+    if b == underscore then letter_at double_under_special_letters bs
     else (if b == type_information_letter then letter_at type_information_letters bs
-    else at_rest (lookup b second_special_letters) bs)
+    else at_rest (lookup b under_special_letters) bs)
 
 unfoldable pub special_at : List ℕ → Option (SpecialForm × List ℕ)
 special_at [] = None
-special_at (b ∷ bs) = if b == underscore then marked_at bs else at_rest (lookup b special_letters) bs
+special_at (b ∷ bs) = if b == underscore then special_at_after_under bs else at_rest (lookup b basic_special_letters) bs
 
 -- what a table has, which counts as a node, or what is read else
 abbrev pub found_or : {A : Type 0} → Option A → List ℕ → state.State → Found A → Found A

@@ -8,46 +8,48 @@ use Rattle.msvc_nodes.specs.declared.nodes.Symbol.{Symbol}
 use Rattle.msvc_nodes.specs.declared.nodes.TypedSymbol.{TypedSymbol}
 use Rattle.msvc_nodes.specs.declared.kinds.CallingConv.{CallingConv}
 use Rattle.msvc_parser.specs.Parser.{frame_of}
-use Rattle.msvc_parser.specs.Stack.{here, outer}
+use Rattle.msvc_parser.specs.NestedList.{current, enclosing}
 use Rattle.msvc_parser.specs.declared.parser.Parser.{Parser}
-use Rattle.msvc_parser.specs.declared.refusal.Refused.{Refused}
+use Rattle.msvc_parser.specs.declared.refusal.Failed.{Failed}
 
 -- a reader of names leaves them on a new part of the list, and returns the checkpoint that ends that part
-abbrev pub ListsNames : {L A : Type 0} {g h : _} → Parser L A g h → Parser L A g h → Result ℕ Refused → Type 0
+abbrev pub ListsNames : {L A : Type 0} {g h : _} → Parser L A g h → Parser L A g h → Result ℕ Failed → Type 0
 ListsNames before after result =
-    IfOk result (λ checkpoint. (checkpoint ≡ length (outer before.listed_names))
+    IfOk result (λ checkpoint. (checkpoint ≡ length (enclosing before.listed_names))
     × (frame_of after
     ≡ record (frame_of before) {
-      listed_names = here after.listed_names;
-      names_before = outer before.listed_names ++ here before.listed_names;
+      listed_names = current after.listed_names;
+      names_before = enclosing before.listed_names ++ current before.listed_names;
     }))
 
 -- the same for types
-abbrev pub ListsTypes : {L A : Type 0} {g h : _} → Parser L A g h → Parser L A g h → Result ℕ Refused → Type 0
+abbrev pub ListsTypes : {L A : Type 0} {g h : _} → Parser L A g h → Parser L A g h → Result ℕ Failed → Type 0
 ListsTypes before after result =
-    IfOk result (λ checkpoint. (checkpoint ≡ length (outer before.listed_types))
+    IfOk result (λ checkpoint. (checkpoint ≡ length (enclosing before.listed_types))
     × (frame_of after
     ≡ record (frame_of before) {
-      listed_types = here after.listed_types;
-      types_before = outer before.listed_types ++ here before.listed_types;
+      listed_types = current after.listed_types;
+      types_before = enclosing before.listed_types ++ current before.listed_types;
     }))
 
 -- a part of the list of names is dropped, and the list is as it was before that part began
-abbrev pub EndsNames : {L A : Type 0} {g h : _} {X : Type 0} → ℕ → Parser L A g h → Parser L A g h → Result X Refused → Type 0
+abbrev pub EndsNames : {L A : Type 0} {g h : _} {X : Type 0} → ℕ → Parser L A g h → Parser L A g h → Result X Failed →
+    Type 0
 EndsNames checkpoint before after result =
     IfOk result (λ _. frame_of after
     ≡ record (frame_of before) {
-      listed_names = drop checkpoint (outer before.listed_names);
-      names_before = take checkpoint (outer before.listed_names);
+      listed_names = drop checkpoint (enclosing before.listed_names);
+      names_before = take checkpoint (enclosing before.listed_names);
     })
 
 -- the same for types
-abbrev pub EndsTypes : {L A : Type 0} {g h : _} {X : Type 0} → ℕ → Parser L A g h → Parser L A g h → Result X Refused → Type 0
+abbrev pub EndsTypes : {L A : Type 0} {g h : _} {X : Type 0} → ℕ → Parser L A g h → Parser L A g h → Result X Failed →
+    Type 0
 EndsTypes checkpoint before after result =
     IfOk result (λ _. frame_of after
     ≡ record (frame_of before) {
-      listed_types = drop checkpoint (outer before.listed_types);
-      types_before = take checkpoint (outer before.listed_types);
+      listed_types = drop checkpoint (enclosing before.listed_types);
+      types_before = take checkpoint (enclosing before.listed_types);
     })
 
 -- a name and its scope

@@ -5,20 +5,20 @@ ghost use Rattle.std.specs.Prelude.{◌≡◌};
 ghost use Rattle.msvc_nodes.specs.NodeView.{name_of, type_of};
 ghost use Rattle.msvc_grammar.specs.Counts.{name_count, type_count};
 
-use crate::limit::Limit;
+use crate::limit::NodeBudget;
 use msvc_nodes::nodes::{Name, Type};
 use std::alloc::AllocError;
 
 /// A memorized name, and how many nodes it has.
-pub struct MemorizedName<'a, 'b, L: Limit> {
+pub struct MemorizedName<'a, 'b, L: NodeBudget> {
     pub memorized: &'b Name<'a, 'b>,
     pub nodes: L,
-    ghost counted: { L.made nodes ≡ name_count L.weight (name_of memorized.now) },
+    ghost counted: { L.used nodes ≡ name_count L.weight (name_of memorized.now) },
 }
 
-impl<'a, 'b, L: Limit> Copy for MemorizedName<'a, 'b, L> {}
+impl<'a, 'b, L: NodeBudget> Copy for MemorizedName<'a, 'b, L> {}
 
-impl<'a, 'b, L: Limit> Clone for MemorizedName<'a, 'b, L> {
+impl<'a, 'b, L: NodeBudget> Clone for MemorizedName<'a, 'b, L> {
     fn clone(&self) -> Result<MemorizedName<'a, 'b, L>, AllocError> {
         Ok(MemorizedName {
             memorized: self.memorized,
@@ -28,17 +28,17 @@ impl<'a, 'b, L: Limit> Clone for MemorizedName<'a, 'b, L> {
 }
 
 /// A memorized type, the offsets in bytes where its text starts and ends, and how many nodes it has.
-pub struct MemorizedType<'a, 'b, L: Limit> {
+pub struct MemorizedType<'a, 'b, L: NodeBudget> {
     pub memorized: &'b Type<'a, 'b>,
     pub start: usize,
     pub end: usize,
     pub nodes: L,
-    ghost counted: { L.made nodes ≡ type_count L.weight (type_of memorized.now) },
+    ghost counted: { L.used nodes ≡ type_count L.weight (type_of memorized.now) },
 }
 
-impl<'a, 'b, L: Limit> Copy for MemorizedType<'a, 'b, L> {}
+impl<'a, 'b, L: NodeBudget> Copy for MemorizedType<'a, 'b, L> {}
 
-impl<'a, 'b, L: Limit> Clone for MemorizedType<'a, 'b, L> {
+impl<'a, 'b, L: NodeBudget> Clone for MemorizedType<'a, 'b, L> {
     fn clone(&self) -> Result<MemorizedType<'a, 'b, L>, AllocError> {
         Ok(MemorizedType {
             memorized: self.memorized,

@@ -11,7 +11,7 @@ ghost use Rattle.msvc_parser.specs.Parser.{optional_letters};
 
 use bitflags::Flags;
 use msvc_nodes::flags::{FuncClass, StorageClass};
-use msvc_nodes::kinds::{BaseType, CallingConv};
+use msvc_nodes::kinds::{CallingConv, PrimitiveKind};
 
 /// Returns the table entry that a digit refers to.
 pub fn digit(letter: u8) -> Option<u8>
@@ -139,42 +139,42 @@ pub fn optional_letter(letters: OptionalLetters, letter: u8) -> Option<StorageCl
 }
 
 /// Returns the base type of a letter.
-pub fn base_type(letter: u8) -> Option<BaseType>
+pub fn base_type(letter: u8) -> Option<PrimitiveKind>
     ensures { result ≡ lookup letter base_types }
 {
     let base = match letter {
-        b'X' => BaseType::Void,
-        b'C' => BaseType::Schar,
-        b'D' => BaseType::Char,
-        b'E' => BaseType::Uchar,
-        b'F' => BaseType::Short,
-        b'G' => BaseType::Ushort,
-        b'H' => BaseType::Int,
-        b'I' => BaseType::Uint,
-        b'J' => BaseType::Long,
-        b'K' => BaseType::Ulong,
-        b'M' => BaseType::Float,
-        b'N' => BaseType::Double,
-        b'O' => BaseType::Ldouble,
+        b'X' => PrimitiveKind::Void,
+        b'C' => PrimitiveKind::Schar,
+        b'D' => PrimitiveKind::Char,
+        b'E' => PrimitiveKind::Uchar,
+        b'F' => PrimitiveKind::Short,
+        b'G' => PrimitiveKind::Ushort,
+        b'H' => PrimitiveKind::Int,
+        b'I' => PrimitiveKind::Uint,
+        b'J' => PrimitiveKind::Long,
+        b'K' => PrimitiveKind::Ulong,
+        b'M' => PrimitiveKind::Float,
+        b'N' => PrimitiveKind::Double,
+        b'O' => PrimitiveKind::Ldouble,
         _ => return None,
     };
     Some(base)
 }
 
 /// Returns the base type of a letter after an underscore.
-pub fn extended_type(letter: u8) -> Option<BaseType>
+pub fn extended_type(letter: u8) -> Option<PrimitiveKind>
     ensures { result ≡ lookup letter extended_types }
 {
     let base = match letter {
-        b'N' => BaseType::Bool,
-        b'W' => BaseType::Wchar,
-        b'Q' => BaseType::Char8,
-        b'S' => BaseType::Char16,
-        b'U' => BaseType::Char32,
-        b'J' => BaseType::Int64,
-        b'K' => BaseType::Uint64,
-        b'L' => BaseType::Int128,
-        b'M' => BaseType::Uint128,
+        b'N' => PrimitiveKind::Bool,
+        b'W' => PrimitiveKind::Wchar,
+        b'Q' => PrimitiveKind::Char8,
+        b'S' => PrimitiveKind::Char16,
+        b'U' => PrimitiveKind::Char32,
+        b'J' => PrimitiveKind::Int64,
+        b'K' => PrimitiveKind::Uint64,
+        b'L' => PrimitiveKind::Int128,
+        b'M' => PrimitiveKind::Uint128,
         _ => return None,
     };
     Some(base)

@@ -4,48 +4,48 @@ ghost use Rattle.std.specs.Prelude.{◌≡◌, ◌+◌, ◌≤◌, IsTrue, nat_l
 
 /// A limit on nodes, with the number of nodes made so far. A number of nodes has the same type. Without a limit nothing
 /// is counted, and the type has no size.
-pub trait Limit: Copy {
+pub trait NodeBudget: Copy {
     /// What one node adds to the count: 0 without a limit, else 1.
     ghost weight: { ℕ };
 
     /// The count so far.
-    ghost made: { Self → ℕ };
+    ghost used: { Self → ℕ };
 
     /// The greatest count allowed.
-    ghost most: { Self → ℕ };
+    ghost max: { Self → ℕ };
 
     /// Returns the number of nodes that stands for one node.
     fn one() -> Self
-        ensures { made result ≡ weight };
+        ensures { used result ≡ weight };
 
     /// Counts one node, or returns false if the limit is reached.
     fn count_node(&mut self) -> bool
-        ensures allowed { result ≡ not (nat_lt (most self.old) (made self.old + weight)) }
-        ensures made { IsTrue result → made self.new ≡ made self.old + weight }
-        ensures most { IsTrue result → most self.new ≡ most self.old };
+        ensures allowed { result ≡ not (nat_lt (max self.old) (used self.old + weight)) }
+        ensures used { IsTrue result → used self.new ≡ used self.old + weight }
+        ensures max { IsTrue result → max self.new ≡ max self.old };
 
     /// Counts `nodes` nodes, or returns false if they exceed the limit.
     fn count_nodes(&mut self, nodes: Self) -> bool
-        ensures allowed { result ≡ not (nat_lt (most self.old) (made self.old + made nodes)) }
-        ensures made { IsTrue result → made self.new ≡ made self.old + made nodes }
-        ensures most { IsTrue result → most self.new ≡ most self.old };
+        ensures allowed { result ≡ not (nat_lt (max self.old) (used self.old + used nodes)) }
+        ensures used { IsTrue result → used self.new ≡ used self.old + used nodes }
+        ensures max { IsTrue result → max self.new ≡ max self.old };
 
     /// Returns how many nodes were counted since `before`.
     fn since(self, before: Self) -> Self
-        requires { made before ≤ made self }
-        ensures { made self ≡ made before + made result };
+        requires { used before ≤ used self }
+        ensures { used self ≡ used before + used result };
 }
 
 /// No limit.
 #[derive(Clone, Copy)]
 pub struct Unlimited;
 
-impl Limit for Unlimited {
+impl NodeBudget for Unlimited {
     ghost weight = { 0 };
 
-    ghost made = { λ l. 0 };
+    ghost used = { λ l. 0 };
 
-    ghost most = { λ l. 0 };
+    ghost max = { λ l. 0 };
 
     #[inline(always)]
     fn one() -> Unlimited {
@@ -68,44 +68,44 @@ impl Limit for Unlimited {
     }
 }
 
-/// A limit of `most` nodes.
+/// A limit of `max` nodes.
 #[derive(Clone, Copy)]
-pub struct Limited {
-    pub made: usize,
-    pub most: usize,
+pub struct NodeLimit {
+    pub used: usize,
+    pub max: usize,
 }
 
-impl Limit for Limited {
+impl NodeBudget for NodeLimit {
     ghost weight = { 1 };
 
-    ghost made = { λ l. l.made };
+    ghost used = { λ l. l.used };
 
-    ghost most = { λ l. l.most };
+    ghost max = { λ l. l.max };
 
-    fn one() -> Limited {
-        Limited { made: 1, most: 1 }
+    fn one() -> NodeLimit {
+        NodeLimit { used: 1, max: 1 }
     }
 
     fn count_node(&mut self) -> bool {
-        if self.made >= self.most {
+        if self.used >= self.max {
             return false;
         }
-        self.made += 1;
+        self.used += 1;
         true
     }
 
-    fn count_nodes(&mut self, nodes: Limited) -> bool {
-        if self.made > self.most || nodes.made > self.most - self.made {
+    fn count_nodes(&mut self, nodes: NodeLimit) -> bool {
+        if self.used > self.max || nodes.used > self.max - self.used {
             return false;
         }
-        self.made += nodes.made;
+        self.used += nodes.used;
         true
     }
 
-    fn since(self, before: Limited) -> Limited {
-        Limited {
-            made: self.made - before.made,
-            most: self.most,
+    fn since(self, before: NodeLimit) -> NodeLimit {
+        NodeLimit {
+            used: self.used - before.used,
+            max: self.max,
         }
     }
 }

@@ -3,25 +3,25 @@
 ghost use Rattle.msvc_grammar.specs.Grammar.{signed_letters};
 ghost use Rattle.msvc_grammar.specs.Reads.{read, read_name};
 ghost use Rattle.msvc_grammar.specs.Rules.{magnitude, number};
-ghost use Rattle.msvc_parser.specs.Parser.{Eats, ReadsAs};
+ghost use Rattle.msvc_parser.specs.Parser.{Consumes, ReadsAs};
 
 use crate::letters;
-use crate::limit::Limit;
+use crate::limit::NodeBudget;
 use crate::parser::Parser;
-use crate::refusal::{Message, Refused};
+use crate::refusal::{Failed, Message};
 use std::alloc::Allocator;
 
 /// Base of a number's letters.
 const BASE: u32 = 16;
 
-impl<'a, 'b, L: Limit, A: Allocator> Parser<'a, 'b, L, A> {
+impl<'a, 'b, L: NodeBudget, A: Allocator> Parser<'a, 'b, L, A> {
     /// Reads `NUMBER = ["?"] MAGNITUDE`: a `?` negates.
     #[tactic(auto, using(crate::proofs::NumberSteps::number_is))]
-    pub fn number(&mut self) -> Result<i32, Refused>
+    pub fn number(&mut self) -> Result<i32, Failed>
         ensures value { ReadsAs (λ z. z) self.old self.new result (read_name number) }
-        ensures eats { Eats self.old self.new result }
+        ensures consumes { Consumes self.old self.new result }
     {
-        if !self.eat(b"?") {
+        if !self.consume(b"?") {
             return self.magnitude();
         }
         let value = self.magnitude()?;
@@ -30,9 +30,9 @@ impl<'a, 'b, L: Limit, A: Allocator> Parser<'a, 'b, L, A> {
 
     /// Reads `MAGNITUDE = digit | LETTERS`: the value of a digit is one more than the digit.
     #[tactic(auto, using(crate::proofs::NumberSteps::magnitude_is))]
-    fn magnitude(&mut self) -> Result<i32, Refused>
+    fn magnitude(&mut self) -> Result<i32, Failed>
         ensures value { ReadsAs (λ z. z) self.old self.new result (read_name magnitude) }
-        ensures eats { Eats self.old self.new result }
+        ensures consumes { Consumes self.old self.new result }
     {
         match self.digit() {
             Some(digit) => Ok((u32::from(digit) + 1).cast_signed()),
@@ -42,9 +42,9 @@ impl<'a, 'b, L: Limit, A: Allocator> Parser<'a, 'b, L, A> {
 
     /// Reads `LETTERS = {letter} "@"`: `A` to `P` are base 16 digits, and bits beyond the low 32 are dropped.
     #[tactic(auto, using(msvc_grammar::proofs::Hexadecimal::letters_go_on), unfolding(msvc_grammar::proofs::Hexadecimal::letters_at))]
-    fn hexadecimal(&mut self) -> Result<i32, Refused>
+    fn hexadecimal(&mut self) -> Result<i32, Failed>
         ensures value { ReadsAs (λ z. z) self.old self.new result (read signed_letters) }
-        ensures eats { Eats self.old self.new result }
+        ensures consumes { Consumes self.old self.new result }
     {
         let left = self.rest.len();
         let mut value = 0u32;
@@ -54,10 +54,10 @@ impl<'a, 'b, L: Limit, A: Allocator> Parser<'a, 'b, L, A> {
                 return Ok(value.cast_signed());
             }
             let Some(digit) = letters::hexadecimal(*letter) else {
-                return Err(self.refuse_at(Message::BadNumber, left));
+                return Err(self.reject_at(Message::BadNumber, left));
             };
             value = value.wrapping_mul(BASE).wrapping_add(u32::from(digit));
         }
-        Err(self.refuse_at(Message::BadNumber, left))
+        Err(self.reject_at(Message::BadNumber, left))
     }
 }

@@ -4,7 +4,7 @@
 //! Each level of a nested symbol takes stack. So a reader returns a reference into the arena or a place in a list of
 //! the parser, never a value of many words, and functions that memorize a name or a type, record an error or store a
 //! node of several parts are never inlined. None of their variables is in a reader's frame while a nested part is read.
-//! Names of the source, which nest nothing, are memorized inline, by `entered_name`.
+//! Names of the source, which nest nothing, are memorized inline, by `put_and_add_name_inline`.
 
 ghost use Rattle.std.specs.Option.{option_map};
 ghost use Rattle.std.specs.Prelude.{◌≡◌, ◌≤◌, ◌<◌, ◌+◌, ◌∷◌, [], IfErr, IfOk, IfSome, IsTrue, length, MatchOption};
@@ -14,14 +14,15 @@ ghost use Rattle.msvc_grammar.specs.Letters.{digits};
 ghost use Rattle.msvc_grammar.specs.Reads.{counting, in_node, letter_here, read, with_value};
 ghost use Rattle.msvc_grammar.specs.Rules.{after, literal, optional};
 ghost use Rattle.msvc_grammar.specs.State.{beginning_with, place};
-ghost use Rattle.msvc_parser.specs.Parser.{byte_here, eaten, Eats, frame_of, optional_letters, ReadsAs, state_of};
+ghost use Rattle.msvc_parser.specs.Parser.{byte_here, consumed, Consumes};
+ghost use Rattle.msvc_parser.specs.Parser.{frame_of, optional_letters, ReadsAs, state_of};
 ghost use Rattle.msvc_parser.specs.Parser.{Stays};
 
+use crate::back_references::{BackReference, BackrefTables};
 use crate::letters::{self, OptionalLetters};
-use crate::limit::Limit;
-use crate::memorized::{BackReference, Memorized};
-use crate::refusal::{Message, Refusal, Refused};
-use crate::stack::Stack;
+use crate::limit::NodeBudget;
+use crate::nested_list::NestedList;
+use crate::refusal::{Failed, Message, Refusal};
 use bitflags::Flags;
 use bumpalo::Bump;
 use msvc_nodes::flags::StorageClass;
@@ -30,7 +31,7 @@ use std::alloc::Allocator;
 
 /// The state of the parser.
 #[derive(Drop)]
-pub struct Parser<'a, 'b, L: Limit, A: Allocator> {
+pub struct Parser<'a, 'b, L: NodeBudget, A: Allocator> {
     /// Holds the nodes, and all lists that grow while a text is read.
     pub arena: &'b Bump<A>,
     /// Length of the text, in bytes.
@@ -38,69 +39,69 @@ pub struct Parser<'a, 'b, L: Limit, A: Allocator> {
     /// The bytes that are still unread.
     pub rest: &'a [u8],
     /// The tables that digits refer to.
-    pub memorized: Memorized<'a, 'b, L, A>,
+    pub backrefs: BackrefTables<'a, 'b, L, A>,
     /// The names of the scopes that are being read.
-    pub listed_names: Stack<'b, &'b Name<'a, 'b>, A>,
+    pub listed_names: NestedList<'b, &'b Name<'a, 'b>, A>,
     /// The parameters of the lists that are being read.
-    pub listed_types: Stack<'b, &'b Type<'a, 'b>, A>,
+    pub listed_types: NestedList<'b, &'b Type<'a, 'b>, A>,
     /// The back references read so far.
-    pub notes: Vec<BackReference, &'b Bump<A>>,
+    pub back_references: Vec<BackReference, &'b Bump<A>>,
     /// The limit on nodes.
     pub limit: L,
     /// The error of the last reader that failed.
-    pub why: Refusal,
+    pub last_error: Refusal,
 }
 
-impl<'a, 'b, L: Limit, A: Allocator> Parser<'a, 'b, L, A> {
+impl<'a, 'b, L: NodeBudget, A: Allocator> Parser<'a, 'b, L, A> {
     /// Creates a parser at the start of a text.
     pub fn new(arena: &'b Bump<A>, text: &'a [u8], limit: L) -> Parser<'a, 'b, L, A>
         ensures rest { result.rest.now ≡ text.now }
         ensures state { state_of result ≡ beginning_with (record {
           weight = L.weight;
-          made = L.made limit;
-          most = L.most limit;
+          used = L.used limit;
+          max = L.max limit;
         }) text.now }
     {
         Parser {
             arena,
             text_length: text.len(),
             rest: text,
-            memorized: Memorized::new(arena),
-            listed_names: Stack::new(arena),
-            listed_types: Stack::new(arena),
-            notes: Vec::new(arena),
+            backrefs: BackrefTables::new(arena),
+            listed_names: NestedList::new(arena),
+            listed_types: NestedList::new(arena),
+            back_references: Vec::new(arena),
             limit,
-            why: Refusal::Memory,
+            last_error: Refusal::Memory,
         }
     }
 
     /// Records an allocation failure.
     #[cold]
     #[inline(never)]
-    pub fn no_memory(&mut self) -> Refused
-        ensures why { self.new.why ≡ Refusal.Memory }
+    pub fn no_memory(&mut self) -> Failed
+        ensures last_error { self.new.last_error ≡ Refusal.Memory }
     {
-        self.why = Refusal::Memory;
-        Refused
+        self.last_error = Refusal::Memory;
+        Failed
     }
 
     /// Records a syntax error where `left` bytes are unread.
     #[cold]
     #[inline(never)]
-    pub fn refuse_at(&mut self, message: Message, left: usize) -> Refused
-        ensures why { self.new.why ≡ Refusal.Unread message left }
+    pub fn reject_at(&mut self, message: Message, left: usize) -> Failed
+        ensures last_error { self.new.last_error ≡ Refusal.Unread message left }
     {
-        self.why = Refusal::Unread(message, left);
-        Refused
+        self.last_error = Refusal::Unread(message, left);
+        Failed
     }
 
     /// Stores a node in the arena.
-    pub fn put<T: Copy>(&mut self, node: T) -> Result<&'b T, Refused>
+    pub fn put<T: Copy>(&mut self, node: T) -> Result<&'b T, Failed>
         ensures node { IfOk result (λ t. t.now ≡ node) }
         ensures rest { IfOk result (λ _. self.new.rest.now ≡ self.old.rest.now) }
         ensures state { IfOk result (λ _. state_of self.new ≡ state_of self.old) }
         ensures kept { IfOk result (λ _. frame_of self.new ≡ frame_of self.old) }
-        ensures why { IfErr result (λ _. self.new.why ≡ Refusal.Memory) }
+        ensures last_error { IfErr result (λ _. self.new.last_error ≡ Refusal.Memory) }
     {
         match self.arena.try_alloc(node) {
             Ok(node) => Ok(node),
@@ -110,7 +111,7 @@ impl<'a, 'b, L: Limit, A: Allocator> Parser<'a, 'b, L, A> {
 
     /// Stores a name in the arena.
     #[inline(always)]
-    pub fn put_name(&mut self, name: Name<'a, 'b>) -> Result<&'b Name<'a, 'b>, Refused>
+    pub fn put_name(&mut self, name: Name<'a, 'b>) -> Result<&'b Name<'a, 'b>, Failed>
         ensures value { ReadsAs name_at self.old self.new result (with_value (Some (name_of name.entry))) }
         ensures stays { Stays self.old self.new result }
     {
@@ -119,7 +120,7 @@ impl<'a, 'b, L: Limit, A: Allocator> Parser<'a, 'b, L, A> {
 
     /// Stores a type in the arena.
     #[inline(always)]
-    pub fn put_type(&mut self, node: Type<'a, 'b>) -> Result<&'b Type<'a, 'b>, Refused>
+    pub fn put_type(&mut self, node: Type<'a, 'b>) -> Result<&'b Type<'a, 'b>, Failed>
         ensures value { ReadsAs type_at self.old self.new result (with_value (Some (type_of node.entry))) }
         ensures stays { Stays self.old self.new result }
     {
@@ -129,12 +130,12 @@ impl<'a, 'b, L: Limit, A: Allocator> Parser<'a, 'b, L, A> {
     /// Counts a node before it is read, or fails if the limit is reached.
     #[tactic(auto, unfolding(msvc_grammar::specs::Reads::counting))]
     #[inline(always)]
-    pub fn count_node(&mut self) -> Result<(), Refused>
+    pub fn count_node(&mut self) -> Result<(), Failed>
         ensures value { ReadsAs (λ _. tt) self.old self.new result (λ left s. counting s.count.weight left s) }
         ensures stays { Stays self.old self.new result }
     {
         if !self.limit.count_node() {
-            return Err(self.refuse(Message::TooManyNodes));
+            return Err(self.reject(Message::TooManyNodes));
         }
         Ok(())
     }
@@ -142,19 +143,19 @@ impl<'a, 'b, L: Limit, A: Allocator> Parser<'a, 'b, L, A> {
     /// Counts the nodes of a table entry, or fails if they exceed the limit.
     #[tactic(auto, unfolding(msvc_grammar::specs::Reads::counting))]
     #[inline(always)]
-    pub fn count_nodes(&mut self, nodes: L) -> Result<(), Refused>
-        ensures value { ReadsAs (λ _. tt) self.old self.new result (counting (L.made nodes)) }
+    pub fn count_nodes(&mut self, nodes: L) -> Result<(), Failed>
+        ensures value { ReadsAs (λ _. tt) self.old self.new result (counting (L.used nodes)) }
         ensures stays { Stays self.old self.new result }
     {
         if !self.limit.count_nodes(nodes) {
-            return Err(self.refuse(Message::TooManyNodes));
+            return Err(self.reject(Message::TooManyNodes));
         }
         Ok(())
     }
 
     /// Counts a name without parts as a node and stores it in the arena.
     #[inline(always)]
-    pub fn new_name(&mut self, name: Name<'a, 'b>) -> Result<&'b Name<'a, 'b>, Refused>
+    pub fn new_name(&mut self, name: Name<'a, 'b>) -> Result<&'b Name<'a, 'b>, Failed>
         ensures value { ReadsAs name_at self.old self.new result
             (λ left s. in_node left s (with_value (Some (name_of name.entry)))) }
         ensures stays { Stays self.old self.new result }
@@ -165,7 +166,7 @@ impl<'a, 'b, L: Limit, A: Allocator> Parser<'a, 'b, L, A> {
 
     /// Counts a type without parts as a node and stores it in the arena.
     #[inline(always)]
-    pub fn new_type(&mut self, node: Type<'a, 'b>) -> Result<&'b Type<'a, 'b>, Refused>
+    pub fn new_type(&mut self, node: Type<'a, 'b>) -> Result<&'b Type<'a, 'b>, Failed>
         ensures value { ReadsAs type_at self.old self.new result
             (λ left s. in_node left s (with_value (Some (type_of node.entry)))) }
         ensures stays { Stays self.old self.new result }
@@ -177,15 +178,15 @@ impl<'a, 'b, L: Limit, A: Allocator> Parser<'a, 'b, L, A> {
     /// Records a syntax error at the first unread byte.
     #[cold]
     #[inline(never)]
-    pub fn refuse(&mut self, message: Message) -> Refused
-        ensures why { self.new.why ≡ Refusal.Unread message (length self.old.rest.now) }
+    pub fn reject(&mut self, message: Message) -> Failed
+        ensures last_error { self.new.last_error ≡ Refusal.Unread message (length self.old.rest.now) }
     {
-        self.why = Refusal::Unread(message, self.rest.len());
-        Refused
+        self.last_error = Refusal::Unread(message, self.rest.len());
+        Failed
     }
 
     /// Returns the offset in bytes at which the suffix `left` of the text starts.
-    pub fn place_of(&self, left: &[u8]) -> usize
+    pub fn offset_of(&self, left: &[u8]) -> usize
         ensures { result ≡ place left.now (state_of self.now) }
     {
         self.text_length.saturating_sub(left.len())
@@ -211,13 +212,13 @@ impl<'a, 'b, L: Limit, A: Allocator> Parser<'a, 'b, L, A> {
 
     /// Reads the next byte, or fails at the end.
     #[inline(always)]
-    pub fn byte(&mut self) -> Result<u8, Refused>
+    pub fn byte(&mut self) -> Result<u8, Failed>
         ensures value { ReadsAs (λ b. b) self.old self.new result byte_here }
-        ensures eats { Eats self.old self.new result }
+        ensures consumes { Consumes self.old self.new result }
     {
         match self.next_byte() {
             Some(byte) => Ok(byte),
-            None => Err(self.refuse(Message::EndOfInput)),
+            None => Err(self.reject(Message::EndOfInput)),
         }
     }
 
@@ -243,8 +244,8 @@ impl<'a, 'b, L: Limit, A: Allocator> Parser<'a, 'b, L, A> {
     /// Reads a literal, and returns false without reading if the text does not continue with it. The test of the first
     /// byte is inlined: most literals have one byte, and most tests fail there.
     #[inline(always)]
-    pub fn eat(&mut self, literal: &[u8]) -> bool
-        ensures value { eaten result self.new.rest.now ≡ after literal.now self.old.rest.now }
+    pub fn consume(&mut self, literal: &[u8]) -> bool
+        ensures value { consumed result self.new.rest.now ≡ after literal.now self.old.rest.now }
         ensures shorter { IsTrue result → length literal.now + length self.new.rest.now ≡ length self.old.rest.now }
         ensures still { (IsTrue result → ⊥) → self.new.rest.now ≡ self.old.rest.now }
         ensures state { state_of self.new ≡ state_of self.old }
@@ -266,7 +267,7 @@ impl<'a, 'b, L: Limit, A: Allocator> Parser<'a, 'b, L, A> {
                     }
                     _ => false,
                 },
-                [_, ..] => self.eat_after(rest, others),
+                [_, ..] => self.consume_after(rest, others),
             },
             [_, ..] => false,
             [] => false,
@@ -275,8 +276,8 @@ impl<'a, 'b, L: Limit, A: Allocator> Parser<'a, 'b, L, A> {
 
     /// Reads up to `bytes` and then `literal`, and returns false without reading if `bytes` does not begin with it.
     #[inline(never)]
-    fn eat_after(&mut self, bytes: &'a [u8], literal: &[u8]) -> bool
-        ensures value { eaten result self.new.rest.now ≡ after literal.now bytes.now }
+    fn consume_after(&mut self, bytes: &'a [u8], literal: &[u8]) -> bool
+        ensures value { consumed result self.new.rest.now ≡ after literal.now bytes.now }
         ensures shorter { IsTrue result → length literal.now + length self.new.rest.now ≡ length bytes.now }
         ensures still { (IsTrue result → ⊥) → self.new.rest.now ≡ self.old.rest.now }
         ensures state { state_of self.new ≡ state_of self.old }
@@ -293,13 +294,13 @@ impl<'a, 'b, L: Limit, A: Allocator> Parser<'a, 'b, L, A> {
 
     /// Reads a text, or fails if it is not next.
     #[tactic(auto, unfolding(msvc_grammar::specs::Reads::read, msvc_grammar::specs::Reads::read_by))]
-    pub fn expected(&mut self, text: &[u8], message: Message) -> Result<(), Refused>
+    pub fn expect(&mut self, text: &[u8], message: Message) -> Result<(), Failed>
         ensures value { ReadsAs (λ _. tt) self.old self.new result (read (literal text.now)) }
         ensures shorter { IfOk result (λ _. length text.now + length self.new.rest.now ≡ length self.old.rest.now) }
         ensures kept { IfOk result (λ _. frame_of self.new ≡ frame_of self.old) }
     {
-        if !self.eat(text) {
-            return Err(self.refuse(message));
+        if !self.consume(text) {
+            return Err(self.reject(message));
         }
         Ok(())
     }

@@ -155,7 +155,7 @@ impl Refusal {
                     let offset = text.len().saturating_sub(left);
                     parse_error(alloc, into_cow(message), text, offset)
                 }
-                Err(refused) => Error::from(refused),
+                Err(error) => Error::from(error),
             },
         }
     }
@@ -181,4 +181,4 @@ pub fn format_message<A: Allocator + Copy>(
 
 /// Returned by a reader that failed. The parser holds the reason.
 #[derive(Clone, Copy, Debug)]
-pub struct Refused;
+pub struct Failed;

@@ -2,9 +2,10 @@
 
 ghost use Rattle.std.specs.Option.{option_map};
 ghost use Rattle.std.specs.Prelude.{◌≡◌, ◌<◌, length, IfSome};
-ghost use Rattle.msvc_grammar.specs.Letters.{second_special_letters, special_letters, third_special_letters};
+ghost use Rattle.msvc_grammar.specs.Letters.{under_special_letters};
+ghost use Rattle.msvc_grammar.specs.Letters.{basic_special_letters, double_under_special_letters};
 ghost use Rattle.msvc_grammar.specs.Letters.{type_information_letters};
-ghost use Rattle.msvc_parser.specs.Parser.{at_rest, marked_at, special_at};
+ghost use Rattle.msvc_parser.specs.Parser.{at_rest, special_at_after_under, special_at};
 ghost use Rattle.msvc_grammar.specs.Rules.{lookup};
 
 use crate::refusal::Message;
@@ -19,23 +20,23 @@ pub fn special_form<'a>(left: &'a [u8]) -> Option<(SpecialForm, &'a [u8])>
     ensures shorter { IfSome result (λ x. length x.1.now < length left.now) }
 {
     match left {
-        [b'_', rest @ ..] => marked_form(rest),
-        [letter, rest @ ..] => with_rest(first_form(*letter), rest),
+        [b'_', rest @ ..] => special_form_after_under(rest),
+        [letter, rest @ ..] => with_rest(basic_form(*letter), rest),
         [] => None,
     }
 }
 
 /// Likewise after a `_`.
-#[tactic(auto, unfolding(crate::specs::Parser::marked_at))]
-fn marked_form<'a>(left: &'a [u8]) -> Option<(SpecialForm, &'a [u8])>
-    ensures value { option_map (λ x. (x.0, x.1.now)) result ≡ marked_at left.now }
+#[tactic(auto, unfolding(crate::specs::Parser::special_at_after_under))]
+fn special_form_after_under<'a>(left: &'a [u8]) -> Option<(SpecialForm, &'a [u8])>
+    ensures value { option_map (λ x. (x.0, x.1.now)) result ≡ special_at_after_under left.now }
     ensures shorter { IfSome result (λ x. length x.1.now < length left.now) }
 {
     match left {
-        [b'_', letter, rest @ ..] => with_rest(third_form(*letter), rest),
+        [b'_', letter, rest @ ..] => with_rest(double_under_form(*letter), rest),
         [b'R', letter, rest @ ..] => with_rest(type_information_form(*letter), rest),
         [] | [b'_'] | [b'R'] => None,
-        [letter, rest @ ..] => with_rest(second_form(*letter), rest),
+        [letter, rest @ ..] => with_rest(under_form(*letter), rest),
     }
 }
 
@@ -52,16 +53,16 @@ fn with_rest<'a>(form: Option<SpecialForm>, rest: &'a [u8]) -> Option<(SpecialFo
 
 /// Matches a letter with the arms that are given and with one of the four lists of `plain_operators`.
 macro_rules! operator_of_letter {
-    ((first $letter:ident $arms:tt) $rows:tt $second:tt $type_information:tt $third:tt) => {
+    ((basic $letter:ident $arms:tt) $rows:tt $under:tt $type_information:tt $double_under:tt) => {
         operator_in!($letter $arms $rows)
     };
-    ((second $letter:ident $arms:tt) $first:tt $rows:tt $type_information:tt $third:tt) => {
+    ((under $letter:ident $arms:tt) $basic:tt $rows:tt $type_information:tt $double_under:tt) => {
         operator_in!($letter $arms $rows)
     };
-    ((type_information $letter:ident $arms:tt) $first:tt $second:tt $rows:tt $third:tt) => {
+    ((type_information $letter:ident $arms:tt) $basic:tt $under:tt $rows:tt $double_under:tt) => {
         operator_in!($letter $arms $rows)
     };
-    ((third $letter:ident $arms:tt) $first:tt $second:tt $type_information:tt $rows:tt) => {
+    ((double_under $letter:ident $arms:tt) $basic:tt $under:tt $type_information:tt $rows:tt) => {
         operator_in!($letter $arms $rows)
     };
 }
@@ -78,18 +79,18 @@ macro_rules! operator_in {
 }
 
 /// What a code of one letter stands for.
-fn first_form(letter: u8) -> Option<SpecialForm>
-    ensures { result ≡ lookup letter special_letters }
+fn basic_form(letter: u8) -> Option<SpecialForm>
+    ensures { result ≡ lookup letter basic_special_letters }
 {
-    let operator = plain_operators!(operator_of_letter (first letter {}));
+    let operator = plain_operators!(operator_of_letter (basic letter {}));
     Some(SpecialForm::Plain(operator))
 }
 
 /// What a letter stands for after `_`.
-fn second_form(letter: u8) -> Option<SpecialForm>
-    ensures { result ≡ lookup letter second_special_letters }
+fn under_form(letter: u8) -> Option<SpecialForm>
+    ensures { result ≡ lookup letter under_special_letters }
 {
-    let operator = plain_operators!(operator_of_letter (second letter {
+    let operator = plain_operators!(operator_of_letter (under letter {
         b'B' => SpecialForm::Guard(Guard::Static)
     }));
     Some(SpecialForm::Plain(operator))
@@ -107,10 +108,10 @@ fn type_information_form(letter: u8) -> Option<SpecialForm>
 }
 
 /// What a letter stands for after `__`.
-fn third_form(letter: u8) -> Option<SpecialForm>
-    ensures { result ≡ lookup letter third_special_letters }
+fn double_under_form(letter: u8) -> Option<SpecialForm>
+    ensures { result ≡ lookup letter double_under_special_letters }
 {
-    let operator = plain_operators!(operator_of_letter (third letter {
+    let operator = plain_operators!(operator_of_letter (double_under letter {
         b'J' => SpecialForm::Guard(Guard::Thread)
     }));
     Some(SpecialForm::Plain(operator))

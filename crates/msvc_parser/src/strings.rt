@@ -7,12 +7,12 @@ ghost use Rattle.msvc_grammar.specs.Letters.{character_sizes, hexadecimal};
 ghost use Rattle.msvc_grammar.specs.Reads.{letter_here, read, read_name};
 ghost use Rattle.msvc_grammar.specs.Rules.{character, characters, encoding_after};
 ghost use Rattle.msvc_grammar.specs.Sorts.{encoded_string};
-ghost use Rattle.msvc_parser.specs.Parser.{Eats, MayEat, ReadsAs};
+ghost use Rattle.msvc_parser.specs.Parser.{Consumes, MayConsume, ReadsAs};
 
 use crate::letters;
-use crate::limit::Limit;
+use crate::limit::NodeBudget;
 use crate::parser::Parser;
-use crate::refusal::{Message, Refused};
+use crate::refusal::{Failed, Message};
 use bumpalo::Bump;
 use bumpalo::collections::into_bump_slice;
 use msvc_nodes::nodes::Type;
@@ -22,14 +22,14 @@ use std::alloc::Allocator;
 const BASE: u8 = 16;
 
 /// Greatest number of characters of one byte in a symbol.
-const MOST_CHARACTERS: u32 = 32;
+const MAX_CHARACTERS: u32 = 32;
 
-impl<'a, 'b, L: Limit, A: Allocator> Parser<'a, 'b, L, A> {
+impl<'a, 'b, L: NodeBudget, A: Allocator> Parser<'a, 'b, L, A> {
     /// Reads `ENCODED_STRING = character size NUMBER NUMBER CHARACTERS`: the second number is dropped.
     #[tactic(auto, using(crate::proofs::StringSteps::encoded_string_step), unfolding(msvc_nodes::specs::NodeView::type_of))]
-    pub fn encoded_string(&mut self) -> Result<&'b Type<'a, 'b>, Refused>
+    pub fn encoded_string(&mut self) -> Result<&'b Type<'a, 'b>, Failed>
         ensures value { ReadsAs type_at self.old self.new result (read_name (encoding_after encoded_string)) }
-        ensures eats { MayEat self.old self.new result }
+        ensures consumes { MayConsume self.old self.new result }
     {
         self.count_node()?;
         let size = self.character_size()?;
@@ -41,22 +41,22 @@ impl<'a, 'b, L: Limit, A: Allocator> Parser<'a, 'b, L, A> {
 
     /// Reads how many bytes a character has.
     #[tactic(auto, using(crate::proofs::Choices::letter_is))]
-    fn character_size(&mut self) -> Result<u8, Refused>
+    fn character_size(&mut self) -> Result<u8, Failed>
         ensures value { ReadsAs (λ n. n) self.old self.new result (letter_here character_sizes) }
-        ensures eats { Eats self.old self.new result }
+        ensures consumes { Consumes self.old self.new result }
     {
         let letter = self.byte()?;
         match letters::character_size(letter) {
             Some(size) => Ok(size),
-            None => Err(self.refuse(Message::UnknownStringCharacterType)),
+            None => Err(self.reject(Message::UnknownStringCharacterType)),
         }
     }
 
     /// Reads exactly `count` characters.
     #[tactic(auto, using(crate::proofs::StringSteps::characters_go_on))]
-    fn characters(&mut self, count: u32) -> Result<Vec<u8, &'b Bump<A>>, Refused>
+    fn characters(&mut self, count: u32) -> Result<Vec<u8, &'b Bump<A>>, Failed>
         ensures value { ReadsAs (λ v. v.items) self.old self.new result (read_name (characters count)) }
-        ensures eats { MayEat self.old self.new result }
+        ensures consumes { MayConsume self.old self.new result }
     {
         let mut text = Vec::new(self.arena);
         for _ in 0..count {
@@ -70,9 +70,9 @@ impl<'a, 'b, L: Limit, A: Allocator> Parser<'a, 'b, L, A> {
 
     /// Reads `CHARACTER = plain character | "?" ESCAPED_CHARACTER`.
     #[tactic(auto, using(crate::proofs::StringSteps::character_is))]
-    fn character(&mut self) -> Result<u8, Refused>
+    fn character(&mut self) -> Result<u8, Failed>
         ensures value { ReadsAs (λ n. n) self.old self.new result (read_name character) }
-        ensures eats { Eats self.old self.new result }
+        ensures consumes { Consumes self.old self.new result }
     {
         let letter = self.byte()?;
         if letter == b'?' {
@@ -80,15 +80,15 @@ impl<'a, 'b, L: Limit, A: Allocator> Parser<'a, 'b, L, A> {
         }
         match letters::character(letter) {
             Some(character) => Ok(character),
-            None => Err(self.refuse(Message::UnknownCharacter(letter))),
+            None => Err(self.reject(Message::UnknownCharacter(letter))),
         }
     }
 
     /// Reads `ESCAPED_CHARACTER = escaped character | "$" HALVES`.
     #[tactic(auto, using(crate::proofs::StringSteps::escaped_is))]
-    fn escaped_character(&mut self) -> Result<u8, Refused>
+    fn escaped_character(&mut self) -> Result<u8, Failed>
         ensures value { ReadsAs (λ n. n) self.old self.new result (read escaped_character) }
-        ensures eats { Eats self.old self.new result }
+        ensures consumes { Consumes self.old self.new result }
     {
         let letter = self.byte()?;
         if letter == b'$' {
@@ -96,15 +96,15 @@ impl<'a, 'b, L: Limit, A: Allocator> Parser<'a, 'b, L, A> {
         }
         match letters::escaped_character(letter) {
             Some(character) => Ok(character),
-            None => Err(self.refuse(Message::UnknownCharacter(letter))),
+            None => Err(self.reject(Message::UnknownCharacter(letter))),
         }
     }
 
     /// Reads `HALVES = hexadecimal hexadecimal`: the high half of a byte, then the low one.
     #[tactic(auto, using(crate::proofs::StringSteps::halves_is))]
-    fn halves(&mut self) -> Result<u8, Refused>
+    fn halves(&mut self) -> Result<u8, Failed>
         ensures value { ReadsAs (λ n. n) self.old self.new result (read halves) }
-        ensures eats { Eats self.old self.new result }
+        ensures consumes { Consumes self.old self.new result }
     {
         let high = self.half()?;
         let low = self.half()?;
@@ -113,15 +113,15 @@ impl<'a, 'b, L: Limit, A: Allocator> Parser<'a, 'b, L, A> {
 
     /// Reads one digit of a byte.
     #[tactic(auto, using(crate::proofs::Choices::letter_is))]
-    fn half(&mut self) -> Result<u8, Refused>
+    fn half(&mut self) -> Result<u8, Failed>
         ensures value { ReadsAs (λ n. n) self.old self.new result (letter_here hexadecimal) }
-        ensures eats { Eats self.old self.new result }
+        ensures consumes { Consumes self.old self.new result }
         ensures low { IfOk result (λ n. n < 16) }
     {
         let letter = self.byte()?;
         match letters::hexadecimal(letter) {
             Some(half) => Ok(half),
-            None => Err(self.refuse(Message::UnknownCharacter(letter))),
+            None => Err(self.reject(Message::UnknownCharacter(letter))),
         }
     }
 }
@@ -133,5 +133,5 @@ fn string_length(size: u8, length: i32) -> u32
     if length < 0 {
         return 0;
     }
-    (length as u32).min(MOST_CHARACTERS * u32::from(size))
+    (length as u32).min(MAX_CHARACTERS * u32::from(size))
 }

@@ -7,13 +7,13 @@ use Rattle.msvc_nodes.specs.Trees.{NameTree, NameTrees, TypeTree, TypeTrees, spe
 use Rattle.msvc_nodes.specs.Trees.{type_descriptor, base_class_descriptor, template, discriminator, nested, anonymous}
 use Rattle.msvc_nodes.specs.Trees.{no_names, names, no_types, types, base, tagged, pointing, array, function}
 use Rattle.msvc_nodes.specs.Trees.{member_function, member_pointer, plain, numbered, variable, table, vcall_thunk}
-use Rattle.msvc_nodes.specs.declared.kinds.BaseType.{BaseType}
-use Rattle.msvc_nodes.specs.declared.kinds.BaseType.TheVariants as base_kind
+use Rattle.msvc_nodes.specs.declared.kinds.PrimitiveKind.{PrimitiveKind}
+use Rattle.msvc_nodes.specs.declared.kinds.PrimitiveKind.TheVariants as base_kind
 use Rattle.msvc_nodes.specs.declared.kinds.NumberedType.TheVariants as number_kind
 use Rattle.msvc_nodes.specs.declared.kinds.PlainType.TheVariants as plain_kind
 use Rattle.msvc_nodes.specs.declared.kinds.PlainOperator.TheVariants as plain_operator
 use Rattle.msvc_nodes.specs.declared.kinds.Spelling.TheVariants as spelling_kind
-use Rattle.msvc_nodes.specs.declared.kinds.Tag.{Tag}
+use Rattle.msvc_nodes.specs.declared.kinds.TagKind.{TagKind}
 use Rattle.msvc_nodes.specs.declared.kinds.CallingConv.{CallingConv}
 use Rattle.msvc_print.proofs.Dropped.{kept_left-name_only, kept_right-dropped}
 use Rattle.msvc_print.specs.Declaration.{ScopePieces, angled, conversion, declaration, grown, is_empty_pack}
@@ -91,14 +91,14 @@ same-unless : (c c' : Bool) (xs xs' : List Piece) → c ≡ c' → xs ≡ xs' �
 same-unless c c' xs xs' e e' = ap (λ x. cond x [] xs) e ∙ ap (λ x. cond c' [] x) e'
 
 -- words and spaces
-base_word-same : (w : BaseType) (a b : ℕ) → Same a b → base_word w a ≡ base_word w b
+base_word-same : (w : PrimitiveKind) (a b : ℕ) → Same a b → base_word w a ≡ base_word w b
 base_word-same base_kind.Int64 a b e = ap (λ c. cond c (codes "__int64") (codes "int64_t")) e.type_names
 base_word-same base_kind.Uint64 a b e = ap (λ c. cond c (codes "unsigned __int64") (codes "uint64_t")) e.type_names
 base_word-same base_kind.Int128 a b e = ap (λ c. cond c (codes "__int128") (codes "int128_t")) e.type_names
 base_word-same base_kind.Uint128 a b e = ap (λ c. cond c (codes "unsigned __int128") (codes "uint128_t")) e.type_names
 base_word-same _ a b e = refl
 
-tag_word-same : (tag : Tag) (a b : ℕ) → Same a b → tag_word tag a ≡ tag_word tag b
+tag_word-same : (tag : TagKind) (a b : ℕ) → Same a b → tag_word tag a ≡ tag_word tag b
 tag_word-same tag a b e = ap (λ c. cond c [] (kind_word tag)) e.class_type
 
 name_space-same : (a b : ℕ) → Same a b → name_space a ≡ name_space b

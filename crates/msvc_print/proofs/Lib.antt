@@ -3,7 +3,7 @@ pub mod Copies
 pub mod Halves
 pub mod Stack
 pub mod Dropped
-pub mod FlatTypes
+pub mod SimpleTypes
 pub mod Longer
 pub mod Names
 pub mod Nodes

@@ -25,69 +25,69 @@ settle_all-longer before [] = omega arith
 settle_all-longer before (piece ∷ pieces) =
     longer _ _ _ (settle-longer before piece) (settle_all-longer (settle before piece) pieces)
 
-within-fits : (most : ℕ) (bytes : List ℕ) → length bytes ≤ most → within most bytes ≡ Some bytes
-within-fits most bytes fits = ap (λ b. cond b (Some bytes) None) (le-leb (length bytes) most fits)
+within-fits : (max : ℕ) (bytes : List ℕ) → length bytes ≤ max → within max bytes ≡ Some bytes
+within-fits max bytes fits = ap (λ b. cond b (Some bytes) None) (le-leb (length bytes) max fits)
 
-within-exceeds : (most : ℕ) (bytes : List ℕ) → most < length bytes → within most bytes ≡ None
-within-exceeds most bytes more = at (leb (length bytes) most) (leb-true (length bytes) most)
+within-exceeds : (max : ℕ) (bytes : List ℕ) → max < length bytes → within max bytes ≡ None
+within-exceeds max bytes more = at (leb (length bytes) max) (leb-true (length bytes) max)
   where
-    at : (b : Bool) → (b ≡ true → length bytes ≤ most) → cond b (Some bytes) None ≡ None
+    at : (b : Bool) → (b ≡ true → length bytes ≤ max) → cond b (Some bytes) None ≡ None
     at true fits = absurd (omega (arith, fits refl))
     at false fits = refl
 
 -- a piece that the limit allows
-pub added : (most : ℕ) (whole : Bool) (before after : List ℕ) (piece : Piece) → settle before piece ≡ after →
-    length after ≤ most → limited most whole after ≡ add_all (limited most whole before) (piece ∷ [])
+pub added : (max : ℕ) (whole : Bool) (before after : List ℕ) (piece : Piece) → settle before piece ≡ after →
+    length after ≤ max → limited max whole after ≡ add_all (limited max whole before) (piece ∷ [])
 unfolding add_all settle_within
-added most true before after piece same fits =
-    ap (λ t. record { most = most; text = t }) (sym (ap (within most) same ∙ within-fits most after fits))
-added most false before after piece same fits = refl
+added max true before after piece same fits =
+    ap (λ t. record { max = max; text = t }) (sym (ap (within max) same ∙ within-fits max after fits))
+added max false before after piece same fits = refl
 
 -- a piece that it does not allow
-pub left_out : (most : ℕ) (whole : Bool) (before : List ℕ) (piece : Piece) → most < length (settle before piece) →
-    record { most = most; text = None } ≡ add_all (limited most whole before) (piece ∷ [])
+pub left_out : (max : ℕ) (whole : Bool) (before : List ℕ) (piece : Piece) → max < length (settle before piece) →
+    record { max = max; text = None } ≡ add_all (limited max whole before) (piece ∷ [])
 unfolding add_all settle_within
-left_out most true before piece more =
-    ap (λ t. record { most = most; text = t }) (sym (within-exceeds most (settle before piece) more))
-left_out most false before piece more = refl
+left_out max true before piece more =
+    ap (λ t. record { max = max; text = t }) (sym (within-exceeds max (settle before piece) more))
+left_out max false before piece more = refl
 
 -- a space that is not written after this byte, the last of the text
-pub unspaced : (most : ℕ) (out : Option (List ℕ)) (kind : Space) (byte : ℕ) →
+pub unspaced : (max : ℕ) (out : Option (List ℕ)) (kind : Space) (byte : ℕ) →
     ((bytes : List ℕ) → out ≡ Some bytes → byte ≡ last_byte bytes) →
-    ((bytes : List ℕ) → out ≡ Some bytes → length bytes ≤ most) → is_written_after kind byte ≡ false →
-    record { most = most; text = out } ≡ add_all (record { most = most; text = out }) (space kind ∷ [])
+    ((bytes : List ℕ) → out ≡ Some bytes → length bytes ≤ max) → is_written_after kind byte ≡ false →
+    record { max = max; text = out } ≡ add_all (record { max = max; text = out }) (space kind ∷ [])
 unfolding add_all settle_within
-unspaced most None kind byte last fits not = refl
-unspaced most (Some bytes) kind byte last fits not =
+unspaced max None kind byte last fits not = refl
+unspaced max (Some bytes) kind byte last fits not =
     let is : is_written_after kind (last_byte bytes) ≡ false
     = ap (is_written_after kind) (sym (last bytes refl)) ∙ not in
-    added most true bytes bytes (space kind) (ap (λ b. cond b (bytes ++ blank ∷ []) bytes) is) (fits bytes refl)
+    added max true bytes bytes (space kind) (ap (λ b. cond b (bytes ++ blank ∷ []) bytes) is) (fits bytes refl)
 
 -- a space that is written after it
-pub spaced : (most : ℕ) (out : Option (List ℕ)) (kind : Space) (byte : ℕ) →
+pub spaced : (max : ℕ) (out : Option (List ℕ)) (kind : Space) (byte : ℕ) →
     ((bytes : List ℕ) → out ≡ Some bytes → byte ≡ last_byte bytes) → is_written_after kind byte ≡ true →
-    add_all (record { most = most; text = out }) (text (blank ∷ []) ∷ [])
-    ≡ add_all (record { most = most; text = out }) (space kind ∷ [])
+    add_all (record { max = max; text = out }) (text (blank ∷ []) ∷ [])
+    ≡ add_all (record { max = max; text = out }) (space kind ∷ [])
 unfolding add_all settle_within
-spaced most None kind byte last is = refl
-spaced most (Some bytes) kind byte last is =
-    ap (λ b. record { most = most; text = within most (cond b (bytes ++ blank ∷ []) bytes) })
+spaced max None kind byte last is = refl
+spaced max (Some bytes) kind byte last is =
+    ap (λ b. record { max = max; text = within max (cond b (bytes ++ blank ∷ []) bytes) })
     (sym (ap (is_written_after kind) (sym (last bytes refl)) ∙ is))
 
 -- a text that is not whole stays so
-pub add_all-left_out : (most : ℕ) (pieces : List Piece) →
-    add_all (record { most = most; text = None }) pieces ≡ record { most = most; text = None }
+pub add_all-left_out : (max : ℕ) (pieces : List Piece) →
+    add_all (record { max = max; text = None }) pieces ≡ record { max = max; text = None }
 unfolding add_all settle_within
-add_all-left_out most [] = refl
-add_all-left_out most (piece ∷ pieces) = add_all-left_out most pieces
+add_all-left_out max [] = refl
+add_all-left_out max (piece ∷ pieces) = add_all-left_out max pieces
 
-finished-left_out : (most : ℕ) (stack : List Item) (flags : ℕ) →
-    finished stack (record { most = most; text = None }) flags ≡ record { most = most; text = None }
+finished-left_out : (max : ℕ) (stack : List Item) (flags : ℕ) →
+    finished stack (record { max = max; text = None }) flags ≡ record { max = max; text = None }
 unfolding finished
-finished-left_out most [] flags = refl
-finished-left_out most (item ∷ above) flags =
-    ap (λ t. add_all t (item_pieces item flags)) (finished-left_out most above flags)
-    ∙ add_all-left_out most (item_pieces item flags)
+finished-left_out max [] flags = refl
+finished-left_out max (item ∷ above) flags =
+    ap (λ t. add_all t (item_pieces item flags)) (finished-left_out max above flags)
+    ∙ add_all-left_out max (item_pieces item flags)
 
 pub none_left : (o : Option (List ℕ)) → is_some o ≡ false → o ≡ None
 none_left None e = refl
@@ -96,27 +96,27 @@ none_left (Some bytes) e = absurd (cc)
 pub finished-not_whole : (stack : List Item) (out : LimitedText) (flags : ℕ) → is_some out.text ≡ false →
     out ≡ finished stack out flags
 finished-not_whole stack out flags e =
-    let none : out ≡ record { most = out.most; text = None }
-    = ap (λ t. record { most = out.most; text = t }) (none_left out.text e) in
-    none ∙ sym (finished-left_out out.most stack flags) ∙ ap (λ t. finished stack t flags) (sym none)
+    let none : out ≡ record { max = out.max; text = None }
+    = ap (λ t. record { max = out.max; text = t }) (none_left out.text e) in
+    none ∙ sym (finished-left_out out.max stack flags) ∙ ap (λ t. finished stack t flags) (sym none)
 
 -- the text under a limit is the text without one, if that has at most so many bytes
-pub add_all-within : (most : ℕ) (before : List ℕ) (pieces : List Piece) → length before ≤ most →
-    (add_all (record { most = most; text = Some before }) pieces).text ≡ within most (settle_all before pieces)
+pub add_all-within : (max : ℕ) (before : List ℕ) (pieces : List Piece) → length before ≤ max →
+    (add_all (record { max = max; text = Some before }) pieces).text ≡ within max (settle_all before pieces)
 unfolding add_all settle_all settle_within
-add_all-within most before [] fits = sym (within-fits most before fits)
-add_all-within most before (piece ∷ pieces) fits =
-    at (leb (length (settle before piece)) most) (leb-true (length (settle before piece)) most)
-    (leb-false (length (settle before piece)) most) (add_all-within most (settle before piece) pieces)
+add_all-within max before [] fits = sym (within-fits max before fits)
+add_all-within max before (piece ∷ pieces) fits =
+    at (leb (length (settle before piece)) max) (leb-true (length (settle before piece)) max)
+    (leb-false (length (settle before piece)) max) (add_all-within max (settle before piece) pieces)
   where
-    at : (b : Bool) → (b ≡ true → length (settle before piece) ≤ most) →
-        (b ≡ false → most < length (settle before piece)) → (length (settle before piece) ≤ most →
-        (add_all (record { most = most; text = Some (settle before piece) }) pieces).text
-        ≡ within most (settle_all (settle before piece) pieces)) →
-        (add_all (record { most = most; text = cond b (Some (settle before piece)) None }) pieces).text
-        ≡ within most (settle_all (settle before piece) pieces)
+    at : (b : Bool) → (b ≡ true → length (settle before piece) ≤ max) →
+        (b ≡ false → max < length (settle before piece)) → (length (settle before piece) ≤ max →
+        (add_all (record { max = max; text = Some (settle before piece) }) pieces).text
+        ≡ within max (settle_all (settle before piece) pieces)) →
+        (add_all (record { max = max; text = cond b (Some (settle before piece)) None }) pieces).text
+        ≡ within max (settle_all (settle before piece) pieces)
     at true fits more rest = rest (fits refl)
     at false fits more rest =
-        ap (λ t. t.text) (add_all-left_out most pieces)
-        ∙ sym (within-exceeds most (settle_all (settle before piece) pieces)
+        ap (λ t. t.text) (add_all-left_out max pieces)
+        ∙ sym (within-exceeds max (settle_all (settle before piece) pieces)
         (omega (arith, more refl, settle_all-longer (settle before piece) pieces)))

@@ -7,7 +7,7 @@ use Rattle.std.specs.Borrow.{Bor}
 use Rattle.msvc_nodes.specs.Trees.{names, no_names}
 use Rattle.msvc_nodes.specs.NodeView.{name_of, names_in}
 use Rattle.msvc_nodes.specs.declared.nodes.Name.{Name}
-use Rattle.msvc_nodes.specs.declared.kinds.Table.TheVariants.{Functions}
+use Rattle.msvc_nodes.specs.declared.kinds.SpecialTableKind.TheVariants.{Functions}
 use Rattle.msvc_print.specs.Declaration.{name_pieces, scope_pieces, scope_prefix, table_end}
 use Rattle.msvc_print.proofs.Settling.{add_all-append, add_all-none, settled_two}
 use Rattle.msvc_print.specs.Limited.{LimitedText, add_all}

@@ -16,28 +16,28 @@ unfolding finished
 finished-none stack out flags e = ap (λ s. finished s out flags) e
 
 -- a symbol that is pushed alone, once it is finished
-pub printed_typed_symbol : (t : TypedSymbol) (flags most : ℕ) (s s1 : List Item) (out out1 : LimitedText) → s ≡ [] →
-    out ≡ empty_within most → Pushes (symbol_pieces_of t flags) flags s s1 → out1 ≡ finished s1 out flags →
-    out1.text ≡ within most (declaration (typed_symbol_of t) flags)
+pub printed_typed_symbol : (t : TypedSymbol) (flags max : ℕ) (s s1 : List Item) (out out1 : LimitedText) → s ≡ [] →
+    out ≡ empty_within max → Pushes (symbol_pieces_of t flags) flags s s1 → out1 ≡ finished s1 out flags →
+    out1.text ≡ within max (declaration (typed_symbol_of t) flags)
 unfolding declaration
-printed_typed_symbol t flags most s s1 out out1 none empty pushed done =
+printed_typed_symbol t flags max s s1 out out1 none empty pushed done =
     ap (λ x. x.text) (done ∙ pushed out ∙ finished-none s _ flags none
     ∙ ap (λ x. add_all x (symbol_pieces_of t flags)) empty)
-    ∙ add_all-within most [] (symbol_pieces_of t flags) (omega arith)
+    ∙ add_all-within max [] (symbol_pieces_of t flags) (omega arith)
 
 -- what stands of a text under a limit, and whether the text has at most so many bytes
-printed-within-limit : (most : ℕ) (text : List ℕ) →
-    IsPrintedWithin most text (is_some (within most text)) (within most text)
-printed-within-limit most text =
-    at (leb (length text) most) (leb-true (length text) most) (leb-false (length text) most)
+printed-within-limit : (max : ℕ) (text : List ℕ) →
+    IsPrintedWithin max text (is_some (within max text)) (within max text)
+printed-within-limit max text =
+    at (leb (length text) max) (leb-true (length text) max) (leb-false (length text) max)
   where
-    at : (b : Bool) → (b ≡ true → length text ≤ most) → (b ≡ false → most < length text) →
-        IsPrintedWithin most text (is_some (cond b (Some text) None)) (cond b (Some text) None)
+    at : (b : Bool) → (b ≡ true → length text ≤ max) → (b ≡ false → max < length text) →
+        IsPrintedWithin max text (is_some (cond b (Some text) None)) (cond b (Some text) None)
     at true fits more = record { whole = λ within. (refl, fits refl); longer = λ beyond. absurd (cc) }
     at false fits more = record { whole = λ within. absurd (cc); longer = λ beyond. more refl }
 
-pub printed-within : (most : ℕ) (text : List ℕ) (is : Bool) (printed : Option (List ℕ)) →
-    is ≡ is_some printed → printed ≡ within most text → IsPrintedWithin most text is printed
-printed-within most text is printed tested same =
-    subst (λ b. IsPrintedWithin most text b printed) (sym (tested ∙ ap is_some same))
-    (subst (λ o. IsPrintedWithin most text (is_some (within most text)) o) (sym same) (printed-within-limit most text))
+pub printed-within : (max : ℕ) (text : List ℕ) (is : Bool) (printed : Option (List ℕ)) →
+    is ≡ is_some printed → printed ≡ within max text → IsPrintedWithin max text is printed
+printed-within max text is printed tested same =
+    subst (λ b. IsPrintedWithin max text b printed) (sym (tested ∙ ap is_some same))
+    (subst (λ o. IsPrintedWithin max text (is_some (within max text)) o) (sym same) (printed-within-limit max text))

@@ -6,22 +6,22 @@ use Rattle.std.proofs.lemmas.Str.Ascii.{IsAscii-cons, IsAscii-nil}
 use Rattle.std.specs.Fmt.{decimal, digit_glyph, digits, digits_onto, signed_decimal}
 use Rattle.std.specs.Str.{IsAscii, IsUtf8}
 use Rattle.msvc_nodes.specs.EachName.{EachName, EachNameOfName, EachNameOfNames, EachNameOfType, EachNameOfTypes}
-use Rattle.msvc_nodes.specs.declared.kinds.BaseType.{BaseType}
-use Rattle.msvc_nodes.specs.declared.kinds.Mark.{Mark}
-use Rattle.msvc_nodes.specs.declared.kinds.Tag.{Tag}
-use Rattle.msvc_nodes.specs.declared.kinds.BaseType.TheVariants as base_kind
-use Rattle.msvc_nodes.specs.declared.kinds.Mark.TheVariants as mark_kind
+use Rattle.msvc_nodes.specs.declared.kinds.PrimitiveKind.{PrimitiveKind}
+use Rattle.msvc_nodes.specs.declared.kinds.PointerAffinity.{PointerAffinity}
+use Rattle.msvc_nodes.specs.declared.kinds.TagKind.{TagKind}
+use Rattle.msvc_nodes.specs.declared.kinds.PrimitiveKind.TheVariants as base_kind
+use Rattle.msvc_nodes.specs.declared.kinds.PointerAffinity.TheVariants as mark_kind
 use Rattle.msvc_nodes.specs.declared.kinds.NumberedType.TheVariants as number_kind
 use Rattle.msvc_nodes.specs.declared.kinds.PlainType.TheVariants as plain_kind
 use Rattle.msvc_nodes.specs.declared.kinds.Spelling.{Spelling}
 use Rattle.msvc_nodes.specs.declared.kinds.Spelling.TheVariants as spelling_kind
-use Rattle.msvc_nodes.specs.declared.kinds.Tag.TheVariants as tag_kind
+use Rattle.msvc_nodes.specs.declared.kinds.TagKind.TheVariants as tag_kind
 use Rattle.msvc_nodes.specs.declared.kinds.Guard.{Guard}
 use Rattle.msvc_nodes.specs.declared.kinds.Guard.TheVariants as guard_kind
 use Rattle.msvc_nodes.specs.declared.kinds.PlainOperator.{PlainOperator}
 use Rattle.msvc_nodes.specs.declared.kinds.PlainOperator.TheVariants as plain_operator
-use Rattle.msvc_nodes.specs.declared.kinds.Table.{Table}
-use Rattle.msvc_nodes.specs.declared.kinds.Table.TheVariants as table_kind
+use Rattle.msvc_nodes.specs.declared.kinds.SpecialTableKind.{SpecialTableKind}
+use Rattle.msvc_nodes.specs.declared.kinds.SpecialTableKind.TheVariants as table_kind
 use Rattle.msvc_nodes.specs.Trees.{NameTree, NameTrees, SymbolTree, TypeTree, TypeTrees, spelled, operator, guard}
 use Rattle.msvc_nodes.specs.Trees.{type_descriptor, base_class_descriptor, template, discriminator, nested, anonymous}
 use Rattle.msvc_nodes.specs.Trees.{no_names, names, no_types, types, plain, base, tagged, numbered, pointing, array}
@@ -131,7 +131,7 @@ signed_decimal-utf8 (negsuc n) =
     IsUtf8-from_ascii (45 ∷ decimal (suc n)) (IsAscii-cons 45 (decimal (suc n)) (omega arith) (decimal-ascii (suc n)))
 
 -- words
-base_word-utf8 : (b : BaseType) (flags : ℕ) → IsUtf8 (base_word b flags)
+base_word-utf8 : (b : PrimitiveKind) (flags : ℕ) → IsUtf8 (base_word b flags)
 unfolding lib.Utf8.encode
 base_word-utf8 base_kind.Int64 flags =
     IsUtf8-choice _ (codes "__int64") (codes "int64_t") (codes "__int64", (refl, refl))
@@ -150,15 +150,15 @@ unfolding lib.Utf8.encode
 variable_word-utf8 PrivateStatic = (variable_word PrivateStatic, (refl, refl))
 variable_word-utf8 kind = (variable_word kind, (refl, refl))
 
-kind_word-utf8 : (tag : Tag) → IsUtf8 (kind_word tag)
+kind_word-utf8 : (tag : TagKind) → IsUtf8 (kind_word tag)
 unfolding lib.Utf8.encode
 kind_word-utf8 tag_kind.Alias = (kind_word tag_kind.Alias, (refl, refl))
 kind_word-utf8 tag = (kind_word tag, (refl, refl))
 
-tag_word-utf8 : (tag : Tag) (flags : ℕ) → IsUtf8 (tag_word tag flags)
+tag_word-utf8 : (tag : TagKind) (flags : ℕ) → IsUtf8 (tag_word tag flags)
 tag_word-utf8 tag flags = IsUtf8-choice _ [] (kind_word tag) IsUtf8-nil (kind_word-utf8 tag)
 
-mark_word-utf8 : (mark : Mark) → IsUtf8 (mark_word mark)
+mark_word-utf8 : (mark : PointerAffinity) → IsUtf8 (mark_word mark)
 unfolding lib.Utf8.encode
 mark_word-utf8 mark_kind.Pointer = (mark_word mark_kind.Pointer, (refl, refl))
 mark_word-utf8 mark = (mark_word mark, (refl, refl))
@@ -363,7 +363,7 @@ scoped-texts name_kinds.Literal prefix path name flags a b c = AreTexts-space _ 
 scoped-texts name_kinds.Ordinary prefix path name flags a b c = after_scope-texts prefix name flags a c
 scoped-texts _ prefix path name flags a b c = after_scope-texts prefix name flags a c
 
-table_end-texts : (k : Table) (scope : NameTrees) (path : List Piece) → AreTexts path →
+table_end-texts : (k : SpecialTableKind) (scope : NameTrees) (path : List Piece) → AreTexts path →
     AreTexts (table_end k scope path)
 unfolding table_end lib.Utf8.encode
 table_end-texts table_kind.Functions no_names path h = AreTexts-none

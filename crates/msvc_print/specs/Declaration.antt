@@ -7,8 +7,8 @@ use Rattle.msvc_nodes.specs.declared.kinds.NumberedType.TheVariants as number_ki
 use Rattle.msvc_nodes.specs.declared.kinds.PlainType.TheVariants as plain_kind
 use Rattle.msvc_nodes.specs.declared.kinds.Spelling.{Spelling}
 use Rattle.msvc_nodes.specs.declared.kinds.Spelling.TheVariants as spelling_kind
-use Rattle.msvc_nodes.specs.declared.kinds.Table.{Table}
-use Rattle.msvc_nodes.specs.declared.kinds.Table.TheVariants as table_kind
+use Rattle.msvc_nodes.specs.declared.kinds.SpecialTableKind.{SpecialTableKind}
+use Rattle.msvc_nodes.specs.declared.kinds.SpecialTableKind.TheVariants as table_kind
 use Rattle.msvc_nodes.specs.Trees.{NameTree, NameTrees, SymbolTree, TypeTree, TypeTrees, spelled, operator, guard}
 use Rattle.msvc_nodes.specs.Trees.{type_descriptor, base_class_descriptor, template, discriminator, nested, anonymous}
 use Rattle.msvc_nodes.specs.Trees.{no_names, names, no_types, types, plain, base, tagged, numbered, pointing, array}
@@ -83,7 +83,7 @@ abbrev pub length_pieces : ℤ → List Piece
 length_pieces n = text (codes "[") ∷ text (signed_decimal n) ∷ text (codes "]") ∷ []
 
 -- what a table has on its right, by the scope that it is for
-unfoldable pub table_end : Table → NameTrees → List Piece → List Piece
+unfoldable pub table_end : SpecialTableKind → NameTrees → List Piece → List Piece
 table_end table_kind.Functions no_names path = []
 table_end table_kind.Functions (names n ns) path = text (codes "{for `") ∷ (path ++ text (codes "'}") ∷ [])
 table_end table_kind.Bases scope path = path ++ text (codes "'}}") ∷ []

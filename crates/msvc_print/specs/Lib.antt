@@ -10,7 +10,7 @@ pub mod Declaration
 pub mod Within
 pub mod Laws
 pub mod Halves
-pub mod Flat
+pub mod SimpleTypes
 pub mod Weights
 pub mod SymbolNodes
 pub mod Work

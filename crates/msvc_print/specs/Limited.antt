@@ -4,27 +4,27 @@ use Rattle.msvc_print.specs.Pieces.{Piece, settle}
 
 -- a limit in bytes, and the text, of which there is none once a piece was left out
 pub record LimitedText : Type 0 where
-  pub most : ℕ
+  pub max : ℕ
   pub text : Option (List ℕ)
 
 -- a text, if it has at most this many bytes
 abbrev pub within : ℕ → List ℕ → Option (List ℕ)
-within most bytes = cond (leb (length bytes) most) (Some bytes) None
+within max bytes = cond (leb (length bytes) max) (Some bytes) None
 
 -- bytes that were written under a limit, which are the text if no piece was left out
 abbrev pub limited : ℕ → Bool → List ℕ → LimitedText
-limited most whole bytes = record { most = most; text = cond whole (Some bytes) None }
+limited max whole bytes = record { max = max; text = cond whole (Some bytes) None }
 
 abbrev pub empty_within : ℕ → LimitedText
-empty_within most = record { most = most; text = Some [] }
+empty_within max = record { max = max; text = Some [] }
 
 -- a text with one more piece after it, if the limit allows it
 unfoldable pub settle_within : ℕ → Option (List ℕ) → Piece → Option (List ℕ)
-settle_within most None piece = None
-settle_within most (Some before) piece = within most (settle before piece)
+settle_within max None piece = None
+settle_within max (Some before) piece = within max (settle before piece)
 
 abbrev pub add : LimitedText → Piece → LimitedText
-add before piece = record { most = before.most; text = settle_within before.most before.text piece }
+add before piece = record { max = before.max; text = settle_within before.max before.text piece }
 
 -- a text with the pieces after it, from the left
 unfoldable pub add_all : LimitedText → List Piece → LimitedText

@@ -2,7 +2,7 @@
 use Rattle.std.specs.Prelude.{ℕ, ℤ, List, [], ◌∷◌, ◌++◌, Option, Some, None, false, codes, if◌then◌else◌}
 use Rattle.std.specs.Fmt.{decimal, signed_decimal}
 use denote.Enum.Bare.{sameb}
-use Rattle.msvc_nodes.specs.PlainOperators.{OperatorRow, first_operators, second_operators, third_operators}
+use Rattle.msvc_nodes.specs.PlainOperators.{OperatorRow, basic_operators, under_operators, double_under_operators}
 use Rattle.msvc_nodes.specs.PlainOperators.{type_information_operators}
 use Rattle.msvc_nodes.specs.Trees.{NameTree, operator}
 use Rattle.msvc_nodes.specs.contracts.kinds.PlainOperator.{the_type as operators}
@@ -25,7 +25,7 @@ words_in o (row ∷ table) = if sameb operators o row.1 then row.2 else words_in
 -- what an operator prints
 unfoldable pub operator_word : PlainOperator → List ℕ
 operator_word o =
-    words_in o (first_operators ++ (second_operators ++ (type_information_operators ++ third_operators)))
+    words_in o (basic_operators ++ (under_operators ++ (type_information_operators ++ double_under_operators)))
 
 abbrev pub guard_word : Guard → List ℕ
 guard_word guard_kind.Static = codes "`local static guard'"

@@ -1,11 +1,11 @@
 -- The words of a declaration that no recursion needs.
 use Rattle.std.specs.Prelude.{ℕ, List, [], ◌∷◌, ◌++◌, Bool, cond, codes}
-use Rattle.msvc_nodes.specs.declared.kinds.BaseType.{BaseType}
-use Rattle.msvc_nodes.specs.declared.kinds.Mark.{Mark}
-use Rattle.msvc_nodes.specs.declared.kinds.Tag.{Tag}
-use Rattle.msvc_nodes.specs.declared.kinds.BaseType.TheVariants as base_kind
-use Rattle.msvc_nodes.specs.declared.kinds.Mark.TheVariants as mark_kind
-use Rattle.msvc_nodes.specs.declared.kinds.Tag.TheVariants as tag_kind
+use Rattle.msvc_nodes.specs.declared.kinds.PrimitiveKind.{PrimitiveKind}
+use Rattle.msvc_nodes.specs.declared.kinds.PointerAffinity.{PointerAffinity}
+use Rattle.msvc_nodes.specs.declared.kinds.TagKind.{TagKind}
+use Rattle.msvc_nodes.specs.declared.kinds.PrimitiveKind.TheVariants as base_kind
+use Rattle.msvc_nodes.specs.declared.kinds.PointerAffinity.TheVariants as mark_kind
+use Rattle.msvc_nodes.specs.declared.kinds.TagKind.TheVariants as tag_kind
 use Rattle.msvc_nodes.specs.declared.kinds.VarStorageKind.{VarStorageKind}
 use Rattle.msvc_nodes.specs.declared.kinds.VarStorageKind.TheVariants.{PrivateStatic, ProtectedStatic, PublicStatic}
 use Rattle.msvc_nodes.specs.declared.kinds.VarStorageKind.TheVariants.{Global, FunctionLocalStatic}
@@ -14,7 +14,7 @@ use Rattle.msvc_print.specs.Pieces.{Piece, text, space}
 use Rattle.msvc_print.specs.declared.text.Space.{Space}
 use Rattle.msvc_print.specs.declared.text.Space.TheVariants.{AfterPointer, AfterReference, AfterWord}
 
-abbrev pub base_word : BaseType → ℕ → List ℕ
+abbrev pub base_word : PrimitiveKind → ℕ → List ℕ
 base_word base_kind.Void flags = codes "void"
 base_word base_kind.Char flags = codes "char"
 base_word base_kind.Schar flags = codes "signed char"
@@ -64,7 +64,7 @@ qualifiers set flags = qualifier (qualifier_space flags) 1 (codes "const") set
     ++ qualifier (qualifier_space flags) 2 (codes "volatile") set
 
 -- the word for the kind of a named type
-abbrev pub kind_word : Tag → List ℕ
+abbrev pub kind_word : TagKind → List ℕ
 kind_word tag_kind.Class = codes "class "
 kind_word tag_kind.Struct = codes "struct "
 kind_word tag_kind.Union = codes "union "
@@ -72,10 +72,10 @@ kind_word tag_kind.Enum = codes "enum "
 kind_word tag_kind.Alias = []
 
 -- the word before a name that stands for a type
-abbrev pub tag_word : Tag → ℕ → List ℕ
+abbrev pub tag_word : TagKind → ℕ → List ℕ
 tag_word tag flags = cond (has flags no_class_type) [] (kind_word tag)
 
-abbrev pub mark_word : Mark → List ℕ
+abbrev pub mark_word : PointerAffinity → List ℕ
 mark_word mark_kind.Pointer = codes "*"
 mark_word mark_kind.Reference = codes "&"
 mark_word mark_kind.RValueReference = codes "&&"

@@ -144,10 +144,10 @@ pub fn write_member_start<A: Allocator>(
 #[tactic(auto, using(crate::proofs::Settling::settling), unfolding(crate::specs::Functions::wide_qualifier))]
 fn write_wide_qualifier<A: Allocator>(
     out: &mut Text<A>,
-    set: StorageClass,
+    qualifiers: StorageClass,
     flags: DemangleFlags,
 ) -> Result<(), AllocError>
-    ensures { OnOk result (Writes (spec.wide_qualifier set.0 flags.0) out.old out.new) }
+    ensures { OnOk result (Writes (spec.wide_qualifier qualifiers.0 flags.0) out.old out.new) }
 {
     if flags.contains(DemangleFlags::WITH_PTR64) {
         write_qualifier(
@@ -155,7 +155,7 @@ fn write_wide_qualifier<A: Allocator>(
             Space::AfterPointer,
             StorageClass::PTR64,
             b"__ptr64",
-            set,
+            qualifiers,
         )?;
     }
     Ok(())
@@ -164,21 +164,21 @@ fn write_wide_qualifier<A: Allocator>(
 /// Writes the qualifiers of a function itself whose bits are set.
 fn write_each_function_qualifier<A: Allocator>(
     out: &mut Text<A>,
-    set: StorageClass,
+    qualifiers: StorageClass,
     flags: DemangleFlags,
 ) -> Result<(), AllocError>
-    ensures { OnOk result (Writes (spec.each_function_qualifier set.0 flags.0) out.old out.new) }
+    ensures { OnOk result (Writes (spec.each_function_qualifier qualifiers.0 flags.0) out.old out.new) }
 {
-    if set.is_empty() {
+    if qualifiers.is_empty() {
         return Ok(());
     }
     let kind = Space::AfterPointer;
-    write_qualifier(out, kind, StorageClass::CONST, b"const", set)?;
-    write_qualifier(out, kind, StorageClass::VOLATILE, b"volatile", set)?;
-    write_wide_qualifier(out, set, flags)?;
-    write_qualifier(out, kind, StorageClass::RESTRICT, b"__restrict", set)?;
-    write_qualifier(out, kind, StorageClass::LVALUE_QUAL, b"&", set)?;
-    write_qualifier(out, kind, StorageClass::RVALUE_QUAL, b"&&", set)?;
+    write_qualifier(out, kind, StorageClass::CONST, b"const", qualifiers)?;
+    write_qualifier(out, kind, StorageClass::VOLATILE, b"volatile", qualifiers)?;
+    write_wide_qualifier(out, qualifiers, flags)?;
+    write_qualifier(out, kind, StorageClass::RESTRICT, b"__restrict", qualifiers)?;
+    write_qualifier(out, kind, StorageClass::LVALUE_QUAL, b"&", qualifiers)?;
+    write_qualifier(out, kind, StorageClass::RVALUE_QUAL, b"&&", qualifiers)?;
     Ok(())
 }
 
@@ -186,15 +186,15 @@ fn write_each_function_qualifier<A: Allocator>(
 #[tactic(auto, using(crate::proofs::Settling::settling), unfolding(crate::specs::Functions::function_qualifiers))]
 fn write_function_qualifiers<A: Allocator>(
     out: &mut Text<A>,
-    set: StorageClass,
+    qualifiers: StorageClass,
     flags: DemangleFlags,
 ) -> Result<(), AllocError>
-    ensures { OnOk result (Writes (spec.function_qualifiers set.0 flags.0) out.old out.new) }
+    ensures { OnOk result (Writes (spec.function_qualifiers qualifiers.0 flags.0) out.old out.new) }
 {
     if flags.contains(DemangleFlags::NO_THISTYPE) {
         return Ok(());
     }
-    write_each_function_qualifier(out, set, flags)?;
+    write_each_function_qualifier(out, qualifiers, flags)?;
     Ok(())
 }
 
@@ -208,9 +208,9 @@ pub fn write_list_end<A: Allocator>(
     ensures { OnOk result (Writes (end_pieces end flags.0) out.old out.new) }
 {
     match end {
-        ListEnd::Round(set) => {
+        ListEnd::Round(qualifiers) => {
             write_text(out, b")")?;
-            write_function_qualifiers(out, set, flags)
+            write_function_qualifiers(out, qualifiers, flags)
         }
         ListEnd::Bare => write_text(out, b")"),
         ListEnd::Angle => {

@@ -59,7 +59,7 @@ pub fn name_kind<'a, 'b>(name: &'b Name<'a, 'b>) -> NameKind
 
 /// Writes fixed words after the space that operators begin with.
 #[tactic(auto, using(crate::proofs::Settling::settling))]
-pub fn write_spaced<A: Allocator>(out: &mut Text<A>, word: &[u8]) -> Result<(), AllocError>
+pub fn write_spaced_word<A: Allocator>(out: &mut Text<A>, word: &[u8]) -> Result<(), AllocError>
     ensures { OnOk result (out.new ≡ add_all out.old (spaced word.now)) }
 {
     write_space(out, Space::AfterPointer)?;
@@ -102,13 +102,13 @@ pub fn write_guard<A: Allocator>(
 ) -> Result<(), AllocError>
     ensures { OnOk result (out.new ≡ add_all out.old (guard_pieces guard number)) }
 {
-    write_spaced(out, guard_word(guard))?;
+    write_spaced_word(out, guard_word(guard))?;
     write_guard_number(out, number)
 }
 
 /// Writes a comma and a number.
 #[tactic(auto, using(crate::proofs::Settling::settling))]
-fn write_listed<A: Allocator>(
+fn write_comma_number<A: Allocator>(
     out: &mut Text<A>,
     number: i32,
     flags: DemangleFlags,
@@ -130,11 +130,11 @@ pub fn write_base_class<A: Allocator>(
     ensures { OnOk result (out.new ≡ add_all out.old
         (base_class_pieces class.now.member class.now.pointer class.now.entry class.now.attributes flags.0)) }
 {
-    write_spaced(out, b"`RTTI Base Class Descriptor at (")?;
+    write_spaced_word(out, b"`RTTI Base Class Descriptor at (")?;
     write_number(out, class.member)?;
-    write_listed(out, class.pointer, flags)?;
-    write_listed(out, class.entry, flags)?;
-    write_listed(out, class.attributes, flags)?;
+    write_comma_number(out, class.pointer, flags)?;
+    write_comma_number(out, class.entry, flags)?;
+    write_comma_number(out, class.attributes, flags)?;
     write_text(out, b")'")?;
     Ok(())
 }

@@ -1,4 +1,4 @@
-//! The printer's loop over its stack, one step for each item, and the room that the stack takes.
+//! The printer's loop over its stack, one step for each item, and the bytes that the stack takes.
 
 ghost use Rattle.std.specs.Prelude.{◌≡◌, ◌≤◌, ◌^◌, OnOk, IfOk, Some};
 ghost use Rattle.msvc_nodes.specs.NodeView.{typed_symbol_of};
@@ -8,58 +8,58 @@ ghost use Rattle.msvc_print.specs.Work.{Lightens, Prints, finished, item_pieces,
 
 use crate::function_types::write_calling;
 use crate::item::Item;
-use crate::operators::write_spaced;
+use crate::operators::write_spaced_word;
 use crate::qualified_names::{
-    print_class, print_name, print_scope, print_symbol, push_typed_symbol,
+    print_member_pointer_class, print_name, print_scope, print_symbol, push_typed_symbol,
 };
 use crate::text::{Text, write_mark, write_qualifiers, write_text};
-use crate::types::{print_after, print_before, print_parameters, write_level};
+use crate::types::{print_parameters, print_prefix, print_suffix, write_array_prefix};
 use bumpalo::Bump;
 use msvc_nodes::flags::DemangleFlags;
 use msvc_nodes::nodes::TypedSymbol;
 use std::alloc::{AllocError, Allocator};
 
-/// Items that the stack has room for before it grows: more than most symbols need.
+/// Items to reserve for the stack: more than most symbols need.
 const FIRST_ITEMS: usize = 32;
 
 /// Bytes that the stack takes of an arena at first.
-const ROOM_AT_FIRST: usize = 1024;
+const BYTES_AT_FIRST: usize = 1024;
 
 /// Most bytes that the stack takes of an arena for a byte of a symbol. The stack has at most one item for two bytes,
 /// and has grown by doubling.
-const ROOM_OF_A_BYTE: usize = 64;
+const BYTES_PER_SYMBOL_BYTE: usize = 64;
 
 /// Most bytes that the stack takes of an arena for a node, where nodes are limited.
-const ROOM_OF_A_NODE: usize = 128;
+const BYTES_PER_NODE: usize = 128;
 
 /// Most bytes that are asked for ahead of printing.
-const MOST_ROOM: usize = 1 << 20;
+const MAX_ARENA_BYTES: usize = 1 << 20;
 
 /// Returns how many bytes of an arena the stack takes while a symbol of `symbol_bytes` bytes is printed, at most a
 /// megabyte. An arena that has them makes no further request for memory. Of a longer symbol, the stack asks for the
 /// rest as it grows.
-pub fn stack_room(symbol_bytes: usize) -> usize
-    ensures most { result ≤ 2 ^ 20 }
+pub fn print_arena_bytes(symbol_bytes: usize) -> usize
+    ensures max { result ≤ 2 ^ 20 }
 {
     symbol_bytes
-        .saturating_mul(ROOM_OF_A_BYTE)
-        .saturating_add(ROOM_AT_FIRST)
-        .min(MOST_ROOM)
+        .saturating_mul(BYTES_PER_SYMBOL_BYTE)
+        .saturating_add(BYTES_AT_FIRST)
+        .min(MAX_ARENA_BYTES)
 }
 
 /// Returns the same where the symbol also has at most `nodes` nodes.
-pub fn stack_room_within(symbol_bytes: usize, nodes: usize) -> usize
-    ensures most { result ≤ 2 ^ 20 }
+pub fn print_arena_bytes_within(symbol_bytes: usize, nodes: usize) -> usize
+    ensures max { result ≤ 2 ^ 20 }
 {
     nodes
-        .saturating_mul(ROOM_OF_A_NODE)
-        .saturating_add(ROOM_AT_FIRST)
-        .min(stack_room(symbol_bytes))
+        .saturating_mul(BYTES_PER_NODE)
+        .saturating_add(BYTES_AT_FIRST)
+        .min(print_arena_bytes(symbol_bytes))
 }
 
 /// Prints one item of the stack.
 #[tactic(auto, using(crate::proofs::Stack::pushes))]
-fn step<'a, 'b, S: Allocator, A: Allocator>(
+fn print_item<'a, 'b, S: Allocator, A: Allocator>(
     stack: &mut Vec<Item<'a, 'b>, S>,
     out: &mut Text<A>,
     item: Item<'a, 'b>,
@@ -74,22 +74,24 @@ fn step<'a, 'b, S: Allocator, A: Allocator>(
         Item::Name(name, of_symbol) => print_name(stack, out, name, of_symbol, flags),
         Item::Scope(scope) => print_scope(stack, out, scope.names, flags),
         Item::Symbol(symbol, symbol_type) => print_symbol(stack, out, symbol, symbol_type, flags),
-        Item::Class(class) => print_class(stack, out, class, flags),
-        Item::Spaced(word) => write_spaced(out, word),
-        Item::Qualifiers(set) => write_qualifiers(out, set, flags),
-        Item::Mark(word, set) => write_mark(out, word, set, flags),
-        Item::ArrayLevel(set, pointed) => write_level(out, set, pointed, flags),
+        Item::Class(class) => print_member_pointer_class(stack, out, class, flags),
+        Item::Spaced(word) => write_spaced_word(out, word),
+        Item::Qualifiers(qualifiers) => write_qualifiers(out, qualifiers, flags),
+        Item::Mark(word, qualifiers) => write_mark(out, word, qualifiers, flags),
+        Item::ArrayLevel(qualifiers, pointed) => write_array_prefix(
+            out, qualifiers, pointed, flags,
+        ),
         Item::Calling(pointed, convention) => write_calling(out, pointed, convention, flags),
         Item::Parameters(list) => {
             print_parameters(stack, out, list.types, list.first, list.end, flags)
         }
-        Item::Before(t, pointed) => print_before(stack, out, t, pointed, flags),
-        Item::After(t, pointed) => print_after(stack, out, t, pointed, flags),
+        Item::Before(t, pointed) => print_prefix(stack, out, t, pointed, flags),
+        Item::After(t, pointed) => print_suffix(stack, out, t, pointed, flags),
     }
 }
 
 /// Prints the items of the stack, the last first, until none is left or `out` is not whole.
-fn empty<'a, 'b, S: Allocator, A: Allocator>(
+fn run<'a, 'b, S: Allocator, A: Allocator>(
     stack: &mut Vec<Item<'a, 'b>, S>,
     out: &mut Text<A>,
     flags: DemangleFlags,
@@ -100,14 +102,14 @@ fn empty<'a, 'b, S: Allocator, A: Allocator>(
         let Some(item) = stack.pop() else {
             return Ok(());
         };
-        step(stack, out, item, flags)?;
+        print_item(stack, out, item, flags)?;
     }
     Ok(())
 }
 
 /// Replaces the text of `out` with the declaration of `symbol` under `flags`. The stack of the printer is in `arena`.
 ///
-/// Fails only if memory is refused; `out` is then unspecified.
+/// Fails only if an allocation fails; `out` is then unspecified.
 pub fn print<'a, 'b, B: Allocator, A: Allocator>(
     arena: &'b Bump<B>,
     symbol: &'b TypedSymbol<'a, 'b>,
@@ -119,29 +121,29 @@ pub fn print<'a, 'b, B: Allocator, A: Allocator>(
     if print_within(arena, symbol, flags, usize::MAX, out)? {
         Ok(())
     } else {
-        // No memory has room for so many bytes.
+        // No allocation has so many bytes.
         Err(AllocError)
     }
 }
 
-/// Prints as [`print`] does, if the declaration has at most `most` bytes, and returns whether it has. If it is longer,
-/// `out` is not whole: a piece that would exceed `most` bytes is not written, and printing ends after the step that it
+/// Prints as [`print`] does, if the declaration has at most `max` bytes, and returns whether it has. If it is longer,
+/// `out` is not whole: a piece that would exceed `max` bytes is not written, and printing ends after the step that it
 /// is a part of.
 ///
-/// Fails only if memory is refused; `out` is then unspecified.
+/// Fails only if an allocation fails; `out` is then unspecified.
 pub fn print_within<'a, 'b, B: Allocator, A: Allocator>(
     arena: &'b Bump<B>,
     symbol: &'b TypedSymbol<'a, 'b>,
     flags: DemangleFlags,
-    most: usize,
+    max: usize,
     out: &mut Text<A>,
 ) -> Result<bool, AllocError>
     ensures { IfOk result (λ within.
-        IsPrintedWithin most (declaration (typed_symbol_of symbol.now) flags.0) within out.new.text) }
+        IsPrintedWithin max (declaration (typed_symbol_of symbol.now) flags.0) within out.new.text) }
 {
-    out.clear(most);
+    out.clear(max);
     let mut stack = Vec::with_capacity(arena, FIRST_ITEMS)?;
     push_typed_symbol(&mut stack, symbol, flags)?;
-    empty(&mut stack, out, flags)?;
+    run(&mut stack, out, flags)?;
     Ok(out.is_whole())
 }

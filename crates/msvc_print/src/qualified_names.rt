@@ -21,7 +21,7 @@ ghost use Rattle.msvc_print.specs.declared.text.Space.TheVariants.{AfterPointer}
 
 use crate::item::{Item, ListEnd, TypeList, push};
 use crate::operators::{
-    NameKind, name_kind, operator_word, write_base_class, write_guard, write_spaced,
+    NameKind, name_kind, operator_word, write_base_class, write_guard, write_spaced_word,
 };
 use crate::text::{Space, Text, name_space, write_number, write_space, write_text};
 use bitflags::Flags;
@@ -31,7 +31,7 @@ use std::alloc::{AllocError, Allocator};
 
 /// Writes bytes between two words.
 #[tactic(auto, using(crate::proofs::Settling::settling))]
-fn write_between<A: Allocator>(
+fn write_bracketed<A: Allocator>(
     out: &mut Text<A>,
     opening: &[u8],
     bytes: &[u8],
@@ -51,7 +51,7 @@ fn write_between<A: Allocator>(
 fn write_interface<A: Allocator>(out: &mut Text<A>, bytes: &[u8]) -> Result<(), AllocError>
     ensures { OnOk result (Writes (spec.spelled_name spelling_kind.Interface bytes.now) out.old out.new) }
 {
-    write_between(out, b"[", bytes, b"]")
+    write_bracketed(out, b"[", bytes, b"]")
 }
 
 /// Writes the digits that stand for a name, between their marks.
@@ -60,7 +60,7 @@ fn write_interface<A: Allocator>(out: &mut Text<A>, bytes: &[u8]) -> Result<(), 
 fn write_md5<A: Allocator>(out: &mut Text<A>, bytes: &[u8]) -> Result<(), AllocError>
     ensures { OnOk result (Writes (spec.spelled_name spelling_kind.Md5 bytes.now) out.old out.new) }
 {
-    write_between(out, b"??@", bytes, b"@")
+    write_bracketed(out, b"??@", bytes, b"@")
 }
 
 /// Writes a name if it is spelled, and returns whether it is.
@@ -274,7 +274,7 @@ pub fn print_name<'a, 'b, S: Allocator, A: Allocator>(
         Name::Md5(bytes) => write_md5(out, *bytes),
         Name::Anonymous => write_anonymous(out),
         Name::AnonymousDigits(_) => write_anonymous(out),
-        Name::Plain(operator) => write_spaced(out, operator_word(*operator)),
+        Name::Plain(operator) => write_spaced_word(out, operator_word(*operator)),
         Name::Guard(guard, number) => write_guard(out, *guard, *number),
         Name::TypeDescriptor(_, described) => print_descriptor(stack, out, *described, flags),
         Name::BaseClassDescriptor(place) => write_base_class(out, *place, flags),
@@ -395,7 +395,7 @@ pub fn print_path<'a, 'b, S: Allocator, A: Allocator>(
 }
 
 /// Pushes what a constructor or a destructor prints: the innermost name of its scope, that of a destructor after `~`.
-fn push_class_name<'a, 'b, S: Allocator>(
+fn push_ctor_dtor_name<'a, 'b, S: Allocator>(
     stack: &mut Vec<Item<'a, 'b>, S>,
     names: &'b [&'b Name<'a, 'b>],
     destructor: bool,
@@ -486,7 +486,7 @@ fn push_base_table<'a, 'b, S: Allocator>(
 fn write_literal<A: Allocator>(out: &mut Text<A>) -> Result<(), AllocError>
     ensures { OnOk result (Writes (spaced (codes "operator \"\"")) out.old out.new) }
 {
-    write_spaced(out, b"operator \"\"")
+    write_spaced_word(out, b"operator \"\"")
 }
 
 /// Prints a symbol's name in its scope, by the kind of the name.
@@ -508,11 +508,11 @@ fn print_symbol_as<'a, 'b, S: Allocator, A: Allocator>(
     match kind {
         NameKind::Ordinary => print_in_scope(stack, out, symbol.scope, symbol.name, flags),
         NameKind::Constructor => {
-            push_class_name(stack, symbol.scope, false, flags)?;
+            push_ctor_dtor_name(stack, symbol.scope, false, flags)?;
             print_scope(stack, out, symbol.scope, flags)
         }
         NameKind::Destructor => {
-            push_class_name(stack, symbol.scope, true, flags)?;
+            push_ctor_dtor_name(stack, symbol.scope, true, flags)?;
             print_scope(stack, out, symbol.scope, flags)
         }
         NameKind::Conversion => {
@@ -549,7 +549,7 @@ pub fn print_symbol<'a, 'b, S: Allocator, A: Allocator>(
 
 /// Prints the class whose member function is pointed to.
 #[tactic(auto, using(crate::proofs::Stack::pushes))]
-pub fn print_class<'a, 'b, S: Allocator, A: Allocator>(
+pub fn print_member_pointer_class<'a, 'b, S: Allocator, A: Allocator>(
     stack: &mut Vec<Item<'a, 'b>, S>,
     out: &mut Text<A>,
     class: &'b Symbol<'a, 'b>,

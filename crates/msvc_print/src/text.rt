@@ -36,10 +36,10 @@ pub struct Text<A: Allocator = Global> {
     bytes: Vec<u8, A>,
     /// How many bytes were written.
     written: usize,
-    most: usize,
-    /// How many more bytes are filled and within the limit. `most` stands between it and `written`: side by side, both
+    max: usize,
+    /// How many more bytes are filled and within the limit. `max` stands between it and `written`: side by side, both
     /// were changed as one value of 16 bytes, and a write waited until the one before had stored both halves.
-    room: usize,
+    ready: usize,
     whole: bool,
 }
 
@@ -49,9 +49,9 @@ impl<A: Allocator> Model for Text<A> {
 
     ghost Value = { LimitedText };
 
-    ghost view = { λ t. limited t.most t.whole (take t.written t.bytes.items) };
+    ghost view = { λ t. limited t.max t.whole (take t.written t.bytes.items) };
 
-    ghost invariant = { λ t. (t.written + t.room ≤ length t.bytes.items) × (t.written + t.room ≤ t.most) };
+    ghost invariant = { λ t. (t.written + t.ready ≤ length t.bytes.items) × (t.written + t.ready ≤ t.max) };
 }
 
 impl<A: Allocator> Text<A> {
@@ -62,15 +62,15 @@ impl<A: Allocator> Text<A> {
         Text {
             bytes: Vec::new(alloc),
             written: 0,
-            room: 0,
-            most: usize::MAX,
+            ready: 0,
+            max: usize::MAX,
             whole: true,
         }
     }
 
     /// Requests memory for `additional` more bytes, whatever the limit. Changes no byte.
     ///
-    /// Fails only if memory is refused.
+    /// Fails only if an allocation fails.
     pub fn try_reserve(&mut self, additional: usize) -> Result<(), AllocError>
         ensures { self.new ≡ self.old }
     {
@@ -78,13 +78,13 @@ impl<A: Allocator> Text<A> {
         self.bytes.reserve(additional.saturating_sub(filled))
     }
 
-    /// Makes the text empty and whole, with a limit of `most` bytes. Keeps its memory.
-    pub fn clear(&mut self, most: usize)
-        ensures { self.new ≡ empty_within most }
+    /// Makes the text empty and whole, with a limit of `max` bytes. Keeps its memory.
+    pub fn clear(&mut self, max: usize)
+        ensures { self.new ≡ empty_within max }
     {
         self.written = 0;
-        self.room = self.bytes.len().min(most);
-        self.most = most;
+        self.ready = self.bytes.len().min(max);
+        self.max = max;
         self.whole = true;
     }
 
@@ -113,7 +113,7 @@ impl<A: Allocator> Text<A> {
     /// Returns the last byte, or 0 if there is none.
     fn last_byte(&self) -> u8
         ensures last { (bytes : List ℕ) → self.now.text ≡ Some bytes → result ≡ last_byte bytes }
-        ensures fits { (bytes : List ℕ) → self.now.text ≡ Some bytes → length bytes ≤ self.now.most }
+        ensures fits { (bytes : List ℕ) → self.now.text ≡ Some bytes → length bytes ≤ self.now.max }
     {
         if self.written == 0 {
             0
@@ -144,8 +144,8 @@ impl<A: Allocator> Text<A> {
 
 /// Converts a whole text to a string. Each piece that is not UTF-8 becomes U+FFFD.
 ///
-/// Allocates only if the bytes are not UTF-8, and fails only if memory is refused.
-pub fn text_of<A: Allocator>(alloc: A, declared: Text<A>) -> Result<String<A>, AllocError>
+/// Allocates only if the bytes are not UTF-8, and fails only if an allocation fails.
+pub fn into_string_lossy<A: Allocator>(alloc: A, declared: Text<A>) -> Result<String<A>, AllocError>
     ensures whole { IfOk result (λ text. (bytes : List ℕ) → declared.text ≡ Some bytes → IsUtf8 bytes →
         string_bytes text ≡ bytes) }
     ensures lossy { IfOk result (λ text. (bytes : List ℕ) → declared.text ≡ Some bytes →
@@ -153,7 +153,7 @@ pub fn text_of<A: Allocator>(alloc: A, declared: Text<A>) -> Result<String<A>, A
 {
     match String::from_utf8(declared.into_bytes()) {
         Ok(text) => Ok(text),
-        Err(refused) => String::from_utf8_lossy(alloc, refused.as_bytes()),
+        Err(error) => String::from_utf8_lossy(alloc, error.as_bytes()),
     }
 }
 
@@ -267,15 +267,15 @@ fn most_behind(len: usize) -> usize {
     }
 }
 
-/// Fills bytes behind a text, at most `most` and no more than there is memory for. Returns how many.
-fn fill_ahead<A: Allocator>(bytes: &mut Vec<u8, A>, most: usize) -> usize
+/// Fills bytes behind a text, at most `max` and no more than there is memory for. Returns how many.
+fn fill_ahead<A: Allocator>(bytes: &mut Vec<u8, A>, max: usize) -> usize
     ensures kept { take (length bytes.old.items) bytes.new.items ≡ bytes.old.items }
     ensures filled { length bytes.old.items + result ≤ length bytes.new.items }
-    ensures fits { result ≤ most }
+    ensures fits { result ≤ max }
 {
     let filling = FILLING.as_flattened();
     let free = bytes.capacity().saturating_sub(bytes.len());
-    let count = free.min(filling.len()).min(most);
+    let count = free.min(filling.len()).min(max);
     match bytes.extend_from_slice(&filling[..count]) {
         Ok(()) => count,
         Err(_) => 0,
@@ -288,16 +288,16 @@ fn fill_ahead<A: Allocator>(bytes: &mut Vec<u8, A>, most: usize) -> usize
 fn write_text_beyond<A: Allocator>(out: &mut Text<A>, bytes: &[u8]) -> Result<(), AllocError>
     ensures { OnOk result (Writes (text bytes.now ∷ []) out.old out.new) }
 {
-    if bytes.len() > out.most - out.written {
+    if bytes.len() > out.max - out.written {
         out.whole = false;
         return Ok(());
     }
-    out.room = 0;
+    out.ready = 0;
     out.bytes.truncate(out.written);
     out.bytes.extend_from_slice(bytes)?;
     out.written += bytes.len();
-    let most = most_behind(bytes.len()).min(out.most - out.written);
-    out.room = fill_ahead(&mut out.bytes, most);
+    let max = most_behind(bytes.len()).min(out.max - out.written);
+    out.ready = fill_ahead(&mut out.bytes, max);
     Ok(())
 }
 
@@ -306,12 +306,12 @@ fn write_text_beyond<A: Allocator>(out: &mut Text<A>, bytes: &[u8]) -> Result<()
 pub fn write_text<A: Allocator>(out: &mut Text<A>, bytes: &[u8]) -> Result<(), AllocError>
     ensures { OnOk result (Writes (text bytes.now ∷ []) out.old out.new) }
 {
-    if bytes.len() > out.room {
+    if bytes.len() > out.ready {
         return write_text_beyond(out, bytes);
     }
     copy_at(&mut out.bytes, out.written, bytes);
     out.written += bytes.len();
-    out.room -= bytes.len();
+    out.ready -= bytes.len();
     Ok(())
 }
 
@@ -357,11 +357,11 @@ pub fn write_qualifier<A: Allocator>(
     kind: Space,
     bit: StorageClass,
     word: &[u8],
-    set: StorageClass,
+    qualifiers: StorageClass,
 ) -> Result<(), AllocError>
-    ensures { OnOk result (Writes (spec.qualifier kind bit.0 word.now set.0) out.old out.new) }
+    ensures { OnOk result (Writes (spec.qualifier kind bit.0 word.now qualifiers.0) out.old out.new) }
 {
-    if set.contains(bit) {
+    if qualifiers.contains(bit) {
         write_space(out, kind)?;
         write_text(out, word)?;
     }
@@ -372,28 +372,28 @@ pub fn write_qualifier<A: Allocator>(
 #[inline(always)]
 pub fn write_qualifiers<A: Allocator>(
     out: &mut Text<A>,
-    set: StorageClass,
+    qualifiers: StorageClass,
     flags: DemangleFlags,
 ) -> Result<(), AllocError>
-    ensures { OnOk result (Writes (spec.qualifiers set.0 flags.0) out.old out.new) }
+    ensures { OnOk result (Writes (spec.qualifiers qualifiers.0 flags.0) out.old out.new) }
 {
-    if set.is_empty() {
+    if qualifiers.is_empty() {
         return Ok(());
     }
-    write_set_qualifiers(out, set, flags)
+    write_set_qualifiers(out, qualifiers, flags)
 }
 
 /// Writes `const` and `volatile`, of which one bit or both are set.
 fn write_set_qualifiers<A: Allocator>(
     out: &mut Text<A>,
-    set: StorageClass,
+    qualifiers: StorageClass,
     flags: DemangleFlags,
 ) -> Result<(), AllocError>
-    ensures { OnOk result (Writes (spec.qualifiers set.0 flags.0) out.old out.new) }
+    ensures { OnOk result (Writes (spec.qualifiers qualifiers.0 flags.0) out.old out.new) }
 {
     let kind = qualifier_space(flags);
-    write_qualifier(out, kind, StorageClass::CONST, b"const", set)?;
-    write_qualifier(out, kind, StorageClass::VOLATILE, b"volatile", set)?;
+    write_qualifier(out, kind, StorageClass::CONST, b"const", qualifiers)?;
+    write_qualifier(out, kind, StorageClass::VOLATILE, b"volatile", qualifiers)?;
     Ok(())
 }
 
@@ -402,14 +402,14 @@ fn write_set_qualifiers<A: Allocator>(
 pub fn write_mark<A: Allocator>(
     out: &mut Text<A>,
     word: &[u8],
-    set: StorageClass,
+    qualifiers: StorageClass,
     flags: DemangleFlags,
 ) -> Result<(), AllocError>
-    ensures { OnOk result (Writes (spec.marked word.now set.0 flags.0) out.old out.new) }
+    ensures { OnOk result (Writes (spec.marked word.now qualifiers.0 flags.0) out.old out.new) }
 {
     write_mark_space(out, flags)?;
     write_text(out, word)?;
-    write_qualifiers(out, set, flags)?;
+    write_qualifiers(out, qualifiers, flags)?;
     Ok(())
 }
 

@@ -4,7 +4,7 @@ ghost use Rattle.std.specs.Prelude.{ℕ, [], ◌∷◌, ◌++◌, ◌+◌, Bool,
 ghost use Rattle.std.specs.Fmt.{signed_decimal};
 ghost use Rattle.msvc_nodes.specs.Trees.{plain, numbered};
 ghost use Rattle.msvc_nodes.specs.NodeView.{names_in, type_of, types_in};
-ghost use Rattle.msvc_nodes.specs.declared.kinds.Table.TheVariants.{Functions};
+ghost use Rattle.msvc_nodes.specs.declared.kinds.SpecialTableKind.TheVariants.{Functions};
 ghost use Rattle.msvc_print.specs.Declaration as spec;
 ghost use Rattle.msvc_print.specs.Functions.{calling, function_qualifier};
 ghost use Rattle.msvc_print.specs.Halves.{after, before, function_end, member_pointer_end};
@@ -12,24 +12,26 @@ ghost use Rattle.msvc_print.specs.Limited.{Writes};
 ghost use Rattle.msvc_print.specs.Pieces.{text};
 ghost use Rattle.msvc_print.specs.SymbolNodes.{no_type, symbol_name_of, symbol_weight_of};
 ghost use Rattle.msvc_print.specs.Weights.{scope_weight, type_weight, types_weight};
-ghost use Rattle.msvc_print.specs.Words.{closing, marked, opening, qualifiers, variable_word};
+ghost use Rattle.msvc_print.specs.Words.{closing, marked, opening, qualifiers as qualifier_pieces, variable_word};
 ghost use Rattle.msvc_print.specs.Work.{AddsAtMost, Lightens, Prints, Pushes, rest_of_parameters};
 
-use crate::flat::{write_flat, write_flat_pointer, write_flat_types, write_later_calling};
 use crate::function_types::{write_calling, write_list_end, write_member_start, write_separator};
 use crate::item::{Item, ListEnd, TypeList, pop_list, push};
 use crate::qualified_names::{print_path, print_symbol};
+use crate::simple_types::{
+    write_later_calling, write_simple, write_simple_pointer, write_simple_types,
+};
 use crate::text::{Text, write_closing, write_number, write_opening, write_qualifiers, write_text};
 use crate::words::{base_word, mark_word, tag_word, variable_word};
 use bitflags::Flags;
 use msvc_nodes::flags::{DemangleFlags, StorageClass};
-use msvc_nodes::kinds::{CallingConv, NumberedType, PlainType, Table, VarStorageKind};
+use msvc_nodes::kinds::{CallingConv, NumberedType, PlainType, SpecialTableKind, VarStorageKind};
 use msvc_nodes::nodes::{Function, Name, Symbol, Type};
 use std::alloc::{AllocError, Allocator};
 
 /// Prints what a type has before the name.
 #[tactic(auto, using(crate::proofs::Nodes::printed), unfolding(crate::specs::Halves::before, crate::specs::Weights::type_weight, msvc_nodes::specs::NodeView::type_of))]
-pub fn print_before<'a, 'b, S: Allocator, A: Allocator>(
+pub fn print_prefix<'a, 'b, S: Allocator, A: Allocator>(
     stack: &mut Vec<Item<'a, 'b>, S>,
     out: &mut Text<A>,
     t: &'b Type<'a, 'b>,
@@ -42,17 +44,29 @@ pub fn print_before<'a, 'b, S: Allocator, A: Allocator>(
 {
     match t {
         Type::Plain(plain) => write_plain(out, *plain, pointed, flags),
-        Type::Base(base, set) => write_word(out, base_word(*base, flags), *set, flags),
-        Type::Tagged(tag, set, symbol) => {
-            print_tagged(stack, out, tag_word(*tag, flags), *symbol, *set, flags)
+        Type::Base(base, qualifiers) => write_word(
+            out,
+            base_word(*base, flags),
+            *qualifiers,
+            flags,
+        ),
+        Type::Tagged(tag, qualifiers, symbol) => {
+            print_tagged(
+                stack,
+                out,
+                tag_word(*tag, flags),
+                *symbol,
+                *qualifiers,
+                flags,
+            )
         }
         Type::Numbered(kind, number) => write_numbered(out, *kind, *number, pointed, flags),
         Type::ConstantString(_) => Ok(()),
-        Type::Pointing(mark, set, inner) => {
-            print_pointer(stack, out, mark_word(*mark), *set, *inner, flags)
+        Type::Pointing(affinity, qualifiers, inner) => {
+            print_pointer(stack, out, mark_word(*affinity), *qualifiers, *inner, flags)
         }
-        Type::Array(_, set, inner) => {
-            push(stack, Item::ArrayLevel(*set, pointed))?;
+        Type::Array(_, qualifiers, inner) => {
+            push(stack, Item::ArrayLevel(*qualifiers, pointed))?;
             print_inner(stack, out, *inner, false, flags)
         }
         Type::Function(function) => print_function(stack, out, *function, pointed, flags),
@@ -64,8 +78,15 @@ pub fn print_before<'a, 'b, S: Allocator, A: Allocator>(
             push(stack, Item::Class(*class))?;
             print_function(stack, out, *function, true, flags)
         }
-        Type::Variable(kind, set, inner) => print_variable(stack, out, *inner, *kind, *set, flags),
-        Type::Table(_, set, _) => write_qualifiers(out, *set, flags),
+        Type::Variable(kind, qualifiers, inner) => print_variable(
+            stack,
+            out,
+            *inner,
+            *kind,
+            *qualifiers,
+            flags,
+        ),
+        Type::Table(_, qualifiers, _) => write_qualifiers(out, *qualifiers, flags),
         Type::VcallThunk(_, convention) => write_thunk(out, *convention, flags),
     }
 }
@@ -103,7 +124,7 @@ pub fn write_numbered<A: Allocator>(
     match kind {
         NumberedType::Constant => write_number(out, number),
         NumberedType::TemplateParameter => write_template_parameter(out, number),
-        NumberedType::ThreadSafeGuard => write_guarded(out, number),
+        NumberedType::ThreadSafeGuard => write_thread_safe_guard(out, number),
     }
 }
 
@@ -121,9 +142,21 @@ fn print_inner<'a, 'b, S: Allocator, A: Allocator>(
     ensures lighter { OnOk result (AddsAtMost (type_weight (type_of t.now)) stack.old.items stack.new.items) }
 {
     match t {
-        Type::Base(base, set) => write_word(out, base_word(*base, flags), *set, flags),
-        Type::Tagged(tag, set, symbol) => {
-            print_tagged(stack, out, tag_word(*tag, flags), *symbol, *set, flags)?;
+        Type::Base(base, qualifiers) => write_word(
+            out,
+            base_word(*base, flags),
+            *qualifiers,
+            flags,
+        ),
+        Type::Tagged(tag, qualifiers, symbol) => {
+            print_tagged(
+                stack,
+                out,
+                tag_word(*tag, flags),
+                *symbol,
+                *qualifiers,
+                flags,
+            )?;
             Ok(())
         }
         _ => push(stack, Item::Before(t, pointed)),
@@ -136,18 +169,18 @@ fn print_pointer<'a, 'b, S: Allocator, A: Allocator>(
     stack: &mut Vec<Item<'a, 'b>, S>,
     out: &mut Text<A>,
     word: &'b [u8],
-    set: StorageClass,
+    qualifiers: StorageClass,
     inner: &'b Type<'a, 'b>,
     flags: DemangleFlags,
 ) -> Result<(), AllocError>
-    ensures text { OnOk result (Prints (before (type_of inner.now) true flags.0 ++ marked word.now set.0 flags.0)
+    ensures text { OnOk result (Prints (before (type_of inner.now) true flags.0 ++ marked word.now qualifiers.0 flags.0)
         flags.0 stack.old.items out.old stack.new.items out.new) }
     ensures lighter { OnOk result (Lightens (2 + type_weight (type_of inner.now)) stack.old.items stack.new.items) }
 {
-    if write_flat_pointer(out, word, set, inner, flags)? {
+    if write_simple_pointer(out, word, qualifiers, inner, flags)? {
         return Ok(());
     }
-    push(stack, Item::Mark(word, set))?;
+    push(stack, Item::Mark(word, qualifiers))?;
     print_inner(stack, out, inner, true, flags)
 }
 
@@ -169,7 +202,7 @@ fn print_function<'a, 'b, S: Allocator, A: Allocator>(
     if !out.is_whole() {
         return Ok(());
     }
-    if write_flat(out, function.returned, flags)? {
+    if write_simple(out, function.returned, flags)? {
         return write_later_calling(out, pointed, function.convention, flags);
     }
     push(stack, Item::Calling(pointed, function.convention))?;
@@ -183,21 +216,21 @@ fn print_variable<'a, 'b, S: Allocator, A: Allocator>(
     out: &mut Text<A>,
     inner: &'b Type<'a, 'b>,
     kind: VarStorageKind,
-    set: StorageClass,
+    qualifiers: StorageClass,
     flags: DemangleFlags,
 ) -> Result<(), AllocError>
     ensures text { OnOk result (Prints (text (variable_word kind) ∷ (before (type_of inner.now) false flags.0
-        ++ qualifiers set.0 flags.0)) flags.0 stack.old.items out.old stack.new.items out.new) }
+        ++ qualifier_pieces qualifiers.0 flags.0)) flags.0 stack.old.items out.old stack.new.items out.new) }
     ensures lighter { OnOk result (Lightens (3 + type_weight (type_of inner.now)) stack.old.items stack.new.items) }
 {
     write_text(out, variable_word(kind))?;
-    push_qualifiers(stack, set, flags)?;
+    push_qualifiers(stack, qualifiers, flags)?;
     print_inner(stack, out, inner, false, flags)
 }
 
 /// Prints what a type has after the name.
 #[tactic(auto, using(crate::proofs::Nodes::printed), unfolding(crate::specs::Halves::after, crate::specs::Weights::type_weight, msvc_nodes::specs::NodeView::type_of))]
-pub fn print_after<'a, 'b, S: Allocator, A: Allocator>(
+pub fn print_suffix<'a, 'b, S: Allocator, A: Allocator>(
     stack: &mut Vec<Item<'a, 'b>, S>,
     out: &mut Text<A>,
     t: &'b Type<'a, 'b>,
@@ -209,10 +242,10 @@ pub fn print_after<'a, 'b, S: Allocator, A: Allocator>(
     ensures lighter { OnOk result (Lightens (type_weight (type_of t.now)) stack.old.items stack.new.items) }
 {
     match t {
-        Type::Pointing(_, _, inner) => push_after(stack, *inner, true, flags),
+        Type::Pointing(_, _, inner) => push_suffix(stack, *inner, true, flags),
         Type::Array(length, _, inner) => {
             write_length(out, *length, pointed)?;
-            push_after(stack, *inner, false, flags)?;
+            push_suffix(stack, *inner, false, flags)?;
             Ok(())
         }
         Type::Function(function) => print_function_end(stack, out, *function, pointed, flags),
@@ -221,7 +254,7 @@ pub fn print_after<'a, 'b, S: Allocator, A: Allocator>(
             print_member_pointer_end(stack, out, *function, flags)?;
             Ok(())
         }
-        Type::Variable(_, _, inner) => push_after(stack, *inner, false, flags),
+        Type::Variable(_, _, inner) => push_suffix(stack, *inner, false, flags),
         Type::Table(table, _, scope) => print_table_end(stack, out, *table, scope.names, flags),
         Type::VcallThunk(number, _) => write_thunk_end(out, *number, flags),
         Type::Plain(_) => Ok(()),
@@ -234,7 +267,7 @@ pub fn print_after<'a, 'b, S: Allocator, A: Allocator>(
 
 /// Returns whether a type may have something after the name.
 #[tactic(auto, unfolding(crate::specs::Halves::after, msvc_nodes::specs::NodeView::type_of))]
-fn may_have_after<'a, 'b>(t: &'b Type<'a, 'b>) -> bool
+fn may_have_suffix<'a, 'b>(t: &'b Type<'a, 'b>) -> bool
     ensures { result ≡ false → (pointed : Bool) (flags : ℕ) → after (type_of t.now) pointed flags ≡ [] }
 {
     match t {
@@ -256,17 +289,17 @@ fn may_have_after<'a, 'b>(t: &'b Type<'a, 'b>) -> bool
 
 /// Returns whether a type, or the one that it points to, may have something after the name.
 #[tactic(auto, unfolding(crate::specs::Halves::after, msvc_nodes::specs::NodeView::type_of))]
-fn has_after<'a, 'b>(t: &'b Type<'a, 'b>) -> bool
+fn has_suffix<'a, 'b>(t: &'b Type<'a, 'b>) -> bool
     ensures { result ≡ false → (pointed : Bool) (flags : ℕ) → after (type_of t.now) pointed flags ≡ [] }
 {
     match t {
-        Type::Pointing(_, _, inner) => may_have_after(*inner),
-        _ => may_have_after(t),
+        Type::Pointing(_, _, inner) => may_have_suffix(*inner),
+        _ => may_have_suffix(t),
     }
 }
 
 /// Pushes what a type has after the name, if it has anything.
-fn push_after<'a, 'b, S: Allocator>(
+fn push_suffix<'a, 'b, S: Allocator>(
     stack: &mut Vec<Item<'a, 'b>, S>,
     t: &'b Type<'a, 'b>,
     pointed: bool,
@@ -276,7 +309,7 @@ fn push_after<'a, 'b, S: Allocator>(
         (Pushes (after (type_of t.now) pointed flags.0) flags.0 stack.old.items stack.new.items) }
     ensures lighter { OnOk result (AddsAtMost (type_weight (type_of t.now)) stack.old.items stack.new.items) }
 {
-    if has_after(t) {
+    if has_suffix(t) {
         push(stack, Item::After(t, pointed))?;
     }
     Ok(())
@@ -300,7 +333,7 @@ fn print_function_end<'a, 'b, S: Allocator, A: Allocator>(
 {
     write_closing(out, pointed)?;
     write_text(out, b"(")?;
-    push_after(stack, function.returned, false, flags)?;
+    push_suffix(stack, function.returned, false, flags)?;
     print_parameters(
         stack,
         out,
@@ -315,14 +348,14 @@ fn print_function_end<'a, 'b, S: Allocator, A: Allocator>(
 /// Pushes `const`, if a member function that is pointed to has it.
 fn push_const<'a, 'b, S: Allocator>(
     stack: &mut Vec<Item<'a, 'b>, S>,
-    set: StorageClass,
+    qualifiers: StorageClass,
     flags: DemangleFlags,
 ) -> Result<(), AllocError>
-    ensures text { OnOk result (Pushes (function_qualifier 1 (codes "const") set.0) flags.0
+    ensures text { OnOk result (Pushes (function_qualifier 1 (codes "const") qualifiers.0) flags.0
         stack.old.items stack.new.items) }
     ensures lighter { OnOk result (AddsAtMost 1 stack.old.items stack.new.items) }
 {
-    if set.contains(StorageClass::CONST) {
+    if qualifiers.contains(StorageClass::CONST) {
         push(stack, Item::Spaced(b"const"))?;
     }
     Ok(())
@@ -346,7 +379,7 @@ fn print_member_pointer_end<'a, 'b, S: Allocator, A: Allocator>(
 {
     write_text(out, b")(")?;
     push_const(stack, function.qualifiers, flags)?;
-    push_after(stack, function.returned, false, flags)?;
+    push_suffix(stack, function.returned, false, flags)?;
     print_parameters(stack, out, function.parameters, true, ListEnd::Bare, flags)?;
     Ok(())
 }
@@ -356,7 +389,7 @@ fn print_member_pointer_end<'a, 'b, S: Allocator, A: Allocator>(
 fn print_table_end<'a, 'b, S: Allocator, A: Allocator>(
     stack: &mut Vec<Item<'a, 'b>, S>,
     out: &mut Text<A>,
-    table: Table,
+    table: SpecialTableKind,
     names: &'b [&'b Name<'a, 'b>],
     flags: DemangleFlags,
 ) -> Result<(), AllocError>
@@ -366,8 +399,8 @@ fn print_table_end<'a, 'b, S: Allocator, A: Allocator>(
     ensures lighter { OnOk result (Lightens (3 + scope_weight (names_in names.now)) stack.old.items stack.new.items) }
 {
     match table {
-        Table::Functions => print_for(stack, out, names, flags),
-        Table::Bases => {
+        SpecialTableKind::Functions => print_vftable_target(stack, out, names, flags),
+        SpecialTableKind::Bases => {
             push(stack, Item::Text(b"'}}"))?;
             print_path(stack, out, names, flags)
         }
@@ -375,7 +408,7 @@ fn print_table_end<'a, 'b, S: Allocator, A: Allocator>(
 }
 
 /// Prints the scope that a table of virtual functions is for, if it is for one.
-fn print_for<'a, 'b, S: Allocator, A: Allocator>(
+fn print_vftable_target<'a, 'b, S: Allocator, A: Allocator>(
     stack: &mut Vec<Item<'a, 'b>, S>,
     out: &mut Text<A>,
     names: &'b [&'b Name<'a, 'b>],
@@ -414,7 +447,7 @@ pub fn is_empty_pack<'a, 'b>(t: &'b Type<'a, 'b>) -> bool
     }
 }
 
-/// Prints the flat types that a list begins with, with a comma before each but the first. If one that is not flat
+/// Prints the simple types that a list begins with, with a comma before each but the first. If one that is not simple
 /// follows, begins to print it and pushes the rest; else prints what stands after the last.
 #[inline(always)]
 fn print_list<'a, 'b, S: Allocator, A: Allocator>(
@@ -429,7 +462,7 @@ fn print_list<'a, 'b, S: Allocator, A: Allocator>(
         stack.old.items out.old stack.new.items out.new) }
     ensures lighter { OnOk result (Lightens (types_weight (types_in types.now)) stack.old.items stack.new.items) }
 {
-    let at = write_flat_types(out, types, first, flags)?;
+    let at = write_simple_types(out, types, first, flags)?;
     if !out.is_whole() {
         return Ok(());
     }
@@ -490,14 +523,14 @@ fn print_parameter<'a, 'b, S: Allocator, A: Allocator>(
         stack.old.items stack.new.items) }
 {
     match t {
-        Type::Tagged(tag, set, symbol) => {
+        Type::Tagged(tag, qualifiers, symbol) => {
             let word = tag_word(*tag, flags);
-            print_tagged(stack, out, word, *symbol, *set, flags)?;
+            print_tagged(stack, out, word, *symbol, *qualifiers, flags)?;
             Ok(())
         }
         _ => {
-            push_after(stack, t, false, flags)?;
-            print_before(stack, out, t, false, flags)?;
+            push_suffix(stack, t, false, flags)?;
+            print_prefix(stack, out, t, false, flags)?;
             Ok(())
         }
     }
@@ -509,26 +542,26 @@ fn print_parameter<'a, 'b, S: Allocator, A: Allocator>(
 pub fn write_word<A: Allocator>(
     out: &mut Text<A>,
     word: &[u8],
-    set: StorageClass,
+    qualifiers: StorageClass,
     flags: DemangleFlags,
 ) -> Result<(), AllocError>
-    ensures { OnOk result (Writes (text word.now ∷ qualifiers set.0 flags.0) out.old out.new) }
+    ensures { OnOk result (Writes (text word.now ∷ qualifier_pieces qualifiers.0 flags.0) out.old out.new) }
 {
     write_text(out, word)?;
-    write_qualifiers(out, set, flags)
+    write_qualifiers(out, qualifiers, flags)
 }
 
 /// Pushes qualifiers, unless there are none.
 fn push_qualifiers<'a, 'b, S: Allocator>(
     stack: &mut Vec<Item<'a, 'b>, S>,
-    set: StorageClass,
+    qualifiers: StorageClass,
     flags: DemangleFlags,
 ) -> Result<(), AllocError>
-    ensures text { OnOk result (Pushes (qualifiers set.0 flags.0) flags.0 stack.old.items stack.new.items) }
+    ensures text { OnOk result (Pushes (qualifier_pieces qualifiers.0 flags.0) flags.0 stack.old.items stack.new.items) }
     ensures lighter { OnOk result (AddsAtMost 1 stack.old.items stack.new.items) }
 {
-    if !set.is_empty() {
-        push(stack, Item::Qualifiers(set))?;
+    if !qualifiers.is_empty() {
+        push(stack, Item::Qualifiers(qualifiers))?;
     }
     Ok(())
 }
@@ -540,24 +573,24 @@ fn print_tagged<'a, 'b, S: Allocator, A: Allocator>(
     out: &mut Text<A>,
     word: &[u8],
     symbol: &'b Symbol<'a, 'b>,
-    set: StorageClass,
+    qualifiers: StorageClass,
     flags: DemangleFlags,
 ) -> Result<(), AllocError>
     ensures text { OnOk result (Prints
-        (text word.now ∷ (symbol_name_of symbol.now no_type flags.0 ++ qualifiers set.0 flags.0)) flags.0
+        (text word.now ∷ (symbol_name_of symbol.now no_type flags.0 ++ qualifier_pieces qualifiers.0 flags.0)) flags.0
         stack.old.items out.old stack.new.items out.new) }
     ensures lighter { OnOk result (Lightens (3 + symbol_weight_of symbol.now no_type)
         stack.old.items stack.new.items) }
 {
     write_text(out, word)?;
-    push_qualifiers(stack, set, flags)?;
+    push_qualifiers(stack, qualifiers, flags)?;
     print_symbol(stack, out, symbol, None, flags)?;
     Ok(())
 }
 
 /// Writes the type of a thread-safe static guard.
 #[tactic(auto, using(crate::proofs::Settling::settling))]
-fn write_guarded<A: Allocator>(out: &mut Text<A>, number: i32) -> Result<(), AllocError>
+fn write_thread_safe_guard<A: Allocator>(out: &mut Text<A>, number: i32) -> Result<(), AllocError>
     ensures { OnOk result (Writes (text (codes "TSS") ∷ text (signed_decimal number) ∷ [])
         out.old out.new) }
 {
@@ -623,14 +656,14 @@ fn write_length<A: Allocator>(
 
 /// Writes the qualifiers of an array, and the parenthesis before the mark of a pointer to it.
 #[tactic(auto, using(crate::proofs::Stack::pushes))]
-pub fn write_level<A: Allocator>(
+pub fn write_array_prefix<A: Allocator>(
     out: &mut Text<A>,
-    set: StorageClass,
+    qualifiers: StorageClass,
     pointed: bool,
     flags: DemangleFlags,
 ) -> Result<(), AllocError>
-    ensures { OnOk result (Writes (qualifiers set.0 flags.0 ++ opening pointed) out.old out.new) }
+    ensures { OnOk result (Writes (qualifier_pieces qualifiers.0 flags.0 ++ opening pointed) out.old out.new) }
 {
-    write_qualifiers(out, set, flags)?;
+    write_qualifiers(out, qualifiers, flags)?;
     write_opening(out, pointed)
 }

@@ -5,36 +5,36 @@ ghost use Rattle.msvc_print.specs.Words as spec;
 
 use bitflags::Flags;
 use msvc_nodes::flags::DemangleFlags;
-use msvc_nodes::kinds::{BaseType, Mark, Tag, VarStorageKind};
+use msvc_nodes::kinds::{PointerAffinity, PrimitiveKind, TagKind, VarStorageKind};
 
 /// Returns the word of a base type. MS_TYPENAMES chooses those of 64 and 128 bits.
-pub fn base_word<'t>(base: BaseType, flags: DemangleFlags) -> &'t [u8]
+pub fn base_word<'t>(base: PrimitiveKind, flags: DemangleFlags) -> &'t [u8]
     ensures { result.now ≡ spec.base_word base flags.0 }
 {
     let ms = flags.contains(DemangleFlags::MS_TYPENAMES);
     match base {
-        BaseType::Void => b"void",
-        BaseType::Char => b"char",
-        BaseType::Schar => b"signed char",
-        BaseType::Uchar => b"unsigned char",
-        BaseType::Short => b"short",
-        BaseType::Ushort => b"unsigned short",
-        BaseType::Int => b"int",
-        BaseType::Uint => b"unsigned int",
-        BaseType::Long => b"long",
-        BaseType::Ulong => b"unsigned long",
-        BaseType::Float => b"float",
-        BaseType::Double => b"double",
-        BaseType::Ldouble => b"long double",
-        BaseType::Bool => b"bool",
-        BaseType::Wchar => b"wchar_t",
-        BaseType::Char8 => b"char8_t",
-        BaseType::Char16 => b"char16_t",
-        BaseType::Char32 => b"char32_t",
-        BaseType::Int64 => either(ms, b"__int64", b"int64_t"),
-        BaseType::Uint64 => either(ms, b"unsigned __int64", b"uint64_t"),
-        BaseType::Int128 => either(ms, b"__int128", b"int128_t"),
-        BaseType::Uint128 => either(ms, b"unsigned __int128", b"uint128_t"),
+        PrimitiveKind::Void => b"void",
+        PrimitiveKind::Char => b"char",
+        PrimitiveKind::Schar => b"signed char",
+        PrimitiveKind::Uchar => b"unsigned char",
+        PrimitiveKind::Short => b"short",
+        PrimitiveKind::Ushort => b"unsigned short",
+        PrimitiveKind::Int => b"int",
+        PrimitiveKind::Uint => b"unsigned int",
+        PrimitiveKind::Long => b"long",
+        PrimitiveKind::Ulong => b"unsigned long",
+        PrimitiveKind::Float => b"float",
+        PrimitiveKind::Double => b"double",
+        PrimitiveKind::Ldouble => b"long double",
+        PrimitiveKind::Bool => b"bool",
+        PrimitiveKind::Wchar => b"wchar_t",
+        PrimitiveKind::Char8 => b"char8_t",
+        PrimitiveKind::Char16 => b"char16_t",
+        PrimitiveKind::Char32 => b"char32_t",
+        PrimitiveKind::Int64 => either(ms, b"__int64", b"int64_t"),
+        PrimitiveKind::Uint64 => either(ms, b"unsigned __int64", b"uint64_t"),
+        PrimitiveKind::Int128 => either(ms, b"__int128", b"int128_t"),
+        PrimitiveKind::Uint128 => either(ms, b"unsigned __int128", b"uint128_t"),
     }
 }
 
@@ -46,7 +46,7 @@ fn either<'t>(choice: bool, first: &'t [u8], second: &'t [u8]) -> &'t [u8]
 }
 
 /// Returns the word before a name that stands for a type. NO_CLASS_TYPE drops it.
-pub fn tag_word<'t>(tag: Tag, flags: DemangleFlags) -> &'t [u8]
+pub fn tag_word<'t>(tag: TagKind, flags: DemangleFlags) -> &'t [u8]
     ensures { result.now ≡ spec.tag_word tag flags.0 }
 {
     either(
@@ -57,26 +57,26 @@ pub fn tag_word<'t>(tag: Tag, flags: DemangleFlags) -> &'t [u8]
 }
 
 /// Returns the word for the kind of a named type.
-fn kind_word<'t>(tag: Tag) -> &'t [u8]
+fn kind_word<'t>(tag: TagKind) -> &'t [u8]
     ensures { result.now ≡ spec.kind_word tag }
 {
     match tag {
-        Tag::Class => b"class ",
-        Tag::Struct => b"struct ",
-        Tag::Union => b"union ",
-        Tag::Enum => b"enum ",
-        Tag::Alias => b"",
+        TagKind::Class => b"class ",
+        TagKind::Struct => b"struct ",
+        TagKind::Union => b"union ",
+        TagKind::Enum => b"enum ",
+        TagKind::Alias => b"",
     }
 }
 
 /// Returns the mark of a pointer or a reference.
-pub fn mark_word<'t>(mark: Mark) -> &'t [u8]
-    ensures { result.now ≡ spec.mark_word mark }
+pub fn mark_word<'t>(affinity: PointerAffinity) -> &'t [u8]
+    ensures { result.now ≡ spec.mark_word affinity }
 {
-    match mark {
-        Mark::Pointer => b"*",
-        Mark::Reference => b"&",
-        Mark::RValueReference => b"&&",
+    match affinity {
+        PointerAffinity::Pointer => b"*",
+        PointerAffinity::Reference => b"&",
+        PointerAffinity::RValueReference => b"&&",
     }
 }
 

@@ -9,7 +9,7 @@ use Rattle.msvc_grammar.specs.Parsed.{AreReferences}
 use Rattle.msvc_grammar.specs.Reads.{Derives, Found, read_name}
 use Rattle.msvc_grammar.specs.Rules.{symbol}
 use Rattle.msvc_grammar.specs.State.{State, Note, beginning}
-use Rattle.msvc_parser.specs.Parser.{Refuses, with_length}
+use Rattle.msvc_parser.specs.Parser.{Rejects, with_length}
 use Rattle.msvc_parser.specs.declared.refusal.Refusal.{Refusal}
 use Rattle.msvc_parser.specs.declared.refusal.Refusal.TheVariants as refusal
 use Rattle.msvc_read.proofs.WholeTexts.{begun, symbol_read}
@@ -39,11 +39,11 @@ references text notes e =
     }
 
 -- where a refusal says that no notes are read, it says that no symbol is
-pub notes-refused : (text : List ℕ) (r : Refusal) → Refuses r (notes_read text) → Refuses r (symbol_read text)
-notes-refused text r h = no_tree r (read_name symbol text (beginning text)) h
+pub notes-rejected : (text : List ℕ) (r : Refusal) → Rejects r (notes_read text) → Rejects r (symbol_read text)
+notes-rejected text r h = no_tree r (read_name symbol text (beginning text)) h
   where
-    no_tree : (r : Refusal) (found : Found SymbolTree) → Refuses r (option_map (λ x. x.2.notes) found)
-        → Refuses r (with_length text found)
+    no_tree : (r : Refusal) (found : Found SymbolTree) → Rejects r (option_map (λ x. x.2.notes) found)
+        → Rejects r (with_length text found)
     no_tree refusal.Memory found h = tt
     no_tree (refusal.Unread message left) None h = refl
     no_tree (refusal.Unread message left) (Some x) h = absurd (cc)

@@ -2,7 +2,7 @@
 use Rattle.std.specs.Prelude.{ℕ, List, ◌-◌, ◌≡◌, codes, length}
 use Rattle.msvc_nodes.specs.declared.error.ErrorRepr.{ErrorRepr}
 use Rattle.msvc_grammar.specs.Parsed.{IsRejected, IsRejectedWithin}
-use Rattle.msvc_grammar.specs.Refusals.{IsNoSymbol, IsNoSymbolWithin, begins_with}
+use Rattle.msvc_grammar.specs.Rejections.{IsNoSymbol, IsNoSymbolWithin, begins_with}
 use Rattle.msvc_parser.specs.Errors.{IsErrorOf}
 use Rattle.msvc_parser.specs.declared.refusal.Refusal.{Refusal}
 use Rattle.msvc_parser.specs.declared.refusal.Refusal.TheVariants as refusal

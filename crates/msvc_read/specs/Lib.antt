@@ -5,7 +5,7 @@ pub use Rattle.msvc_grammar.specs.Parsed
 pub use Rattle.msvc_grammar.specs.Parts
 pub use Rattle.msvc_grammar.specs.Prefix
 pub use Rattle.msvc_grammar.specs.Reads
-pub use Rattle.msvc_grammar.specs.Refusals
+pub use Rattle.msvc_grammar.specs.Rejections
 pub use Rattle.msvc_grammar.specs.State
 pub use Rattle.msvc_grammar.specs.Written
 pub use Rattle.msvc_nodes.specs.EachName

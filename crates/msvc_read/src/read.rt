@@ -10,14 +10,15 @@ ghost use Rattle.msvc_grammar.specs.Parsed as spec;
 ghost use Rattle.msvc_grammar.specs.Reads.{read_name};
 ghost use Rattle.msvc_grammar.specs.Rules.{after, symbol};
 ghost use Rattle.msvc_grammar.specs.State.{Count, beginning, beginning_with};
-ghost use Rattle.msvc_parser.specs.Parser.{IsRead, note_of, with_length, Refuses};
+ghost use Rattle.msvc_parser.specs.Parser.{IsRead, note_of, with_length, Rejects};
 ghost use Rattle.msvc_read.specs.Failures.{Fails, FailsWithin};
 
+use alloc_fuse::Fuse;
 use bumpalo::Bump;
 use msvc_nodes::error::Error;
 use msvc_nodes::nodes::TypedSymbol;
-use msvc_parser::limit::{Limit, Limited, Unlimited};
-use msvc_parser::memorized::BackReference;
+use msvc_parser::back_references::BackReference;
+use msvc_parser::limit::{NodeBudget, NodeLimit, Unlimited};
 use msvc_parser::parser::Parser;
 use msvc_parser::refusal::{Message, Refusal};
 use msvc_readers::symbols::symbol;
@@ -27,17 +28,17 @@ use std::alloc::{Allocator, Global};
 
 /// Bytes of an arena that a byte of a symbol takes at most: a node, and its places in a list and in a table that have
 /// grown by doubling.
-const ROOM_OF_A_BYTE: usize = 96;
+const BYTES_PER_SYMBOL_BYTE: usize = 96;
 
 /// Bytes of an arena that a node takes at most, where nodes are counted: the node and its parts, and their places in
 /// lists and tables that have grown by doubling.
-const ROOM_OF_A_NODE: usize = 384;
+const BYTES_PER_NODE: usize = 384;
 
 /// Bytes that the lists and tables of a parser take at first.
-const ROOM_AT_FIRST: usize = 1024;
+const BYTES_AT_FIRST: usize = 1024;
 
 /// The most bytes that an arena begins with.
-const MOST_ROOM: usize = 1 << 20;
+const MAX_ARENA_BYTES: usize = 1 << 20;
 
 /// Reads the symbol that `input` begins with, and returns its tree. The names in the tree borrow from `input`. Bytes
 /// after a complete symbol are ignored.
@@ -46,6 +47,14 @@ const MOST_ROOM: usize = 1 << 20;
 ///
 /// Fails if `input` begins with no symbol; the error then has an offset into `input`, in bytes. Fails out of memory if
 /// an allocation fails; that error has no offset.
+///
+/// # Examples
+///
+/// ```
+/// let tree = parse(alloc, "?x@ns@@3HA")?;
+/// let text = serialize(alloc, &tree, DemangleFlags::llvm())?;
+/// assert_eq!(rt; text.as_str(), "int ns::x");
+/// ```
 pub fn parse<'a>(alloc: Global, input: &'a str) -> Result<ParseResult<'a>, Error>
     ensures parsed { IfOk result (λ r. spec.IsParsed input.now (tree_of r)) }
     ensures rejected { IfErr result (λ e. spec.IsRejected input.now e) }
@@ -69,7 +78,7 @@ pub fn parse_prefix<'a>(alloc: Global, input: &'a str) -> Result<(ParseResult<'a
     ensures rejected { IfErr result (λ e. spec.IsRejected input.now e) }
     ensures laws { spec.GrammarLaws input.now }
 {
-    match read_tree(alloc, input, Unlimited, room_for(input)) {
+    match read_tree(alloc, input, Unlimited, parse_arena_bytes(input)) {
         Ok((tree, bytes)) => Ok((tree, bytes)),
         Err(refusal) => Err(refusal.error(alloc, input.as_bytes())),
     }
@@ -91,11 +100,11 @@ pub fn parse_within<'a>(
     ensures within { IfOk result (λ r. node_count (tree_of r) ≤ nodes) }
     ensures rejected { IfErr result (λ e. spec.IsRejectedWithin nodes input.now e) }
 {
-    let limit = Limited {
-        made: 0,
-        most: nodes,
+    let limit = NodeLimit {
+        used: 0,
+        max: nodes,
     };
-    match read_tree(alloc, input, limit, room_within(input, nodes)) {
+    match read_tree(alloc, input, limit, parse_arena_bytes_within(input, nodes)) {
         Ok((tree, _)) => Ok(tree),
         Err(refusal) => Err(refusal.error(alloc, input.as_bytes())),
     }
@@ -138,9 +147,9 @@ pub fn read_symbol_within<'a, 'b, A: Allocator>(
     ensures length { IfOk result (λ r. spec.IsSymbolLength r.1 input.now) }
     ensures fails { IfErr result (λ reason. FailsWithin nodes input.now reason) }
 {
-    let limit = Limited {
-        made: 0,
-        most: nodes,
+    let limit = NodeLimit {
+        used: 0,
+        max: nodes,
     };
     match read_nodes(arena, input, limit) {
         Ok((symbol, bytes)) => Ok((symbol, bytes)),
@@ -153,13 +162,19 @@ pub fn read_symbol_within<'a, 'b, A: Allocator>(
 /// # Errors
 ///
 /// Fails where [`parse`] does, with the same error.
+///
+/// # Examples
+///
+/// ```
+/// assert_eq!(rt; symbol_length(alloc, "?x@@3HA+0x10")?, 7);
+/// ```
 pub fn symbol_length(alloc: Global, input: &str) -> Result<usize, Error>
     ensures parsed { IfOk result (λ _. (tree : SymbolTree) × spec.IsParsed input.now tree) }
     ensures length { IfOk result (λ bytes. spec.IsSymbolLength bytes input.now) }
     ensures rejected { IfErr result (λ e. spec.IsRejected input.now e) }
     ensures laws { spec.GrammarLaws input.now }
 {
-    match read_length(alloc, input, Unlimited, room_for(input)) {
+    match read_length(alloc, input, Unlimited, parse_arena_bytes(input)) {
         Ok(bytes) => Ok(bytes),
         Err(refusal) => Err(refusal.error(alloc, input.as_bytes())),
     }
@@ -177,23 +192,32 @@ pub fn symbol_length_within(alloc: Global, input: &str, nodes: usize) -> Result<
     ensures length { IfOk result (λ bytes. spec.IsSymbolLength bytes input.now) }
     ensures rejected { IfErr result (λ e. spec.IsRejectedWithin nodes input.now e) }
 {
-    let limit = Limited {
-        made: 0,
-        most: nodes,
+    let limit = NodeLimit {
+        used: 0,
+        max: nodes,
     };
-    match read_length(alloc, input, limit, room_within(input, nodes)) {
+    match read_length(alloc, input, limit, parse_arena_bytes_within(input, nodes)) {
         Ok(bytes) => Ok(bytes),
         Err(refusal) => Err(refusal.error(alloc, input.as_bytes())),
     }
 }
 
-/// Lists the digits that were read as whole parameters in the symbol that `input` begins with, in rising order of their
-/// offsets. With the bytes of an earlier parameter in place of its digit, the text has the same tree and the same bytes
-/// after the symbol.
+/// Lists the digits that were read as whole parameters in the symbol that `input` begins with.
+///
+/// They stand in rising order of their offsets. With the bytes of an earlier parameter in place of its digit, the text
+/// has the same tree and the same bytes after the symbol.
 ///
 /// # Errors
 ///
 /// Fails where [`parse`] does, with the same error.
+///
+/// # Examples
+///
+/// ```
+/// for digit in &back_references(alloc, "?f@@YAXPAH0@Z")? {
+///     assert_eq!(rt; (digit.at, digit.start, digit.end), (10, 7, 10));
+/// }
+/// ```
 pub fn back_references(alloc: Global, input: &str) -> Result<Vec<BackReference>, Error>
     ensures listed { IfOk result (λ found. spec.AreReferences input.now (map note_of found.items)) }
     ensures rejected { IfErr result (λ e. spec.IsRejected input.now e) }
@@ -208,61 +232,61 @@ pub fn back_references(alloc: Global, input: &str) -> Result<Vec<BackReference>,
 /// Returns how many bytes an arena needs to read `input`: for the nodes of its symbol and for the parser's lists and
 /// tables. An arena of this size makes one request for memory. At most a megabyte: a longer text requests more as it is
 /// read.
-pub fn room_for(input: &str) -> usize
-    ensures most { result ≤ 2 ^ 20 }
+pub fn parse_arena_bytes(input: &str) -> usize
+    ensures max { result ≤ 2 ^ 20 }
 {
     input
         .len()
-        .saturating_mul(ROOM_OF_A_BYTE)
-        .saturating_add(ROOM_AT_FIRST)
-        .min(MOST_ROOM)
+        .saturating_mul(BYTES_PER_SYMBOL_BYTE)
+        .saturating_add(BYTES_AT_FIRST)
+        .min(MAX_ARENA_BYTES)
 }
 
-/// Returns how many bytes of [`room_for`] an arena needs to read at most `nodes` nodes of `input`.
-pub fn room_within(input: &str, nodes: usize) -> usize
-    ensures most { result ≤ 2 ^ 20 }
+/// Returns how many bytes of [`parse_arena_bytes`] an arena needs to read at most `nodes` nodes of `input`.
+pub fn parse_arena_bytes_within(input: &str, nodes: usize) -> usize
+    ensures max { result ≤ 2 ^ 20 }
 {
     nodes
-        .saturating_mul(ROOM_OF_A_NODE)
-        .saturating_add(ROOM_AT_FIRST)
-        .min(room_for(input))
+        .saturating_mul(BYTES_PER_NODE)
+        .saturating_add(BYTES_AT_FIRST)
+        .min(parse_arena_bytes(input))
 }
 
-/// Makes an arena whose first chunk has `room` bytes, for the nodes of a symbol. Fails before it requests memory if
-/// `input` doesn't begin with a question mark.
+/// Makes an arena whose first chunk has `arena_bytes` bytes, for the nodes of a symbol. Fails before it requests memory
+/// if `input` doesn't begin with a question mark.
 #[tactic(auto, using(msvc_parser::proofs::SymbolSteps::symbol_step))]
-fn arena_for(alloc: Global, input: &str, room: usize) -> Result<Bump, Refusal>
+fn arena_for(alloc: Global, input: &str, arena_bytes: usize) -> Result<Bump<Fuse>, Refusal>
     ensures value { IfErr result (λ e. (count : Count)
-        → Refuses e (read_name symbol input.now (beginning_with count input.now))) }
+        → Rejects e (read_name symbol input.now (beginning_with count input.now))) }
     ensures start { after (codes "?") input.now ≡ None
         → result ≡ Err (Refusal.Unread Message.NoQuestionMark (length input.now)) }
 {
     let [b'?', ..] = input.as_bytes() else {
         return Err(Refusal::Unread(Message::NoQuestionMark, input.len()));
     };
-    match Bump::try_with_capacity(alloc, room) {
+    match Bump::try_with_capacity(Fuse::new(alloc), arena_bytes) {
         Ok(arena) => Ok(arena),
         Err(_) => Err(Refusal::Memory),
     }
 }
 
 /// Reads the symbol that `input` begins with, and returns its tree and its length in bytes.
-fn read_tree<'a, L: Limit>(
+fn read_tree<'a, L: NodeBudget>(
     alloc: Global,
     input: &'a str,
     limit: L,
-    room: usize,
+    arena_bytes: usize,
 ) -> Result<(ParseResult<'a>, usize), Refusal>
     ensures value { IsRead (λ r. (tree_of r.0, r.1)) result
         (with_length input.now (read_name symbol input.now (beginning_with (record {
           weight = L.weight;
-          made = L.made limit;
-          most = L.most limit;
+          used = L.used limit;
+          max = L.max limit;
         }) input.now))) }
     ensures start { after (codes "?") input.now ≡ None
         → result ≡ Err (Refusal.Unread Message.NoQuestionMark (length input.now)) }
 {
-    let arena = arena_for(alloc, input, room)?;
+    let arena = arena_for(alloc, input, arena_bytes)?;
     let (symbol, bytes) = read_nodes(&arena, input, limit)?;
     match nodes_to_tree(alloc, &symbol) {
         Ok(tree) => Ok((tree, bytes)),
@@ -271,22 +295,22 @@ fn read_tree<'a, L: Limit>(
 }
 
 /// Returns the length in bytes of the symbol that `input` begins with.
-fn read_length<L: Limit>(
+fn read_length<L: NodeBudget>(
     alloc: Global,
     input: &str,
     limit: L,
-    room: usize,
+    arena_bytes: usize,
 ) -> Result<usize, Refusal>
     ensures value { IsRead (λ bytes. bytes) result
         (option_map (λ r. r.1) (with_length input.now (read_name symbol input.now (beginning_with (record {
           weight = L.weight;
-          made = L.made limit;
-          most = L.most limit;
+          used = L.used limit;
+          max = L.max limit;
         }) input.now)))) }
     ensures start { after (codes "?") input.now ≡ None
         → result ≡ Err (Refusal.Unread Message.NoQuestionMark (length input.now)) }
 {
-    let arena = arena_for(alloc, input, room)?;
+    let arena = arena_for(alloc, input, arena_bytes)?;
     match read_nodes(&arena, input, limit) {
         Ok((_, bytes)) => Ok(bytes),
         Err(refusal) => Err(refusal),
@@ -295,7 +319,7 @@ fn read_length<L: Limit>(
 
 /// Reads the symbol that `input` begins with, and returns it as nodes in `arena`, and its length in bytes.
 #[inline(always)]
-fn read_nodes<'a, 'b, L: Limit, A: Allocator>(
+fn read_nodes<'a, 'b, L: NodeBudget, A: Allocator>(
     arena: &'b Bump<A>,
     input: &'a str,
     limit: L,
@@ -303,8 +327,8 @@ fn read_nodes<'a, 'b, L: Limit, A: Allocator>(
     ensures value { IsRead (λ r. (typed_symbol_of r.0, r.1)) result
         (with_length input.now (read_name symbol input.now (beginning_with (record {
           weight = L.weight;
-          made = L.made limit;
-          most = L.most limit;
+          used = L.used limit;
+          max = L.max limit;
         }) input.now))) }
     ensures start { after (codes "?") input.now ≡ None
         → result ≡ Err (Refusal.Unread Message.NoQuestionMark (length input.now)) }
@@ -312,7 +336,7 @@ fn read_nodes<'a, 'b, L: Limit, A: Allocator>(
     let mut parser = Parser::new(arena, input.as_bytes(), limit);
     match symbol(&mut parser) {
         Ok(symbol) => Ok((symbol, input.len().saturating_sub(parser.rest.len()))),
-        Err(_) => Err(parser.why),
+        Err(_) => Err(parser.last_error),
     }
 }
 
@@ -323,12 +347,12 @@ fn read_references(alloc: Global, input: &str) -> Result<Vec<BackReference>, Ref
     ensures start { after (codes "?") input.now ≡ None
         → result ≡ Err (Refusal.Unread Message.NoQuestionMark (length input.now)) }
 {
-    let arena = arena_for(alloc, input, room_for(input))?;
+    let arena = arena_for(alloc, input, parse_arena_bytes(input))?;
     let mut parser = Parser::new(&arena, input.as_bytes(), Unlimited);
     if symbol(&mut parser).is_err() {
-        return Err(parser.why);
+        return Err(parser.last_error);
     }
-    match Vec::from_slice(alloc, &parser.notes) {
+    match Vec::from_slice(alloc, &parser.back_references) {
         Ok(notes) => Ok(notes),
         Err(_) => Err(Refusal::Memory),
     }

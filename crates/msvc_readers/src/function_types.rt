@@ -4,38 +4,39 @@ ghost use Rattle.std.specs.Prelude.{◌≡◌, ◌≤◌, false, IfOk, length, m
 ghost use Rattle.msvc_nodes.specs.NodeView.{name_at, name_of, type_at, type_of};
 ghost use Rattle.msvc_nodes.specs.Trees.{name_trees, type_trees};
 ghost use Rattle.msvc_nodes.specs.Trees as tree;
-ghost use Rattle.msvc_grammar.specs.Grammar.{class_of_returned, has};
+ghost use Rattle.msvc_grammar.specs.Grammar.{pointed_return_qualifiers, has};
 ghost use Rattle.msvc_grammar.specs.Letters.{conventions};
 ghost use Rattle.msvc_grammar.specs.Reads.{letter_here, read, read_name, with_value};
 ghost use Rattle.msvc_grammar.specs.Rules as rules;
 ghost use Rattle.msvc_grammar.specs.Sorts.{member_of, plain_function};
-ghost use Rattle.msvc_parser.specs.Parser.{Eats, frame_of, is_bare, is_member, is_qualified, MayEat, ReadsAs, state_of};
+ghost use Rattle.msvc_parser.specs.Parser.{Consumes, frame_of, is_bare, is_member};
+ghost use Rattle.msvc_parser.specs.Parser.{is_qualified, MayConsume, ReadsAs, state_of};
 ghost use Rattle.msvc_parser.specs.Parser.{Stays};
 ghost use Rattle.msvc_parser.specs.Rows.{EndsTypes, parts_at};
-ghost use Rattle.msvc_parser.specs.Stack.{here, outer};
+ghost use Rattle.msvc_parser.specs.NestedList.{current, enclosing};
 
-use crate::parameters::{function_parameters, listed_types};
+use crate::parameters::{finish_types, function_parameters};
 use crate::qualified_names::qualified_name;
-use crate::types::{any_type, new_plain};
+use crate::types::{new_plain, type_};
 use bitflags::Flags;
 use msvc_nodes::flags::{FuncClass, StorageClass};
 use msvc_nodes::kinds::{CallingConv, PlainType};
 use msvc_nodes::nodes::{Function, Symbol, Type};
 use msvc_parser::forms::{FunctionKind, MemberPointerForm, ObjectQualifiers, TemplateNames};
 use msvc_parser::letters::{self, OptionalLetters};
-use msvc_parser::limit::Limit;
+use msvc_parser::limit::NodeBudget;
 use msvc_parser::parser::Parser;
-use msvc_parser::refusal::{Message, Refused};
+use msvc_parser::refusal::{Failed, Message};
 use std::alloc::Allocator;
 
 /// Reads `FUNCTION = SIGNATURE`: a function outside of any class.
 #[cycle(readers)]
 #[tactic(auto, using(msvc_parser::proofs::SymbolSteps::function_step))]
-pub fn function<'a, 'b, L: Limit, A: Allocator>(
+pub fn function<'a, 'b, L: NodeBudget, A: Allocator>(
     parser: &mut Parser<'a, 'b, L, A>,
-) -> Result<&'b Type<'a, 'b>, Refused>
+) -> Result<&'b Type<'a, 'b>, Failed>
     ensures value { ReadsAs type_at parser.old parser.new result (read_name (rules.encoding_after plain_function)) }
-    ensures eats { MayEat parser.old parser.new result }
+    ensures consumes { MayConsume parser.old parser.new result }
 {
     parser.count_node()?;
     let f = signature(
@@ -50,67 +51,72 @@ pub fn function<'a, 'b, L: Limit, A: Allocator>(
 /// Reads `MEMBER = [THUNK_NUMBER] [THIS_QUALIFIERS] SIGNATURE`.
 #[cycle(readers)]
 #[tactic(auto, using(msvc_parser::proofs::SymbolSteps::member_step))]
-pub fn member<'a, 'b, L: Limit, A: Allocator>(
+pub fn member<'a, 'b, L: NodeBudget, A: Allocator>(
     parser: &mut Parser<'a, 'b, L, A>,
     class: FuncClass,
-) -> Result<&'b Type<'a, 'b>, Refused>
+) -> Result<&'b Type<'a, 'b>, Failed>
     ensures value { ReadsAs type_at parser.old parser.new result
         (read_name (rules.encoding_after (member_of class.0))) }
-    ensures eats { MayEat parser.old parser.new result }
+    ensures consumes { MayConsume parser.old parser.new result }
 {
     parser.count_node()?;
     thunk_number(parser, class)?;
-    let on_this = this_qualifiers(parser, object_qualifiers(class));
-    let f = signature(parser, FunctionKind::Member, class, on_this)?;
+    let this_qualifiers = this_qualifiers(parser, object_qualifiers(class));
+    let f = signature(parser, FunctionKind::Member, class, this_qualifiers)?;
     put_member(parser, f)
 }
 
 /// Reads `FUNCTION_TYPE = [THIS_QUALIFIERS] convention [class of what is returned] TYPE FUNCTION_PARAMETERS`.
 #[cycle(readers)]
 #[tactic(auto, using(msvc_parser::proofs::FunctionSteps::function_type_step))]
-pub fn function_type<'a, 'b, L: Limit, A: Allocator>(
+pub fn function_type<'a, 'b, L: NodeBudget, A: Allocator>(
     parser: &mut Parser<'a, 'b, L, A>,
     qualifiers: ObjectQualifiers,
-) -> Result<&'b Type<'a, 'b>, Refused>
+) -> Result<&'b Type<'a, 'b>, Failed>
     ensures value { ReadsAs type_at parser.old parser.new result
         (read_name (rules.function_type (is_bare qualifiers))) }
-    ensures eats { Eats parser.old parser.new result }
+    ensures consumes { Consumes parser.old parser.new result }
 {
     parser.count_node()?;
-    let on_this = this_qualifiers(parser, qualifiers);
+    let this_qualifiers = this_qualifiers(parser, qualifiers);
     let convention = convention(parser)?;
-    let q = class_of_returned(parser);
-    let returned = any_type(parser, q)?;
+    let returned_qualifiers = pointed_return_qualifiers(parser);
+    let returned = type_(parser, returned_qualifiers)?;
     let checkpoint = function_parameters(parser)?;
-    put_function_type(parser, convention, on_this, returned, checkpoint)
+    put_function_type(parser, convention, this_qualifiers, returned, checkpoint)
 }
 
 /// Reads `MEMBER_POINTER = QUALIFIED_NAME ["E"] CLASS_PART SIGNATURE`.
 #[cycle(readers)]
 #[tactic(auto, using(msvc_parser::proofs::FunctionSteps::member_pointer_step))]
-pub fn member_pointer<'a, 'b, L: Limit, A: Allocator>(
+pub fn member_pointer<'a, 'b, L: NodeBudget, A: Allocator>(
     parser: &mut Parser<'a, 'b, L, A>,
     form: MemberPointerForm,
-) -> Result<&'b Type<'a, 'b>, Refused>
+) -> Result<&'b Type<'a, 'b>, Failed>
     ensures value { ReadsAs type_at parser.old parser.new result
         (read_name (rules.member_pointer (is_qualified form))) }
-    ensures eats { Eats parser.old parser.new result }
+    ensures consumes { Consumes parser.old parser.new result }
 {
     parser.count_node()?;
     let symbol = qualified_name(parser, TemplateNames::NotMemorized)?;
     let size = parser.optional_flag(b'E', StorageClass::PTR64);
-    let (class, on_this) = class_part(parser, form)?;
-    let f = signature(parser, FunctionKind::Member, class, size.union(on_this))?;
+    let (class, this_qualifiers) = class_part(parser, form)?;
+    let f = signature(
+        parser,
+        FunctionKind::Member,
+        class,
+        size.union(this_qualifiers),
+    )?;
     put_member_pointer(parser, symbol, f)
 }
 
 /// Stores a function of these parts. It stands outside the cycle, as `put_tagged` does.
 #[tactic(auto, using(msvc_parser::proofs::Nodes::views))]
 #[inline(never)]
-pub fn put_function<'a, 'b, L: Limit, A: Allocator>(
+pub fn put_function<'a, 'b, L: NodeBudget, A: Allocator>(
     parser: &mut Parser<'a, 'b, L, A>,
     f: &'b Function<'a, 'b>,
-) -> Result<&'b Type<'a, 'b>, Refused>
+) -> Result<&'b Type<'a, 'b>, Failed>
     ensures value { ReadsAs type_at parser.old parser.new result
         (with_value (Some (tree.function f.now.convention (type_trees (map type_at f.now.parameters.now))
         f.now.qualifiers.0 (type_of f.now.returned.now)))) }
@@ -122,17 +128,17 @@ pub fn put_function<'a, 'b, L: Limit, A: Allocator>(
 /// Stores a function type of these parts and of the parameters on the list. It stands outside the cycle, as
 /// `put_tagged` does.
 #[inline(never)]
-pub fn put_function_type<'a, 'b, L: Limit, A: Allocator>(
+pub fn put_function_type<'a, 'b, L: NodeBudget, A: Allocator>(
     parser: &mut Parser<'a, 'b, L, A>,
     convention: CallingConv,
-    on_this: StorageClass,
+    this_qualifiers: StorageClass,
     returned: &'b Type<'a, 'b>,
     checkpoint: usize,
-) -> Result<&'b Type<'a, 'b>, Refused>
-    requires { checkpoint ≤ length (outer parser.old.listed_types) }
+) -> Result<&'b Type<'a, 'b>, Failed>
+    requires { checkpoint ≤ length (enclosing parser.old.listed_types) }
     ensures value { ReadsAs type_at parser.old parser.new result
-        (with_value (Some (tree.function convention (type_trees (map type_at (here parser.old.listed_types)))
-        on_this.0 (type_of returned.now)))) }
+        (with_value (Some (tree.function convention (type_trees (map type_at (current parser.old.listed_types)))
+        this_qualifiers.0 (type_of returned.now)))) }
     ensures rest { IfOk result (λ _. parser.new.rest.now ≡ parser.old.rest.now) }
     ensures kept { EndsTypes checkpoint parser.old parser.new result }
 {
@@ -140,7 +146,7 @@ pub fn put_function_type<'a, 'b, L: Limit, A: Allocator>(
         parser,
         convention,
         FuncClass::empty(),
-        on_this,
+        this_qualifiers,
         returned,
         checkpoint,
     )?;
@@ -150,10 +156,10 @@ pub fn put_function_type<'a, 'b, L: Limit, A: Allocator>(
 /// Stores a member function of these parts. It stands outside the cycle, as `put_tagged` does.
 #[tactic(auto, using(msvc_parser::proofs::Nodes::views))]
 #[inline(never)]
-pub fn put_member<'a, 'b, L: Limit, A: Allocator>(
+pub fn put_member<'a, 'b, L: NodeBudget, A: Allocator>(
     parser: &mut Parser<'a, 'b, L, A>,
     f: &'b Function<'a, 'b>,
-) -> Result<&'b Type<'a, 'b>, Refused>
+) -> Result<&'b Type<'a, 'b>, Failed>
     ensures value { ReadsAs type_at parser.old parser.new result
         (with_value (Some (tree.member_function f.now.class.0 f.now.convention
         (type_trees (map type_at f.now.parameters.now)) f.now.qualifiers.0 (type_of f.now.returned.now)))) }
@@ -165,11 +171,11 @@ pub fn put_member<'a, 'b, L: Limit, A: Allocator>(
 /// Stores a pointer to a member function of these parts. It stands outside the cycle, as `put_tagged` does.
 #[tactic(auto, using(msvc_parser::proofs::Nodes::views))]
 #[inline(never)]
-pub fn put_member_pointer<'a, 'b, L: Limit, A: Allocator>(
+pub fn put_member_pointer<'a, 'b, L: NodeBudget, A: Allocator>(
     parser: &mut Parser<'a, 'b, L, A>,
     symbol: &'b Symbol<'a, 'b>,
     f: &'b Function<'a, 'b>,
-) -> Result<&'b Type<'a, 'b>, Refused>
+) -> Result<&'b Type<'a, 'b>, Failed>
     ensures value { ReadsAs type_at parser.old parser.new result
         (with_value (Some (tree.member_pointer (name_of symbol.now.name.now)
         (name_trees (map name_at symbol.now.scope.now)) f.now.class.0 f.now.convention
@@ -181,42 +187,42 @@ pub fn put_member_pointer<'a, 'b, L: Limit, A: Allocator>(
 
 /// Stores the parts of a function, with the parameters on the list.
 #[inline(never)]
-pub fn put_parts<'a, 'b, L: Limit, A: Allocator>(
+pub fn put_parts<'a, 'b, L: NodeBudget, A: Allocator>(
     parser: &mut Parser<'a, 'b, L, A>,
     convention: CallingConv,
     class: FuncClass,
-    on_this: StorageClass,
+    this_qualifiers: StorageClass,
     returned: &'b Type<'a, 'b>,
     checkpoint: usize,
-) -> Result<&'b Function<'a, 'b>, Refused>
-    requires { checkpoint ≤ length (outer parser.old.listed_types) }
+) -> Result<&'b Function<'a, 'b>, Failed>
+    requires { checkpoint ≤ length (enclosing parser.old.listed_types) }
     ensures value { ReadsAs parts_at parser.old parser.new result
-        (with_value (Some (convention, (type_of returned.now, map type_at (here parser.old.listed_types))))) }
-    ensures given { IfOk result (λ f. (f.now.class.0 ≡ class.0) × (f.now.qualifiers.0 ≡ on_this.0)) }
+        (with_value (Some (convention, (type_of returned.now, map type_at (current parser.old.listed_types))))) }
+    ensures given { IfOk result (λ f. (f.now.class.0 ≡ class.0) × (f.now.qualifiers.0 ≡ this_qualifiers.0)) }
     ensures rest { IfOk result (λ _. parser.new.rest.now ≡ parser.old.rest.now) }
     ensures kept { EndsTypes checkpoint parser.old parser.new result }
 {
-    let parameters = listed_types(parser, checkpoint)?.items;
+    let parameters = finish_types(parser, checkpoint)?.items;
     parser.put(Function {
         convention,
         class,
-        qualifiers: on_this,
+        qualifiers: this_qualifiers,
         parameters,
         returned,
     })
 }
 
 /// Reads the qualifiers of the return type of a function type.
-#[tactic(auto, using(msvc_parser::proofs::FunctionSteps::class_of_returned_is))]
-pub fn class_of_returned<'a, 'b, L: Limit, A: Allocator>(
+#[tactic(auto, using(msvc_parser::proofs::FunctionSteps::pointed_return_qualifiers_is))]
+pub fn pointed_return_qualifiers<'a, 'b, L: NodeBudget, A: Allocator>(
     parser: &mut Parser<'a, 'b, L, A>,
 ) -> StorageClass
-    ensures value { read class_of_returned parser.old.rest.now (state_of parser.old)
+    ensures value { read pointed_return_qualifiers parser.old.rest.now (state_of parser.old)
         ≡ Some (result.0, parser.new.rest.now, state_of parser.new) }
     ensures shorter { length parser.new.rest.now ≤ length parser.old.rest.now }
     ensures kept { frame_of parser.new ≡ frame_of parser.old }
 {
-    if !parser.eat(b"?") {
+    if !parser.consume(b"?") {
         return StorageClass::empty();
     }
     parser.optional(OptionalLetters::StorageClasses)
@@ -225,13 +231,13 @@ pub fn class_of_returned<'a, 'b, L: Limit, A: Allocator>(
 /// Reads `CLASS_PART = [qualifier] | function class [THUNK_NUMBER]`: a pointer to a member function has qualifiers or a
 /// class.
 #[tactic(auto, using(msvc_parser::proofs::Nodes::class_part_split))]
-pub fn class_part<'a, 'b, L: Limit, A: Allocator>(
+pub fn class_part<'a, 'b, L: NodeBudget, A: Allocator>(
     parser: &mut Parser<'a, 'b, L, A>,
     form: MemberPointerForm,
-) -> Result<(FuncClass, StorageClass), Refused>
+) -> Result<(FuncClass, StorageClass), Failed>
     ensures value { ReadsAs (λ c. (c.0.0, c.1.0)) parser.old parser.new result
         (read_name (rules.class_part (is_qualified form))) }
-    ensures eats { MayEat parser.old parser.new result }
+    ensures consumes { MayConsume parser.old parser.new result }
 {
     match form {
         MemberPointerForm::Qualified => Ok((
@@ -244,15 +250,15 @@ pub fn class_part<'a, 'b, L: Limit, A: Allocator>(
 
 /// Reads the class of the member function that a pointer refers to, and its number if it is a thunk.
 #[tactic(auto, using(msvc_parser::proofs::Nodes::class_part_split))]
-pub fn class_of_member<'a, 'b, L: Limit, A: Allocator>(
+pub fn class_of_member<'a, 'b, L: NodeBudget, A: Allocator>(
     parser: &mut Parser<'a, 'b, L, A>,
-) -> Result<FuncClass, Refused>
+) -> Result<FuncClass, Failed>
     ensures value { ReadsAs (λ c. (c.0, 0)) parser.old parser.new result (read_name (rules.class_part false)) }
-    ensures eats { MayEat parser.old parser.new result }
+    ensures consumes { MayConsume parser.old parser.new result }
 {
     let letter = parser.byte()?;
     let Some(class) = letters::function_class(letter) else {
-        return Err(parser.refuse(Message::UnknownFuncClass));
+        return Err(parser.reject(Message::UnknownFuncClass));
     };
     thunk_number(parser, class)?;
     Ok(class)
@@ -260,12 +266,12 @@ pub fn class_of_member<'a, 'b, L: Limit, A: Allocator>(
 
 /// Reads `THUNK_NUMBER = NUMBER`: the number of a thunk, which is dropped. Other functions have none.
 #[tactic(auto, using(msvc_parser::proofs::FunctionSteps::thunk_number_is))]
-pub fn thunk_number<'a, 'b, L: Limit, A: Allocator>(
+pub fn thunk_number<'a, 'b, L: NodeBudget, A: Allocator>(
     parser: &mut Parser<'a, 'b, L, A>,
     class: FuncClass,
-) -> Result<(), Refused>
+) -> Result<(), Failed>
     ensures value { ReadsAs (λ _. tt) parser.old parser.new result (read_name (rules.thunk_number (has class.0 128))) }
-    ensures eats { MayEat parser.old parser.new result }
+    ensures consumes { MayConsume parser.old parser.new result }
 {
     if class.contains(FuncClass::THUNK) {
         parser.number()?;
@@ -275,7 +281,7 @@ pub fn thunk_number<'a, 'b, L: Limit, A: Allocator>(
 
 /// Reads `THIS_QUALIFIERS = FUNCTION_QUALIFIERS`. A function without an object has none.
 #[tactic(auto, using(msvc_parser::proofs::FunctionSteps::this_qualifiers_is))]
-pub fn this_qualifiers<'a, 'b, L: Limit, A: Allocator>(
+pub fn this_qualifiers<'a, 'b, L: NodeBudget, A: Allocator>(
     parser: &mut Parser<'a, 'b, L, A>,
     qualifiers: ObjectQualifiers,
 ) -> StorageClass
@@ -294,70 +300,78 @@ pub fn this_qualifiers<'a, 'b, L: Limit, A: Allocator>(
 #[cycle(readers)]
 #[tactic(auto, using(msvc_parser::proofs::FunctionSteps::signature_is))]
 #[inline(never)]
-pub fn signature<'a, 'b, L: Limit, A: Allocator>(
+pub fn signature<'a, 'b, L: NodeBudget, A: Allocator>(
     parser: &mut Parser<'a, 'b, L, A>,
     kind: FunctionKind,
     class: FuncClass,
-    on_this: StorageClass,
-) -> Result<&'b Function<'a, 'b>, Refused>
+    this_qualifiers: StorageClass,
+) -> Result<&'b Function<'a, 'b>, Failed>
     ensures value { ReadsAs parts_at parser.old parser.new result (read_name (rules.signature (is_member kind))) }
-    ensures given { IfOk result (λ f. (f.now.class.0 ≡ class.0) × (f.now.qualifiers.0 ≡ on_this.0)) }
-    ensures eats { MayEat parser.old parser.new result }
+    ensures given { IfOk result (λ f. (f.now.class.0 ≡ class.0) × (f.now.qualifiers.0 ≡ this_qualifiers.0)) }
+    ensures consumes { MayConsume parser.old parser.new result }
 {
     let convention = convention(parser)?;
-    let q = return_qualifiers(parser)?;
-    let returned = returned(parser, kind, q)?;
+    let qualifiers = return_qualifiers(parser)?;
+    let returned = returned(parser, kind, qualifiers)?;
     let checkpoint = function_parameters(parser)?;
-    put_parts(parser, convention, class, on_this, returned, checkpoint)
+    put_parts(
+        parser,
+        convention,
+        class,
+        this_qualifiers,
+        returned,
+        checkpoint,
+    )
 }
 
 /// Reads how a function is called.
 #[tactic(auto, using(msvc_parser::proofs::Choices::letter_is))]
-pub fn convention<'a, 'b, L: Limit, A: Allocator>(
+pub fn convention<'a, 'b, L: NodeBudget, A: Allocator>(
     parser: &mut Parser<'a, 'b, L, A>,
-) -> Result<CallingConv, Refused>
+) -> Result<CallingConv, Failed>
     ensures value { ReadsAs (λ c. c) parser.old parser.new result (letter_here conventions) }
-    ensures eats { MayEat parser.old parser.new result }
+    ensures consumes { MayConsume parser.old parser.new result }
 {
     let letter = parser.byte()?;
     match letters::convention(letter) {
         Some(convention) => Ok(convention),
-        None => Err(parser.refuse(Message::UnknownCallingConv)),
+        None => Err(parser.reject(Message::UnknownCallingConv)),
     }
 }
 
 /// Reads `RETURN_QUALIFIERS = ["?" qualifier of what is returned]`.
 #[tactic(auto, using(msvc_parser::proofs::FunctionSteps::return_qualifiers_is))]
-pub fn return_qualifiers<'a, 'b, L: Limit, A: Allocator>(
+pub fn return_qualifiers<'a, 'b, L: NodeBudget, A: Allocator>(
     parser: &mut Parser<'a, 'b, L, A>,
-) -> Result<StorageClass, Refused>
+) -> Result<StorageClass, Failed>
     ensures value { ReadsAs (λ q. q.0) parser.old parser.new result (read_name rules.return_qualifiers) }
-    ensures eats { MayEat parser.old parser.new result }
+    ensures consumes { MayConsume parser.old parser.new result }
 {
-    if !parser.eat(b"?") {
+    if !parser.consume(b"?") {
         return Ok(StorageClass::empty());
     }
     let letter = parser.byte()?;
     match letters::return_qualifier(letter) {
         Some(qualifier) => Ok(qualifier),
-        None => Err(parser.refuse(Message::UnknownStorageClass)),
+        None => Err(parser.reject(Message::UnknownStorageClass)),
     }
 }
 
 /// Reads `RETURNED = "@" | TYPE`: of a member function, an `@` means no return type, as of a constructor.
 #[cycle(readers)]
 #[tactic(auto, using(msvc_parser::proofs::Nodes::returned_split), unfolding(msvc_nodes::specs::NodeView::type_of))]
-pub fn returned<'a, 'b, L: Limit, A: Allocator>(
+pub fn returned<'a, 'b, L: NodeBudget, A: Allocator>(
     parser: &mut Parser<'a, 'b, L, A>,
     kind: FunctionKind,
-    q: StorageClass,
-) -> Result<&'b Type<'a, 'b>, Refused>
-    ensures value { ReadsAs type_at parser.old parser.new result (read_name (rules.returned (is_member kind) q.0)) }
-    ensures eats { Eats parser.old parser.new result }
+    qualifiers: StorageClass,
+) -> Result<&'b Type<'a, 'b>, Failed>
+    ensures value { ReadsAs type_at parser.old parser.new result (read_name (rules.returned (is_member kind)
+        qualifiers.0)) }
+    ensures consumes { Consumes parser.old parser.new result }
 {
     match kind {
-        FunctionKind::Member => member_returned(parser, q),
-        FunctionKind::Free => any_type(parser, q),
+        FunctionKind::Member => member_returned(parser, qualifiers),
+        FunctionKind::Free => type_(parser, qualifiers),
     }
 }
 
@@ -365,22 +379,22 @@ pub fn returned<'a, 'b, L: Limit, A: Allocator>(
 /// `returned`, so that the prover meets each case by itself.
 #[cycle(readers)]
 #[tactic(auto, using(msvc_parser::proofs::FunctionSteps::returned_member), unfolding(msvc_nodes::specs::NodeView::type_of))]
-pub fn member_returned<'a, 'b, L: Limit, A: Allocator>(
+pub fn member_returned<'a, 'b, L: NodeBudget, A: Allocator>(
     parser: &mut Parser<'a, 'b, L, A>,
-    q: StorageClass,
-) -> Result<&'b Type<'a, 'b>, Refused>
-    ensures value { ReadsAs type_at parser.old parser.new result (read_name (rules.returned true q.0)) }
-    ensures eats { Eats parser.old parser.new result }
+    qualifiers: StorageClass,
+) -> Result<&'b Type<'a, 'b>, Failed>
+    ensures value { ReadsAs type_at parser.old parser.new result (read_name (rules.returned true qualifiers.0)) }
+    ensures consumes { Consumes parser.old parser.new result }
 {
-    if parser.eat(b"@") {
+    if parser.consume(b"@") {
         return new_plain(parser, PlainType::None);
     }
-    any_type(parser, q)
+    type_(parser, qualifiers)
 }
 
 /// Reads `FUNCTION_QUALIFIERS = ["E"] ["I"] ["F"] ["G" | "H"] [qualifier]`.
 #[tactic(auto, using(msvc_parser::proofs::FunctionSteps::function_qualifiers_is))]
-pub fn function_qualifiers<'a, 'b, L: Limit, A: Allocator>(
+pub fn function_qualifiers<'a, 'b, L: NodeBudget, A: Allocator>(
     parser: &mut Parser<'a, 'b, L, A>,
 ) -> StorageClass
     ensures value { read_name rules.function_qualifiers parser.old.rest.now (state_of parser.old)

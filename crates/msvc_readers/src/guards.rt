@@ -9,17 +9,17 @@ ghost use Rattle.msvc_grammar.specs.Grammar.{guard_marker, is_in_range, numbered
 ghost use Rattle.msvc_grammar.specs.Letters.{digits};
 ghost use Rattle.msvc_grammar.specs.Reads.{and_then, in_node, letter_here, read, read_name, with_value};
 ghost use Rattle.msvc_grammar.specs.Rules as rules;
-ghost use Rattle.msvc_parser.specs.Parser.{Eats, guard_of, indexed, MayEat, ReadsAs};
+ghost use Rattle.msvc_parser.specs.Parser.{Consumes, guard_of, indexed, MayConsume, ReadsAs};
 ghost use Rattle.msvc_parser.specs.Rows.{EndsNames, named_at, typed_symbol_at};
-ghost use Rattle.msvc_parser.specs.Stack.{here, outer};
+ghost use Rattle.msvc_parser.specs.NestedList.{current, enclosing};
 
 use crate::qualified_names::{nested_name, put_symbol, scope};
 use crate::symbols::put_typed_symbol;
 use msvc_nodes::kinds::{Guard, NumberedType};
 use msvc_nodes::nodes::{Name, Symbol, Type, TypedSymbol};
-use msvc_parser::limit::Limit;
+use msvc_parser::limit::NodeBudget;
 use msvc_parser::parser::Parser;
-use msvc_parser::refusal::{Message, Refused};
+use msvc_parser::refusal::{Failed, Message};
 use std::alloc::Allocator;
 
 /// Base of a guard's number.
@@ -30,13 +30,13 @@ const GREATEST_NUMBER: u64 = 2147483647;
 
 /// Reads the index of a guard if the symbol's name is one, and adds it to the name.
 #[tactic(auto, using(msvc_parser::proofs::Nodes::indexed_split), unfolding(msvc_nodes::specs::NodeView::name_of))]
-pub fn indexed_symbol<'a, 'b, L: Limit, A: Allocator>(
+pub fn indexed_symbol<'a, 'b, L: NodeBudget, A: Allocator>(
     parser: &mut Parser<'a, 'b, L, A>,
     symbol: &'b Symbol<'a, 'b>,
-) -> Result<&'b Symbol<'a, 'b>, Refused>
+) -> Result<&'b Symbol<'a, 'b>, Failed>
     ensures value { ReadsAs named_at parser.old parser.new result
         (indexed (name_of symbol.now.name.now) (map name_at symbol.now.scope.now)) }
-    ensures eats { MayEat parser.old parser.new result }
+    ensures consumes { MayConsume parser.old parser.new result }
 {
     let Some(guard) = guard_of_name(symbol.name) else {
         return Ok(symbol);
@@ -51,11 +51,11 @@ pub fn indexed_symbol<'a, 'b, L: Limit, A: Allocator>(
 
 /// Reads `GUARD_INDEX = GUARD_MARKER end | GUARD_MARKER NUMBER`: the number is at least 0.
 #[tactic(auto, using(msvc_parser::proofs::GuardSteps::guard_index_is))]
-pub fn guard_index<'a, 'b, L: Limit, A: Allocator>(
+pub fn guard_index<'a, 'b, L: NodeBudget, A: Allocator>(
     parser: &mut Parser<'a, 'b, L, A>,
-) -> Result<Option<u32>, Refused>
+) -> Result<Option<u32>, Failed>
     ensures value { ReadsAs (λ i. i) parser.old parser.new result (read_name (rules.guard_index true)) }
-    ensures eats { Eats parser.old parser.new result }
+    ensures consumes { Consumes parser.old parser.new result }
 {
     guard_marker(parser)?;
     if parser.rest.is_empty() {
@@ -63,34 +63,34 @@ pub fn guard_index<'a, 'b, L: Limit, A: Allocator>(
     }
     let index = parser.number()?;
     if index < 0 {
-        return Err(parser.refuse(Message::ExpectedUnsigned));
+        return Err(parser.reject(Message::ExpectedUnsigned));
     }
     Ok(Some(index as u32))
 }
 
 /// Reads `GUARD_MARKER = "4IA" | "5"`.
 #[tactic(auto, using(msvc_parser::proofs::GuardSteps::guard_marker_is))]
-pub fn guard_marker<'a, 'b, L: Limit, A: Allocator>(
+pub fn guard_marker<'a, 'b, L: NodeBudget, A: Allocator>(
     parser: &mut Parser<'a, 'b, L, A>,
-) -> Result<(), Refused>
+) -> Result<(), Failed>
     ensures value { ReadsAs (λ _. tt) parser.old parser.new result (read guard_marker) }
-    ensures eats { Eats parser.old parser.new result }
+    ensures consumes { Consumes parser.old parser.new result }
 {
-    if parser.eat(b"4IA") {
+    if parser.consume(b"4IA") {
         return Ok(());
     }
-    parser.expected(b"5", Message::UnexpectedLocalGuardMarker)
+    parser.expect(b"5", Message::UnexpectedLocalGuardMarker)
 }
 
 /// Reads `NUMBERED_GUARD = GUARD_NUMBER NESTED_NAME SCOPE "4HA"`, after its `?$TSS`.
 #[cycle(readers)]
 #[tactic(auto, using(msvc_parser::proofs::GuardSteps::numbered_guard_step))]
 #[inline(never)]
-pub fn numbered_guard<'a, 'b, L: Limit, A: Allocator>(
+pub fn numbered_guard<'a, 'b, L: NodeBudget, A: Allocator>(
     parser: &mut Parser<'a, 'b, L, A>,
-) -> Result<&'b TypedSymbol<'a, 'b>, Refused>
+) -> Result<&'b TypedSymbol<'a, 'b>, Failed>
     ensures value { ReadsAs typed_symbol_at parser.old parser.new result (read numbered_guard) }
-    ensures eats { Eats parser.old parser.new result }
+    ensures consumes { Consumes parser.old parser.new result }
 {
     let number = guard_number(parser)?;
     let name = nested_name(parser)?;
@@ -100,19 +100,19 @@ pub fn numbered_guard<'a, 'b, L: Limit, A: Allocator>(
 
 /// Reads the `4HA` of a numbered guard and stores the guard, whose scope is on the list.
 #[inline(never)]
-pub fn guard_of_number<'a, 'b, L: Limit, A: Allocator>(
+pub fn guard_of_number<'a, 'b, L: NodeBudget, A: Allocator>(
     parser: &mut Parser<'a, 'b, L, A>,
     number: i32,
     name: &'b Name<'a, 'b>,
     checkpoint: usize,
-) -> Result<&'b TypedSymbol<'a, 'b>, Refused>
-    requires { checkpoint ≤ length (outer parser.old.listed_names) }
+) -> Result<&'b TypedSymbol<'a, 'b>, Failed>
+    requires { checkpoint ≤ length (enclosing parser.old.listed_names) }
     ensures value { ReadsAs typed_symbol_at parser.old parser.new result
         (λ left s. and_then (read (rules.literal (codes "4HA")) left s)
         (λ _ left s. in_node left s (λ left s. Some (
           record {
             name = name_of name.now;
-            scope = name_trees (map name_at (here parser.old.listed_names));
+            scope = name_trees (map name_at (current parser.old.listed_names));
             symbol_type = numbered number_kind.ThreadSafeGuard number;
           },
           left,
@@ -121,24 +121,24 @@ pub fn guard_of_number<'a, 'b, L: Limit, A: Allocator>(
     ensures shorter { IfOk result (λ _. length parser.new.rest.now ≤ length parser.old.rest.now) }
     ensures kept { EndsNames checkpoint parser.old parser.new result }
 {
-    parser.expected(b"4HA", Message::GuardTypeExpected)?;
+    parser.expect(b"4HA", Message::GuardTypeExpected)?;
     parser.count_node()?;
     put_guard(parser, number, name, checkpoint)
 }
 
 /// Stores a numbered guard of these parts. It stands outside the cycle, as `put_tagged` does.
 #[inline(never)]
-pub fn put_guard<'a, 'b, L: Limit, A: Allocator>(
+pub fn put_guard<'a, 'b, L: NodeBudget, A: Allocator>(
     parser: &mut Parser<'a, 'b, L, A>,
     number: i32,
     name: &'b Name<'a, 'b>,
     checkpoint: usize,
-) -> Result<&'b TypedSymbol<'a, 'b>, Refused>
-    requires { checkpoint ≤ length (outer parser.old.listed_names) }
+) -> Result<&'b TypedSymbol<'a, 'b>, Failed>
+    requires { checkpoint ≤ length (enclosing parser.old.listed_names) }
     ensures value { ReadsAs typed_symbol_at parser.old parser.new result
         (with_value (Some (record {
           name = name_of name.now;
-          scope = name_trees (map name_at (here parser.old.listed_names));
+          scope = name_trees (map name_at (current parser.old.listed_names));
           symbol_type = numbered number_kind.ThreadSafeGuard number;
         }))) }
     ensures rest { IfOk result (λ _. parser.new.rest.now ≡ parser.old.rest.now) }
@@ -151,38 +151,38 @@ pub fn put_guard<'a, 'b, L: Limit, A: Allocator>(
 
 /// Reads `GUARD_NUMBER = digit {digit} "@"`: base 10, at most 2,147,483,647.
 #[tactic(auto, using(msvc_parser::proofs::GuardSteps::decimal_goes_on))]
-pub fn guard_number<'a, 'b, L: Limit, A: Allocator>(
+pub fn guard_number<'a, 'b, L: NodeBudget, A: Allocator>(
     parser: &mut Parser<'a, 'b, L, A>,
-) -> Result<u32, Refused>
+) -> Result<u32, Failed>
     ensures value { ReadsAs (λ n. n) parser.old parser.new result
         (λ left s. and_then (letter_here digits left s) (λ d. read_name (rules.decimal d))) }
-    ensures eats { Eats parser.old parser.new result }
+    ensures consumes { Consumes parser.old parser.new result }
     ensures small { IfOk result (λ n. n ≤ 2147483647) }
 {
     let mut value = u32::from(guard_digit(parser)?);
     'digits: loop {
-        if parser.eat(b"@") {
+        if parser.consume(b"@") {
             return Ok(value);
         }
         let digit = guard_digit(parser)?;
         let Some(longer) = longer_number(value, digit) else {
-            return Err(parser.refuse(Message::GuardNumberTooLarge));
+            return Err(parser.reject(Message::GuardNumberTooLarge));
         };
         value = longer;
     }
 }
 
 /// Reads a digit of a guard's number.
-pub fn guard_digit<'a, 'b, L: Limit, A: Allocator>(
+pub fn guard_digit<'a, 'b, L: NodeBudget, A: Allocator>(
     parser: &mut Parser<'a, 'b, L, A>,
-) -> Result<u8, Refused>
+) -> Result<u8, Failed>
     ensures value { ReadsAs (λ d. d) parser.old parser.new result (letter_here digits) }
-    ensures eats { Eats parser.old parser.new result }
+    ensures consumes { Consumes parser.old parser.new result }
     ensures small { IfOk result (λ d. d < 10) }
 {
     match parser.digit() {
         Some(digit) => Ok(digit),
-        None => Err(parser.refuse(Message::MissingDigit)),
+        None => Err(parser.reject(Message::MissingDigit)),
     }
 }
 

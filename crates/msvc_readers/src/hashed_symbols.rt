@@ -5,26 +5,26 @@ ghost use Rattle.msvc_grammar.specs.Grammar.{hashed_symbol, is_hash};
 ghost use Rattle.msvc_grammar.specs.Letters.{hexadecimal_codes};
 ghost use Rattle.msvc_grammar.specs.Reads.{read};
 ghost use Rattle.msvc_grammar.specs.Rules as rules;
-ghost use Rattle.msvc_parser.specs.Parser.{Eats, hash_at, name_length, ReadsAs};
+ghost use Rattle.msvc_parser.specs.Parser.{Consumes, hash_at, name_length, ReadsAs};
 ghost use Rattle.msvc_parser.specs.Rows.{typed_symbol_at};
 
-use crate::qualified_names::up_to_at;
+use crate::qualified_names::take_until_at;
 use crate::symbols::untyped_symbol;
 use msvc_nodes::nodes::{Name, TypedSymbol};
 use msvc_parser::letters;
-use msvc_parser::limit::Limit;
+use msvc_parser::limit::NodeBudget;
 use msvc_parser::parser::Parser;
-use msvc_parser::refusal::{Message, Refused};
+use msvc_parser::refusal::{Failed, Message};
 use std::alloc::Allocator;
 
 /// Reads `HASHED_SYMBOL = 32 * hexadecimal digit "@"`, after its `??@`.
 #[tactic(auto, using(msvc_parser::proofs::SymbolSteps::hashed_symbol_step), unfolding(msvc_nodes::specs::NodeView::name_of))]
 #[inline(never)]
-pub fn hashed_symbol<'a, 'b, L: Limit, A: Allocator>(
+pub fn hashed_symbol<'a, 'b, L: NodeBudget, A: Allocator>(
     parser: &mut Parser<'a, 'b, L, A>,
-) -> Result<&'b TypedSymbol<'a, 'b>, Refused>
+) -> Result<&'b TypedSymbol<'a, 'b>, Failed>
     ensures value { ReadsAs typed_symbol_at parser.old parser.new result (read hashed_symbol) }
-    ensures eats { Eats parser.old parser.new result }
+    ensures consumes { Consumes parser.old parser.new result }
 {
     parser.count_node()?;
     parser.count_node()?;
@@ -34,16 +34,16 @@ pub fn hashed_symbol<'a, 'b, L: Limit, A: Allocator>(
 }
 
 /// Reads the digits of a hash up to and including the next `@`, and returns them without it.
-pub fn hash<'a, 'b, L: Limit, A: Allocator>(
+pub fn hash<'a, 'b, L: NodeBudget, A: Allocator>(
     parser: &mut Parser<'a, 'b, L, A>,
-) -> Result<&'a [u8], Refused>
+) -> Result<&'a [u8], Failed>
     ensures value { ReadsAs (λ n. n.now) parser.old parser.new result (λ left s. hash_at (name_length left) left s) }
-    ensures eats { Eats parser.old parser.new result }
+    ensures consumes { Consumes parser.old parser.new result }
 {
     let left = parser.rest;
-    match up_to_at(parser) {
+    match take_until_at(parser) {
         Some(digits) if is_hash(digits) => Ok(digits),
-        _ => Err(parser.refuse_at(Message::HashLength, after_digits(left))),
+        _ => Err(parser.reject_at(Message::HashLength, after_digits(left))),
     }
 }
 

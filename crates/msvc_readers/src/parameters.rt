@@ -4,62 +4,63 @@ ghost use Rattle.std.specs.Option.{option_map};
 ghost use Rattle.std.specs.Prelude.{◌≡◌, ◌≤◌, ◌<◌, ◌-◌, ◌∷◌, ◌++◌, [], IfErr, IfOk, IfSome, length, map, Some};
 ghost use Rattle.msvc_nodes.specs.NodeView.{type_at};
 ghost use Rattle.msvc_nodes.specs.Trees.{base};
-ghost use Rattle.msvc_nodes.specs.declared.kinds.BaseType.TheVariants as base_kind;
+ghost use Rattle.msvc_nodes.specs.declared.kinds.PrimitiveKind.TheVariants as base_kind;
 ghost use Rattle.msvc_grammar.specs.Reads.{read_name, with_value};
 ghost use Rattle.msvc_grammar.specs.Rules as rules;
-ghost use Rattle.msvc_parser.specs.Parser.{counting_ellipsis, Eats, ellipsis_types, frame_of, parameters_stop, ReadsAs};
+ghost use Rattle.msvc_parser.specs.Parser.{counting_ellipsis, Consumes, ellipsis_types};
+ghost use Rattle.msvc_parser.specs.Parser.{frame_of, parameters_stop, ReadsAs};
 ghost use Rattle.msvc_parser.specs.Parser.{state_of, types_at};
 ghost use Rattle.msvc_parser.specs.Rows.{EndsTypes, ListsTypes};
-ghost use Rattle.msvc_parser.specs.Stack.{here, outer};
+ghost use Rattle.msvc_parser.specs.NestedList.{current, enclosing};
 
-use crate::types::any_type;
+use crate::types::type_;
 use bitflags::Flags;
 use msvc_nodes::flags::StorageClass;
-use msvc_nodes::kinds::{BaseType, PlainType};
+use msvc_nodes::kinds::{PlainType, PrimitiveKind};
 use msvc_nodes::list::List;
 use msvc_nodes::nodes::Type;
+use msvc_parser::back_references::enters_table;
 use msvc_parser::forms::Ellipsis;
-use msvc_parser::limit::Limit;
-use msvc_parser::memorized::is_long;
+use msvc_parser::limit::NodeBudget;
 use msvc_parser::parser::Parser;
-use msvc_parser::refusal::{Message, Refusal, Refused};
+use msvc_parser::refusal::{Failed, Message, Refusal};
 use std::alloc::Allocator;
 
 /// Reads `FUNCTION_PARAMETERS = ("X" | PARAMETERS) "Z"`: an `X` means one `void`.
 #[cycle(readers)]
 #[tactic(auto, using(msvc_parser::proofs::FunctionSteps::function_parameters_step))]
 #[inline(never)]
-pub fn function_parameters<'a, 'b, L: Limit, A: Allocator>(
+pub fn function_parameters<'a, 'b, L: NodeBudget, A: Allocator>(
     parser: &mut Parser<'a, 'b, L, A>,
-) -> Result<usize, Refused>
-    ensures value { ReadsAs (λ _. map type_at (here parser.new.listed_types)) parser.old parser.new result
+) -> Result<usize, Failed>
+    ensures value { ReadsAs (λ _. map type_at (current parser.new.listed_types)) parser.old parser.new result
         (read_name rules.function_parameters) }
     ensures shorter { IfOk result (λ _. length parser.new.rest.now < length parser.old.rest.now) }
     ensures lists { ListsTypes parser.old parser.new result }
 {
-    if parser.eat(b"X") {
-        parser.expected(b"Z", Message::ZExpected)?;
+    if parser.consume(b"X") {
+        parser.expect(b"Z", Message::ZExpected)?;
         parser.count_node()?;
         return no_parameters(parser);
     }
     let checkpoint = parameters(parser)?;
-    parser.expected(b"Z", Message::ZExpected)?;
+    parser.expect(b"Z", Message::ZExpected)?;
     Ok(checkpoint)
 }
 
 /// Puts one `void`, which is already counted, on a new part of the list. The result ends that part.
 #[tactic(auto, unfolding(msvc_nodes::specs::NodeView::type_of))]
 #[inline(never)]
-pub fn no_parameters<'a, 'b, L: Limit, A: Allocator>(
+pub fn no_parameters<'a, 'b, L: NodeBudget, A: Allocator>(
     parser: &mut Parser<'a, 'b, L, A>,
-) -> Result<usize, Refused>
-    ensures value { ReadsAs (λ _. map type_at (here parser.new.listed_types)) parser.old parser.new result
+) -> Result<usize, Failed>
+    ensures value { ReadsAs (λ _. map type_at (current parser.new.listed_types)) parser.old parser.new result
         (with_value (Some (base base_kind.Void 0 ∷ []))) }
     ensures rest { IfOk result (λ _. parser.new.rest.now ≡ parser.old.rest.now) }
     ensures lists { ListsTypes parser.old parser.new result }
 {
     let checkpoint = parser.listed_types.begin();
-    let void = parser.put_type(Type::Base(BaseType::Void, StorageClass::empty()))?;
+    let void = parser.put_type(Type::Base(PrimitiveKind::Void, StorageClass::empty()))?;
     list_type(parser, void)?;
     Ok(checkpoint)
 }
@@ -69,10 +70,10 @@ pub fn no_parameters<'a, 'b, L: Limit, A: Allocator>(
 #[cycle(readers)]
 #[tactic(auto, using(msvc_parser::proofs::RowSteps::parameters_go_on))]
 #[inline(never)]
-pub fn parameters<'a, 'b, L: Limit, A: Allocator>(
+pub fn parameters<'a, 'b, L: NodeBudget, A: Allocator>(
     parser: &mut Parser<'a, 'b, L, A>,
-) -> Result<usize, Refused>
-    ensures value { ReadsAs (λ _. map type_at (here parser.new.listed_types)) parser.old parser.new result
+) -> Result<usize, Failed>
+    ensures value { ReadsAs (λ _. map type_at (current parser.new.listed_types)) parser.old parser.new result
         (read_name rules.parameters) }
     ensures shorter { IfOk result (λ _. length parser.new.rest.now ≤ length parser.old.rest.now) }
     ensures lists { ListsTypes parser.old parser.new result }
@@ -93,35 +94,35 @@ pub fn parameters<'a, 'b, L: Limit, A: Allocator>(
 #[cycle(readers)]
 #[tactic(auto, using(msvc_parser::proofs::FunctionSteps::parameter_is))]
 #[inline(always)]
-pub fn parameter<'a, 'b, L: Limit, A: Allocator>(
+pub fn parameter<'a, 'b, L: NodeBudget, A: Allocator>(
     parser: &mut Parser<'a, 'b, L, A>,
-) -> Result<&'b Type<'a, 'b>, Refused>
+) -> Result<&'b Type<'a, 'b>, Failed>
     ensures value { ReadsAs type_at parser.old parser.new result (read_name rules.parameter) }
-    ensures eats { Eats parser.old parser.new result }
+    ensures consumes { Consumes parser.old parser.new result }
 {
     let start = parser.rest;
     if let Some(digit) = parser.digit() {
         return parser.parameter_of_digit(digit, start);
     }
     let before = parser.limit;
-    let parameter = any_type(parser, StorageClass::empty())?;
-    if is_long(start, parser.rest) {
+    let parameter = type_(parser, StorageClass::empty())?;
+    if enters_table(start, parser.rest) {
         let nodes = parser.limit.since(before);
-        return parser.memorize_type(parameter, start, nodes);
+        return parser.add_type(parameter, start, nodes);
     }
     Ok(parameter)
 }
 
 /// Appends a type to the list of parameters.
-pub fn list_type<'a, 'b, L: Limit, A: Allocator>(
+pub fn list_type<'a, 'b, L: NodeBudget, A: Allocator>(
     parser: &mut Parser<'a, 'b, L, A>,
     parameter: &'b Type<'a, 'b>,
-) -> Result<(), Refused>
+) -> Result<(), Failed>
     ensures rest { IfOk result (λ _. parser.new.rest.now ≡ parser.old.rest.now) }
     ensures state { IfOk result (λ _. state_of parser.new ≡ state_of parser.old) }
     ensures kept { IfOk result (λ _. frame_of parser.new
-        ≡ record (frame_of parser.old) { listed_types = here parser.old.listed_types ++ parameter.entry ∷ [] }) }
-    ensures why { IfErr result (λ _. parser.new.why ≡ Refusal.Memory) }
+        ≡ record (frame_of parser.old) { listed_types = current parser.old.listed_types ++ parameter.entry ∷ [] }) }
+    ensures last_error { IfErr result (λ _. parser.new.last_error ≡ Refusal.Memory) }
 {
     if parser.listed_types.push(parameter).is_err() {
         return Err(parser.no_memory());
@@ -131,13 +132,13 @@ pub fn list_type<'a, 'b, L: Limit, A: Allocator>(
 
 /// Copies the listed types into the arena and ends their part of the list.
 #[inline(always)]
-pub fn listed_types<'a, 'b, L: Limit, A: Allocator>(
+pub fn finish_types<'a, 'b, L: NodeBudget, A: Allocator>(
     parser: &mut Parser<'a, 'b, L, A>,
     checkpoint: usize,
-) -> Result<List<'b, &'b Type<'a, 'b>>, Refused>
-    requires { checkpoint ≤ length (outer parser.old.listed_types) }
+) -> Result<List<'b, &'b Type<'a, 'b>>, Failed>
+    requires { checkpoint ≤ length (enclosing parser.old.listed_types) }
     ensures value { ReadsAs types_at parser.old parser.new result
-        (λ left s. with_value (Some (map type_at (here parser.old.listed_types))) left s) }
+        (λ left s. with_value (Some (map type_at (current parser.old.listed_types))) left s) }
     ensures rest { IfOk result (λ _. parser.new.rest.now ≡ parser.old.rest.now) }
     ensures kept { EndsTypes checkpoint parser.old parser.new result }
 {
@@ -150,16 +151,16 @@ pub fn listed_types<'a, 'b, L: Limit, A: Allocator>(
 /// Appends an ellipsis to the list of parameters, if there is one, and counts it as a node.
 #[tactic(auto, using(msvc_parser::proofs::Nodes::map_last), unfolding(msvc_nodes::specs::NodeView::type_of))]
 #[inline(never)]
-pub fn list_ellipsis<'a, 'b, L: Limit, A: Allocator>(
+pub fn list_ellipsis<'a, 'b, L: NodeBudget, A: Allocator>(
     parser: &mut Parser<'a, 'b, L, A>,
     ellipsis: Ellipsis,
-) -> Result<(), Refused>
+) -> Result<(), Failed>
     ensures value { ReadsAs (λ _. tt) parser.old parser.new result (counting_ellipsis ellipsis) }
     ensures rest { IfOk result (λ _. parser.new.rest.now ≡ parser.old.rest.now) }
-    ensures seen { IfOk result (λ _. map type_at (here parser.new.listed_types)
-        ≡ map type_at (here parser.old.listed_types) ++ ellipsis_types ellipsis) }
+    ensures seen { IfOk result (λ _. map type_at (current parser.new.listed_types)
+        ≡ map type_at (current parser.old.listed_types) ++ ellipsis_types ellipsis) }
     ensures kept { IfOk result (λ _. frame_of parser.new
-        ≡ record (frame_of parser.old) { listed_types = here parser.new.listed_types }) }
+        ≡ record (frame_of parser.old) { listed_types = current parser.new.listed_types }) }
 {
     match ellipsis {
         Ellipsis::Absent => Ok(()),

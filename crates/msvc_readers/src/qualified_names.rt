@@ -10,12 +10,13 @@ ghost use Rattle.msvc_grammar.specs.Grammar.{new_interface, new_source_name, tem
 ghost use Rattle.msvc_grammar.specs.Letters.{hexadecimal_codes};
 ghost use Rattle.msvc_grammar.specs.Reads.{and_then, in_node, letter_here, read, read_name, with_value};
 ghost use Rattle.msvc_grammar.specs.Rules as rules;
-ghost use Rattle.msvc_parser.specs.Parser.{cut_at, Eats, frame_of, is_of_symbol, kept_name, name_length, names_at};
+ghost use Rattle.msvc_parser.specs.Parser.{cut_at, Consumes, frame_of};
+ghost use Rattle.msvc_parser.specs.Parser.{is_of_symbol, add_template_name, name_length, names_at};
 ghost use Rattle.msvc_parser.specs.Parser.{ReadsAs, state_of, Stays};
 ghost use Rattle.msvc_parser.specs.Rows.{EndsNames, EndsTypes, ListsNames, named_at};
-ghost use Rattle.msvc_parser.specs.Stack.{here, outer};
+ghost use Rattle.msvc_parser.specs.NestedList.{current, enclosing};
 
-use crate::parameters::{listed_types, parameters};
+use crate::parameters::{finish_types, parameters};
 use crate::special_names::special_name;
 use crate::symbols::symbol_body;
 use bumpalo::Bump;
@@ -23,28 +24,28 @@ use msvc_nodes::list::List;
 use msvc_nodes::nodes::{Name, Symbol, Template, TypedSymbol};
 use msvc_parser::forms::TemplateNames;
 use msvc_parser::letters;
-use msvc_parser::limit::Limit;
+use msvc_parser::limit::NodeBudget;
 use msvc_parser::parser::Parser;
-use msvc_parser::refusal::{Message, Refusal, Refused};
+use msvc_parser::refusal::{Failed, Message, Refusal};
 use msvc_parser::source_names::name_length;
 use std::alloc::Allocator;
 
 /// Reads `SOURCE_NAME = {byte} "@"`: the bytes up to the next `@`, possibly none.
 #[inline(always)]
-pub fn source_name<'a, 'b, L: Limit, A: Allocator>(
+pub fn source_name<'a, 'b, L: NodeBudget, A: Allocator>(
     parser: &mut Parser<'a, 'b, L, A>,
-) -> Result<&'a [u8], Refused>
+) -> Result<&'a [u8], Failed>
     ensures value { ReadsAs (λ n. n.now) parser.old parser.new result (λ left s. cut_at (name_length left) left s) }
-    ensures eats { Eats parser.old parser.new result }
+    ensures consumes { Consumes parser.old parser.new result }
 {
-    match up_to_at(parser) {
+    match take_until_at(parser) {
         Some(text) => Ok(text),
-        None => Err(parser.refuse(Message::MissingAt)),
+        None => Err(parser.reject(Message::MissingAt)),
     }
 }
 
 /// Reads up to and including the next `@`, and returns the bytes before it. Reads nothing if there is no `@`.
-pub fn up_to_at<'a, 'b, L: Limit, A: Allocator>(
+pub fn take_until_at<'a, 'b, L: NodeBudget, A: Allocator>(
     parser: &mut Parser<'a, 'b, L, A>,
 ) -> Option<&'a [u8]>
     ensures value { option_map (λ n. (n.now, parser.new.rest.now, state_of parser.new)) result
@@ -61,47 +62,47 @@ pub fn up_to_at<'a, 'b, L: Limit, A: Allocator>(
 /// Reads a source name and memorizes it.
 #[tactic(auto, using(msvc_parser::proofs::NameSteps::new_source_name_is), unfolding(msvc_nodes::specs::NodeView::name_of))]
 #[inline(never)]
-pub fn new_source_name<'a, 'b, L: Limit, A: Allocator>(
+pub fn new_source_name<'a, 'b, L: NodeBudget, A: Allocator>(
     parser: &mut Parser<'a, 'b, L, A>,
-) -> Result<&'b Name<'a, 'b>, Refused>
+) -> Result<&'b Name<'a, 'b>, Failed>
     ensures value { ReadsAs name_at parser.old parser.new result (read new_source_name) }
-    ensures eats { Eats parser.old parser.new result }
+    ensures consumes { Consumes parser.old parser.new result }
 {
     parser.count_node()?;
     let text = source_name(parser)?;
-    parser.entered_name(Name::Source(text))
+    parser.put_and_add_name_inline(Name::Source(text))
 }
 
 /// Memorizes a template name that has `nodes` nodes, unless `templates` says not to, and returns it.
 #[inline(never)]
-pub fn kept_name<'a, 'b, L: Limit, A: Allocator>(
+pub fn add_template_name<'a, 'b, L: NodeBudget, A: Allocator>(
     parser: &mut Parser<'a, 'b, L, A>,
     name: &'b Name<'a, 'b>,
     nodes: L,
     templates: TemplateNames,
-) -> Result<&'b Name<'a, 'b>, Refused>
-    requires { L.made nodes ≡ name_count L.weight (name_of name.now) }
+) -> Result<&'b Name<'a, 'b>, Failed>
+    requires { L.used nodes ≡ name_count L.weight (name_of name.now) }
     ensures value { ReadsAs name_at parser.old parser.new result
         (λ left s. with_value (Some (name_of name.now)) left
-        (kept_name (is_of_symbol templates) (name_of name.now) s)) }
+        (add_template_name (is_of_symbol templates) (name_of name.now) s)) }
     ensures stays { Stays parser.old parser.new result }
 {
     match templates {
-        TemplateNames::Memorized => parser.memorize_name(name, nodes),
+        TemplateNames::Memorized => parser.add_name(name, nodes),
         TemplateNames::NotMemorized => Ok(name),
     }
 }
 
 /// Appends a name to the list of the scope.
-pub fn list_name<'a, 'b, L: Limit, A: Allocator>(
+pub fn list_name<'a, 'b, L: NodeBudget, A: Allocator>(
     parser: &mut Parser<'a, 'b, L, A>,
     name: &'b Name<'a, 'b>,
-) -> Result<(), Refused>
+) -> Result<(), Failed>
     ensures rest { IfOk result (λ _. parser.new.rest.now ≡ parser.old.rest.now) }
     ensures state { IfOk result (λ _. state_of parser.new ≡ state_of parser.old) }
     ensures kept { IfOk result (λ _. frame_of parser.new
-        ≡ record (frame_of parser.old) { listed_names = here parser.old.listed_names ++ name.entry ∷ [] }) }
-    ensures why { IfErr result (λ _. parser.new.why ≡ Refusal.Memory) }
+        ≡ record (frame_of parser.old) { listed_names = current parser.old.listed_names ++ name.entry ∷ [] }) }
+    ensures last_error { IfErr result (λ _. parser.new.last_error ≡ Refusal.Memory) }
 {
     if parser.listed_names.push(name).is_err() {
         return Err(parser.no_memory());
@@ -111,13 +112,13 @@ pub fn list_name<'a, 'b, L: Limit, A: Allocator>(
 
 /// Copies the listed names into the arena and ends their part of the list.
 #[inline(always)]
-pub fn listed_names<'a, 'b, L: Limit, A: Allocator>(
+pub fn finish_names<'a, 'b, L: NodeBudget, A: Allocator>(
     parser: &mut Parser<'a, 'b, L, A>,
     checkpoint: usize,
-) -> Result<List<'b, &'b Name<'a, 'b>>, Refused>
-    requires { checkpoint ≤ length (outer parser.old.listed_names) }
+) -> Result<List<'b, &'b Name<'a, 'b>>, Failed>
+    requires { checkpoint ≤ length (enclosing parser.old.listed_names) }
     ensures value { ReadsAs names_at parser.old parser.new result
-        (λ left s. with_value (Some (map name_at (here parser.old.listed_names))) left s) }
+        (λ left s. with_value (Some (map name_at (current parser.old.listed_names))) left s) }
     ensures rest { IfOk result (λ _. parser.new.rest.now ≡ parser.old.rest.now) }
     ensures kept { EndsNames checkpoint parser.old parser.new result }
 {
@@ -131,21 +132,21 @@ pub fn listed_names<'a, 'b, L: Limit, A: Allocator>(
 #[cycle(readers)]
 #[tactic(auto, using(msvc_parser::proofs::NameSteps::unqualified_name_is))]
 #[inline(always)]
-pub fn unqualified_name<'a, 'b, L: Limit, A: Allocator>(
+pub fn unqualified_name<'a, 'b, L: NodeBudget, A: Allocator>(
     parser: &mut Parser<'a, 'b, L, A>,
     templates: TemplateNames,
-) -> Result<&'b Name<'a, 'b>, Refused>
+) -> Result<&'b Name<'a, 'b>, Failed>
     ensures value { ReadsAs name_at parser.old parser.new result
         (read_name (rules.unqualified_name (is_of_symbol templates))) }
-    ensures eats { Eats parser.old parser.new result }
+    ensures consumes { Consumes parser.old parser.new result }
 {
     if let Some(digit) = parser.digit() {
         return parser.name_of_digit(digit);
     }
-    if parser.eat(b"?$") {
+    if parser.consume(b"?$") {
         return template_name(parser, templates);
     }
-    if parser.eat(b"?") {
+    if parser.consume(b"?") {
         return special_name(parser);
     }
     new_source_name(parser)
@@ -154,30 +155,30 @@ pub fn unqualified_name<'a, 'b, L: Limit, A: Allocator>(
 /// Reads `TEMPLATE_NAME = UNQUALIFIED_NAME PARAMETERS`, with separate tables of names and types.
 #[cycle(readers)]
 #[tactic(auto, using(msvc_parser::proofs::NameSteps::template_kept_is))]
-pub fn template_name<'a, 'b, L: Limit, A: Allocator>(
+pub fn template_name<'a, 'b, L: NodeBudget, A: Allocator>(
     parser: &mut Parser<'a, 'b, L, A>,
     templates: TemplateNames,
-) -> Result<&'b Name<'a, 'b>, Refused>
+) -> Result<&'b Name<'a, 'b>, Failed>
     ensures value { ReadsAs name_at parser.old parser.new result (read (template_kept (is_of_symbol templates))) }
-    ensures eats { Eats parser.old parser.new result }
+    ensures consumes { Consumes parser.old parser.new result }
 {
     let before = parser.limit;
-    let enclosing = parser.memorized.open_template();
+    let saved = parser.backrefs.open_template();
     let template = template(parser)?;
-    parser.memorized.close_template(enclosing);
+    parser.backrefs.close_template(saved);
     let nodes = parser.limit.since(before);
-    kept_name(parser, template, nodes, templates)
+    add_template_name(parser, template, nodes, templates)
 }
 
 /// Reads the name and the arguments of a template.
 #[cycle(readers)]
 #[tactic(auto, using(msvc_parser::proofs::NameSteps::template_inside_step))]
 #[inline(always)]
-pub fn template<'a, 'b, L: Limit, A: Allocator>(
+pub fn template<'a, 'b, L: NodeBudget, A: Allocator>(
     parser: &mut Parser<'a, 'b, L, A>,
-) -> Result<&'b Name<'a, 'b>, Refused>
+) -> Result<&'b Name<'a, 'b>, Failed>
     ensures value { ReadsAs name_at parser.old parser.new result (read template_inside) }
-    ensures eats { Eats parser.old parser.new result }
+    ensures consumes { Consumes parser.old parser.new result }
 {
     parser.count_node()?;
     let name = unqualified_name(parser, TemplateNames::Memorized)?;
@@ -188,62 +189,63 @@ pub fn template<'a, 'b, L: Limit, A: Allocator>(
 /// Stores a template of its name and of the arguments on the list. It stands outside the cycle, as `put_tagged` does.
 #[tactic(auto, using(msvc_parser::proofs::Nodes::views))]
 #[inline(never)]
-pub fn put_template<'a, 'b, L: Limit, A: Allocator>(
+pub fn put_template<'a, 'b, L: NodeBudget, A: Allocator>(
     parser: &mut Parser<'a, 'b, L, A>,
     name: &'b Name<'a, 'b>,
     checkpoint: usize,
-) -> Result<&'b Name<'a, 'b>, Refused>
-    requires { checkpoint ≤ length (outer parser.old.listed_types) }
+) -> Result<&'b Name<'a, 'b>, Failed>
+    requires { checkpoint ≤ length (enclosing parser.old.listed_types) }
     ensures value { ReadsAs name_at parser.old parser.new result
-        (with_value (Some (template (name_of name.now) (type_trees (map type_at (here parser.old.listed_types)))))) }
+        (with_value (Some (template (name_of name.now) (type_trees (map type_at (current parser.old.listed_types)))))) }
     ensures rest { IfOk result (λ _. parser.new.rest.now ≡ parser.old.rest.now) }
     ensures kept { EndsTypes checkpoint parser.old parser.new result }
 {
-    let arguments = listed_types(parser, checkpoint)?.items;
+    let arguments = finish_types(parser, checkpoint)?.items;
     let template = parser.put(Template { name, arguments })?;
     parser.put_name(Name::Template(template))
 }
 
-/// Reads `NESTED_NAME = digit | "?" MARKED_NAME | SOURCE_NAME`.
+/// Reads `NESTED_NAME = digit | "?" LOCALLY_SCOPED_NAME | SOURCE_NAME`.
 #[cycle(readers)]
 #[tactic(auto, using(msvc_parser::proofs::NameSteps::nested_name_is))]
 #[inline(always)]
-pub fn nested_name<'a, 'b, L: Limit, A: Allocator>(
+pub fn nested_name<'a, 'b, L: NodeBudget, A: Allocator>(
     parser: &mut Parser<'a, 'b, L, A>,
-) -> Result<&'b Name<'a, 'b>, Refused>
+) -> Result<&'b Name<'a, 'b>, Failed>
     ensures value { ReadsAs name_at parser.old parser.new result (read_name rules.nested_name) }
-    ensures eats { Eats parser.old parser.new result }
+    ensures consumes { Consumes parser.old parser.new result }
 {
     if let Some(digit) = parser.digit() {
         return parser.name_of_digit(digit);
     }
-    if parser.eat(b"?") {
-        return marked_name(parser);
+    if parser.consume(b"?") {
+        return locally_scoped_name(parser);
     }
     new_source_name(parser)
 }
 
-/// Reads `MARKED_NAME = "?" SYMBOL_BODY | "$" TEMPLATE_NAME | "A" ANONYMOUS_NAMESPACE | "Q" SOURCE_NAME "@" | NUMBER`.
+/// Reads `LOCALLY_SCOPED_NAME = "?" SYMBOL_BODY | "$" TEMPLATE_NAME | "A" ANONYMOUS_NAMESPACE | "Q" SOURCE_NAME "@" |
+/// NUMBER`.
 #[cycle(readers)]
-#[tactic(auto, using(msvc_parser::proofs::Nodes::marked_split))]
-pub fn marked_name<'a, 'b, L: Limit, A: Allocator>(
+#[tactic(auto, using(msvc_parser::proofs::Nodes::locally_scoped_split))]
+pub fn locally_scoped_name<'a, 'b, L: NodeBudget, A: Allocator>(
     parser: &mut Parser<'a, 'b, L, A>,
-) -> Result<&'b Name<'a, 'b>, Refused>
-    ensures value { ReadsAs name_at parser.old parser.new result (read_name rules.marked_name) }
-    ensures eats { Eats parser.old parser.new result }
+) -> Result<&'b Name<'a, 'b>, Failed>
+    ensures value { ReadsAs name_at parser.old parser.new result (read_name rules.locally_scoped_name) }
+    ensures consumes { Consumes parser.old parser.new result }
 {
-    if parser.eat(b"?") {
+    if parser.consume(b"?") {
         parser.count_node()?;
         let symbol = symbol_body(parser)?;
         return put_nested(parser, symbol);
     }
-    if parser.eat(b"$") {
+    if parser.consume(b"$") {
         return template_name(parser, TemplateNames::Memorized);
     }
-    if parser.eat(b"A") {
+    if parser.consume(b"A") {
         return anonymous_namespace(parser);
     }
-    if parser.eat(b"Q") {
+    if parser.consume(b"Q") {
         return interface(parser);
     }
     discriminator(parser)
@@ -252,13 +254,13 @@ pub fn marked_name<'a, 'b, L: Limit, A: Allocator>(
 /// Reads the number that distinguishes a scope.
 #[tactic(auto, unfolding(msvc_nodes::specs::NodeView::name_of))]
 #[inline(never)]
-pub fn discriminator<'a, 'b, L: Limit, A: Allocator>(
+pub fn discriminator<'a, 'b, L: NodeBudget, A: Allocator>(
     parser: &mut Parser<'a, 'b, L, A>,
-) -> Result<&'b Name<'a, 'b>, Refused>
+) -> Result<&'b Name<'a, 'b>, Failed>
     ensures value { ReadsAs name_at parser.old parser.new result
         (λ left s. in_node left s (λ left s. and_then (read_name rules.number left s)
         (λ z left s. Some (discriminator z, left, s)))) }
-    ensures eats { Eats parser.old parser.new result }
+    ensures consumes { Consumes parser.old parser.new result }
 {
     parser.count_node()?;
     let number = parser.number()?;
@@ -268,10 +270,10 @@ pub fn discriminator<'a, 'b, L: Limit, A: Allocator>(
 /// Stores a symbol as a name.
 #[tactic(auto, using(msvc_parser::proofs::Nodes::views))]
 #[inline(never)]
-pub fn put_nested<'a, 'b, L: Limit, A: Allocator>(
+pub fn put_nested<'a, 'b, L: NodeBudget, A: Allocator>(
     parser: &mut Parser<'a, 'b, L, A>,
     symbol: &'b TypedSymbol<'a, 'b>,
-) -> Result<&'b Name<'a, 'b>, Refused>
+) -> Result<&'b Name<'a, 'b>, Failed>
     ensures value { ReadsAs name_at parser.old parser.new result
         (with_value (Some (nested (typed_symbol_of symbol.now).name (typed_symbol_of symbol.now).scope
         (typed_symbol_of symbol.now).symbol_type))) }
@@ -283,47 +285,47 @@ pub fn put_nested<'a, 'b, L: Limit, A: Allocator>(
 /// Reads the name of an interface, after its `?Q`.
 #[tactic(auto, using(msvc_parser::proofs::NameSteps::new_interface_step), unfolding(msvc_nodes::specs::NodeView::name_of))]
 #[inline(never)]
-pub fn interface<'a, 'b, L: Limit, A: Allocator>(
+pub fn interface<'a, 'b, L: NodeBudget, A: Allocator>(
     parser: &mut Parser<'a, 'b, L, A>,
-) -> Result<&'b Name<'a, 'b>, Refused>
+) -> Result<&'b Name<'a, 'b>, Failed>
     ensures value { ReadsAs name_at parser.old parser.new result (read new_interface) }
-    ensures eats { Eats parser.old parser.new result }
+    ensures consumes { Consumes parser.old parser.new result }
 {
     parser.count_node()?;
     let text = source_name(parser)?;
-    parser.expected(b"@", Message::AtExpected)?;
-    parser.memorized_name(Name::Interface(text))
+    parser.expect(b"@", Message::AtExpected)?;
+    parser.put_and_add_name(Name::Interface(text))
 }
 
 /// Reads `ANONYMOUS_NAMESPACE = ["0x" {hexadecimal digit}] "@"`, after its `?A`.
 #[tactic(auto, using(msvc_parser::proofs::NameSteps::anonymous_namespace_step), unfolding(msvc_nodes::specs::NodeView::name_of))]
 #[inline(never)]
-pub fn anonymous_namespace<'a, 'b, L: Limit, A: Allocator>(
+pub fn anonymous_namespace<'a, 'b, L: NodeBudget, A: Allocator>(
     parser: &mut Parser<'a, 'b, L, A>,
-) -> Result<&'b Name<'a, 'b>, Refused>
+) -> Result<&'b Name<'a, 'b>, Failed>
     ensures value { ReadsAs name_at parser.old parser.new result (read_name rules.anonymous_namespace) }
-    ensures eats { Eats parser.old parser.new result }
+    ensures consumes { Consumes parser.old parser.new result }
 {
-    if !parser.eat(b"0x") {
+    if !parser.consume(b"0x") {
         parser.count_node()?;
-        parser.expected(b"@", Message::AtExpected)?;
+        parser.expect(b"@", Message::AtExpected)?;
         return parser.put_name(Name::Anonymous);
     }
     parser.count_node()?;
     let digits = hexadecimal_digits(parser)?;
-    parser.memorized_name(Name::AnonymousDigits(digits))
+    parser.put_and_add_name(Name::AnonymousDigits(digits))
 }
 
 /// Reads the digits after `0x` and stores them in the arena, with the `0x`.
-pub fn hexadecimal_digits<'a, 'b, L: Limit, A: Allocator>(
+pub fn hexadecimal_digits<'a, 'b, L: NodeBudget, A: Allocator>(
     parser: &mut Parser<'a, 'b, L, A>,
-) -> Result<&'b str, Refused>
+) -> Result<&'b str, Failed>
     ensures value { ReadsAs (λ t. t.now) parser.old parser.new result
         (λ left s. and_then (read_name rules.hexadecimal_digits left s)
         (λ ds left s. Some (codes "0x" ++ ds, left, s))) }
-    ensures eats { Eats parser.old parser.new result }
+    ensures consumes { Consumes parser.old parser.new result }
 {
-    let digits = gathered_digits(parser)?;
+    let digits = hex_digit_string(parser)?;
     match parser.arena.try_alloc_str(&digits) {
         Ok(digits) => Ok(digits),
         Err(_) => Err(parser.no_memory()),
@@ -332,19 +334,19 @@ pub fn hexadecimal_digits<'a, 'b, L: Limit, A: Allocator>(
 
 /// Reads `HEXADECIMAL_DIGITS = {hexadecimal digit} "@"`, and returns `0x` and the digits.
 #[tactic(auto, using(msvc_parser::proofs::RowSteps::hexadecimal_digits_go_on))]
-pub fn gathered_digits<'a, 'b, L: Limit, A: Allocator>(
+pub fn hex_digit_string<'a, 'b, L: NodeBudget, A: Allocator>(
     parser: &mut Parser<'a, 'b, L, A>,
-) -> Result<String<&'b Bump<A>>, Refused>
+) -> Result<String<&'b Bump<A>>, Failed>
     ensures value { ReadsAs string_bytes parser.old parser.new result
         (λ left s. and_then (read_name rules.hexadecimal_digits left s)
         (λ ds left s. Some (codes "0x" ++ ds, left, s))) }
-    ensures eats { Eats parser.old parser.new result }
+    ensures consumes { Consumes parser.old parser.new result }
 {
     let Ok(mut digits) = String::from_str(parser.arena, "0x") else {
         return Err(parser.no_memory());
     };
     'digits: loop {
-        if parser.eat(b"@") {
+        if parser.consume(b"@") {
             return Ok(digits);
         }
         let digit = hexadecimal_digit(parser)?;
@@ -356,20 +358,20 @@ pub fn gathered_digits<'a, 'b, L: Limit, A: Allocator>(
 
 /// Reads a base 16 digit, and returns its byte unchanged.
 #[tactic(auto, using(msvc_parser::proofs::Choices::letter_is))]
-pub fn hexadecimal_digit<'a, 'b, L: Limit, A: Allocator>(
+pub fn hexadecimal_digit<'a, 'b, L: NodeBudget, A: Allocator>(
     parser: &mut Parser<'a, 'b, L, A>,
-) -> Result<u8, Refused>
+) -> Result<u8, Failed>
     ensures value { ReadsAs (λ d. d) parser.old parser.new result (letter_here hexadecimal_codes) }
-    ensures eats { Eats parser.old parser.new result }
+    ensures consumes { Consumes parser.old parser.new result }
     ensures low { IfOk result (λ d. d < 128) }
 {
     let left = parser.rest.len();
     let Some(letter) = parser.next_byte() else {
-        return Err(parser.refuse_at(Message::AtExpected, left));
+        return Err(parser.reject_at(Message::AtExpected, left));
     };
     match letters::hexadecimal_code(letter) {
         Some(digit) => Ok(digit),
-        None => Err(parser.refuse_at(Message::AtExpected, left)),
+        None => Err(parser.reject_at(Message::AtExpected, left)),
     }
 }
 
@@ -378,17 +380,17 @@ pub fn hexadecimal_digit<'a, 'b, L: Limit, A: Allocator>(
 #[cycle(readers)]
 #[tactic(auto, using(msvc_parser::proofs::RowSteps::scope_goes_on))]
 #[inline(never)]
-pub fn scope<'a, 'b, L: Limit, A: Allocator>(
+pub fn scope<'a, 'b, L: NodeBudget, A: Allocator>(
     parser: &mut Parser<'a, 'b, L, A>,
-) -> Result<usize, Refused>
-    ensures value { ReadsAs (λ _. map name_at (here parser.new.listed_names)) parser.old parser.new result
+) -> Result<usize, Failed>
+    ensures value { ReadsAs (λ _. map name_at (current parser.new.listed_names)) parser.old parser.new result
         (read_name rules.scope) }
     ensures shorter { IfOk result (λ _. length parser.new.rest.now < length parser.old.rest.now) }
     ensures lists { ListsNames parser.old parser.new result }
 {
     let checkpoint = parser.listed_names.begin();
     'names: loop {
-        if parser.eat(b"@") {
+        if parser.consume(b"@") {
             return Ok(checkpoint);
         }
         let name = nested_name(parser)?;
@@ -400,13 +402,13 @@ pub fn scope<'a, 'b, L: Limit, A: Allocator>(
 #[cycle(readers)]
 #[tactic(auto, using(msvc_parser::proofs::NameSteps::qualified_name_is))]
 #[inline(never)]
-pub fn qualified_name<'a, 'b, L: Limit, A: Allocator>(
+pub fn qualified_name<'a, 'b, L: NodeBudget, A: Allocator>(
     parser: &mut Parser<'a, 'b, L, A>,
     templates: TemplateNames,
-) -> Result<&'b Symbol<'a, 'b>, Refused>
+) -> Result<&'b Symbol<'a, 'b>, Failed>
     ensures value { ReadsAs named_at parser.old parser.new result
         (read_name (rules.qualified_name (is_of_symbol templates))) }
-    ensures eats { Eats parser.old parser.new result }
+    ensures consumes { Consumes parser.old parser.new result }
 {
     let name = unqualified_name(parser, templates)?;
     let checkpoint = scope(parser)?;
@@ -415,17 +417,17 @@ pub fn qualified_name<'a, 'b, L: Limit, A: Allocator>(
 
 /// Stores a name in the scope on the list.
 #[inline(never)]
-pub fn put_symbol<'a, 'b, L: Limit, A: Allocator>(
+pub fn put_symbol<'a, 'b, L: NodeBudget, A: Allocator>(
     parser: &mut Parser<'a, 'b, L, A>,
     name: &'b Name<'a, 'b>,
     checkpoint: usize,
-) -> Result<&'b Symbol<'a, 'b>, Refused>
-    requires { checkpoint ≤ length (outer parser.old.listed_names) }
+) -> Result<&'b Symbol<'a, 'b>, Failed>
+    requires { checkpoint ≤ length (enclosing parser.old.listed_names) }
     ensures value { ReadsAs named_at parser.old parser.new result
-        (with_value (Some (name_of name.now, map name_at (here parser.old.listed_names)))) }
+        (with_value (Some (name_of name.now, map name_at (current parser.old.listed_names)))) }
     ensures rest { IfOk result (λ _. parser.new.rest.now ≡ parser.old.rest.now) }
     ensures kept { EndsNames checkpoint parser.old parser.new result }
 {
-    let scope = listed_names(parser, checkpoint)?.items;
+    let scope = finish_names(parser, checkpoint)?.items;
     parser.put(Symbol { name, scope })
 }

@@ -7,16 +7,16 @@ ghost use Rattle.msvc_grammar.specs.Reads.{in_node, read_name, with_value};
 ghost use Rattle.msvc_grammar.specs.Rules as rules;
 ghost use Rattle.msvc_grammar.specs.State.{place};
 ghost use Rattle.msvc_grammar.specs.declared.forms.SpecialForm.TheVariants as special;
-ghost use Rattle.msvc_parser.specs.Parser.{Eats, ReadsAs, Stays};
+ghost use Rattle.msvc_parser.specs.Parser.{Consumes, ReadsAs, Stays};
 
-use crate::types::any_type;
+use crate::types::type_;
 use msvc_grammar::forms::SpecialForm;
 use msvc_nodes::kinds::{Guard, PlainOperator};
 use msvc_nodes::nodes::{BaseClass, Name};
 use msvc_parser::letters::OptionalLetters;
-use msvc_parser::limit::Limit;
+use msvc_parser::limit::NodeBudget;
 use msvc_parser::parser::Parser;
-use msvc_parser::refusal::{Message, Refused};
+use msvc_parser::refusal::{Failed, Message};
 use msvc_parser::special_codes::{special_form, unknown_code};
 use std::alloc::Allocator;
 
@@ -24,11 +24,11 @@ use std::alloc::Allocator;
 /// frame is gone while the type of a descriptor is read.
 #[cycle(readers)]
 #[tactic(auto, using(msvc_parser::proofs::Nodes::special_split), unfolding(msvc_nodes::specs::NodeView::name_of))]
-pub fn special_name<'a, 'b, L: Limit, A: Allocator>(
+pub fn special_name<'a, 'b, L: NodeBudget, A: Allocator>(
     parser: &mut Parser<'a, 'b, L, A>,
-) -> Result<&'b Name<'a, 'b>, Refused>
+) -> Result<&'b Name<'a, 'b>, Failed>
     ensures value { ReadsAs name_at parser.old parser.new result (read_name rules.special_name) }
-    ensures eats { Eats parser.old parser.new result }
+    ensures consumes { Consumes parser.old parser.new result }
 {
     let Some((form, rest)) = special_form(parser.rest) else {
         return no_special_name(parser);
@@ -44,23 +44,23 @@ pub fn special_name<'a, 'b, L: Limit, A: Allocator>(
 
 /// Records that the text continues with no code of a special name.
 #[inline(never)]
-pub fn no_special_name<'a, 'b, L: Limit, A: Allocator>(
+pub fn no_special_name<'a, 'b, L: NodeBudget, A: Allocator>(
     parser: &mut Parser<'a, 'b, L, A>,
-) -> Result<&'b Name<'a, 'b>, Refused>
+) -> Result<&'b Name<'a, 'b>, Failed>
     ensures value { ReadsAs name_at parser.old parser.new result (λ left s. None) }
-    ensures eats { Eats parser.old parser.new result }
+    ensures consumes { Consumes parser.old parser.new result }
 {
     let (message, left) = unknown_code(parser.rest);
-    Err(parser.refuse_at(message, left))
+    Err(parser.reject_at(message, left))
 }
 
 /// Counts and stores an operator without parts.
 #[tactic(auto, unfolding(msvc_nodes::specs::NodeView::name_of))]
 #[inline(never)]
-pub fn new_operator<'a, 'b, L: Limit, A: Allocator>(
+pub fn new_operator<'a, 'b, L: NodeBudget, A: Allocator>(
     parser: &mut Parser<'a, 'b, L, A>,
     kind: PlainOperator,
-) -> Result<&'b Name<'a, 'b>, Refused>
+) -> Result<&'b Name<'a, 'b>, Failed>
     ensures value { ReadsAs name_at parser.old parser.new result
         (λ left s. in_node left s (with_value (Some (operator kind)))) }
     ensures stays { Stays parser.old parser.new result }
@@ -71,10 +71,10 @@ pub fn new_operator<'a, 'b, L: Limit, A: Allocator>(
 /// Counts and stores a guard without an index.
 #[tactic(auto, unfolding(msvc_nodes::specs::NodeView::name_of))]
 #[inline(never)]
-pub fn new_guard<'a, 'b, L: Limit, A: Allocator>(
+pub fn new_guard<'a, 'b, L: NodeBudget, A: Allocator>(
     parser: &mut Parser<'a, 'b, L, A>,
     kind: Guard,
-) -> Result<&'b Name<'a, 'b>, Refused>
+) -> Result<&'b Name<'a, 'b>, Failed>
     ensures value { ReadsAs name_at parser.old parser.new result
         (λ left s. in_node left s (with_value (Some (guard kind None)))) }
     ensures stays { Stays parser.old parser.new result }
@@ -86,28 +86,28 @@ pub fn new_guard<'a, 'b, L: Limit, A: Allocator>(
 #[cycle(readers)]
 #[tactic(auto, using(msvc_parser::proofs::SpecialSteps::type_descriptor_step), unfolding(msvc_nodes::specs::NodeView::name_of))]
 #[inline(never)]
-pub fn type_descriptor<'a, 'b, L: Limit, A: Allocator>(
+pub fn type_descriptor<'a, 'b, L: NodeBudget, A: Allocator>(
     parser: &mut Parser<'a, 'b, L, A>,
-) -> Result<&'b Name<'a, 'b>, Refused>
+) -> Result<&'b Name<'a, 'b>, Failed>
     ensures value { ReadsAs name_at parser.old parser.new result
         (read_name (rules.special_after special.TypeDescriptor)) }
-    ensures eats { Eats parser.old parser.new result }
+    ensures consumes { Consumes parser.old parser.new result }
 {
     parser.count_node()?;
-    parser.expected(b"?", Message::QuestionMarkExpected)?;
+    parser.expect(b"?", Message::QuestionMarkExpected)?;
     let class = parser.optional(OptionalLetters::StorageClasses);
-    let described = any_type(parser, class)?;
+    let described = type_(parser, class)?;
     parser.put_name(Name::TypeDescriptor(class, described))
 }
 
 /// Reads four numbers: the place of a base class, after its code.
 #[tactic(auto, using(msvc_parser::proofs::SpecialSteps::base_class_step))]
 #[inline(never)]
-pub fn base_class_descriptor<'a, 'b, L: Limit, A: Allocator>(
+pub fn base_class_descriptor<'a, 'b, L: NodeBudget, A: Allocator>(
     parser: &mut Parser<'a, 'b, L, A>,
-) -> Result<&'b Name<'a, 'b>, Refused>
+) -> Result<&'b Name<'a, 'b>, Failed>
     ensures value { ReadsAs name_at parser.old parser.new result (read_name (rules.special_after special.BaseClass)) }
-    ensures eats { Eats parser.old parser.new result }
+    ensures consumes { Consumes parser.old parser.new result }
 {
     parser.count_node()?;
     let member = parser.number()?;
@@ -127,10 +127,10 @@ pub fn base_class_descriptor<'a, 'b, L: Limit, A: Allocator>(
 
 /// Stores the place of a base class as a name. It stands outside the cycle, as `put_tagged` does.
 #[tactic(auto, unfolding(msvc_nodes::specs::NodeView::name_of))]
-pub fn put_base_class<'a, 'b, L: Limit, A: Allocator>(
+pub fn put_base_class<'a, 'b, L: NodeBudget, A: Allocator>(
     parser: &mut Parser<'a, 'b, L, A>,
     place: BaseClass,
-) -> Result<&'b Name<'a, 'b>, Refused>
+) -> Result<&'b Name<'a, 'b>, Failed>
     ensures value { ReadsAs name_at parser.old parser.new result
         (with_value (Some (base_class_descriptor place.member place.pointer place.entry place.attributes))) }
     ensures stays { Stays parser.old parser.new result }

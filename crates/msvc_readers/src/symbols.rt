@@ -8,38 +8,38 @@ ghost use Rattle.msvc_grammar.specs.Grammar.{named_symbol, template_symbol};
 ghost use Rattle.msvc_grammar.specs.Reads.{read, read_name, with_value};
 ghost use Rattle.msvc_grammar.specs.Rules as rules;
 ghost use Rattle.msvc_grammar.specs.Sorts.{table_of, variable_of, virtual_call};
-ghost use Rattle.msvc_parser.specs.Parser.{Eats, MayEat, ReadsAs, Stays};
+ghost use Rattle.msvc_parser.specs.Parser.{Consumes, MayConsume, ReadsAs, Stays};
 ghost use Rattle.msvc_parser.specs.Rows.{EndsNames, typed_symbol_at};
-ghost use Rattle.msvc_parser.specs.Stack.{here, outer};
+ghost use Rattle.msvc_parser.specs.NestedList.{current, enclosing};
 
 use crate::function_types::{convention, function, member};
 use crate::guards::{indexed_symbol, numbered_guard};
 use crate::hashed_symbols::hashed_symbol;
-use crate::qualified_names::{listed_names, qualified_name, scope, template_name};
-use crate::types::{any_type, new_plain};
+use crate::qualified_names::{finish_names, qualified_name, scope, template_name};
+use crate::types::{new_plain, type_};
 use bitflags::Flags;
 use msvc_nodes::flags::StorageClass;
-use msvc_nodes::kinds::{PlainType, Table, VarStorageKind};
+use msvc_nodes::kinds::{PlainType, SpecialTableKind, VarStorageKind};
 use msvc_nodes::nodes::{Name, Scope, Symbol, Type, TypedSymbol};
 use msvc_parser::forms::TemplateNames;
 use msvc_parser::letters::{self, OptionalLetters};
-use msvc_parser::limit::Limit;
+use msvc_parser::limit::NodeBudget;
 use msvc_parser::parser::Parser;
-use msvc_parser::refusal::{Message, Refusal, Refused};
+use msvc_parser::refusal::{Failed, Message, Refusal};
 use std::alloc::Allocator;
 
 /// Reads `SYMBOL = "?" SYMBOL_BODY`.
 #[tactic(auto, using(msvc_parser::proofs::SymbolSteps::symbol_step))]
-pub fn symbol<'a, 'b, L: Limit, A: Allocator>(
+pub fn symbol<'a, 'b, L: NodeBudget, A: Allocator>(
     parser: &mut Parser<'a, 'b, L, A>,
-) -> Result<TypedSymbol<'a, 'b>, Refused>
+) -> Result<TypedSymbol<'a, 'b>, Failed>
     ensures value { ReadsAs typed_symbol_of parser.old parser.new result (read_name rules.symbol) }
     ensures start { rules.after (codes "?") parser.old.rest.now ≡ None
         → (IfOk result (λ _. ⊥))
-        × (parser.new.why ≡ Refusal.Unread Message.NoQuestionMark (length parser.old.rest.now)) }
+        × (parser.new.last_error ≡ Refusal.Unread Message.NoQuestionMark (length parser.old.rest.now)) }
 {
-    if !parser.eat(b"?") {
-        return Err(parser.refuse(Message::NoQuestionMark));
+    if !parser.consume(b"?") {
+        return Err(parser.reject(Message::NoQuestionMark));
     }
     let symbol = symbol_body(parser)?;
     Ok(*symbol)
@@ -48,19 +48,19 @@ pub fn symbol<'a, 'b, L: Limit, A: Allocator>(
 /// Reads `SYMBOL_BODY = "?@" HASHED_SYMBOL | "$TSS" NUMBERED_GUARD | "$" TEMPLATE_NAME | NAMED_SYMBOL`.
 #[cycle(readers)]
 #[tactic(auto, using(msvc_parser::proofs::SymbolSteps::symbol_body_step))]
-pub fn symbol_body<'a, 'b, L: Limit, A: Allocator>(
+pub fn symbol_body<'a, 'b, L: NodeBudget, A: Allocator>(
     parser: &mut Parser<'a, 'b, L, A>,
-) -> Result<&'b TypedSymbol<'a, 'b>, Refused>
+) -> Result<&'b TypedSymbol<'a, 'b>, Failed>
     ensures value { ReadsAs typed_symbol_at parser.old parser.new result (read_name rules.symbol_body) }
-    ensures eats { Eats parser.old parser.new result }
+    ensures consumes { Consumes parser.old parser.new result }
 {
-    if parser.eat(b"?@") {
+    if parser.consume(b"?@") {
         return hashed_symbol(parser);
     }
-    if parser.eat(b"$TSS") {
+    if parser.consume(b"$TSS") {
         return numbered_guard(parser);
     }
-    if parser.eat(b"$") {
+    if parser.consume(b"$") {
         return template_symbol(parser);
     }
     named_symbol(parser)
@@ -70,11 +70,11 @@ pub fn symbol_body<'a, 'b, L: Limit, A: Allocator>(
 #[cycle(readers)]
 #[tactic(auto, using(msvc_parser::proofs::SymbolSteps::template_symbol_step))]
 #[inline(never)]
-pub fn template_symbol<'a, 'b, L: Limit, A: Allocator>(
+pub fn template_symbol<'a, 'b, L: NodeBudget, A: Allocator>(
     parser: &mut Parser<'a, 'b, L, A>,
-) -> Result<&'b TypedSymbol<'a, 'b>, Refused>
+) -> Result<&'b TypedSymbol<'a, 'b>, Failed>
     ensures value { ReadsAs typed_symbol_at parser.old parser.new result (read template_symbol) }
-    ensures eats { Eats parser.old parser.new result }
+    ensures consumes { Consumes parser.old parser.new result }
 {
     let name = template_name(parser, TemplateNames::NotMemorized)?;
     parser.count_node()?;
@@ -84,10 +84,10 @@ pub fn template_symbol<'a, 'b, L: Limit, A: Allocator>(
 /// Stores a symbol that has a name but no scope and no type. Its nodes are already counted.
 #[tactic(auto, unfolding(msvc_nodes::specs::NodeView::type_of))]
 #[inline(never)]
-pub fn untyped_symbol<'a, 'b, L: Limit, A: Allocator>(
+pub fn untyped_symbol<'a, 'b, L: NodeBudget, A: Allocator>(
     parser: &mut Parser<'a, 'b, L, A>,
     name: &'b Name<'a, 'b>,
-) -> Result<&'b TypedSymbol<'a, 'b>, Refused>
+) -> Result<&'b TypedSymbol<'a, 'b>, Failed>
     ensures value { ReadsAs typed_symbol_at parser.old parser.new result
         (with_value (Some (record {
           name = name_of name.now;
@@ -109,11 +109,11 @@ pub fn untyped_symbol<'a, 'b, L: Limit, A: Allocator>(
 #[cycle(readers)]
 #[tactic(auto, using(msvc_parser::proofs::SymbolSteps::named_symbol_step))]
 #[inline(never)]
-pub fn named_symbol<'a, 'b, L: Limit, A: Allocator>(
+pub fn named_symbol<'a, 'b, L: NodeBudget, A: Allocator>(
     parser: &mut Parser<'a, 'b, L, A>,
-) -> Result<&'b TypedSymbol<'a, 'b>, Refused>
+) -> Result<&'b TypedSymbol<'a, 'b>, Failed>
     ensures value { ReadsAs typed_symbol_at parser.old parser.new result (read named_symbol) }
-    ensures eats { Eats parser.old parser.new result }
+    ensures consumes { Consumes parser.old parser.new result }
 {
     let named = qualified_name(parser, TemplateNames::NotMemorized)?;
     let symbol = indexed_symbol(parser, named)?;
@@ -124,11 +124,11 @@ pub fn named_symbol<'a, 'b, L: Limit, A: Allocator>(
 /// Stores a symbol with its type.
 #[tactic(auto, using(msvc_parser::proofs::Nodes::typed_symbol_split))]
 #[inline(never)]
-pub fn put_typed_symbol<'a, 'b, L: Limit, A: Allocator>(
+pub fn put_typed_symbol<'a, 'b, L: NodeBudget, A: Allocator>(
     parser: &mut Parser<'a, 'b, L, A>,
     symbol: &'b Symbol<'a, 'b>,
     symbol_type: &'b Type<'a, 'b>,
-) -> Result<&'b TypedSymbol<'a, 'b>, Refused>
+) -> Result<&'b TypedSymbol<'a, 'b>, Failed>
     ensures value { ReadsAs typed_symbol_at parser.old parser.new result
         (with_value (Some (record {
           name = name_of symbol.now.name.now;
@@ -146,11 +146,11 @@ pub fn put_typed_symbol<'a, 'b, L: Limit, A: Allocator>(
 /// Reads `ENCODING = end | letter of encodings, and what its row asks for`.
 #[cycle(readers)]
 #[tactic(auto, using(msvc_parser::proofs::Nodes::encoding_split), unfolding(msvc_parser::proofs::SymbolSteps::encoding_by, msvc_nodes::specs::NodeView::type_of))]
-pub fn encoding<'a, 'b, L: Limit, A: Allocator>(
+pub fn encoding<'a, 'b, L: NodeBudget, A: Allocator>(
     parser: &mut Parser<'a, 'b, L, A>,
-) -> Result<&'b Type<'a, 'b>, Refused>
+) -> Result<&'b Type<'a, 'b>, Failed>
     ensures value { ReadsAs type_at parser.old parser.new result (read_name rules.encoding) }
-    ensures eats { MayEat parser.old parser.new result }
+    ensures consumes { MayConsume parser.old parser.new result }
 {
     let Some(letter) = parser.next_byte() else {
         return new_plain(parser, PlainType::None);
@@ -161,8 +161,8 @@ pub fn encoding<'a, 'b, L: Limit, A: Allocator>(
         b'2' => variable(parser, VarStorageKind::PublicStatic),
         b'3' => variable(parser, VarStorageKind::Global),
         b'4' => variable(parser, VarStorageKind::FunctionLocalStatic),
-        b'6' => table(parser, Table::Functions),
-        b'7' => table(parser, Table::Bases),
+        b'6' => table(parser, SpecialTableKind::Functions),
+        b'7' => table(parser, SpecialTableKind::Bases),
         b'8' => new_plain(parser, PlainType::Rtti),
         b'9' => new_plain(parser, PlainType::None),
         b'_' => parser.encoded_string(),
@@ -170,7 +170,7 @@ pub fn encoding<'a, 'b, L: Limit, A: Allocator>(
         b'Y' => function(parser),
         _ => match letters::function_class(letter) {
             Some(class) => member(parser, class),
-            None => Err(parser.refuse(Message::UnknownFuncClass)),
+            None => Err(parser.reject(Message::UnknownFuncClass)),
         },
     }
 }
@@ -178,15 +178,15 @@ pub fn encoding<'a, 'b, L: Limit, A: Allocator>(
 /// Reads `VARIABLE = TYPE [storage class]`.
 #[cycle(readers)]
 #[tactic(auto, using(msvc_parser::proofs::SymbolSteps::variable_step), unfolding(msvc_nodes::specs::NodeView::type_of))]
-pub fn variable<'a, 'b, L: Limit, A: Allocator>(
+pub fn variable<'a, 'b, L: NodeBudget, A: Allocator>(
     parser: &mut Parser<'a, 'b, L, A>,
     kind: VarStorageKind,
-) -> Result<&'b Type<'a, 'b>, Refused>
+) -> Result<&'b Type<'a, 'b>, Failed>
     ensures value { ReadsAs type_at parser.old parser.new result (read_name (rules.encoding_after (variable_of kind))) }
-    ensures eats { MayEat parser.old parser.new result }
+    ensures consumes { MayConsume parser.old parser.new result }
 {
     parser.count_node()?;
-    let variable = any_type(parser, StorageClass::empty())?;
+    let variable = type_(parser, StorageClass::empty())?;
     let class = parser.optional(OptionalLetters::StorageClasses);
     parser.put_type(Type::Variable(kind, class, variable))
 }
@@ -194,12 +194,12 @@ pub fn variable<'a, 'b, L: Limit, A: Allocator>(
 /// Reads `[qualifier] SCOPE`: the table of a class, after its letter.
 #[cycle(readers)]
 #[tactic(auto, using(msvc_parser::proofs::SymbolSteps::table_step))]
-pub fn table<'a, 'b, L: Limit, A: Allocator>(
+pub fn table<'a, 'b, L: NodeBudget, A: Allocator>(
     parser: &mut Parser<'a, 'b, L, A>,
-    table: Table,
-) -> Result<&'b Type<'a, 'b>, Refused>
+    table: SpecialTableKind,
+) -> Result<&'b Type<'a, 'b>, Failed>
     ensures value { ReadsAs type_at parser.old parser.new result (read_name (rules.encoding_after (table_of table))) }
-    ensures eats { MayEat parser.old parser.new result }
+    ensures consumes { MayConsume parser.old parser.new result }
 {
     parser.count_node()?;
     let class = parser.optional(OptionalLetters::Qualifiers);
@@ -210,35 +210,35 @@ pub fn table<'a, 'b, L: Limit, A: Allocator>(
 /// Stores the table of a class, whose scope is on the list.
 #[tactic(auto, using(msvc_parser::proofs::Nodes::views))]
 #[inline(never)]
-pub fn put_table<'a, 'b, L: Limit, A: Allocator>(
+pub fn put_table<'a, 'b, L: NodeBudget, A: Allocator>(
     parser: &mut Parser<'a, 'b, L, A>,
-    kind: Table,
+    kind: SpecialTableKind,
     class: StorageClass,
     checkpoint: usize,
-) -> Result<&'b Type<'a, 'b>, Refused>
-    requires { checkpoint ≤ length (outer parser.old.listed_names) }
+) -> Result<&'b Type<'a, 'b>, Failed>
+    requires { checkpoint ≤ length (enclosing parser.old.listed_names) }
     ensures value { ReadsAs type_at parser.old parser.new result
-        (with_value (Some (table kind (name_trees (map name_at (here parser.old.listed_names))) class.0))) }
+        (with_value (Some (table kind (name_trees (map name_at (current parser.old.listed_names))) class.0))) }
     ensures rest { IfOk result (λ _. parser.new.rest.now ≡ parser.old.rest.now) }
     ensures kept { EndsNames checkpoint parser.old parser.new result }
 {
-    let names = listed_names(parser, checkpoint)?.items;
+    let names = finish_names(parser, checkpoint)?.items;
     let scope = parser.put(Scope { names })?;
     parser.put_type(Type::Table(kind, class, scope))
 }
 
 /// Reads `VIRTUAL_CALL = "B" NUMBER "A" convention`: a thunk that calls a virtual function.
 #[tactic(auto, using(msvc_parser::proofs::SymbolSteps::virtual_call_step), unfolding(msvc_nodes::specs::NodeView::type_of))]
-pub fn virtual_call<'a, 'b, L: Limit, A: Allocator>(
+pub fn virtual_call<'a, 'b, L: NodeBudget, A: Allocator>(
     parser: &mut Parser<'a, 'b, L, A>,
-) -> Result<&'b Type<'a, 'b>, Refused>
+) -> Result<&'b Type<'a, 'b>, Failed>
     ensures value { ReadsAs type_at parser.old parser.new result (read_name (rules.encoding_after virtual_call)) }
-    ensures eats { MayEat parser.old parser.new result }
+    ensures consumes { MayConsume parser.old parser.new result }
 {
     parser.count_node()?;
-    parser.expected(b"B", Message::BExpected)?;
+    parser.expect(b"B", Message::BExpected)?;
     let offset = parser.number()?;
-    parser.expected(b"A", Message::AExpected)?;
+    parser.expect(b"A", Message::AExpected)?;
     let convention = convention(parser)?;
     parser.put_type(Type::VcallThunk(offset, convention))
 }

@@ -10,85 +10,107 @@ ghost use Rattle.msvc_grammar.specs.Letters.{qualifiers};
 ghost use Rattle.msvc_grammar.specs.Reads.{and_then, in_node, read, read_name, with_value};
 ghost use Rattle.msvc_grammar.specs.Rules as rules;
 ghost use Rattle.msvc_grammar.specs.Sorts.{extended};
-ghost use Rattle.msvc_parser.specs.Parser.{Eats, is_of_symbol, MayEat, ReadsAs, Stays};
+ghost use Rattle.msvc_parser.specs.Parser.{Consumes, is_of_symbol, MayConsume, ReadsAs, Stays};
 
 use crate::function_types::{function_type, member_pointer};
 use crate::qualified_names::qualified_name;
 use bitflags::Flags;
 use bumpalo::collections::into_bump_slice;
-use msvc_grammar::forms::TypeForm;
+use msvc_grammar::forms::TypePrefix;
 use msvc_nodes::flags::StorageClass;
-use msvc_nodes::kinds::{Mark, NumberedType, PlainType, Tag};
+use msvc_nodes::kinds::{NumberedType, PlainType, PointerAffinity, TagKind};
 use msvc_nodes::nodes::{Symbol, Type};
 use msvc_parser::forms::{MemberPointerForm, ObjectQualifiers, TemplateNames};
 use msvc_parser::letters::{self, OptionalLetters};
-use msvc_parser::limit::Limit;
+use msvc_parser::limit::NodeBudget;
 use msvc_parser::parser::Parser;
-use msvc_parser::refusal::{Message, Refused};
-use msvc_parser::type_forms::type_form;
+use msvc_parser::refusal::{Failed, Message};
+use msvc_parser::type_prefixes::type_prefix;
 use std::alloc::Allocator;
 
 /// Reads `TYPE = text of a form, and what the form asks for | ["$"] PLAIN_TYPE`.
 #[cycle(readers)]
-#[tactic(auto, using(msvc_parser::proofs::TypeSteps::any_type_is))]
-pub fn any_type<'a, 'b, L: Limit, A: Allocator>(
+#[tactic(auto, using(msvc_parser::proofs::TypeSteps::type_is))]
+pub fn type_<'a, 'b, L: NodeBudget, A: Allocator>(
     parser: &mut Parser<'a, 'b, L, A>,
-    q: StorageClass,
-) -> Result<&'b Type<'a, 'b>, Refused>
-    ensures value { ReadsAs type_at parser.old parser.new result (read_name (rules.any_type q.0)) }
-    ensures eats { Eats parser.old parser.new result }
+    qualifiers: StorageClass,
+) -> Result<&'b Type<'a, 'b>, Failed>
+    ensures value { ReadsAs type_at parser.old parser.new result (read_name (rules.type_ qualifiers.0)) }
+    ensures consumes { Consumes parser.old parser.new result }
 {
-    if let Some((form, rest)) = type_form(parser.rest) {
+    if let Some((form, rest)) = type_prefix(parser.rest) {
         parser.rest = rest;
-        return formed_type(parser, form, q);
+        return prefixed_type(parser, form, qualifiers);
     }
     // A `$` is dropped. Each branch has its call, so that the prover matches each with a rule.
-    if parser.eat(b"$") {
-        return plain_type(parser, q);
+    if parser.consume(b"$") {
+        return plain_type(parser, qualifiers);
     }
-    plain_type(parser, q)
+    plain_type(parser, qualifiers)
 }
 
 /// Reads what follows the text of a form. Each case ends in a call, so that this frame is gone while parts are read.
 #[cycle(readers)]
-#[tactic(auto, using(msvc_parser::proofs::TypeSteps::type_form_is), unfolding(msvc_nodes::specs::NodeView::type_of))]
+#[tactic(auto, using(msvc_parser::proofs::TypeSteps::prefixed_type_is), unfolding(msvc_nodes::specs::NodeView::type_of))]
 #[inline(never)]
-pub fn formed_type<'a, 'b, L: Limit, A: Allocator>(
+pub fn prefixed_type<'a, 'b, L: NodeBudget, A: Allocator>(
     parser: &mut Parser<'a, 'b, L, A>,
-    form: TypeForm,
-    q: StorageClass,
-) -> Result<&'b Type<'a, 'b>, Refused>
-    ensures value { ReadsAs type_at parser.old parser.new result (read_name (rules.type_form q.0 form)) }
-    ensures eats { MayEat parser.old parser.new result }
+    form: TypePrefix,
+    qualifiers: StorageClass,
+) -> Result<&'b Type<'a, 'b>, Failed>
+    ensures value { ReadsAs type_at parser.old parser.new result (read_name (rules.prefixed_type qualifiers.0 form)) }
+    ensures consumes { MayConsume parser.old parser.new result }
 {
     match form {
-        TypeForm::Enumeration => tagged_type(parser, Tag::Enum, TemplateNames::Memorized, q),
-        TypeForm::Alias => tagged_type(parser, Tag::Alias, TemplateNames::NotMemorized, q),
-        TypeForm::ReferenceToFunction => pointed_function(parser, Mark::Reference, q),
-        TypeForm::PointerToFunction => pointed_function(parser, Mark::Pointer, q),
-        TypeForm::RValueReference => pointing_type(parser, Mark::RValueReference, q),
-        TypeForm::Constant => numbered_type(parser, NumberedType::Constant),
-        TypeForm::TemplateParameter => numbered_type(parser, NumberedType::TemplateParameter),
-        TypeForm::EmptyPack => new_plain(parser, PlainType::EmptyPack),
-        TypeForm::Nullptr => new_plain(parser, PlainType::Nullptr),
-        TypeForm::Array => array(parser),
-        TypeForm::Function => function_type(parser, ObjectQualifiers::Absent),
-        TypeForm::QualifiedFunction => function_type(parser, ObjectQualifiers::Present),
-        TypeForm::Requalified => requalified(parser),
-        TypeForm::QualifiedMemberPointer => member_pointer(parser, MemberPointerForm::Qualified),
-        TypeForm::MemberPointer => marked_member_pointer(parser),
+        TypePrefix::Enumeration => tagged_type(
+            parser,
+            TagKind::Enum,
+            TemplateNames::Memorized,
+            qualifiers,
+        ),
+        TypePrefix::Alias => tagged_type(
+            parser,
+            TagKind::Alias,
+            TemplateNames::NotMemorized,
+            qualifiers,
+        ),
+        TypePrefix::ReferenceToFunction => pointed_function(
+            parser,
+            PointerAffinity::Reference,
+            qualifiers,
+        ),
+        TypePrefix::PointerToFunction => pointed_function(
+            parser,
+            PointerAffinity::Pointer,
+            qualifiers,
+        ),
+        TypePrefix::RValueReference => pointing_type(
+            parser,
+            PointerAffinity::RValueReference,
+            qualifiers,
+        ),
+        TypePrefix::Constant => numbered_type(parser, NumberedType::Constant),
+        TypePrefix::TemplateParameter => numbered_type(parser, NumberedType::TemplateParameter),
+        TypePrefix::EmptyPack => new_plain(parser, PlainType::EmptyPack),
+        TypePrefix::Nullptr => new_plain(parser, PlainType::Nullptr),
+        TypePrefix::Array => array(parser),
+        TypePrefix::Function => function_type(parser, ObjectQualifiers::Absent),
+        TypePrefix::QualifiedFunction => function_type(parser, ObjectQualifiers::Present),
+        TypePrefix::CvQualified => cv_type(parser),
+        TypePrefix::QualifiedMemberPointer => member_pointer(parser, MemberPointerForm::Qualified),
+        TypePrefix::MemberPointer => marked_member_pointer(parser),
     }
 }
 
 /// Reads `[qualifier] PLAIN_TYPE`: the qualifiers replace those that were read before.
 #[cycle(readers)]
 #[inline(never)]
-pub fn requalified<'a, 'b, L: Limit, A: Allocator>(
+pub fn cv_type<'a, 'b, L: NodeBudget, A: Allocator>(
     parser: &mut Parser<'a, 'b, L, A>,
-) -> Result<&'b Type<'a, 'b>, Refused>
+) -> Result<&'b Type<'a, 'b>, Failed>
     ensures value { ReadsAs type_at parser.old parser.new result
         (λ left s. and_then (read (rules.optional qualifiers) left s) (λ q l t. read_name (rules.plain_type q) l t)) }
-    ensures eats { Eats parser.old parser.new result }
+    ensures consumes { Consumes parser.old parser.new result }
 {
     let qualifiers = parser.optional(OptionalLetters::Qualifiers);
     plain_type(parser, qualifiers)
@@ -97,25 +119,25 @@ pub fn requalified<'a, 'b, L: Limit, A: Allocator>(
 /// Reads `"?" MEMBER_POINTER`, with the class of the member function.
 #[cycle(readers)]
 #[inline(never)]
-pub fn marked_member_pointer<'a, 'b, L: Limit, A: Allocator>(
+pub fn marked_member_pointer<'a, 'b, L: NodeBudget, A: Allocator>(
     parser: &mut Parser<'a, 'b, L, A>,
-) -> Result<&'b Type<'a, 'b>, Refused>
+) -> Result<&'b Type<'a, 'b>, Failed>
     ensures value { ReadsAs type_at parser.old parser.new result
         (λ left s. and_then (read (rules.literal (codes "?")) left s)
         (λ _ l t. read_name (rules.member_pointer false) l t)) }
-    ensures eats { Eats parser.old parser.new result }
+    ensures consumes { Consumes parser.old parser.new result }
 {
-    parser.expected(b"?", Message::QuestionMarkExpected)?;
+    parser.expect(b"?", Message::QuestionMarkExpected)?;
     member_pointer(parser, MemberPointerForm::OfClass)
 }
 
 /// Counts and stores a type without parts.
 #[tactic(auto, unfolding(msvc_nodes::specs::NodeView::type_of))]
 #[inline(never)]
-pub fn new_plain<'a, 'b, L: Limit, A: Allocator>(
+pub fn new_plain<'a, 'b, L: NodeBudget, A: Allocator>(
     parser: &mut Parser<'a, 'b, L, A>,
     kind: PlainType,
-) -> Result<&'b Type<'a, 'b>, Refused>
+) -> Result<&'b Type<'a, 'b>, Failed>
     ensures value { ReadsAs type_at parser.old parser.new result
         (λ left s. in_node left s (with_value (Some (plain kind)))) }
     ensures stays { Stays parser.old parser.new result }
@@ -125,85 +147,85 @@ pub fn new_plain<'a, 'b, L: Limit, A: Allocator>(
 
 /// Reads a class, struct, union, enumeration or alias by its name.
 #[cycle(readers)]
-pub fn tagged_type<'a, 'b, L: Limit, A: Allocator>(
+pub fn tagged_type<'a, 'b, L: NodeBudget, A: Allocator>(
     parser: &mut Parser<'a, 'b, L, A>,
-    tag: Tag,
+    tag: TagKind,
     templates: TemplateNames,
-    q: StorageClass,
-) -> Result<&'b Type<'a, 'b>, Refused>
+    qualifiers: StorageClass,
+) -> Result<&'b Type<'a, 'b>, Failed>
     ensures value { ReadsAs type_at parser.old parser.new result
         (λ left s. in_node left s (λ left s. and_then (read_name (rules.qualified_name (is_of_symbol templates)) left s)
-        (λ n left s. Some (tagged tag n.0 (name_trees n.1) q.0, left, s)))) }
-    ensures eats { Eats parser.old parser.new result }
+        (λ n left s. Some (tagged tag n.0 (name_trees n.1) qualifiers.0, left, s)))) }
+    ensures consumes { Consumes parser.old parser.new result }
 {
     parser.count_node()?;
     let symbol = qualified_name(parser, templates)?;
-    put_tagged(parser, tag, symbol, q)
+    put_tagged(parser, tag, symbol, qualifiers)
 }
 
 /// Stores a type of its name. Every `put_` of several parts is a function outside the cycle of readers: a reader then
 /// only calls, and its step lemma is all that the prover needs.
 #[tactic(auto, using(msvc_parser::proofs::Nodes::views))]
-pub fn put_tagged<'a, 'b, L: Limit, A: Allocator>(
+pub fn put_tagged<'a, 'b, L: NodeBudget, A: Allocator>(
     parser: &mut Parser<'a, 'b, L, A>,
-    tag: Tag,
+    tag: TagKind,
     symbol: &'b Symbol<'a, 'b>,
-    q: StorageClass,
-) -> Result<&'b Type<'a, 'b>, Refused>
+    qualifiers: StorageClass,
+) -> Result<&'b Type<'a, 'b>, Failed>
     ensures value { ReadsAs type_at parser.old parser.new result
         (with_value (Some (tagged tag (name_of symbol.now.name.now)
-        (name_trees (map name_at symbol.now.scope.now)) q.0))) }
+        (name_trees (map name_at symbol.now.scope.now)) qualifiers.0))) }
     ensures stays { Stays parser.old parser.new result }
 {
-    parser.put_type(Type::Tagged(tag, q, symbol))
+    parser.put_type(Type::Tagged(tag, qualifiers, symbol))
 }
 
 /// Reads a pointer or reference to a type.
 #[cycle(readers)]
 #[tactic(auto, unfolding(msvc_nodes::specs::NodeView::type_of))]
-pub fn pointing_type<'a, 'b, L: Limit, A: Allocator>(
+pub fn pointing_type<'a, 'b, L: NodeBudget, A: Allocator>(
     parser: &mut Parser<'a, 'b, L, A>,
-    mark: Mark,
-    q: StorageClass,
-) -> Result<&'b Type<'a, 'b>, Refused>
+    affinity: PointerAffinity,
+    qualifiers: StorageClass,
+) -> Result<&'b Type<'a, 'b>, Failed>
     ensures value { ReadsAs type_at parser.old parser.new result
         (λ left s. in_node left s (λ left s. and_then (read_name rules.pointee left s)
-        (λ t left s. Some (pointing mark t q.0, left, s)))) }
-    ensures eats { Eats parser.old parser.new result }
+        (λ t left s. Some (pointing affinity t qualifiers.0, left, s)))) }
+    ensures consumes { Consumes parser.old parser.new result }
 {
     parser.count_node()?;
     let inner = pointee(parser)?;
-    parser.put_type(Type::Pointing(mark, q, inner))
+    parser.put_type(Type::Pointing(affinity, qualifiers, inner))
 }
 
 /// Reads a pointer or reference to a function.
 #[cycle(readers)]
 #[tactic(auto, unfolding(msvc_nodes::specs::NodeView::type_of))]
-pub fn pointed_function<'a, 'b, L: Limit, A: Allocator>(
+pub fn pointed_function<'a, 'b, L: NodeBudget, A: Allocator>(
     parser: &mut Parser<'a, 'b, L, A>,
-    mark: Mark,
-    q: StorageClass,
-) -> Result<&'b Type<'a, 'b>, Refused>
+    affinity: PointerAffinity,
+    qualifiers: StorageClass,
+) -> Result<&'b Type<'a, 'b>, Failed>
     ensures value { ReadsAs type_at parser.old parser.new result
         (λ left s. in_node left s (λ left s. and_then (read_name (rules.function_type true) left s)
-        (λ t left s. Some (pointing mark t q.0, left, s)))) }
-    ensures eats { Eats parser.old parser.new result }
+        (λ t left s. Some (pointing affinity t qualifiers.0, left, s)))) }
+    ensures consumes { Consumes parser.old parser.new result }
 {
     parser.count_node()?;
     let inner = function_type(parser, ObjectQualifiers::Absent)?;
-    parser.put_type(Type::Pointing(mark, q, inner))
+    parser.put_type(Type::Pointing(affinity, qualifiers, inner))
 }
 
 /// Reads a template argument that is a number.
 #[tactic(auto, unfolding(msvc_nodes::specs::NodeView::type_of))]
-pub fn numbered_type<'a, 'b, L: Limit, A: Allocator>(
+pub fn numbered_type<'a, 'b, L: NodeBudget, A: Allocator>(
     parser: &mut Parser<'a, 'b, L, A>,
     kind: NumberedType,
-) -> Result<&'b Type<'a, 'b>, Refused>
+) -> Result<&'b Type<'a, 'b>, Failed>
     ensures value { ReadsAs type_at parser.old parser.new result
         (λ left s. in_node left s (λ left s. and_then (read_name rules.number left s)
         (λ z left s. Some (numbered kind z, left, s)))) }
-    ensures eats { Eats parser.old parser.new result }
+    ensures consumes { Consumes parser.old parser.new result }
 {
     parser.count_node()?;
     let number = parser.number()?;
@@ -214,44 +236,49 @@ pub fn numbered_type<'a, 'b, L: Limit, A: Allocator>(
 #[cycle(readers)]
 #[tactic(auto, using(msvc_parser::proofs::Nodes::plain_split), unfolding(msvc_parser::proofs::TypeSteps::type_by, msvc_nodes::specs::NodeView::type_of))]
 #[inline(always)]
-pub fn plain_type<'a, 'b, L: Limit, A: Allocator>(
+pub fn plain_type<'a, 'b, L: NodeBudget, A: Allocator>(
     parser: &mut Parser<'a, 'b, L, A>,
-    q: StorageClass,
-) -> Result<&'b Type<'a, 'b>, Refused>
-    ensures value { ReadsAs type_at parser.old parser.new result (read_name (rules.plain_type q.0)) }
-    ensures eats { Eats parser.old parser.new result }
+    qualifiers: StorageClass,
+) -> Result<&'b Type<'a, 'b>, Failed>
+    ensures value { ReadsAs type_at parser.old parser.new result (read_name (rules.plain_type qualifiers.0)) }
+    ensures consumes { Consumes parser.old parser.new result }
 {
     let letter = parser.byte()?;
     let both = StorageClass::CONST.union(StorageClass::VOLATILE);
     match letter {
-        b'T' => tagged_type(parser, Tag::Union, TemplateNames::Memorized, q),
-        b'U' => tagged_type(parser, Tag::Struct, TemplateNames::Memorized, q),
-        b'V' => tagged_type(parser, Tag::Class, TemplateNames::Memorized, q),
-        b'A' => pointing_type(parser, Mark::Reference, q),
-        b'B' => pointing_type(parser, Mark::Reference, StorageClass::VOLATILE),
-        b'P' => pointing_type(parser, Mark::Pointer, q),
-        b'Q' => pointing_type(parser, Mark::Pointer, StorageClass::CONST),
-        b'R' => pointing_type(parser, Mark::Pointer, StorageClass::VOLATILE),
-        b'S' => pointing_type(parser, Mark::Pointer, both),
+        b'T' => tagged_type(parser, TagKind::Union, TemplateNames::Memorized, qualifiers),
+        b'U' => tagged_type(
+            parser,
+            TagKind::Struct,
+            TemplateNames::Memorized,
+            qualifiers,
+        ),
+        b'V' => tagged_type(parser, TagKind::Class, TemplateNames::Memorized, qualifiers),
+        b'A' => pointing_type(parser, PointerAffinity::Reference, qualifiers),
+        b'B' => pointing_type(parser, PointerAffinity::Reference, StorageClass::VOLATILE),
+        b'P' => pointing_type(parser, PointerAffinity::Pointer, qualifiers),
+        b'Q' => pointing_type(parser, PointerAffinity::Pointer, StorageClass::CONST),
+        b'R' => pointing_type(parser, PointerAffinity::Pointer, StorageClass::VOLATILE),
+        b'S' => pointing_type(parser, PointerAffinity::Pointer, both),
         b'Y' => array(parser),
-        b'_' => extended_type(parser, q),
+        b'_' => extended_type(parser, qualifiers),
         b'?' => template_parameter(parser),
-        _ => parser.type_of_letter(letter, q),
+        _ => parser.type_of_letter(letter, qualifiers),
     }
 }
 
 /// Reads `POINTEE = ["E"] [storage class] TYPE`.
 #[cycle(readers)]
 #[tactic(auto, using(msvc_parser::proofs::TypeSteps::pointee_is))]
-pub fn pointee<'a, 'b, L: Limit, A: Allocator>(
+pub fn pointee<'a, 'b, L: NodeBudget, A: Allocator>(
     parser: &mut Parser<'a, 'b, L, A>,
-) -> Result<&'b Type<'a, 'b>, Refused>
+) -> Result<&'b Type<'a, 'b>, Failed>
     ensures value { ReadsAs type_at parser.old parser.new result (read_name rules.pointee) }
-    ensures eats { Eats parser.old parser.new result }
+    ensures consumes { Consumes parser.old parser.new result }
 {
     let size = parser.optional_flag(b'E', StorageClass::PTR64);
     let class = parser.optional(OptionalLetters::StorageClasses);
-    any_type(parser, size.union(class))
+    type_(parser, size.union(class))
 }
 
 /// Reads `ARRAY = NUMBER {NUMBER} ["$$C" array qualifier] TYPE`: the first number is how many lengths follow. The
@@ -259,31 +286,31 @@ pub fn pointee<'a, 'b, L: Limit, A: Allocator>(
 #[cycle(readers)]
 #[tactic(auto, using(msvc_parser::proofs::TypeSteps::array_is))]
 #[inline(never)]
-pub fn array<'a, 'b, L: Limit, A: Allocator>(
+pub fn array<'a, 'b, L: NodeBudget, A: Allocator>(
     parser: &mut Parser<'a, 'b, L, A>,
-) -> Result<&'b Type<'a, 'b>, Refused>
+) -> Result<&'b Type<'a, 'b>, Failed>
     ensures value { ReadsAs type_at parser.old parser.new result (read_name rules.array) }
-    ensures eats { Eats parser.old parser.new result }
+    ensures consumes { Consumes parser.old parser.new result }
 {
     let dimension = dimension(parser)?;
     let lengths = lengths(parser, dimension)?;
     let class = array_class(parser)?;
-    let element = any_type(parser, StorageClass::empty())?;
+    let element = type_(parser, StorageClass::empty())?;
     nested_arrays(parser, lengths, element, class)
 }
 
 /// Reads a number greater than 0.
 #[tactic(auto, using(msvc_parser::proofs::TypeSteps::dimension_is))]
 #[inline(never)]
-pub fn dimension<'a, 'b, L: Limit, A: Allocator>(
+pub fn dimension<'a, 'b, L: NodeBudget, A: Allocator>(
     parser: &mut Parser<'a, 'b, L, A>,
-) -> Result<u32, Refused>
+) -> Result<u32, Failed>
     ensures value { ReadsAs (λ n. n) parser.old parser.new result (read_name rules.dimension) }
-    ensures eats { Eats parser.old parser.new result }
+    ensures consumes { Consumes parser.old parser.new result }
 {
     let dimension = parser.number()?;
     if dimension < 1 {
-        return Err(parser.refuse(Message::InvalidArrayDimension(dimension)));
+        return Err(parser.reject(Message::InvalidArrayDimension(dimension)));
     }
     Ok(dimension as u32)
 }
@@ -291,34 +318,34 @@ pub fn dimension<'a, 'b, L: Limit, A: Allocator>(
 /// Reads the qualifiers of each level of an array.
 #[tactic(auto, using(msvc_parser::proofs::TypeSteps::array_class_is))]
 #[inline(never)]
-pub fn array_class<'a, 'b, L: Limit, A: Allocator>(
+pub fn array_class<'a, 'b, L: NodeBudget, A: Allocator>(
     parser: &mut Parser<'a, 'b, L, A>,
-) -> Result<StorageClass, Refused>
+) -> Result<StorageClass, Failed>
     ensures value { ReadsAs (λ q. q.0) parser.old parser.new result (read array_class) }
-    ensures eats { MayEat parser.old parser.new result }
+    ensures consumes { MayConsume parser.old parser.new result }
 {
-    if !parser.eat(b"$$C") {
+    if !parser.consume(b"$$C") {
         return Ok(StorageClass::empty());
     }
     let left = parser.rest.len();
     let Some(letter) = parser.next_byte() else {
-        return Err(parser.refuse_at(Message::UnknownStorageClass, left));
+        return Err(parser.reject_at(Message::UnknownStorageClass, left));
     };
     match letters::array_qualifier(letter) {
         Some(class) => Ok(class),
-        None => Err(parser.refuse_at(Message::UnknownStorageClass, left)),
+        None => Err(parser.reject_at(Message::UnknownStorageClass, left)),
     }
 }
 
 /// Reads exactly `count` lengths of arrays, and counts each array as a node.
 #[tactic(auto, using(msvc_parser::proofs::RowSteps::lengths_go_on))]
 #[inline(never)]
-pub fn lengths<'a, 'b, L: Limit, A: Allocator>(
+pub fn lengths<'a, 'b, L: NodeBudget, A: Allocator>(
     parser: &mut Parser<'a, 'b, L, A>,
     count: u32,
-) -> Result<&'b [i32], Refused>
+) -> Result<&'b [i32], Failed>
     ensures value { ReadsAs (λ zs. zs.now) parser.old parser.new result (read_name (rules.lengths count)) }
-    ensures eats { MayEat parser.old parser.new result }
+    ensures consumes { MayConsume parser.old parser.new result }
 {
     let mut lengths = Vec::new(parser.arena);
     for _ in 0..count {
@@ -334,12 +361,12 @@ pub fn lengths<'a, 'b, L: Limit, A: Allocator>(
 /// Stores an array of these lengths, the outermost first, with qualifiers at each level. It is recursive, since the
 /// borrow checker rejects a reference that a loop reassigns.
 #[tactic(auto, unfolding(msvc_grammar::specs::Grammar::arrays, msvc_nodes::specs::NodeView::type_of))]
-pub fn nested_arrays<'a, 'b, L: Limit, A: Allocator>(
+pub fn nested_arrays<'a, 'b, L: NodeBudget, A: Allocator>(
     parser: &mut Parser<'a, 'b, L, A>,
     lengths: &[i32],
     element: &'b Type<'a, 'b>,
     class: StorageClass,
-) -> Result<&'b Type<'a, 'b>, Refused>
+) -> Result<&'b Type<'a, 'b>, Failed>
     ensures value { ReadsAs type_at parser.old parser.new result
         (with_value (Some (arrays lengths.now (type_of element.now) class.0))) }
     ensures stays { Stays parser.old parser.new result }
@@ -354,31 +381,31 @@ pub fn nested_arrays<'a, 'b, L: Limit, A: Allocator>(
 /// Reads a base type by its second letter.
 #[tactic(auto, using(msvc_parser::proofs::TypeSteps::extended_is), unfolding(msvc_nodes::specs::NodeView::type_of))]
 #[inline(never)]
-pub fn extended_type<'a, 'b, L: Limit, A: Allocator>(
+pub fn extended_type<'a, 'b, L: NodeBudget, A: Allocator>(
     parser: &mut Parser<'a, 'b, L, A>,
-    q: StorageClass,
-) -> Result<&'b Type<'a, 'b>, Refused>
-    ensures value { ReadsAs type_at parser.old parser.new result (read_name (rules.type_after q.0 extended)) }
-    ensures eats { Eats parser.old parser.new result }
+    qualifiers: StorageClass,
+) -> Result<&'b Type<'a, 'b>, Failed>
+    ensures value { ReadsAs type_at parser.old parser.new result (read_name (rules.type_after qualifiers.0 extended)) }
+    ensures consumes { Consumes parser.old parser.new result }
 {
     parser.count_node()?;
     let letter = parser.byte()?;
     match letters::extended_type(letter) {
-        Some(base) => parser.put_type(Type::Base(base, q)),
-        None => Err(parser.refuse(Message::UnknownPrimitiveType)),
+        Some(base) => parser.put_type(Type::Base(base, qualifiers)),
+        None => Err(parser.reject(Message::UnknownPrimitiveType)),
     }
 }
 
 /// Reads the negated number of a template parameter.
 #[tactic(auto, unfolding(msvc_nodes::specs::NodeView::type_of))]
 #[inline(never)]
-pub fn template_parameter<'a, 'b, L: Limit, A: Allocator>(
+pub fn template_parameter<'a, 'b, L: NodeBudget, A: Allocator>(
     parser: &mut Parser<'a, 'b, L, A>,
-) -> Result<&'b Type<'a, 'b>, Refused>
+) -> Result<&'b Type<'a, 'b>, Failed>
     ensures value { ReadsAs type_at parser.old parser.new result
         (λ left s. in_node left s (λ left s. and_then (read_name rules.number left s)
         (λ z left s. Some (numbered number_kind.TemplateParameter (int_wrapping_neg w32 z), left, s)))) }
-    ensures eats { Eats parser.old parser.new result }
+    ensures consumes { Consumes parser.old parser.new result }
 {
     parser.count_node()?;
     let number = parser.number()?;

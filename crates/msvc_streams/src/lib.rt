@@ -1,7 +1,10 @@
-//! Streams of the programs: an output that several owners write to, and an input that flushes it before it reads, so
-//! that no output waits for the next input.
+//! What the programs share: their arguments and their end, an output that several owners write to, and an input that
+//! flushes it before it reads, so that no output waits for the next input.
 #![tactic(auto)]
 
+mod program;
+
+pub use program::{BUFFER_LENGTH, arguments, ended, failure};
 use std::cell::RefCell;
 use std::io::{BufRead, BufReader, Read, Result, Write};
 

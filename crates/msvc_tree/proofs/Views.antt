@@ -2,11 +2,11 @@
 use Rattle.std.proofs.Common.{◌≡◌, ℤ, Box, Global, refl}
 use Rattle.std.proofs.Common.{ap, ◌∙◌}
 use Rattle.msvc_nodes.specs.Trees as tree
-use Rattle.msvc_nodes.specs.declared.kinds.BaseType.TheVariants as base_kind
-use Rattle.msvc_nodes.specs.declared.kinds.Mark.TheVariants as mark_kind
+use Rattle.msvc_nodes.specs.declared.kinds.PrimitiveKind.TheVariants as base_kind
+use Rattle.msvc_nodes.specs.declared.kinds.PointerAffinity.TheVariants as mark_kind
 use Rattle.msvc_nodes.specs.declared.kinds.NumberedType.TheVariants as number_kind
 use Rattle.msvc_nodes.specs.declared.kinds.PlainType.TheVariants as plain_kind
-use Rattle.msvc_nodes.specs.declared.kinds.Tag.TheVariants as tag_kind
+use Rattle.msvc_nodes.specs.declared.kinds.TagKind.TheVariants as tag_kind
 use Rattle.msvc_tree.specs.View.{name_of, operator_of, type_of, names_of, types_of, names_in, types_in, params_of}
 use Rattle.msvc_tree.specs.View.{scope_of}
 use Rattle.msvc_nodes.specs.declared.flags.FuncClass.{FuncClass}

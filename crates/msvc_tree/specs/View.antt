@@ -5,15 +5,15 @@ use Rattle.msvc_nodes.specs.Trees.{type_descriptor, base_class_descriptor, templ
 use Rattle.msvc_nodes.specs.Trees.{no_names, names, plain, base, tagged, numbered, constant_string, pointing, array}
 use Rattle.msvc_nodes.specs.Trees.{function, member_function, member_pointer, variable, table, vcall_thunk, no_types}
 use Rattle.msvc_nodes.specs.Trees.{types}
-use Rattle.msvc_nodes.specs.declared.kinds.BaseType.TheVariants as base_kind
+use Rattle.msvc_nodes.specs.declared.kinds.PrimitiveKind.TheVariants as base_kind
 use Rattle.msvc_nodes.specs.declared.kinds.Guard.TheVariants as guard_kind
-use Rattle.msvc_nodes.specs.declared.kinds.Mark.TheVariants as mark_kind
+use Rattle.msvc_nodes.specs.declared.kinds.PointerAffinity.TheVariants as mark_kind
 use Rattle.msvc_nodes.specs.declared.kinds.NumberedType.TheVariants as number_kind
 use Rattle.msvc_nodes.specs.declared.kinds.PlainOperator.TheVariants as operator_kind
 use Rattle.msvc_nodes.specs.declared.kinds.PlainType.TheVariants as plain_kind
 use Rattle.msvc_nodes.specs.declared.kinds.Spelling.TheVariants as spelling_kind
-use Rattle.msvc_nodes.specs.declared.kinds.Table.TheVariants as table_kind
-use Rattle.msvc_nodes.specs.declared.kinds.Tag.TheVariants as tag_kind
+use Rattle.msvc_nodes.specs.declared.kinds.SpecialTableKind.TheVariants as table_kind
+use Rattle.msvc_nodes.specs.declared.kinds.TagKind.TheVariants as tag_kind
 use Rattle.msvc_tree.specs.declared.tree.Name.{Name, Operator, NonTemplate, Template', Discriminator, ParsedName'}
 use Rattle.msvc_tree.specs.declared.tree.Name.{AnonymousNamespace, AsInterface, Md5, Row_of-Type, end_of-Type}
 use Rattle.msvc_tree.specs.declared.tree.Name.{more_of-Type, Row_of-Name, end_of-Name, more_of-Name}

@@ -9,7 +9,8 @@ ghost use Rattle.msvc_tree.specs.View.{name_of, operator_of, scope_of, type_of};
 use crate::tree::{NameSequence, Operator, Symbol, Type};
 use msvc_nodes::flags::StorageClass;
 use msvc_nodes::kinds::{
-    BaseType, Guard, Mark, NumberedType, PlainOperator, PlainType, Table, Tag,
+    Guard, NumberedType, PlainOperator, PlainType, PointerAffinity, PrimitiveKind,
+    SpecialTableKind, TagKind,
 };
 use msvc_nodes::plain_operators;
 
@@ -53,45 +54,45 @@ pub fn plain_type<'a>(kind: PlainType) -> Type<'a>
 }
 
 /// Makes a base type with its qualifiers.
-pub fn base_type<'a>(kind: BaseType, q: StorageClass) -> Type<'a>
-    ensures { type_of result ≡ base kind q.0 }
+pub fn base_type<'a>(kind: PrimitiveKind, qualifiers: StorageClass) -> Type<'a>
+    ensures { type_of result ≡ base kind qualifiers.0 }
 {
     match kind {
-        BaseType::Void => Type::Void(q),
-        BaseType::Char => Type::Char(q),
-        BaseType::Schar => Type::Schar(q),
-        BaseType::Uchar => Type::Uchar(q),
-        BaseType::Short => Type::Short(q),
-        BaseType::Ushort => Type::Ushort(q),
-        BaseType::Int => Type::Int(q),
-        BaseType::Uint => Type::Uint(q),
-        BaseType::Long => Type::Long(q),
-        BaseType::Ulong => Type::Ulong(q),
-        BaseType::Float => Type::Float(q),
-        BaseType::Double => Type::Double(q),
-        BaseType::Ldouble => Type::Ldouble(q),
-        BaseType::Bool => Type::Bool(q),
-        BaseType::Wchar => Type::Wchar(q),
-        BaseType::Char8 => Type::Char8(q),
-        BaseType::Char16 => Type::Char16(q),
-        BaseType::Char32 => Type::Char32(q),
-        BaseType::Int64 => Type::Int64(q),
-        BaseType::Uint64 => Type::Uint64(q),
-        BaseType::Int128 => Type::Int128(q),
-        BaseType::Uint128 => Type::Uint128(q),
+        PrimitiveKind::Void => Type::Void(qualifiers),
+        PrimitiveKind::Char => Type::Char(qualifiers),
+        PrimitiveKind::Schar => Type::Schar(qualifiers),
+        PrimitiveKind::Uchar => Type::Uchar(qualifiers),
+        PrimitiveKind::Short => Type::Short(qualifiers),
+        PrimitiveKind::Ushort => Type::Ushort(qualifiers),
+        PrimitiveKind::Int => Type::Int(qualifiers),
+        PrimitiveKind::Uint => Type::Uint(qualifiers),
+        PrimitiveKind::Long => Type::Long(qualifiers),
+        PrimitiveKind::Ulong => Type::Ulong(qualifiers),
+        PrimitiveKind::Float => Type::Float(qualifiers),
+        PrimitiveKind::Double => Type::Double(qualifiers),
+        PrimitiveKind::Ldouble => Type::Ldouble(qualifiers),
+        PrimitiveKind::Bool => Type::Bool(qualifiers),
+        PrimitiveKind::Wchar => Type::Wchar(qualifiers),
+        PrimitiveKind::Char8 => Type::Char8(qualifiers),
+        PrimitiveKind::Char16 => Type::Char16(qualifiers),
+        PrimitiveKind::Char32 => Type::Char32(qualifiers),
+        PrimitiveKind::Int64 => Type::Int64(qualifiers),
+        PrimitiveKind::Uint64 => Type::Uint64(qualifiers),
+        PrimitiveKind::Int128 => Type::Int128(qualifiers),
+        PrimitiveKind::Uint128 => Type::Uint128(qualifiers),
     }
 }
 
 /// Makes a class, struct, union, enumeration or alias of its name in its scope, with its qualifiers.
-pub fn tagged_type<'a>(kind: Tag, symbol: Symbol<'a>, q: StorageClass) -> Type<'a>
-    ensures { type_of result ≡ tagged kind (name_of symbol.entry.name) (scope_of symbol.entry.scope) q.0 }
+pub fn tagged_type<'a>(kind: TagKind, symbol: Symbol<'a>, qualifiers: StorageClass) -> Type<'a>
+    ensures { type_of result ≡ tagged kind (name_of symbol.entry.name) (scope_of symbol.entry.scope) qualifiers.0 }
 {
     match kind {
-        Tag::Class => Type::Class(symbol, q),
-        Tag::Struct => Type::Struct(symbol, q),
-        Tag::Union => Type::Union(symbol, q),
-        Tag::Enum => Type::Enum(symbol, q),
-        Tag::Alias => Type::Alias(symbol, q),
+        TagKind::Class => Type::Class(symbol, qualifiers),
+        TagKind::Struct => Type::Struct(symbol, qualifiers),
+        TagKind::Union => Type::Union(symbol, qualifiers),
+        TagKind::Enum => Type::Enum(symbol, qualifiers),
+        TagKind::Alias => Type::Alias(symbol, qualifiers),
     }
 }
 
@@ -107,22 +108,30 @@ pub fn numbered_type<'a>(kind: NumberedType, number: i32) -> Type<'a>
 }
 
 /// Makes a pointer or a reference to a type, with its own qualifiers.
-pub fn pointing_type<'a>(kind: Mark, inner: Box<Type<'a>>, q: StorageClass) -> Type<'a>
-    ensures { type_of result ≡ pointing kind (type_of inner.entry.value) q.0 }
+pub fn pointing_type<'a>(
+    kind: PointerAffinity,
+    inner: Box<Type<'a>>,
+    qualifiers: StorageClass,
+) -> Type<'a>
+    ensures { type_of result ≡ pointing kind (type_of inner.entry.value) qualifiers.0 }
 {
     match kind {
-        Mark::Pointer => Type::Ptr(inner, q),
-        Mark::Reference => Type::Ref(inner, q),
-        Mark::RValueReference => Type::RValueRef(inner, q),
+        PointerAffinity::Pointer => Type::Ptr(inner, qualifiers),
+        PointerAffinity::Reference => Type::Ref(inner, qualifiers),
+        PointerAffinity::RValueReference => Type::RValueRef(inner, qualifiers),
     }
 }
 
 /// Makes a table of virtual functions or bases, of the scope of the base that it is for, with its qualifiers.
-pub fn table_type<'a>(kind: Table, scope: NameSequence<'a>, q: StorageClass) -> Type<'a>
-    ensures { type_of result ≡ table kind (scope_of scope.entry) q.0 }
+pub fn table_type<'a>(
+    kind: SpecialTableKind,
+    scope: NameSequence<'a>,
+    qualifiers: StorageClass,
+) -> Type<'a>
+    ensures { type_of result ≡ table kind (scope_of scope.entry) qualifiers.0 }
 {
     match kind {
-        Table::Functions => Type::CXXVFTable(scope, q),
-        Table::Bases => Type::CXXVBTable(scope, q),
+        SpecialTableKind::Functions => Type::CXXVFTable(scope, qualifiers),
+        SpecialTableKind::Bases => Type::CXXVBTable(scope, qualifiers),
     }
 }

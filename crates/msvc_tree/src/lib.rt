@@ -6,8 +6,8 @@
 #![tactic(auto)]
 
 mod kinds;
-mod made;
 mod parts;
+mod results;
 pub mod to_nodes;
 pub mod to_tree;
 pub mod tree;

@@ -14,11 +14,12 @@ use crate::tree::{CallingConv, Name, NameSequence, Operator, Params, ParseResult
 use crate::variants::{
     NameRef, OperatorRef, TypeRef, name_ref, operator_ref, pointed_class, type_ref,
 };
+use alloc_fuse::Fuse;
 use bitflags::Flags;
 use bumpalo::Bump;
 use bumpalo::collections::into_bump_slice;
 use msvc_nodes::flags::{FuncClass, StorageClass};
-use msvc_nodes::kinds::{Spelling, Table, Tag};
+use msvc_nodes::kinds::{SpecialTableKind, Spelling, TagKind};
 use msvc_nodes::list::List;
 use msvc_nodes::nodes::{self, BaseClass, Function, Scope, Template, TypedSymbol};
 use std::alloc::{AllocError, Global};
@@ -27,15 +28,15 @@ use std::alloc::{AllocError, Global};
 /// Memory that is not written to costs nothing.
 const FIRST_ROOM: usize = 1 << 15;
 
-/// Makes an arena that has room for the nodes of most trees. Fails only when it is out of memory.
-pub fn arena_for_nodes(alloc: Global) -> Result<Bump, AllocError> {
-    Bump::try_with_capacity(alloc, FIRST_ROOM)
+/// Makes an arena for the nodes of most trees. Fails only when it is out of memory.
+pub fn arena_for_nodes(alloc: Global) -> Result<Bump<Fuse>, AllocError> {
+    Bump::try_with_capacity(Fuse::new(alloc), FIRST_ROOM)
 }
 
 /// Converts the tree of a symbol to nodes in `arena`. Fails only when it is out of memory.
 #[cycle(to_nodes)]
 pub fn tree_to_nodes<'a, 'b>(
-    arena: &'b Bump,
+    arena: &'b Bump<Fuse>,
     tree: &'b ParseResult<'a>,
 ) -> Result<TypedSymbol<'a, 'b>, AllocError>
     ensures { IfOk result (λ w. typed_symbol_of w ≡ tree_of tree.now) }
@@ -52,7 +53,7 @@ pub fn tree_to_nodes<'a, 'b>(
 #[cycle(to_nodes)]
 #[inline(always)]
 pub(crate) fn symbol_to_nodes<'a, 'b>(
-    arena: &'b Bump,
+    arena: &'b Bump<Fuse>,
     tree: &'b Symbol<'a>,
 ) -> Result<nodes::Symbol<'a, 'b>, AllocError>
     ensures name { IfOk result (λ s. node_name s.name.now ≡ name_of tree.now.name) }
@@ -70,7 +71,7 @@ pub(crate) fn symbol_to_nodes<'a, 'b>(
 #[cycle(to_nodes)]
 #[inline(never)]
 pub(crate) fn name_to_nodes<'a, 'b>(
-    arena: &'b Bump,
+    arena: &'b Bump<Fuse>,
     tree: &'b Name<'a>,
 ) -> Result<&'b nodes::Name<'a, 'b>, AllocError>
     ensures { IfOk result (λ n. node_name n.now ≡ name_of tree.now) }
@@ -85,7 +86,7 @@ pub(crate) fn name_to_nodes<'a, 'b>(
 #[cycle(to_nodes)]
 #[inline(never)]
 fn any_name_to_nodes<'a, 'b>(
-    arena: &'b Bump,
+    arena: &'b Bump<Fuse>,
     tree: &'b Name<'a>,
 ) -> Result<&'b nodes::Name<'a, 'b>, AllocError>
     ensures { IfOk result (λ n. node_name n.now ≡ name_of tree.now) }
@@ -111,7 +112,7 @@ fn any_name_to_nodes<'a, 'b>(
 #[cycle(to_nodes)]
 #[inline(always)]
 fn operator_to_nodes<'a, 'b>(
-    arena: &'b Bump,
+    arena: &'b Bump<Fuse>,
     tree: &'b Operator<'a>,
 ) -> Result<&'b nodes::Name<'a, 'b>, AllocError>
     ensures { IfOk result (λ n. node_name n.now ≡ operator_of tree.now) }
@@ -119,9 +120,9 @@ fn operator_to_nodes<'a, 'b>(
     match operator_ref(tree) {
         OperatorRef::Plain(plain) => put_name(arena, nodes::Name::Plain(plain)),
         OperatorRef::Guard(guard, number) => put_name(arena, nodes::Name::Guard(guard, number)),
-        OperatorRef::TypeDescriptor(set, described) => {
+        OperatorRef::TypeDescriptor(qualifiers, described) => {
             let described = type_to_nodes(arena, described)?;
-            put_name(arena, nodes::Name::TypeDescriptor(set, described))
+            put_name(arena, nodes::Name::TypeDescriptor(qualifiers, described))
         }
         OperatorRef::BaseClassDescriptor(a, b, c, d) => {
             let place = put_base_class(arena, a, b, c, d)?;
@@ -133,54 +134,56 @@ fn operator_to_nodes<'a, 'b>(
 /// Converts a type to a node.
 #[cycle(to_nodes)]
 pub(crate) fn type_to_nodes<'a, 'b>(
-    arena: &'b Bump,
+    arena: &'b Bump<Fuse>,
     tree: &'b Type<'a>,
 ) -> Result<&'b nodes::Type<'a, 'b>, AllocError>
     ensures { IfOk result (λ t. node_type t.now ≡ type_of tree.now) }
 {
     match type_ref(tree) {
         TypeRef::Plain(plain) => put_type(arena, nodes::Type::Plain(plain)),
-        TypeRef::Base(base, set) => put_type(arena, nodes::Type::Base(base, set)),
-        TypeRef::Tagged(tag, symbol, set) => {
+        TypeRef::Base(base, qualifiers) => put_type(arena, nodes::Type::Base(base, qualifiers)),
+        TypeRef::Tagged(tag, symbol, qualifiers) => {
             let symbol = symbol_to_nodes(arena, symbol)?;
-            put_tagged(arena, tag, symbol, set)
+            put_tagged(arena, tag, symbol, qualifiers)
         }
         TypeRef::Numbered(kind, number) => put_type(arena, nodes::Type::Numbered(kind, number)),
         TypeRef::ConstantString(text) => put_type(arena, nodes::Type::ConstantString(text)),
-        TypeRef::Pointing(mark, inner, set) => {
+        TypeRef::Pointing(affinity, inner, qualifiers) => {
             let inner = type_to_nodes(arena, inner)?;
-            put_type(arena, nodes::Type::Pointing(mark, set, inner))
+            put_type(arena, nodes::Type::Pointing(affinity, qualifiers, inner))
         }
-        TypeRef::Array(length, inner, set) => {
+        TypeRef::Array(length, inner, qualifiers) => {
             let inner = type_to_nodes(arena, inner)?;
-            put_type(arena, nodes::Type::Array(length, set, inner))
+            put_type(arena, nodes::Type::Array(length, qualifiers, inner))
         }
-        TypeRef::Function(convention, parameters, set, returned) => {
+        TypeRef::Function(convention, parameters, qualifiers, returned) => {
             let parameters = types_to_nodes(arena, parameters)?;
             let returned = type_to_nodes(arena, returned)?;
-            put_function(arena, convention, parameters, set, returned)
+            put_function(arena, convention, parameters, qualifiers, returned)
         }
-        TypeRef::MemberFunction(class, convention, parameters, set, returned) => {
+        TypeRef::MemberFunction(class, convention, parameters, qualifiers, returned) => {
             let parameters = types_to_nodes(arena, parameters)?;
             let returned = type_to_nodes(arena, returned)?;
-            put_member_function(arena, class, convention, parameters, set, returned)
+            put_member_function(arena, class, convention, parameters, qualifiers, returned)
         }
-        TypeRef::MemberPointer(class, convention, parameters, set, returned) => {
+        TypeRef::MemberPointer(class, convention, parameters, qualifiers, returned) => {
             let Some(pointed) = pointed_class(tree) else {
                 unreachable!();
             };
             let symbol = symbol_to_nodes(arena, pointed)?;
             let parameters = types_to_nodes(arena, parameters)?;
             let returned = type_to_nodes(arena, returned)?;
-            put_member_pointer(arena, symbol, class, convention, parameters, set, returned)
+            put_member_pointer(
+                arena, symbol, class, convention, parameters, qualifiers, returned,
+            )
         }
-        TypeRef::Variable(inner, kind, set) => {
+        TypeRef::Variable(inner, kind, qualifiers) => {
             let inner = type_to_nodes(arena, inner)?;
-            put_type(arena, nodes::Type::Variable(kind, set, inner))
+            put_type(arena, nodes::Type::Variable(kind, qualifiers, inner))
         }
-        TypeRef::Table(table, scope, set) => {
+        TypeRef::Table(table, scope, qualifiers) => {
             let names = names_to_nodes(arena, scope)?;
-            put_table(arena, table, names, set)
+            put_table(arena, table, names, qualifiers)
         }
         TypeRef::VcallThunk(number, convention) => {
             put_type(arena, nodes::Type::VcallThunk(number, convention))
@@ -192,7 +195,7 @@ pub(crate) fn type_to_nodes<'a, 'b>(
 #[cycle(to_nodes)]
 #[inline(always)]
 pub(crate) fn names_to_nodes<'a, 'b>(
-    arena: &'b Bump,
+    arena: &'b Bump<Fuse>,
     tree: &'b NameSequence<'a>,
 ) -> Result<List<'b, &'b nodes::Name<'a, 'b>>, AllocError>
     ensures { IfOk result (λ l. node_names l.items.now ≡ scope_of tree.now) }
@@ -210,7 +213,7 @@ pub(crate) fn names_to_nodes<'a, 'b>(
 #[cycle(to_nodes)]
 #[inline(always)]
 pub(crate) fn types_to_nodes<'a, 'b>(
-    arena: &'b Bump,
+    arena: &'b Bump<Fuse>,
     tree: &'b Params<'a>,
 ) -> Result<List<'b, &'b nodes::Type<'a, 'b>>, AllocError>
     ensures { IfOk result (λ l. node_types l.items.now ≡ params_of tree.now) }
@@ -226,7 +229,7 @@ pub(crate) fn types_to_nodes<'a, 'b>(
 
 /// Moves a value into the arena.
 #[inline(always)]
-fn put<'b, T: Copy>(arena: &'b Bump, node: T) -> Result<&'b T, AllocError>
+fn put<'b, T: Copy>(arena: &'b Bump<Fuse>, node: T) -> Result<&'b T, AllocError>
     ensures { IfOk result (λ t. t.now ≡ node) }
 {
     match arena.try_alloc(node) {
@@ -237,7 +240,7 @@ fn put<'b, T: Copy>(arena: &'b Bump, node: T) -> Result<&'b T, AllocError>
 
 /// Moves the node of a name into the arena.
 fn put_name<'a, 'b>(
-    arena: &'b Bump,
+    arena: &'b Bump<Fuse>,
     node: nodes::Name<'a, 'b>,
 ) -> Result<&'b nodes::Name<'a, 'b>, AllocError>
     ensures { IfOk result (λ n. node_name n.now ≡ node_name node.entry) }
@@ -247,7 +250,7 @@ fn put_name<'a, 'b>(
 
 /// Moves the node of a type into the arena.
 fn put_type<'a, 'b>(
-    arena: &'b Bump,
+    arena: &'b Bump<Fuse>,
     node: nodes::Type<'a, 'b>,
 ) -> Result<&'b nodes::Type<'a, 'b>, AllocError>
     ensures { IfOk result (λ t. node_type t.now ≡ node_type node.entry) }
@@ -257,7 +260,7 @@ fn put_type<'a, 'b>(
 
 /// Makes the node of a template with its arguments.
 fn put_template<'a, 'b>(
-    arena: &'b Bump,
+    arena: &'b Bump<Fuse>,
     name: &'b nodes::Name<'a, 'b>,
     arguments: List<'b, &'b nodes::Type<'a, 'b>>,
 ) -> Result<&'b nodes::Name<'a, 'b>, AllocError>
@@ -276,7 +279,7 @@ fn put_template<'a, 'b>(
 
 /// Makes the node of a scope that is a symbol with its type.
 fn put_nested<'a, 'b>(
-    arena: &'b Bump,
+    arena: &'b Bump<Fuse>,
     symbol: TypedSymbol<'a, 'b>,
 ) -> Result<&'b nodes::Name<'a, 'b>, AllocError>
     ensures { IfOk result (λ n. node_name n.now
@@ -288,7 +291,7 @@ fn put_nested<'a, 'b>(
 
 /// Moves the place of a base class into the arena.
 fn put_base_class<'b>(
-    arena: &'b Bump,
+    arena: &'b Bump<Fuse>,
     member: i32,
     pointer: i32,
     entry: i32,
@@ -310,21 +313,21 @@ fn put_base_class<'b>(
 
 /// Makes the node of a class, struct, union, enumeration or alias.
 fn put_tagged<'a, 'b>(
-    arena: &'b Bump,
-    tag: Tag,
+    arena: &'b Bump<Fuse>,
+    tag: TagKind,
     symbol: nodes::Symbol<'a, 'b>,
-    set: StorageClass,
+    qualifiers: StorageClass,
 ) -> Result<&'b nodes::Type<'a, 'b>, AllocError>
     ensures { IfOk result (λ t. node_type t.now
-        ≡ tagged tag (node_name symbol.entry.name.now) (node_names symbol.entry.scope.now) set.0) }
+        ≡ tagged tag (node_name symbol.entry.name.now) (node_names symbol.entry.scope.now) qualifiers.0) }
 {
     let symbol = put(arena, symbol)?;
-    put_type(arena, nodes::Type::Tagged(tag, set, symbol))
+    put_type(arena, nodes::Type::Tagged(tag, qualifiers, symbol))
 }
 
 /// Makes the node of a plain function.
 fn put_function<'a, 'b>(
-    arena: &'b Bump,
+    arena: &'b Bump<Fuse>,
     convention: CallingConv,
     parameters: List<'b, &'b nodes::Type<'a, 'b>>,
     qualifiers: StorageClass,
@@ -348,7 +351,7 @@ fn put_function<'a, 'b>(
 
 /// Makes the node of a member function.
 fn put_member_function<'a, 'b>(
-    arena: &'b Bump,
+    arena: &'b Bump<Fuse>,
     class: FuncClass,
     convention: CallingConv,
     parameters: List<'b, &'b nodes::Type<'a, 'b>>,
@@ -374,7 +377,7 @@ fn put_member_function<'a, 'b>(
 
 /// Makes the node of a pointer to a member function.
 fn put_member_pointer<'a, 'b>(
-    arena: &'b Bump,
+    arena: &'b Bump<Fuse>,
     symbol: nodes::Symbol<'a, 'b>,
     class: FuncClass,
     convention: CallingConv,
@@ -402,15 +405,15 @@ fn put_member_pointer<'a, 'b>(
 
 /// Makes the node of a table of virtual functions or bases.
 fn put_table<'a, 'b>(
-    arena: &'b Bump,
-    which: Table,
+    arena: &'b Bump<Fuse>,
+    which: SpecialTableKind,
     names: List<'b, &'b nodes::Name<'a, 'b>>,
-    set: StorageClass,
+    qualifiers: StorageClass,
 ) -> Result<&'b nodes::Type<'a, 'b>, AllocError>
-    ensures { IfOk result (λ t. node_type t.now ≡ table which (node_names names.entry.items.now) set.0) }
+    ensures { IfOk result (λ t. node_type t.now ≡ table which (node_names names.entry.items.now) qualifiers.0) }
 {
     let scope = put(arena, Scope { names: names.items })?;
-    put_type(arena, nodes::Type::Table(which, set, scope))
+    put_type(arena, nodes::Type::Table(which, qualifiers, scope))
 }
 
 /// Makes the node of a name that is a text, by how it is spelled.

@@ -11,12 +11,12 @@ ghost use Rattle.msvc_nodes.specs.Trees.{anonymous, base_class_descriptor};
 ghost use Rattle.msvc_tree.specs.View.{name_of, type_of, scope_of, params_of, tree_of};
 
 use crate::kinds::{base_type, guard_operator, numbered_type, plain_operator, plain_type};
-use crate::made::{boxed_made, put_made};
 use crate::parts::{
-    array_made, constant_string_made, function_made, member_function_made, member_pointer_made,
-    nested_made, pointing_made, symbol_made, table_made, tagged_made, template_made,
-    type_descriptor_made, typed_symbol_made, variable_made,
+    array_from, constant_string_from, function_from, member_function_from, member_pointer_from,
+    nested_from, pointing_from, symbol_from, table_from, tagged_from, template_from,
+    type_descriptor_from, typed_symbol_from, variable_from,
 };
+use crate::results::{box_ok, push_ok};
 use crate::tree::{Name, NameSequence, Operator, Params, ParseResult, Symbol, Type};
 use msvc_nodes::nodes;
 use std::alloc::{AllocError, Global};
@@ -29,7 +29,7 @@ pub fn nodes_to_tree<'a, 'b>(
 ) -> Result<ParseResult<'a>, AllocError>
     ensures { IfOk result (λ r. tree_of r ≡ typed_symbol_of whole.now) }
 {
-    typed_symbol_made(
+    typed_symbol_from(
         symbol_to_tree(alloc, &whole.symbol),
         type_to_tree(alloc, whole.symbol_type),
     )
@@ -45,7 +45,7 @@ pub(crate) fn symbol_to_tree<'a, 'b>(
     ensures name { IfOk result (λ s. name_of s.name ≡ node_name symbol.now.name.now) }
     ensures scope { IfOk result (λ s. scope_of s.scope ≡ node_names symbol.now.scope.now) }
 {
-    symbol_made(
+    symbol_from(
         name_to_tree(alloc, symbol.name),
         names_to_tree(alloc, symbol.scope),
     )
@@ -83,19 +83,16 @@ fn any_name_to_tree<'a, 'b>(
         nodes::Name::AnonymousDigits(digits) => digits_to_tree(alloc, *digits),
         nodes::Name::Plain(operator) => Ok(Name::Operator(plain_operator(*operator))),
         nodes::Name::Guard(guard, number) => Ok(Name::Operator(guard_operator(*guard, *number))),
-        nodes::Name::TypeDescriptor(set, described) => {
-            type_descriptor_made(*set, boxed_to_tree(alloc, *described))
+        nodes::Name::TypeDescriptor(qualifiers, described) => {
+            type_descriptor_from(*qualifiers, boxed_to_tree(alloc, *described))
         }
         nodes::Name::BaseClassDescriptor(place) => Ok(base_class(*place)),
-        nodes::Name::Template(template) => template_made(
-            boxed_made(alloc, name_to_tree(alloc, template.name)),
+        nodes::Name::Template(template) => template_from(
+            box_ok(alloc, name_to_tree(alloc, template.name)),
             types_to_tree(alloc, template.arguments),
         ),
         nodes::Name::Discriminator(number) => Ok(Name::Discriminator(*number)),
-        nodes::Name::Nested(symbol) => nested_made(boxed_made(
-            alloc,
-            nodes_to_tree(alloc, *symbol),
-        )),
+        nodes::Name::Nested(symbol) => nested_from(box_ok(alloc, nodes_to_tree(alloc, *symbol))),
     }
 }
 
@@ -109,32 +106,32 @@ pub(crate) fn type_to_tree<'a, 'b>(
 {
     match node {
         nodes::Type::Plain(plain) => Ok(plain_type(*plain)),
-        nodes::Type::Base(base, set) => Ok(base_type(*base, *set)),
-        nodes::Type::Tagged(tag, set, symbol) => {
-            tagged_made(*tag, symbol_to_tree(alloc, *symbol), *set)
+        nodes::Type::Base(base, qualifiers) => Ok(base_type(*base, *qualifiers)),
+        nodes::Type::Tagged(tag, qualifiers, symbol) => {
+            tagged_from(*tag, symbol_to_tree(alloc, *symbol), *qualifiers)
         }
         nodes::Type::Numbered(kind, number) => Ok(numbered_type(*kind, *number)),
-        nodes::Type::ConstantString(text) => constant_string_made(copied_bytes(alloc, *text)),
-        nodes::Type::Pointing(mark, set, inner) => {
-            pointing_made(*mark, boxed_to_tree(alloc, *inner), *set)
+        nodes::Type::ConstantString(text) => constant_string_from(copied_bytes(alloc, *text)),
+        nodes::Type::Pointing(affinity, qualifiers, inner) => {
+            pointing_from(*affinity, boxed_to_tree(alloc, *inner), *qualifiers)
         }
-        nodes::Type::Array(length, set, inner) => {
-            array_made(*length, boxed_to_tree(alloc, *inner), *set)
+        nodes::Type::Array(length, qualifiers, inner) => {
+            array_from(*length, boxed_to_tree(alloc, *inner), *qualifiers)
         }
-        nodes::Type::Function(function) => function_made(
+        nodes::Type::Function(function) => function_from(
             function.convention,
             types_to_tree(alloc, function.parameters),
             function.qualifiers,
             boxed_to_tree(alloc, function.returned),
         ),
-        nodes::Type::MemberFunction(function) => member_function_made(
+        nodes::Type::MemberFunction(function) => member_function_from(
             function.class,
             function.convention,
             types_to_tree(alloc, function.parameters),
             function.qualifiers,
             boxed_to_tree(alloc, function.returned),
         ),
-        nodes::Type::MemberPointer(symbol, function) => member_pointer_made(
+        nodes::Type::MemberPointer(symbol, function) => member_pointer_from(
             symbol_to_tree(alloc, *symbol),
             function.class,
             function.convention,
@@ -142,11 +139,11 @@ pub(crate) fn type_to_tree<'a, 'b>(
             function.qualifiers,
             boxed_to_tree(alloc, function.returned),
         ),
-        nodes::Type::Variable(kind, set, inner) => {
-            variable_made(boxed_to_tree(alloc, *inner), *kind, *set)
+        nodes::Type::Variable(kind, qualifiers, inner) => {
+            variable_from(boxed_to_tree(alloc, *inner), *kind, *qualifiers)
         }
-        nodes::Type::Table(table, set, scope) => {
-            table_made(*table, names_to_tree(alloc, scope.names), *set)
+        nodes::Type::Table(table, qualifiers, scope) => {
+            table_from(*table, names_to_tree(alloc, scope.names), *qualifiers)
         }
         nodes::Type::VcallThunk(number, convention) => Ok(Type::VCallThunk(*number, *convention)),
     }
@@ -161,7 +158,7 @@ fn boxed_to_tree<'a, 'b>(
 ) -> Result<Box<Type<'a>>, AllocError>
     ensures { IfOk result (λ b. type_of b.value ≡ node_type node.now) }
 {
-    boxed_made(alloc, type_to_tree(alloc, node))
+    box_ok(alloc, type_to_tree(alloc, node))
 }
 
 /// Converts the names of a scope.
@@ -175,7 +172,7 @@ pub(crate) fn names_to_tree<'a, 'b>(
 {
     let mut made = Vec::with_capacity(alloc, names.len())?;
     for name in names {
-        put_made(&mut made, name_to_tree(alloc, *name))?;
+        push_ok(&mut made, name_to_tree(alloc, *name))?;
     }
     Ok(NameSequence { names: made })
 }
@@ -191,7 +188,7 @@ pub(crate) fn types_to_tree<'a, 'b>(
 {
     let mut made = Vec::with_capacity(alloc, types.len())?;
     for item in types {
-        put_made(&mut made, type_to_tree(alloc, *item))?;
+        push_ok(&mut made, type_to_tree(alloc, *item))?;
     }
     Ok(Params { types: made })
 }

@@ -12,7 +12,8 @@ use crate::tree::{
 };
 use msvc_nodes::flags::{FuncClass, StorageClass};
 use msvc_nodes::kinds::{
-    BaseType, Guard, Mark, NumberedType, PlainOperator, PlainType, Spelling, Table, Tag,
+    Guard, NumberedType, PlainOperator, PlainType, PointerAffinity, PrimitiveKind,
+    SpecialTableKind, Spelling, TagKind,
 };
 use msvc_nodes::plain_operators;
 
@@ -44,11 +45,11 @@ pub enum OperatorRef<'t, 'a> {
 #[derive(Clone, Copy)]
 pub enum TypeRef<'t, 'a> {
     Plain(PlainType),
-    Base(BaseType, StorageClass),
-    Tagged(Tag, &'t Symbol<'a>, StorageClass),
+    Base(PrimitiveKind, StorageClass),
+    Tagged(TagKind, &'t Symbol<'a>, StorageClass),
     Numbered(NumberedType, i32),
     ConstantString(&'t [u8]),
-    Pointing(Mark, &'t Type<'a>, StorageClass),
+    Pointing(PointerAffinity, &'t Type<'a>, StorageClass),
     /// The length of the outermost level, the elements, the qualifiers.
     Array(i32, &'t Type<'a>, StorageClass),
     /// The convention, the parameters, the function's qualifiers, the type that it returns.
@@ -58,7 +59,7 @@ pub enum TypeRef<'t, 'a> {
     /// The same of the member function that is pointed to.
     MemberPointer(FuncClass, CallingConv, &'t Params<'a>, StorageClass, &'t Type<'a>),
     Variable(&'t Type<'a>, VarStorageKind, StorageClass),
-    Table(Table, &'t NameSequence<'a>, StorageClass),
+    Table(SpecialTableKind, &'t NameSequence<'a>, StorageClass),
     VcallThunk(i32, CallingConv),
 }
 
@@ -100,8 +101,8 @@ pub fn operator_ref<'t, 'a>(tree: &'t Operator<'a>) -> OperatorRef<'t, 'a>
             Guard::Thread,
             *number,
         ),
-        Operator::RTTITypeDescriptor(set, described) => {
-            return OperatorRef::TypeDescriptor(*set, described);
+        Operator::RTTITypeDescriptor(qualifiers, described) => {
+            return OperatorRef::TypeDescriptor(*qualifiers, described);
         }
         Operator::RTTIBaseClassDescriptor(a, b, c, d) => {
             return OperatorRef::BaseClassDescriptor(*a, *b, *c, *d);
@@ -115,16 +116,36 @@ pub fn operator_ref<'t, 'a>(tree: &'t Operator<'a>) -> OperatorRef<'t, 'a>
 pub fn type_ref<'t, 'a>(tree: &'t Type<'a>) -> TypeRef<'t, 'a>
     ensures { type_in result ≡ without_class (type_of tree.now) }
 {
-    let (base, set) = match tree {
+    let (base, qualifiers) = match tree {
         Type::None => return TypeRef::Plain(PlainType::None),
         Type::ConstantString(text) => return TypeRef::ConstantString(text),
         Type::EmptyParameterPack => return TypeRef::Plain(PlainType::EmptyPack),
         Type::RTTIType => return TypeRef::Plain(PlainType::Rtti),
-        Type::Class(symbol, set) => return TypeRef::Tagged(Tag::Class, symbol, *set),
-        Type::Struct(symbol, set) => return TypeRef::Tagged(Tag::Struct, symbol, *set),
-        Type::Union(symbol, set) => return TypeRef::Tagged(Tag::Union, symbol, *set),
-        Type::Enum(symbol, set) => return TypeRef::Tagged(Tag::Enum, symbol, *set),
-        Type::Alias(symbol, set) => return TypeRef::Tagged(Tag::Alias, symbol, *set),
+        Type::Class(symbol, qualifiers) => return TypeRef::Tagged(
+            TagKind::Class,
+            symbol,
+            *qualifiers,
+        ),
+        Type::Struct(symbol, qualifiers) => return TypeRef::Tagged(
+            TagKind::Struct,
+            symbol,
+            *qualifiers,
+        ),
+        Type::Union(symbol, qualifiers) => return TypeRef::Tagged(
+            TagKind::Union,
+            symbol,
+            *qualifiers,
+        ),
+        Type::Enum(symbol, qualifiers) => return TypeRef::Tagged(
+            TagKind::Enum,
+            symbol,
+            *qualifiers,
+        ),
+        Type::Alias(symbol, qualifiers) => return TypeRef::Tagged(
+            TagKind::Alias,
+            symbol,
+            *qualifiers,
+        ),
         Type::Constant(number) => return TypeRef::Numbered(NumberedType::Constant, *number),
         Type::TemplateParameterWithIndex(number) => {
             return TypeRef::Numbered(NumberedType::TemplateParameter, *number);
@@ -134,47 +155,71 @@ pub fn type_ref<'t, 'a>(tree: &'t Type<'a>) -> TypeRef<'t, 'a>
         }
         Type::VarArgs => return TypeRef::Plain(PlainType::Variadic),
         Type::Nullptr => return TypeRef::Plain(PlainType::Nullptr),
-        Type::Ptr(inner, set) => return TypeRef::Pointing(Mark::Pointer, inner, *set),
-        Type::Ref(inner, set) => return TypeRef::Pointing(Mark::Reference, inner, *set),
-        Type::RValueRef(inner, set) => return TypeRef::Pointing(Mark::RValueReference, inner, *set),
-        Type::Array(length, inner, set) => return TypeRef::Array(*length, inner, *set),
-        Type::NonMemberFunction(convention, parameters, set, returned) => {
-            return TypeRef::Function(*convention, parameters, *set, returned);
+        Type::Ptr(inner, qualifiers) => return TypeRef::Pointing(
+            PointerAffinity::Pointer,
+            inner,
+            *qualifiers,
+        ),
+        Type::Ref(inner, qualifiers) => return TypeRef::Pointing(
+            PointerAffinity::Reference,
+            inner,
+            *qualifiers,
+        ),
+        Type::RValueRef(inner, qualifiers) => return TypeRef::Pointing(
+            PointerAffinity::RValueReference,
+            inner,
+            *qualifiers,
+        ),
+        Type::Array(length, inner, qualifiers) => return TypeRef::Array(
+            *length,
+            inner,
+            *qualifiers,
+        ),
+        Type::NonMemberFunction(convention, parameters, qualifiers, returned) => {
+            return TypeRef::Function(*convention, parameters, *qualifiers, returned);
         }
-        Type::MemberFunction(class, convention, parameters, set, returned) => {
-            return TypeRef::MemberFunction(*class, *convention, parameters, *set, returned);
+        Type::MemberFunction(class, convention, parameters, qualifiers, returned) => {
+            return TypeRef::MemberFunction(*class, *convention, parameters, *qualifiers, returned);
         }
-        Type::MemberFunctionPointer(_, class, convention, parameters, set, returned) => {
-            return TypeRef::MemberPointer(*class, *convention, parameters, *set, returned);
+        Type::MemberFunctionPointer(_, class, convention, parameters, qualifiers, returned) => {
+            return TypeRef::MemberPointer(*class, *convention, parameters, *qualifiers, returned);
         }
-        Type::Var(inner, kind, set) => return TypeRef::Variable(inner, *kind, *set),
-        Type::CXXVFTable(scope, set) => return TypeRef::Table(Table::Functions, scope, *set),
-        Type::CXXVBTable(scope, set) => return TypeRef::Table(Table::Bases, scope, *set),
+        Type::Var(inner, kind, qualifiers) => return TypeRef::Variable(inner, *kind, *qualifiers),
+        Type::CXXVFTable(scope, qualifiers) => return TypeRef::Table(
+            SpecialTableKind::Functions,
+            scope,
+            *qualifiers,
+        ),
+        Type::CXXVBTable(scope, qualifiers) => return TypeRef::Table(
+            SpecialTableKind::Bases,
+            scope,
+            *qualifiers,
+        ),
         Type::VCallThunk(number, convention) => return TypeRef::VcallThunk(*number, *convention),
-        Type::Void(set) => (BaseType::Void, *set),
-        Type::Char(set) => (BaseType::Char, *set),
-        Type::Schar(set) => (BaseType::Schar, *set),
-        Type::Uchar(set) => (BaseType::Uchar, *set),
-        Type::Short(set) => (BaseType::Short, *set),
-        Type::Ushort(set) => (BaseType::Ushort, *set),
-        Type::Int(set) => (BaseType::Int, *set),
-        Type::Uint(set) => (BaseType::Uint, *set),
-        Type::Long(set) => (BaseType::Long, *set),
-        Type::Ulong(set) => (BaseType::Ulong, *set),
-        Type::Float(set) => (BaseType::Float, *set),
-        Type::Double(set) => (BaseType::Double, *set),
-        Type::Ldouble(set) => (BaseType::Ldouble, *set),
-        Type::Bool(set) => (BaseType::Bool, *set),
-        Type::Wchar(set) => (BaseType::Wchar, *set),
-        Type::Char8(set) => (BaseType::Char8, *set),
-        Type::Char16(set) => (BaseType::Char16, *set),
-        Type::Char32(set) => (BaseType::Char32, *set),
-        Type::Int64(set) => (BaseType::Int64, *set),
-        Type::Uint64(set) => (BaseType::Uint64, *set),
-        Type::Int128(set) => (BaseType::Int128, *set),
-        Type::Uint128(set) => (BaseType::Uint128, *set),
+        Type::Void(qualifiers) => (PrimitiveKind::Void, *qualifiers),
+        Type::Char(qualifiers) => (PrimitiveKind::Char, *qualifiers),
+        Type::Schar(qualifiers) => (PrimitiveKind::Schar, *qualifiers),
+        Type::Uchar(qualifiers) => (PrimitiveKind::Uchar, *qualifiers),
+        Type::Short(qualifiers) => (PrimitiveKind::Short, *qualifiers),
+        Type::Ushort(qualifiers) => (PrimitiveKind::Ushort, *qualifiers),
+        Type::Int(qualifiers) => (PrimitiveKind::Int, *qualifiers),
+        Type::Uint(qualifiers) => (PrimitiveKind::Uint, *qualifiers),
+        Type::Long(qualifiers) => (PrimitiveKind::Long, *qualifiers),
+        Type::Ulong(qualifiers) => (PrimitiveKind::Ulong, *qualifiers),
+        Type::Float(qualifiers) => (PrimitiveKind::Float, *qualifiers),
+        Type::Double(qualifiers) => (PrimitiveKind::Double, *qualifiers),
+        Type::Ldouble(qualifiers) => (PrimitiveKind::Ldouble, *qualifiers),
+        Type::Bool(qualifiers) => (PrimitiveKind::Bool, *qualifiers),
+        Type::Wchar(qualifiers) => (PrimitiveKind::Wchar, *qualifiers),
+        Type::Char8(qualifiers) => (PrimitiveKind::Char8, *qualifiers),
+        Type::Char16(qualifiers) => (PrimitiveKind::Char16, *qualifiers),
+        Type::Char32(qualifiers) => (PrimitiveKind::Char32, *qualifiers),
+        Type::Int64(qualifiers) => (PrimitiveKind::Int64, *qualifiers),
+        Type::Uint64(qualifiers) => (PrimitiveKind::Uint64, *qualifiers),
+        Type::Int128(qualifiers) => (PrimitiveKind::Int128, *qualifiers),
+        Type::Uint128(qualifiers) => (PrimitiveKind::Uint128, *qualifiers),
     };
-    TypeRef::Base(base, set)
+    TypeRef::Base(base, qualifiers)
 }
 
 /// Returns the class of a pointer to a member function, or `None` for any other type.

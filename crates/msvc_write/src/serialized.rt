@@ -8,12 +8,12 @@ ghost use Rattle.msvc_write.specs.Serialized.{IsTextOf};
 
 use msvc_nodes::error::Error;
 use msvc_nodes::flags::DemangleFlags;
-use msvc_print::{Text, print, text_of};
+use msvc_print::{Text, into_string_lossy, print};
 use msvc_tree::to_nodes::{arena_for_nodes, tree_to_nodes};
 use msvc_tree::tree::ParseResult;
 use std::alloc::{AllocError, Global};
 
-/// Bytes that a declaration has room for before it grows: more than most need.
+/// Bytes to reserve for a declaration: more than most need.
 const FIRST_BYTES: usize = 128;
 
 /// Prints the declaration of a tree to a text without a limit.
@@ -35,7 +35,7 @@ fn declared(
 /// Prints the declaration of the symbol `input` under `flags`. Bits that are no flag change nothing. If a name of the
 /// symbol is not UTF-8, each piece that is not becomes U+FFFD.
 ///
-/// Fails only if memory is refused.
+/// Fails only if an allocation fails.
 pub fn serialize(
     alloc: Global,
     input: &ParseResult<'_>,
@@ -45,6 +45,6 @@ pub fn serialize(
     ensures memory { IfErr result (λ e. e ≡ Memory) }
 {
     let out = declared(alloc, input, flags)?;
-    let text = text_of(alloc, out)?;
+    let text = into_string_lossy(alloc, out)?;
     Ok(text)
 }

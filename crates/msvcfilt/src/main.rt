@@ -12,52 +12,42 @@ mod streams;
 
 use clap::Command;
 use msvc_demangler::{DemangleFlags, Fault, Watched, filter_text};
-use msvc_streams::{Input, Shared};
+use msvc_streams::{BUFFER_LENGTH, Input, Shared, arguments, ended, failure};
 use std::alloc::Global;
 use std::cell::RefCell;
 use std::fs::File;
 use std::io::{BufReader, BufWriter, ErrorKind, Read, Write};
 use std::process::ExitCode;
-use std::{env, io};
 use streams::Output;
 
-/// Bytes that are read, or written, at once.
-const BUFFER_LENGTH: usize = 64 * 1024;
-
-/// The exit status if the arguments are wrong.
-const WRONG_ARGUMENTS: u8 = 2;
+/// The program's name.
+const PROGRAM: &str = "msvcfilt";
 
 fn main(rt: HostRuntime) -> ExitCode {
-    let words = match words(&rt) {
-        Ok(words) => words,
-        Err(error) if error.kind() == ErrorKind::InvalidData => {
-            let _ = eprintln!(rt; "msvcfilt: argument is not UTF-8");
-            return ExitCode::from(WRONG_ARGUMENTS);
-        }
-        Err(_) => return failure(&rt, Fault::Memory),
-    };
-    let program = Command::new(rt.alloc(), "msvcfilt").version("0.11.0");
-    match options::read(rt.alloc(), program, &words) {
+    match arguments(&rt, PROGRAM) {
+        Ok(words) => perform(&rt, &words),
+        Err(status) => status,
+    }
+}
+
+/// Does what the words of the command line ask for, and returns the exit status.
+fn perform(rt: &HostRuntime, words: &[String]) -> ExitCode {
+    let program = Command::new(rt.alloc(), PROGRAM).version("0.11.0");
+    match options::read(rt.alloc(), program, words) {
         Ok((matches, flags)) => {
             let names = matches
                 .get_strs("file")
                 .unwrap_or(&[options::STANDARD_INPUT]);
-            run(&rt, names, flags)
+            run(rt, names, flags)
         }
-        Err(error) => show(&rt, &error),
+        Err(error) => show(rt, &error),
     }
-}
-
-/// Returns the arguments. One that isn't UTF-8 is invalid data.
-fn words(rt: &HostRuntime) -> io::Result<Vec<String>> {
-    let words = env::args(rt)?.collect(rt.alloc())?;
-    Ok(words)
 }
 
 /// Prints the help, the version or a mistake in the arguments, and returns the exit status.
 fn show(rt: &HostRuntime, error: &clap::Error) -> ExitCode {
     if error.kind() == clap::error::ErrorKind::OutOfMemory {
-        return failure(rt, Fault::Memory);
+        return failure(rt, PROGRAM, Fault::Memory);
     }
     match error.print(rt) {
         Ok(()) => ExitCode::from(error.exit_code() as u8),
@@ -68,7 +58,7 @@ fn show(rt: &HostRuntime, error: &clap::Error) -> ExitCode {
 /// Filters the files, and flushes the text, also after a fault. Returns the exit status.
 fn run(rt: &HostRuntime, names: &[&str], flags: DemangleFlags) -> ExitCode {
     let Ok(held) = BufWriter::with_capacity(rt.alloc(), BUFFER_LENGTH, rt.stdout()) else {
-        return failure(rt, Fault::Memory);
+        return failure(rt, PROGRAM, Fault::Memory);
     };
     let output = RefCell::new(Output::new(held));
     let done = filter_files(rt, names, &output, flags);
@@ -77,7 +67,7 @@ fn run(rt: &HostRuntime, names: &[&str], flags: DemangleFlags) -> ExitCode {
     match flushed.and(done) {
         Ok(status) => status,
         Err(Fault::Write) => write_failure(rt, output.is_closed),
-        Err(fault) => failure(rt, fault),
+        Err(fault) => failure(rt, PROGRAM, fault),
     }
 }
 
@@ -112,7 +102,7 @@ fn filter_file(
         match File::open(rt, name) {
             Ok(file) => filter(rt.alloc(), file, output, flags),
             Err(error) => {
-                let _ = eprintln!(rt; "msvcfilt: {name}: {error}");
+                let _ = eprintln!(rt; "{PROGRAM}: {name}: {error}");
                 return Ok(false);
             }
         }
@@ -139,19 +129,15 @@ fn filter<R: Read + Drop>(
     };
     let mut input = Watched::new(Input::new(held, output));
     let done = filter_text(alloc, &mut input, &mut Watched::new(Shared(output)), flags);
-    if input.into_inner().flush_failed {
-        Err(Fault::Write)
-    } else {
-        done
-    }
+    ended(input, done)
 }
 
 /// Reports that a file can't be read to its end.
 fn report_read(rt: &HostRuntime, name: &str) {
     let _ = if name == options::STANDARD_INPUT {
-        eprintln!(rt; "msvcfilt: read failed")
+        eprintln!(rt; "{PROGRAM}: read failed")
     } else {
-        eprintln!(rt; "msvcfilt: {name}: read failed")
+        eprintln!(rt; "{PROGRAM}: {name}: read failed")
     };
 }
 
@@ -160,15 +146,5 @@ fn write_failure(rt: &HostRuntime, is_closed: bool) -> ExitCode {
     if is_closed {
         return ExitCode::FAILURE;
     }
-    failure(rt, Fault::Write)
-}
-
-/// Reports why the run ended, and returns the status of a failure.
-fn failure(rt: &HostRuntime, fault: Fault) -> ExitCode {
-    let _ = match fault {
-        Fault::Read => eprintln!(rt; "msvcfilt: read failed"),
-        Fault::Write => eprintln!(rt; "msvcfilt: write failed"),
-        Fault::Memory => eprintln!(rt; "msvcfilt: out of memory"),
-    };
-    ExitCode::FAILURE
+    failure(rt, PROGRAM, Fault::Write)
 }

@@ -10,58 +10,34 @@
 mod streams;
 
 use msvc_demangler::{Fault, Watched, undname_run};
-use msvc_streams::{Input, Shared};
+use msvc_streams::{BUFFER_LENGTH, Input, Shared, arguments, ended, failure};
 use std::cell::RefCell;
-use std::env;
-use std::io::{self, BufReader, BufWriter, ErrorKind, Write};
+use std::io::{BufReader, BufWriter, Write};
 use std::process::ExitCode;
 use streams::{Outputs, Remarks};
 
-/// Bytes that are read, or written, at once.
-const BUFFER_LENGTH: usize = 64 * 1024;
+/// The program's name.
+const PROGRAM: &str = "undname";
 
 /// What `--version` prints.
 const VERSION: &str = "undname 0.11.0";
 
-/// The exit status if an argument isn't UTF-8.
-const UNFIT_ARGUMENT: u8 = 2;
-
 fn main(rt: HostRuntime) -> ExitCode {
-    let words = match words(&rt) {
-        Ok(words) => words,
-        Err(error) if error.kind() == ErrorKind::InvalidData => {
-            let _ = eprintln!(rt; "undname: argument is not UTF-8");
-            return ExitCode::from(UNFIT_ARGUMENT);
-        }
-        Err(_) => return failure(&rt, Fault::Memory),
-    };
-    let done = match words.first() {
-        Some(word) if word.as_str() == "--version" => show_version(&rt),
-        _ => run(&rt, &words),
-    };
-    match done {
-        Ok(()) => ExitCode::SUCCESS,
-        Err(fault) => failure(&rt, fault),
+    match arguments(&rt, PROGRAM) {
+        Ok(words) => match perform(&rt, words.get(1..).unwrap_or(&[])) {
+            Ok(()) => ExitCode::SUCCESS,
+            Err(fault) => failure(&rt, PROGRAM, fault),
+        },
+        Err(status) => status,
     }
 }
 
-/// Returns the arguments after the program's name. An argument that isn't UTF-8 is invalid data.
-fn words(rt: &HostRuntime) -> io::Result<Vec<String>> {
-    let mut words = Vec::new(rt.alloc());
-    for word in env::args(rt)?.skip(1) {
-        words.push(word)?;
+/// Does what the words ask for that stand after the program's name.
+fn perform(rt: &HostRuntime, words: &[String]) -> Result<(), Fault> {
+    match words.first() {
+        Some(word) if word.as_str() == "--version" => show_version(rt),
+        _ => run(rt, words),
     }
-    Ok(words)
-}
-
-/// Reports why the run ended, and returns the status of a failure.
-fn failure(rt: &HostRuntime, fault: Fault) -> ExitCode {
-    let _ = match fault {
-        Fault::Read => eprintln!(rt; "undname: read failed"),
-        Fault::Write => eprintln!(rt; "undname: write failed"),
-        Fault::Memory => eprintln!(rt; "undname: out of memory"),
-    };
-    ExitCode::FAILURE
 }
 
 /// Prints the version.
@@ -89,11 +65,7 @@ fn answer(rt: &HostRuntime, words: &[String], outputs: &RefCell<Outputs>) -> Res
     let mut out = Watched::new(Shared(outputs));
     let mut err = Watched::new(Remarks(outputs));
     let done = undname_run(rt.alloc(), words, &mut input, &mut out, &mut err);
-    if input.into_inner().flush_failed {
-        Err(Fault::Write)
-    } else {
-        done
-    }
+    ended(input, done)
 }
 
 /// Buffers a stream that is written in large pieces.

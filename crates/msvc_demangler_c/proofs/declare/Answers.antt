@@ -1,7 +1,7 @@
 use Rattle.std.proofs.Common.{◌≡◌, IfSome, List, ℕ, string_bytes}
 use Rattle.msvc_demangler.specs.Errors.{error_text}
 use Rattle.msvc_demangler.specs.Limits.{limits_of}
-use Rattle.msvc_demangler_c.proofs.Refusals.{at, found, of_ok}
+use Rattle.msvc_demangler_c.proofs.Rejections.{at, found, of_ok}
 use Rattle.msvc_c_calls.specs.Calls.{declared, not_read, out_of_memory}
 use Rattle.msvc_demangler_c.proofs.declare.Goals as goal
 

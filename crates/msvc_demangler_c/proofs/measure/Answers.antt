@@ -1,5 +1,5 @@
 use Rattle.msvc_demangler.specs.Limits.{limit_of_number}
-use Rattle.msvc_demangler_c.proofs.Refusals as refusals
+use Rattle.msvc_demangler_c.proofs.Rejections as refusals
 use Rattle.msvc_c_calls.specs.Calls.{measured, not_measured, out_of_memory}
 use Rattle.msvc_demangler_c.proofs.measure.Goals as goal
 

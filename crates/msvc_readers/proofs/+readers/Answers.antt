@@ -16,14 +16,14 @@ use Rattle.msvc_grammar.specs.Counts.{name_count, type_count}
 use Rattle.msvc_grammar.specs.Grammar.{named_symbol, template_inside, template_kept}
 use Rattle.msvc_grammar.specs.Letters.{base_types, compound_letters, digits, encoding_letters, function_classes, rows_of}
 use Rattle.msvc_parser.specs.Parser.{Frame, byte_here, frame_of, indexed, is_of_symbol}
-use Rattle.msvc_parser.specs.Parser.{kept_name, known_name_of, memorized_of}
+use Rattle.msvc_parser.specs.Parser.{add_template_name, known_name_of, memorized_of}
 use Rattle.msvc_parser.specs.Parser.{found_or, parameters_stop, state_of, type_of_letter}
 use Rattle.msvc_grammar.specs.Reads.{and_then, emptied, put_apart, put_back, read, read_name, type_known, with_value}
 use Rattle.msvc_grammar.specs.Rules.{after, encoding, encoding_after, lookup, nested_name, parameter, parameters}
 use Rattle.msvc_grammar.specs.Rules.{plain_type, qualified_name, scope}
 use Rattle.msvc_grammar.specs.Sorts.{member_of}
 use Rattle.msvc_parser.specs.Rows.{named_at}
-use Rattle.msvc_parser.specs.Stack.{here, outer}
+use Rattle.msvc_parser.specs.NestedList.{current, enclosing}
 use Rattle.msvc_grammar.specs.State.{State}
 use Rattle.msvc_parser.specs.declared.entries.MemorizedName.{MemorizedName}
 use Rattle.msvc_parser.specs.declared.entries.MemorizedType.{MemorizedType}
@@ -34,15 +34,15 @@ pub types::plain_type-returns-in_default-clause-value : goal.types::plain_type-r
 types::plain_type-returns-in_default-clause-value g t c =
     let first : byte_here c.args.parser.now.rest.now (state_of c.args.parser.now)
     ≡ Some (c.in_ok-letter.letter, c.byte.new.self.rest.now, state_of c.byte.new.self) = c.in_ok-letter.ensures.value in
-    let same : type_by c.args.q.0 (lookup c.in_ok-letter.letter compound_letters) c.byte.new.self.rest.now
+    let same : type_by c.args.qualifiers.0 (lookup c.in_ok-letter.letter compound_letters) c.byte.new.self.rest.now
     (state_of c.byte.new.self)
     ≡ and_then (with_value (lookup c.in_ok-letter.letter digits) c.byte.new.self.rest.now (state_of c.byte.new.self))
     (λ i left s. type_known (slice_get s.types i) left s) = search (rules, referred_step) in
-    let read : read_name (plain_type c.args.q.0) c.args.parser.now.rest.now (state_of c.args.parser.now)
-    ≡ type_of_letter c.args.q.0 c.in_ok-letter.letter c.byte.new.self.rest.now (state_of c.byte.new.self) =
-    plain_letter c.args.q.0 c.in_ok-letter.letter c.args.parser.now.rest.now c.byte.new.self.rest.now
+    let read : read_name (plain_type c.args.qualifiers.0) c.args.parser.now.rest.now (state_of c.args.parser.now)
+    ≡ type_of_letter c.args.qualifiers.0 c.in_ok-letter.letter c.byte.new.self.rest.now (state_of c.byte.new.self) =
+    plain_letter c.args.qualifiers.0 c.in_ok-letter.letter c.args.parser.now.rest.now c.byte.new.self.rest.now
     (state_of c.args.parser.now) (state_of c.byte.new.self) first
-    ∙ ap (found_or (option_map (λ b. base b c.args.q.0) (lookup c.in_ok-letter.letter base_types))
+    ∙ ap (found_or (option_map (λ b. base b c.args.qualifiers.0) (lookup c.in_ok-letter.letter base_types))
     c.byte.new.self.rest.now (state_of c.byte.new.self)) same in
     rw read c.type_of_letter.ensures.value
 
@@ -84,20 +84,21 @@ symbols::encoding-returns-in-None-clause-value g t c =
     (state_of c.next_byte.new.self) first
     ∙ others
     ∙ no_member_letter c.in-Some.letter c.next_byte.new.self.rest.now (state_of c.next_byte.new.self) none in
-    rw c.refuse.ensures.why read
+    rw c.reject.ensures.last_error read
 
 -- the new one goes after those so far
 pub qualified_names::scope-names-preserved : goal.qualified_names::scope-names-preserved
 qualified_names::scope-names-preserved g t c =
     let kept : frame_of c.nested_name.new.parser ≡ frame_of c.names.parser =
-    c.in_ok-name.ensures.eats.1 ∙ c.eat.ensures.kept in
+    c.in_ok-name.ensures.consumes.1 ∙ c.consume.ensures.kept in
     let shorter : length c.nested_name.new.parser.rest.now < length c.names.parser.rest.now = search rules in
-    let items : here c.list_name.new.parser.listed_names ≡ here c.names.parser.listed_names ++ c.in_ok-name.name ∷ [] =
+    let items : current c.list_name.new.parser.listed_names ≡ current c.names.parser.listed_names ++ c.in_ok-name.name ∷
+    [] =
     ap (λ (f : Frame _ _). f.listed_names) c.in_ok-list_name.ensures.kept
     ∙ ap (λ (f : Frame _ _). f.listed_names ++ c.in_ok-name.name ∷ []) kept in
-    let seen : map name_at (here c.list_name.new.parser.listed_names)
-    ≡ map name_at (here c.names.parser.listed_names) ++ name_at c.in_ok-name.name ∷ [] =
-    ap (map name_at) items ∙ map_last name_at (here c.names.parser.listed_names) c.in_ok-name.name in
+    let seen : map name_at (current c.list_name.new.parser.listed_names)
+    ≡ map name_at (current c.names.parser.listed_names) ++ name_at c.in_ok-name.name ∷ [] =
+    ap (map name_at) items ∙ map_last name_at (current c.names.parser.listed_names) c.in_ok-name.name in
     let none : after (64 ∷ []) c.names.parser.rest.now ≡ None = search rules in
     let read : read_name nested_name c.names.parser.rest.now (state_of c.names.parser)
     ≡ Some (name_at c.in_ok-name.name, c.nested_name.new.parser.rest.now, state_of c.nested_name.new.parser) =
@@ -107,12 +108,12 @@ qualified_names::scope-names-preserved g t c =
       ap (λ (ns : List NameTree). with_front ns (read_name scope c.list_name.new.parser.rest.now
           (state_of c.list_name.new.parser)))
           seen
-          ∙ ap (λ l. with_front (map name_at (here c.names.parser.listed_names) ++ name_at c.in_ok-name.name ∷ [])
+          ∙ ap (λ l. with_front (map name_at (current c.names.parser.listed_names) ++ name_at c.in_ok-name.name ∷ [])
           (read_name scope l (state_of c.list_name.new.parser))) rest
-          ∙ ap (λ (s : State). with_front (map name_at (here c.names.parser.listed_names)
+          ∙ ap (λ (s : State). with_front (map name_at (current c.names.parser.listed_names)
           ++ name_at c.in_ok-name.name ∷ [])
           (read_name scope c.nested_name.new.parser.rest.now s)) state
-          ∙ sym (scope_more (map name_at (here c.names.parser.listed_names)) c.names.parser.rest.now
+          ∙ sym (scope_more (map name_at (current c.names.parser.listed_names)) c.names.parser.rest.now
           c.nested_name.new.parser.rest.now
           (state_of c.names.parser) (state_of c.nested_name.new.parser) (name_at c.in_ok-name.name) none read)
           ∙ c.names.invariant.0,
@@ -126,13 +127,13 @@ qualified_names::scope-names-preserved g t c =
 -- the new one goes after those so far
 pub parameters::parameters-parameters-preserved : goal.parameters::parameters-parameters-preserved
 parameters::parameters-parameters-preserved g t c =
-    let items : here c.list_type.new.parser.listed_types ≡ here c.parameters.parser.listed_types
+    let items : current c.list_type.new.parser.listed_types ≡ current c.parameters.parser.listed_types
     ++ c.in_ok-parameter.parameter ∷ [] =
     ap (λ (f : Frame _ _). f.listed_types) c.in_ok-list_type.ensures.kept
-    ∙ ap (λ (f : Frame _ _). f.listed_types ++ c.in_ok-parameter.parameter ∷ []) c.in_ok-parameter.ensures.eats.1 in
-    let seen : map type_at (here c.list_type.new.parser.listed_types)
-    ≡ map type_at (here c.parameters.parser.listed_types) ++ type_at c.in_ok-parameter.parameter ∷ [] =
-    ap (map type_at) items ∙ map_last type_at (here c.parameters.parser.listed_types) c.in_ok-parameter.parameter in
+    ∙ ap (λ (f : Frame _ _). f.listed_types ++ c.in_ok-parameter.parameter ∷ []) c.in_ok-parameter.ensures.consumes.1 in
+    let seen : map type_at (current c.list_type.new.parser.listed_types)
+    ≡ map type_at (current c.parameters.parser.listed_types) ++ type_at c.in_ok-parameter.parameter ∷ [] =
+    ap (map type_at) items ∙ map_last type_at (current c.parameters.parser.listed_types) c.in_ok-parameter.parameter in
     let none : parameters_stop c.parameters.parser.rest.now ≡ None = search rules in
     let read : read_name parameter c.parameters.parser.rest.now (state_of c.parameters.parser)
     ≡ Some (type_at c.in_ok-parameter.parameter, c.parameter.new.parser.rest.now, state_of c.parameter.new.parser) =
@@ -142,21 +143,21 @@ parameters::parameters-parameters-preserved g t c =
       ap (λ (ns : List TypeTree). with_front ns (read_name parameters c.list_type.new.parser.rest.now
           (state_of c.list_type.new.parser)))
           seen
-          ∙ ap (λ l. with_front (map type_at (here c.parameters.parser.listed_types)
+          ∙ ap (λ l. with_front (map type_at (current c.parameters.parser.listed_types)
           ++ type_at c.in_ok-parameter.parameter ∷ [])
           (read_name parameters l (state_of c.list_type.new.parser))) rest
-          ∙ ap (λ (s : State). with_front (map type_at (here c.parameters.parser.listed_types)
+          ∙ ap (λ (s : State). with_front (map type_at (current c.parameters.parser.listed_types)
           ++ type_at c.in_ok-parameter.parameter ∷ [])
           (read_name parameters c.parameter.new.parser.rest.now s)) state
-          ∙ sym (parameters_more (map type_at (here c.parameters.parser.listed_types)) c.parameters.parser.rest.now
+          ∙ sym (parameters_more (map type_at (current c.parameters.parser.listed_types)) c.parameters.parser.rest.now
           c.parameter.new.parser.rest.now
           (state_of c.parameters.parser) (state_of c.parameter.new.parser) (type_at c.in_ok-parameter.parameter) none read)
           ∙ c.parameters.invariant.0,
-      omega (arith, c.in_ok-parameter.ensures.eats.0, ap length rest, c.parameters.invariant.1),
+      omega (arith, c.in_ok-parameter.ensures.consumes.0, ap length rest, c.parameters.invariant.1),
       c.parameters.invariant.2,
       frame_types _ _ _ _ (frame_of c.parameters.parser) (frame_of c.parameter.new.parser)
           (frame_of c.list_type.new.parser) c.in_ok-parameter.parameter _
-          c.parameters.invariant.3 c.in_ok-parameter.ensures.eats.1 c.in_ok-list_type.ensures.kept,
+          c.parameters.invariant.3 c.in_ok-parameter.ensures.consumes.1 c.in_ok-list_type.ensures.kept,
     )
 
 -- a symbol of its name, its scope and its type
@@ -187,43 +188,43 @@ qualified_names::template_name-returns-clause-value g t c =
     let s : State = state_of c.args.parser.now in
     let n : NameTree = name_at c.in_ok-template.template in
     let inner : State = state_of c.template.new.parser in
-    let around = c.open_template-enclosing.ensures.outer in
+    let around = c.open_template-saved.ensures.enclosing in
     let entered : record s {
-      names = map known_name_of (here c.open_template-enclosing.new.self.names);
-      types = map memorized_of (here c.open_template-enclosing.new.self.types);
+      names = map known_name_of (current c.open_template-saved.new.self.names);
+      types = map memorized_of (current c.open_template-saved.new.self.types);
     } ≡ emptied s =
     ap (λ (ns : List (MemorizedName _ _)). record s {
       names = map known_name_of ns;
-      types = map memorized_of (here
-          c.open_template-enclosing.new.self.types);
+      types = map memorized_of (current
+          c.open_template-saved.new.self.types);
     })
-    c.open_template-enclosing.ensures.here.0
+    c.open_template-saved.ensures.current.0
     ∙ ap (λ (es : List (MemorizedType _ _)). record s { names = []; types = map memorized_of es })
-    c.open_template-enclosing.ensures.here.1 in
+    c.open_template-saved.ensures.current.1 in
     let inside : read template_inside c.args.parser.now.rest.now (emptied s)
     ≡ Some (n, c.template.new.parser.rest.now, inner) =
     ap (read template_inside c.args.parser.now.rest.now) (sym entered) ∙ c.in_ok-template.ensures.value in
-    let names : here c.close_template.new.self.names ≡ here c.args.parser.now.memorized.names =
-    c.close_template.ensures.here.0
-    ∙ ap (drop c.open_template-enclosing.result.names)
-    (ap (λ (f : Frame _ _). f.names) c.in_ok-template.ensures.eats.1 ∙ around.0)
-    ∙ drop_at (outer c.args.parser.now.memorized.names) (here c.args.parser.now.memorized.names)
-    c.open_template-enclosing.result.names
-    (sym c.open_template-enclosing.ensures.place.0) in
-    let types : here c.close_template.new.self.types ≡ here c.args.parser.now.memorized.types =
-    c.close_template.ensures.here.1
-    ∙ ap (drop c.open_template-enclosing.result.types)
-    (ap (λ (f : Frame _ _). f.types) c.in_ok-template.ensures.eats.1 ∙ around.1)
-    ∙ drop_at (outer c.args.parser.now.memorized.types) (here c.args.parser.now.memorized.types)
-    c.open_template-enclosing.result.types
-    (sym c.open_template-enclosing.ensures.place.1) in
+    let names : current c.close_template.new.self.names ≡ current c.args.parser.now.backrefs.names =
+    c.close_template.ensures.current.0
+    ∙ ap (drop c.open_template-saved.result.names)
+    (ap (λ (f : Frame _ _). f.names) c.in_ok-template.ensures.consumes.1 ∙ around.0)
+    ∙ drop_at (enclosing c.args.parser.now.backrefs.names) (current c.args.parser.now.backrefs.names)
+    c.open_template-saved.result.names
+    (sym c.open_template-saved.ensures.place.0) in
+    let types : current c.close_template.new.self.types ≡ current c.args.parser.now.backrefs.types =
+    c.close_template.ensures.current.1
+    ∙ ap (drop c.open_template-saved.result.types)
+    (ap (λ (f : Frame _ _). f.types) c.in_ok-template.ensures.consumes.1 ∙ around.1)
+    ∙ drop_at (enclosing c.args.parser.now.backrefs.types) (current c.args.parser.now.backrefs.types)
+    c.open_template-saved.result.types
+    (sym c.open_template-saved.ensures.place.1) in
     let left : record inner {
-      names = map known_name_of (here c.close_template.new.self.names);
-      types = map memorized_of (here c.close_template.new.self.types);
+      names = map known_name_of (current c.close_template.new.self.names);
+      types = map memorized_of (current c.close_template.new.self.types);
     } ≡ put_back s inner =
     ap (λ (ns : List (MemorizedName _ _)). record inner {
       names = map known_name_of ns;
-      types = map memorized_of (here
+      types = map memorized_of (current
           c.close_template.new.self.types);
     })
     names
@@ -232,44 +233,51 @@ qualified_names::template_name-returns-clause-value g t c =
     ≡ Some (
       n,
       c.template.new.parser.rest.now,
-      kept_name (is_of_symbol c.args.templates) n (record inner {
-        names = map known_name_of (here c.close_template.new.self.names);
-        types = map memorized_of (here c.close_template.new.self.types);
+      add_template_name (is_of_symbol c.args.templates) n (record inner {
+        names = map known_name_of (current c.close_template.new.self.names);
+        types = map memorized_of (current c.close_template.new.self.types);
       }),
     ) =
     template_kept_step (is_of_symbol c.args.templates) c.args.parser.now.rest.now s
-    ∙ ap (λ o. and_then (put_apart s o) (λ m l u. Some (m, l, kept_name (is_of_symbol c.args.templates) m u))) inside
-    ∙ ap (λ (u : State). Some (n, c.template.new.parser.rest.now, kept_name (is_of_symbol c.args.templates) n u)) (sym left) in
-    rw read_all c.kept_name.ensures.value
+    ∙ ap (λ o. and_then (put_apart s o) (λ m l u. Some (m, l, add_template_name (is_of_symbol c.args.templates) m u)))
+    inside
+    ∙ ap (λ (u : State). Some (
+      n,
+      c.template.new.parser.rest.now,
+      add_template_name (is_of_symbol c.args.templates) n
+          u,
+    )) (sym left) in
+    rw read_all c.add_template_name.ensures.value
 
 -- what was counted for a parameter is the number of its nodes
 
 pub parameters::parameter-since-nodes-requires : goal.parameters::parameter-since-nodes-requires
 parameters::parameter-since-nodes-requires g t c =
-    let made : g.L.Limit.made c.any_type.new.parser.limit ≡ g.L.Limit.made c.digit.new.self.limit
-    + type_count g.L.Limit.weight (type_at c.in_ok-parameter.parameter) =
-    type_made _ _ (state_of c.digit.new.self) _ _ (state_of c.any_type.new.parser) c.in_ok-parameter.ensures.value in
+    let made : g.L.NodeBudget.used c.type_.new.parser.limit ≡ g.L.NodeBudget.used c.digit.new.self.limit
+    + type_count g.L.NodeBudget.weight (type_at c.in_ok-parameter.parameter) =
+    type_made _ _ (state_of c.digit.new.self) _ _ (state_of c.type_.new.parser) c.in_ok-parameter.ensures.value in
     omega (arith, made)
 
-pub parameters::parameter-memorize_type-requires : goal.parameters::parameter-memorize_type-requires
-parameters::parameter-memorize_type-requires g t c =
-    let made : g.L.Limit.made c.any_type.new.parser.limit ≡ g.L.Limit.made c.digit.new.self.limit
-    + type_count g.L.Limit.weight (type_at c.in_ok-parameter.parameter) =
-    type_made _ _ (state_of c.digit.new.self) _ _ (state_of c.any_type.new.parser) c.in_ok-parameter.ensures.value in
+pub parameters::parameter-add_type-requires : goal.parameters::parameter-add_type-requires
+parameters::parameter-add_type-requires g t c =
+    let made : g.L.NodeBudget.used c.type_.new.parser.limit ≡ g.L.NodeBudget.used c.digit.new.self.limit
+    + type_count g.L.NodeBudget.weight (type_at c.in_ok-parameter.parameter) =
+    type_made _ _ (state_of c.digit.new.self) _ _ (state_of c.type_.new.parser) c.in_ok-parameter.ensures.value in
     omega (arith, made, c.since-nodes.ensures)
 
 -- and for a template
 
 pub qualified_names::template_name-since-nodes-requires : goal.qualified_names::template_name-since-nodes-requires
 qualified_names::template_name-since-nodes-requires g t c =
-    let made : g.L.Limit.made c.template.new.parser.limit ≡ g.L.Limit.made c.args.parser.now.limit
-    + name_count g.L.Limit.weight (name_at c.in_ok-template.template) =
+    let made : g.L.NodeBudget.used c.template.new.parser.limit ≡ g.L.NodeBudget.used c.args.parser.now.limit
+    + name_count g.L.NodeBudget.weight (name_at c.in_ok-template.template) =
     template_made _ _ _ _ (state_of c.template.new.parser) c.in_ok-template.ensures.value in
     omega (arith, made)
 
-pub qualified_names::template_name-kept_name-requires : goal.qualified_names::template_name-kept_name-requires
-qualified_names::template_name-kept_name-requires g t c =
-    let made : g.L.Limit.made c.template.new.parser.limit ≡ g.L.Limit.made c.args.parser.now.limit
-    + name_count g.L.Limit.weight (name_at c.in_ok-template.template) =
+pub qualified_names::template_name-add_template_name-requires :
+    goal.qualified_names::template_name-add_template_name-requires
+qualified_names::template_name-add_template_name-requires g t c =
+    let made : g.L.NodeBudget.used c.template.new.parser.limit ≡ g.L.NodeBudget.used c.args.parser.now.limit
+    + name_count g.L.NodeBudget.weight (name_at c.in_ok-template.template) =
     template_made _ _ _ _ (state_of c.template.new.parser) c.in_ok-template.ensures.value in
     omega (arith, made, c.since-nodes.ensures)

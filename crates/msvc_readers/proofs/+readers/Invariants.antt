@@ -2,7 +2,7 @@ use Rattle.std.proofs.Common.{ℕ, List, ◌≡◌, ◌≤◌, ◌+◌, ◌*◌,
 use Rattle.std.specs.Prelude.{map}
 use Rattle.msvc_nodes.specs.NodeView.{name_at, type_at}
 use Rattle.msvc_parser.specs.Parser.{frame_of, state_of}
-use Rattle.msvc_parser.specs.Stack.{here, outer}
+use Rattle.msvc_parser.specs.NestedList.{current, enclosing}
 use Rattle.msvc_grammar.specs.Reads.{read_name}
 use Rattle.msvc_grammar.specs.Rules.{parameters, scope}
 use Rattle.msvc_parser.proofs.RowSteps.{with_front}
@@ -13,14 +13,14 @@ use Rattle.msvc_readers.proofs.+readers.Given as goal
 abbrev level : List ℕ → ℕ → ℕ
 level left n = 12 * length left + n
 
-abbrev pub decreases-types::any_type : goal.decreases-types::any_type
-decreases-types::any_type g l = level l.parser.now.rest.now 1
+abbrev pub decreases-types::type_ : goal.decreases-types::type_
+decreases-types::type_ g l = level l.parser.now.rest.now 1
 
 abbrev pub decreases-types::array : goal.decreases-types::array
 decreases-types::array g l = level l.parser.now.rest.now 3
 
-abbrev pub decreases-types::formed_type : goal.decreases-types::formed_type
-decreases-types::formed_type g l = level l.parser.now.rest.now 6
+abbrev pub decreases-types::prefixed_type : goal.decreases-types::prefixed_type
+decreases-types::prefixed_type g l = level l.parser.now.rest.now 6
 
 abbrev pub decreases-function_types::function_type : goal.decreases-function_types::function_type
 decreases-function_types::function_type g l = level l.parser.now.rest.now 4
@@ -37,8 +37,8 @@ decreases-function_types::function g l = level l.parser.now.rest.now 7
 abbrev pub decreases-parameters::function_parameters : goal.decreases-parameters::function_parameters
 decreases-parameters::function_parameters g l = level l.parser.now.rest.now 5
 
-abbrev pub decreases-qualified_names::marked_name : goal.decreases-qualified_names::marked_name
-decreases-qualified_names::marked_name g l = level l.parser.now.rest.now 7
+abbrev pub decreases-qualified_names::locally_scoped_name : goal.decreases-qualified_names::locally_scoped_name
+decreases-qualified_names::locally_scoped_name g l = level l.parser.now.rest.now 7
 
 abbrev pub decreases-function_types::member : goal.decreases-function_types::member
 decreases-function_types::member g l = level l.parser.now.rest.now 7
@@ -103,8 +103,8 @@ decreases-special_names::type_descriptor g l = level l.parser.now.rest.now 8
 abbrev pub decreases-symbols::template_symbol : goal.decreases-symbols::template_symbol
 decreases-symbols::template_symbol g l = level l.parser.now.rest.now 7
 
-abbrev pub decreases-types::requalified : goal.decreases-types::requalified
-decreases-types::requalified g l = level l.parser.now.rest.now 5
+abbrev pub decreases-types::cv_type : goal.decreases-types::cv_type
+decreases-types::cv_type g l = level l.parser.now.rest.now 5
 
 abbrev pub decreases-types::marked_member_pointer : goal.decreases-types::marked_member_pointer
 decreases-types::marked_member_pointer g l = level l.parser.now.rest.now 5
@@ -124,14 +124,14 @@ decreases-types::pointed_function g l = level l.parser.now.rest.now 5
 -- the names so far, before what is read of the rest, are what is read of all; those that others gather stay
 abbrev pub invariant-qualified_names::scope-names : goal.invariant-qualified_names::scope-names
 invariant-qualified_names::scope-names g l =
-    (with_front (map name_at (here l.parser.listed_names)) (read_name scope l.parser.rest.now (state_of l.parser))
+    (with_front (map name_at (current l.parser.listed_names)) (read_name scope l.parser.rest.now (state_of l.parser))
     ≡ read_name scope l.fn.parser.rest.now (state_of l.fn.parser))
     × (length l.parser.rest.now ≤ length l.fn.parser.rest.now)
-    × (l.checkpoint ≡ length (outer l.fn.parser.listed_names))
+    × (l.checkpoint ≡ length (enclosing l.fn.parser.listed_names))
     × (frame_of l.parser
     ≡ record (frame_of l.fn.parser) {
-      listed_names = here l.parser.listed_names;
-      names_before = outer l.fn.parser.listed_names ++ here l.fn.parser.listed_names;
+      listed_names = current l.parser.listed_names;
+      names_before = enclosing l.fn.parser.listed_names ++ current l.fn.parser.listed_names;
     })
 
 abbrev pub decreases-qualified_names::scope-names : goal.decreases-qualified_names::scope-names
@@ -140,14 +140,15 @@ decreases-qualified_names::scope-names g l = length l.parser.rest.now
 -- the parameters so far, before what is read of the rest, are what is read of all; those that others gather stay
 abbrev pub invariant-parameters::parameters-parameters : goal.invariant-parameters::parameters-parameters
 invariant-parameters::parameters-parameters g l =
-    (with_front (map type_at (here l.parser.listed_types)) (read_name parameters l.parser.rest.now (state_of l.parser))
+    (with_front (map type_at (current l.parser.listed_types)) (read_name parameters l.parser.rest.now (state_of
+    l.parser))
     ≡ read_name parameters l.fn.parser.rest.now (state_of l.fn.parser))
     × (length l.parser.rest.now ≤ length l.fn.parser.rest.now)
-    × (l.checkpoint ≡ length (outer l.fn.parser.listed_types))
+    × (l.checkpoint ≡ length (enclosing l.fn.parser.listed_types))
     × (frame_of l.parser
     ≡ record (frame_of l.fn.parser) {
-      listed_types = here l.parser.listed_types;
-      types_before = outer l.fn.parser.listed_types ++ here l.fn.parser.listed_types;
+      listed_types = current l.parser.listed_types;
+      types_before = enclosing l.fn.parser.listed_types ++ current l.fn.parser.listed_types;
     })
 
 abbrev pub decreases-parameters::parameters-parameters : goal.decreases-parameters::parameters-parameters

@@ -1,8 +1,8 @@
 use Rattle.std.proofs.Common.{◌≡◌, ◌+◌, ◌-◌, ◌++◌, ◌∷◌, [], ◌∙◌, drop, take, map, ap, subst, arith, length-drop}
 use Rattle.msvc_demangler.specs.Filtered.{declared, kept}
-use Rattle.msvc_demangler.specs.Scans.{ArePartsUpTo}
-use Rattle.msvc_demangler.proofs.Within.{parts-further, text-further, text-stays}
-use Rattle.msvc_demangler.proofs.Written.{to_end}
+use Rattle.msvc_demangler.specs.WordStates.{ArePartsUpTo}
+use Rattle.msvc_demangler.proofs.ScanParts.{parts-further, text-further, text-stays}
+use Rattle.msvc_demangler.proofs.CallSequence.{to_end}
 use Rattle.msvc_demangler.proofs.filter.filter_piece.Goals as goal
 
 pub symbols-preserved-in-Some : goal.symbols-preserved-in-Some

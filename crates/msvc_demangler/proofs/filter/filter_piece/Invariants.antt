@@ -1,6 +1,6 @@
 use Rattle.std.proofs.Common.{◌≡◌, ◌≤◌, ◌-◌, List, length}
 use Rattle.msvc_demangler.specs.Filtered.{Part, text_of_parts}
-use Rattle.msvc_demangler.specs.Scans.{ArePartsUpTo}
+use Rattle.msvc_demangler.specs.WordStates.{ArePartsUpTo}
 use Rattle.msvc_demangler.proofs.filter.filter_piece.Given as goal
 
 abbrev pub invariant-symbols : goal.invariant-symbols

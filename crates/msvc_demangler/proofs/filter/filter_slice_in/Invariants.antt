@@ -1,12 +1,12 @@
 use Rattle.std.proofs.Common.{◌≤◌, ◌-◌, List, length}
-use Rattle.msvc_demangler.specs.Fillings.{IsFilling}
+use Rattle.msvc_demangler.specs.SliceWriters.{IsSliceWriter}
 use Rattle.msvc_demangler.specs.Filtered.{Part}
-use Rattle.msvc_demangler.specs.Scans.{ArePartsUpTo}
+use Rattle.msvc_demangler.specs.WordStates.{ArePartsUpTo}
 use Rattle.msvc_demangler.proofs.Replaced.{fresh}
 use Rattle.msvc_demangler.proofs.filter.filter_slice_in.Given as goal
 
 abbrev pub invariant-symbols : goal.invariant-symbols
-invariant-symbols g l = (l.at ≤ length l.text) × ((parts : List Part) × IsFilling l.fn.out parts l.filling l.out
+invariant-symbols g l = (l.at ≤ length l.text) × ((parts : List Part) × IsSliceWriter l.fn.out parts l.writer l.out
     × ArePartsUpTo l.flags.0 (fresh 10) l.text (length l.text) parts l.at l.scan)
 
 abbrev pub decreases-symbols : goal.decreases-symbols

@@ -1,5 +1,5 @@
 use Rattle.std.proofs.Common.{◌≡◌, ◌++◌, ◌∷◌, length, subst, sym, take}
-use Rattle.msvc_demangler.specs.Fillings.{space_after}
+use Rattle.msvc_demangler.specs.SliceWriters.{space_after}
 use Rattle.msvc_demangler.specs.Filtered.{declared, fitting}
 use Rattle.msvc_demangler.proofs.Filled.{fitting-cut, fitting-whole}
 use Rattle.msvc_demangler.proofs.filter.fitting_len.Goals as goal

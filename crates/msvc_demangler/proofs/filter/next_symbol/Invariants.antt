@@ -1,6 +1,6 @@
 use Rattle.std.proofs.Common.{◌≤◌, ◌-◌, map, take}
 use Rattle.msvc_demangler.specs.Filtered.{kept}
-use Rattle.msvc_demangler.specs.Scans.{ArePartsUpTo}
+use Rattle.msvc_demangler.specs.WordStates.{ArePartsUpTo}
 use Rattle.msvc_demangler.proofs.filter.next_symbol.Given as goal
 
 abbrev pub invariant-bytes : goal.invariant-bytes

@@ -39,18 +39,18 @@ same_type-returns-then-same_tag t c =
     let w = c.in-Tagged-right in
     let s = v.symbol.now in
     let o = w.other.now in
-    let a : type_of c.args.left.now ≡ tagged v.tag (name_of s.name.now) (names_in s.scope.now) v.set.0 =
-    ap type_of v.is ∙ type_of-Tagged v.tag v.set v.symbol in
-    let b : type_of c.args.right.now ≡ tagged w.mark (name_of o.name.now) (names_in o.scope.now) w.others.0 =
-    ap type_of w.is ∙ type_of-Tagged w.mark w.others w.other in
+    let a : type_of c.args.left.now ≡ tagged v.tag (name_of s.name.now) (names_in s.scope.now) v.qualifiers.0 =
+    ap type_of v.is ∙ type_of-Tagged v.tag v.qualifiers v.symbol in
+    let b : type_of c.args.right.now ≡ tagged w.other_tag (name_of o.name.now) (names_in o.scope.now) w.others.0 =
+    ap type_of w.is ∙ type_of-Tagged w.other_tag w.others w.other in
     let p = c.same_tag.ensures.0 c.if-same_tag.true in (
       λ h.
           let q = c.same_symbol.ensures.0 h in
-          let r : tagged v.tag (name_of s.name.now) (names_in s.scope.now) v.set.0
-          ≡ tagged w.mark (name_of o.name.now) (names_in o.scope.now) w.others.0 = cc in a ∙ r ∙ sym b,
+          let r : tagged v.tag (name_of s.name.now) (names_in s.scope.now) v.qualifiers.0
+          ≡ tagged w.other_tag (name_of o.name.now) (names_in o.scope.now) w.others.0 = cc in a ∙ r ∙ sym b,
       λ e.
-          let r : tagged v.tag (name_of s.name.now) (names_in s.scope.now) v.set.0
-          ≡ tagged w.mark (name_of o.name.now) (names_in o.scope.now) w.others.0 = sym a ∙ e ∙ b in
+          let r : tagged v.tag (name_of s.name.now) (names_in s.scope.now) v.qualifiers.0
+          ≡ tagged w.other_tag (name_of o.name.now) (names_in o.scope.now) w.others.0 = sym a ∙ e ∙ b in
           c.same_symbol.ensures.1 (cc, cc),
     )
 
@@ -87,17 +87,17 @@ pub same_type-returns-then-same_table : goal.same_type-returns-then-same_table
 same_type-returns-then-same_table t c =
     let v = c.in-Table in
     let w = c.in-Table-right in
-    let a : type_of c.args.left.now ≡ table v.table (names_in v.scope.now.names.now) v.set.0 =
-    ap type_of v.is ∙ type_of-Table v.table v.set v.scope in
+    let a : type_of c.args.left.now ≡ table v.table (names_in v.scope.now.names.now) v.qualifiers.0 =
+    ap type_of v.is ∙ type_of-Table v.table v.qualifiers v.scope in
     let b : type_of c.args.right.now ≡ table w.other (names_in w.names.now.names.now) w.others.0 =
     ap type_of w.is ∙ type_of-Table w.other w.others w.names in
     let p = c.same_table.ensures.0 c.if-same_table.true in (
       λ h.
           let q = c.same_scope.ensures.0 h in
-          let r : table v.table (names_in v.scope.now.names.now) v.set.0
+          let r : table v.table (names_in v.scope.now.names.now) v.qualifiers.0
           ≡ table w.other (names_in w.names.now.names.now) w.others.0 = cc in a ∙ r ∙ sym b,
       λ e.
-          let r : table v.table (names_in v.scope.now.names.now) v.set.0
+          let r : table v.table (names_in v.scope.now.names.now) v.qualifiers.0
           ≡ table w.other (names_in w.names.now.names.now) w.others.0 = sym a ∙ e ∙ b in c.same_scope.ensures.1 cc,
     )
 
@@ -106,14 +106,14 @@ same_type-same_symbol-requires t c =
     let w = c.in-Tagged in
     let size : type_size (type_of c.args.left.now)
     ≡ suc (name_size (name_of w.symbol.now.name.now) + names_size (names_in w.symbol.now.scope.now)) =
-    ap type_size (ap type_of w.is ∙ type_of-Tagged w.tag w.set w.symbol) in
+    ap type_size (ap type_of w.is ∙ type_of-Tagged w.tag w.qualifiers w.symbol) in
     omega (arith, c.decreases)
 
 pub same_type-same_scope-requires : goal.same_type-same_scope-requires
 same_type-same_scope-requires t c =
     let w = c.in-Table in
     let size : type_size (type_of c.args.left.now) ≡ suc (names_size (names_in w.scope.now.names.now)) =
-    ap type_size (ap type_of w.is ∙ type_of-Table w.table w.set w.scope) in
+    ap type_size (ap type_of w.is ∙ type_of-Table w.table w.qualifiers w.scope) in
     omega (arith, c.decreases)
 
 pub same_type-same_member-requires-then-same_symbol : goal.same_type-same_member-requires-then-same_symbol

@@ -8,7 +8,7 @@ use Rattle.msvc_print.proofs.function_types.write_each_function_qualifier.Goals 
 -- no bit is set
 pub returns-then-is_empty : goal.returns-then-is_empty
 returns-then-is_empty g c =
-    let none : c.args.set.0 ≡ 0 = search rules in
+    let none : c.args.qualifiers.0 ≡ 0 = search rules in
     sym (ap (λ set. add_all c.args.out.now (each_function_qualifier set c.args.flags.0)) none
     ∙ ap (add_all c.args.out.now) (each_function_qualifier-none c.args.flags.0) ∙ add_all-none _)
 

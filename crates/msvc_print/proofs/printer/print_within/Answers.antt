@@ -5,4 +5,4 @@ use Rattle.msvc_print.proofs.printer.print_within.Goals as goal
 pub returns : goal.returns
 returns g c = printed-within _ _ _ _ c.is_whole.ensures
     (printed_typed_symbol c.args.symbol.now _ _ _ _ _ _ c.in_ok-stack.ensures.items c.clear.ensures
-    c.in_ok-push_typed_symbol.ensures.text c.in_ok-empty.ensures)
+    c.in_ok-push_typed_symbol.ensures.text c.in_ok-run.ensures)

@@ -3,7 +3,7 @@ use Rattle.msvc_nodes.specs.NodeView.{name_of}
 use Rattle.msvc_print.specs.Declaration.{name_pieces}
 use Rattle.msvc_print.specs.Limited.{add_all}
 use Rattle.msvc_print.specs.Work.{finished}
-use Rattle.msvc_print.proofs.FlatTypes.{add_all-not_whole}
+use Rattle.msvc_print.proofs.SimpleTypes.{add_all-not_whole}
 use Rattle.msvc_print.proofs.Names.{written-all}
 use Rattle.msvc_print.proofs.Settling.{add_all-append}
 use Rattle.msvc_print.proofs.Stack.{pushed_one, work_one}

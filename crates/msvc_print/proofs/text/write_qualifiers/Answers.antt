@@ -8,5 +8,5 @@ use Rattle.msvc_print.proofs.text.write_qualifiers.Goals as goal
 pub returns-then-is_empty : goal.returns-then-is_empty
 unfolding qualifiers
 returns-then-is_empty g c =
-    let none : c.args.set.0 ≡ 0 = search rules in
+    let none : c.args.qualifiers.0 ≡ 0 = search rules in
     sym (ap (λ set. add_all c.args.out.now (qualifiers set c.args.flags.0)) none ∙ add_all-none _)

@@ -7,5 +7,5 @@ use Rattle.msvc_print.proofs.text.write_set_qualifiers.Goals as goal
 pub returns : goal.returns
 unfolding qualifiers
 returns g c = settled_two _ _ _ _ _ c.in_ok-write_qualifier.ensures c.in_ok-write_qualifier-2.ensures
-    ∙ ap (λ s. add_all c.args.out.now (qualifier s 1 (codes "const") c.args.set.0
-    ++ qualifier s 2 (codes "volatile") c.args.set.0)) c.qualifier_space-kind.ensures
+    ∙ ap (λ s. add_all c.args.out.now (qualifier s 1 (codes "const") c.args.qualifiers.0
+    ++ qualifier s 2 (codes "volatile") c.args.qualifiers.0)) c.qualifier_space-kind.ensures

@@ -12,10 +12,10 @@ returns g c =
     let before = take fields.written fields.bytes.items in
     let end = fields.written + length c.args.bytes.now in
     let after = take end c.copy_at.new.bytes in
-    let fits : length after ≤ fields.most
+    let fits : length after ≤ fields.max
     = omega (arith, length-take end c.copy_at.new.bytes) in
     let items : (with_items fields.bytes c.copy_at.new.bytes).items ≡ c.copy_at.new.bytes
     = with_items_is fields.bytes c.copy_at.new.bytes (search rules) in
-    ap (λ b. limited fields.most fields.whole (take end b)) items
+    ap (λ b. limited fields.max fields.whole (take end b)) items
     ∙ added _ _ before after (text c.args.bytes.now) (search rules) fits
     ∙ ap (λ t. add_all t (text c.args.bytes.now ∷ [])) c.out.view_is

@@ -26,7 +26,7 @@ returns g c =
     let end = fields.written + length piece in
     let filled = c.fill_ahead-out-inside.new.bytes.items in
     let after = take end filled in
-    let fits : length after ≤ fields.most
+    let fits : length after ≤ fields.max
     = omega (arith, c.out.invariant.1, c.if-bytes-out.false, length-take end filled) in
     let longer = c.extend_from_slice.new.self.items in
     let appended : longer ≡ before ++ piece

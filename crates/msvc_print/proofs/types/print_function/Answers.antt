@@ -1,5 +1,5 @@
 use Rattle.std.proofs.Common.{◌≡◌, false, is_some, ap, rules}
-use Rattle.msvc_print.proofs.FlatTypes.{add_all-not_whole}
+use Rattle.msvc_print.proofs.SimpleTypes.{add_all-not_whole}
 use Rattle.msvc_print.specs.Work.{finished}
 use Rattle.msvc_print.proofs.types.print_function.Goals as goal
 

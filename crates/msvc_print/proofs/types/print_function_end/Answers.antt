@@ -5,7 +5,7 @@ use Rattle.msvc_print.proofs.types.print_function_end.Goals as goal
 
 pub returns-clause-text : goal.returns-clause-text
 returns-clause-text g c =
-    c.in_ok-print_parameters.ensures.text ∙ c.in_ok-push_after.ensures.text _
+    c.in_ok-print_parameters.ensures.text ∙ c.in_ok-push_suffix.ensures.text _
     ∙ ap (λ x. finished c.args.stack.now.items x c.args.flags.0)
     (settled-function_end _ _ _ c.args.function.now.parameters.now c.args.pointed c.args.function.now.qualifiers
     c.args.flags.0 _

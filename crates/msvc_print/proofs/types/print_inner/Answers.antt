@@ -12,7 +12,7 @@ returns-in_ok-print_tagged-in-Tagged-clause-text g c =
     let w = c.in-Tagged in
     subst (λ t. Prints (before t c.args.pointed c.args.flags.0) c.args.flags.0 c.args.stack.now.items
     c.args.out.now c.print_tagged.new.stack.items c.print_tagged.new.out)
-    (sym (ap type_of w.is ∙ type_of-Tagged w.tag w.set w.symbol))
+    (sym (ap type_of w.is ∙ type_of-Tagged w.tag w.qualifiers w.symbol))
     (rw (sym c.tag_word.ensures) c.in_ok-print_tagged-in-Tagged.ensures.text)
 
 pub returns-in_ok-print_tagged-in-Tagged-clause-lighter : goal.returns-in_ok-print_tagged-in-Tagged-clause-lighter
@@ -22,5 +22,5 @@ returns-in_ok-print_tagged-in-Tagged-clause-lighter g c =
     omega (
       arith,
       c.in_ok-print_tagged-in-Tagged.ensures.lighter,
-      ap type_weight (ap type_of w.is ∙ type_of-Tagged w.tag w.set w.symbol),
+      ap type_weight (ap type_of w.is ∙ type_of-Tagged w.tag w.qualifiers w.symbol),
     )

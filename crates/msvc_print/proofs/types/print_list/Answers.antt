@@ -1,5 +1,5 @@
 use Rattle.std.proofs.Common.{◌≡◌, false, is_some, arith, ap, ◌∙◌, rules}
-use Rattle.msvc_print.proofs.FlatTypes.{add_all-not_whole, rest-begun, rest-written, types-left, written-rest}
+use Rattle.msvc_print.proofs.SimpleTypes.{add_all-not_whole, rest-begun, rest-written, types-left, written-rest}
 use Rattle.msvc_print.proofs.Parameters.{lightened-first, types_weight-fewer, types_weight-positive}
 use Rattle.msvc_print.proofs.Stack.{pushed_one, work_one}
 use Rattle.msvc_nodes.specs.NodeView.{types_in}
@@ -10,7 +10,7 @@ use Rattle.msvc_print.proofs.types.print_list.Goals as goal
 -- a piece was left out
 pub returns-then-not-is_whole-clause-text : goal.returns-then-not-is_whole-clause-text
 returns-then-not-is_whole-clause-text g c =
-    let left_out : is_some c.write_flat_types.new.out.text ≡ false = search rules in
+    let left_out : is_some c.write_simple_types.new.out.text ≡ false = search rules in
     ap (λ x. finished c.args.stack.now.items x c.args.flags.0) (add_all-not_whole _ _ left_out
     ∙ written-rest c.args.types.now c.in_ok-at.at _ c.args.end c.args.flags.0 _ _ c.in_ok-at.ensures.text)
 

@@ -1,6 +1,6 @@
 use Rattle.std.proofs.Common.{◌≡◌, false, is_some, arith, ap, sym, ◌∙◌, rules}
 use Rattle.msvc_print.specs.Work.{finished}
-use Rattle.msvc_print.proofs.FlatTypes.{add_all-not_whole}
+use Rattle.msvc_print.proofs.SimpleTypes.{add_all-not_whole}
 use Rattle.msvc_print.proofs.Parameters.{types_weight-positive}
 use Rattle.msvc_print.proofs.Stack.{pushed_one, work_one}
 use Rattle.msvc_print.proofs.types.print_parameters.Goals as goal

@@ -6,7 +6,7 @@ use Rattle.msvc_print.proofs.types.push_const.Goals as goal
 
 pub returns-in_ok-push-clause-text : goal.returns-in_ok-push-clause-text
 returns-in_ok-push-clause-text g c =
-    let is : has c.args.set.0 1 ≡ true = search rules in
+    let is : has c.args.qualifiers.0 1 ≡ true = search rules in
     λ out. pushed_one _ _ _ out _ c.in_ok-push.ensures
     ∙ same_pieces _ out _ _ _ (sym (ap (λ b. cond b (spaced (codes "const")) []) is))
 
@@ -15,5 +15,5 @@ returns-in_ok-push-clause-lighter g c = omega (arith, work_one _ _ _ c.in_ok-pus
 
 pub returns-else-contains-clause-text : goal.returns-else-contains-clause-text
 returns-else-contains-clause-text g c =
-    let is : has c.args.set.0 1 ≡ false = search rules in
+    let is : has c.args.qualifiers.0 1 ≡ false = search rules in
     λ out. printed_none _ out _ _ (ap (λ b. cond b (spaced (codes "const")) []) is)

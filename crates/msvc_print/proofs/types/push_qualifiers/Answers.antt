@@ -13,5 +13,5 @@ returns-in_ok-push-clause-lighter g c = omega (arith, work_one _ _ _ c.in_ok-pus
 pub returns-else-not-is_empty-clause-text : goal.returns-else-not-is_empty-clause-text
 unfolding qualifiers
 returns-else-not-is_empty-clause-text g c =
-    let none : c.args.set.0 ≡ 0 = search rules in
+    let none : c.args.qualifiers.0 ≡ 0 = search rules in
     λ out. printed_none _ out _ _ (ap (λ set. qualifiers set c.args.flags.0) none)

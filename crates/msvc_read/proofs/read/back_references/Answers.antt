@@ -1,6 +1,6 @@
 use Rattle.std.specs.Prelude.{map}
 use Rattle.msvc_parser.specs.Parser.{note_of}
-use Rattle.msvc_read.proofs.Listed.{notes-refused, references}
+use Rattle.msvc_read.proofs.Listed.{notes-rejected, references}
 use Rattle.msvc_read.proofs.WholeTexts.{laws, rejected}
 use Rattle.msvc_read.proofs.read.back_references.Goals as goal
 
@@ -13,7 +13,7 @@ returns-in-Ok-clause-laws c = laws c.args.input.now
 pub returns-in-Err-clause-rejected : goal.returns-in-Err-clause-rejected
 returns-in-Err-clause-rejected c =
     rejected c.args.input.now c.in-Err.refusal c.error.result
-    (notes-refused c.args.input.now c.in-Err.refusal c.in-Err.ensures.value) c.in-Err.ensures.start
+    (notes-rejected c.args.input.now c.in-Err.refusal c.in-Err.ensures.value) c.in-Err.ensures.start
     (rw c.as_bytes.ensures.value at c.error.ensures)
 
 pub returns-in-Err-clause-laws : goal.returns-in-Err-clause-laws

@@ -1,4 +1,4 @@
-use Rattle.msvc_read.proofs.WholeTexts.{laws, length-of, length-refused, read-length, read-parsed, rejected}
+use Rattle.msvc_read.proofs.WholeTexts.{laws, length-of, length-rejected, read-length, read-parsed, rejected}
 use Rattle.msvc_read.proofs.WholeTexts.{symbol_read}
 use Rattle.msvc_read.proofs.read.symbol_length.Goals as goal
 
@@ -18,7 +18,7 @@ returns-in-Ok-clause-laws c = laws c.args.input.now
 pub returns-in-Err-clause-rejected : goal.returns-in-Err-clause-rejected
 returns-in-Err-clause-rejected c =
     rejected c.args.input.now c.in-Err.refusal c.error.result
-    (length-refused c.in-Err.refusal (symbol_read c.args.input.now) c.in-Err.ensures.value) c.in-Err.ensures.start
+    (length-rejected c.in-Err.refusal (symbol_read c.args.input.now) c.in-Err.ensures.value) c.in-Err.ensures.start
     (rw c.as_bytes.ensures.value at c.error.ensures)
 
 pub returns-in-Err-clause-laws : goal.returns-in-Err-clause-laws

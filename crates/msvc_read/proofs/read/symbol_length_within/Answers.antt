@@ -1,4 +1,4 @@
-use Rattle.msvc_read.proofs.WholeTexts.{length-of, length-refused, rejected-within, symbol_within, within-length}
+use Rattle.msvc_read.proofs.WholeTexts.{length-of, length-rejected, rejected-within, symbol_within, within-length}
 use Rattle.msvc_read.proofs.WholeTexts.{within-nodes, within-parsed}
 use Rattle.msvc_read.proofs.read.symbol_length_within.Goals as goal
 
@@ -18,5 +18,5 @@ returns-in-Ok-clause-length c =
 pub returns-in-Err-clause-rejected : goal.returns-in-Err-clause-rejected
 returns-in-Err-clause-rejected c =
     rejected-within c.args.nodes c.args.input.now c.in-Err.refusal c.error.result
-    (length-refused c.in-Err.refusal (symbol_within c.args.nodes c.args.input.now) c.in-Err.ensures.value)
+    (length-rejected c.in-Err.refusal (symbol_within c.args.nodes c.args.input.now) c.in-Err.ensures.value)
     c.in-Err.ensures.start (rw c.as_bytes.ensures.value at c.error.ensures)

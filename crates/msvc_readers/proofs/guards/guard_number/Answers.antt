@@ -26,5 +26,5 @@ digits-preserved g c =
           ∙ c.digits.invariant.0,
       omega (arith, shorter, c.digits.invariant.1),
       c.in-Some.ensures.small,
-      c.in_ok-digit.ensures.eats.1 ∙ c.eat.ensures.kept ∙ c.digits.invariant.3,
+      c.in_ok-digit.ensures.consumes.1 ∙ c.consume.ensures.kept ∙ c.digits.invariant.3,
     )

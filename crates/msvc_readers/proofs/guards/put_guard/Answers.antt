@@ -8,7 +8,7 @@ use Rattle.msvc_parser.proofs.SymbolSteps.{symbol_of}
 use Rattle.msvc_parser.specs.Parser.{state_of}
 use Rattle.msvc_grammar.specs.Reads.{and_then}
 use Rattle.msvc_parser.specs.Rows.{named_at}
-use Rattle.msvc_parser.specs.Stack.{here}
+use Rattle.msvc_parser.specs.NestedList.{current}
 use Rattle.msvc_readers.proofs.guards.put_guard.Goals as goal
 
 -- a guard of its number, for a symbol
@@ -18,7 +18,7 @@ returns-clause-value g c =
     let symbol : NameTree × List NameTree = named_at c.in_ok-symbol.symbol in
     let same : to_z w32 (of_z w32 c.args.number) ≡ c.args.number = search (rules, to_z-of_z) in
     let named : Some (
-      (name_at c.args.name, map name_at (here c.args.parser.now.listed_names)),
+      (name_at c.args.name, map name_at (current c.args.parser.now.listed_names)),
       c.args.parser.now.rest.now,
       state_of c.args.parser.now,
     )
@@ -31,7 +31,7 @@ returns-clause-value g c =
     ≡ Some (type_at c.in_ok-symbol_type.symbol_type, c.put_type.new.self.rest.now, state_of c.put_type.new.self) =
     c.in_ok-symbol_type.ensures.value in
     let made : Some (
-      symbol_of (name_at c.args.name) (map name_at (here c.args.parser.now.listed_names))
+      symbol_of (name_at c.args.name) (map name_at (current c.args.parser.now.listed_names))
           (numbered number_kind.ThreadSafeGuard c.args.number),
       c.args.parser.now.rest.now,
       state_of c.args.parser.now,

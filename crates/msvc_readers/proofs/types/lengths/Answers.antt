@@ -24,6 +24,11 @@ loop-preserved g c =
           c.loop.parser.rest.now c.count_node.new.self.rest.now c.number.new.self.rest.now (state_of c.loop.parser)
           (state_of c.count_node.new.self) (state_of c.number.new.self) c.in_ok-length.length one_less counts read)
           ∙ c.loop.invariant.0,
-      omega (arith, c.in_ok-length.ensures.eats.0, ap length c.in_ok-count_node.ensures.stays.0, c.loop.invariant.1),
-      c.in_ok-length.ensures.eats.1 ∙ c.in_ok-count_node.ensures.stays.1 ∙ c.loop.invariant.2,
+      omega (
+        arith,
+        c.in_ok-length.ensures.consumes.0,
+        ap length c.in_ok-count_node.ensures.stays.0,
+        c.loop.invariant.1,
+      ),
+      c.in_ok-length.ensures.consumes.1 ∙ c.in_ok-count_node.ensures.stays.1 ∙ c.loop.invariant.2,
     )

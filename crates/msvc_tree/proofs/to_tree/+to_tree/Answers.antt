@@ -35,10 +35,10 @@ names_to_tree-name_to_tree-requires t c =
 pub names_to_tree-loop-name-preserved : goal.names_to_tree-loop-name-preserved
 names_to_tree-loop-name-preserved t c =
     let x = slice_index_or c.args.names.now c.loop-name.name-index no_name in (
-      pushed-seen name_of _ _ _ (name_at x) c.in_ok-put_made.ensures.items c.name_to_tree.ensures
+      pushed-seen name_of _ _ _ (name_at x) c.in_ok-push_ok.ensures.items c.name_to_tree.ensures
           ∙ ap (λ ns. ns ++ name_at x ∷ []) c.loop-name.invariant.0
           ∙ sym (map_more name_at c.args.names.now c.loop-name.name-index no_name (omega arith)),
-      omega (arith, c.in_ok-put_made.ensures.len),
+      omega (arith, c.in_ok-push_ok.ensures.len),
       omega arith,
     )
 
@@ -52,10 +52,10 @@ types_to_tree-type_to_tree-requires t c =
 pub types_to_tree-loop-item-preserved : goal.types_to_tree-loop-item-preserved
 types_to_tree-loop-item-preserved t c =
     let x = slice_index_or c.args.types.now c.loop-item.item-index no_type in (
-      pushed-seen type_of _ _ _ (type_at x) c.in_ok-put_made.ensures.items c.type_to_tree.ensures
+      pushed-seen type_of _ _ _ (type_at x) c.in_ok-push_ok.ensures.items c.type_to_tree.ensures
           ∙ ap (λ ts. ts ++ type_at x ∷ []) c.loop-item.invariant.0
           ∙ sym (map_more type_at c.args.types.now c.loop-item.item-index no_type (omega arith)),
-      omega (arith, c.in_ok-put_made.ensures.len),
+      omega (arith, c.in_ok-push_ok.ensures.len),
       omega arith,
     )
 
@@ -74,7 +74,7 @@ type_to_tree-symbol_to_tree-requires t c =
     let w = c.in-Tagged in
     let size : type_size (node_type c.args.node.now)
     ≡ suc (name_size (node_name w.symbol.now.name.now) + names_size (node_names w.symbol.now.scope.now)) =
-    ap type_size (ap node_type w.is ∙ type_of-Tagged w.tag w.set w.symbol) in
+    ap type_size (ap node_type w.is ∙ type_of-Tagged w.tag w.qualifiers w.symbol) in
     omega (arith, c.decreases)
 
 pub type_to_tree-types_to_tree-requires-in-MemberPointer : goal.type_to_tree-types_to_tree-requires-in-MemberPointer
@@ -90,27 +90,28 @@ pub type_to_tree-names_to_tree-requires : goal.type_to_tree-names_to_tree-requir
 type_to_tree-names_to_tree-requires t c =
     let w = c.in-Table in
     let size : type_size (node_type c.args.node.now) ≡ suc (names_size (node_names w.scope.now.names.now)) =
-    ap type_size (ap node_type w.is ∙ type_of-Table w.table w.set w.scope) in
+    ap type_size (ap node_type w.is ∙ type_of-Table w.table w.qualifiers w.scope) in
     omega (arith, c.decreases)
 
 pub type_to_tree-returns-in-Tagged : goal.type_to_tree-returns-in-Tagged
 type_to_tree-returns-in-Tagged t c =
     let w = c.in-Tagged in
-    seen-of c.tagged_made.result c.symbol_to_tree.result type_of
-    (λ s. tagged w.tag (name_of s.name) (scope_of s.scope) w.set.0) (node_type c.args.node.now) c.tagged_made.ensures
+    seen-of c.tagged_from.result c.symbol_to_tree.result type_of
+    (λ s. tagged w.tag (name_of s.name) (scope_of s.scope) w.qualifiers.0) (node_type c.args.node.now)
+    c.tagged_from.ensures
     (both _ _ c.symbol_to_tree.result c.symbol_to_tree.ensures.name c.symbol_to_tree.ensures.scope)
-    (λ s p. ap (λ n. tagged w.tag n (scope_of s.scope) w.set.0) p.0
-    ∙ ap (λ ns. tagged w.tag (node_name w.symbol.now.name.now) ns w.set.0) p.1
-    ∙ sym (ap node_type w.is ∙ type_of-Tagged w.tag w.set w.symbol))
+    (λ s p. ap (λ n. tagged w.tag n (scope_of s.scope) w.qualifiers.0) p.0
+    ∙ ap (λ ns. tagged w.tag (node_name w.symbol.now.name.now) ns w.qualifiers.0) p.1
+    ∙ sym (ap node_type w.is ∙ type_of-Tagged w.tag w.qualifiers w.symbol))
 
 pub type_to_tree-returns-in-MemberPointer : goal.type_to_tree-returns-in-MemberPointer
 type_to_tree-returns-in-MemberPointer t c =
     let w = c.in-MemberPointer in
     let f = w.function.now in
-    seen-of-three c.member_pointer_made.result c.symbol_to_tree-in-MemberPointer.result
+    seen-of-three c.member_pointer_from.result c.symbol_to_tree-in-MemberPointer.result
     c.types_to_tree-in-MemberPointer.result c.boxed_to_tree-in-MemberPointer.result type_of
     (λ s p b. member_pointer (name_of s.name) (scope_of s.scope) f.class.0 f.convention (params_of p) f.qualifiers.0
-    (type_of b.value)) (node_type c.args.node.now) c.member_pointer_made.ensures
+    (type_of b.value)) (node_type c.args.node.now) c.member_pointer_from.ensures
     (both _ _ c.symbol_to_tree-in-MemberPointer.result c.symbol_to_tree-in-MemberPointer.ensures.name
     c.symbol_to_tree-in-MemberPointer.ensures.scope) c.types_to_tree-in-MemberPointer.ensures
     c.boxed_to_tree-in-MemberPointer.ensures
@@ -127,6 +128,7 @@ type_to_tree-returns-in-MemberPointer t c =
 pub type_to_tree-returns-in-Table : goal.type_to_tree-returns-in-Table
 type_to_tree-returns-in-Table t c =
     let w = c.in-Table in
-    seen-of c.table_made.result c.names_to_tree.result type_of (λ s. table w.table (scope_of s) w.set.0)
-    (node_type c.args.node.now) c.table_made.ensures c.names_to_tree.ensures
-    (λ s p. ap (λ ns. table w.table ns w.set.0) p ∙ sym (ap node_type w.is ∙ type_of-Table w.table w.set w.scope))
+    seen-of c.table_from.result c.names_to_tree.result type_of (λ s. table w.table (scope_of s) w.qualifiers.0)
+    (node_type c.args.node.now) c.table_from.ensures c.names_to_tree.ensures
+    (λ s p. ap (λ ns. table w.table ns w.qualifiers.0) p ∙ sym (ap node_type w.is ∙ type_of-Table w.table w.qualifiers
+    w.scope))

@@ -8,23 +8,24 @@ use Rattle.msvc_tree.proofs.variants.type_ref.Goals as goal
 pub returns-in-NonMemberFunction : goal.returns-in-NonMemberFunction
 returns-in-NonMemberFunction c =
     let w = c.in-NonMemberFunction in
-    ap (λ t. function w.convention (params_of w.parameters) w.set.0 (type_of t)) c.deref-in-NonMemberFunction.ensures
+    ap (λ t. function w.convention (params_of w.parameters) w.qualifiers.0 (type_of t))
+    c.deref-in-NonMemberFunction.ensures
     ∙ sym (ap without_class (ap type_of w.is
-    ∙ type_of-NonMemberFunction w.convention w.parameters w.set w.returned))
+    ∙ type_of-NonMemberFunction w.convention w.parameters w.qualifiers w.returned))
 
 pub returns-in-MemberFunction : goal.returns-in-MemberFunction
 returns-in-MemberFunction c =
     let w = c.in-MemberFunction in
-    ap (λ t. member_function w.class.0 w.convention (params_of w.parameters) w.set.0 (type_of t))
+    ap (λ t. member_function w.class.0 w.convention (params_of w.parameters) w.qualifiers.0 (type_of t))
     c.deref-in-MemberFunction.ensures
     ∙ sym (ap without_class (ap type_of w.is
-    ∙ type_of-MemberFunction w.class w.convention w.parameters w.set w.returned))
+    ∙ type_of-MemberFunction w.class w.convention w.parameters w.qualifiers w.returned))
 
 pub returns-in-MemberFunctionPointer : goal.returns-in-MemberFunctionPointer
 returns-in-MemberFunctionPointer c =
     let w = c.in-MemberFunctionPointer in
-    ap (λ t. member_pointer (anonymous None) no_names w.class.0 w.convention (params_of w.parameters) w.set.0
+    ap (λ t. member_pointer (anonymous None) no_names w.class.0 w.convention (params_of w.parameters) w.qualifiers.0
     (type_of t))
     c.deref-in-MemberFunctionPointer.ensures
     ∙ sym (ap without_class (ap type_of w.is
-    ∙ type_of-MemberFunctionPointer w.field-0 w.class w.convention w.parameters w.set w.returned))
+    ∙ type_of-MemberFunctionPointer w.field-0 w.class w.convention w.parameters w.qualifiers w.returned))

@@ -1,7 +1,7 @@
 use Rattle.msvc_print.proofs.Texts.{declaration-utf8}
 use Rattle.msvc_print.specs.Declaration.{declaration}
 use Rattle.msvc_demangler.proofs.Demangled.{declared_of, hashes_shown}
-use Rattle.msvc_demangler.proofs.Failed.{refused_under}
+use Rattle.msvc_demangler.proofs.Failed.{error_under}
 use Rattle.msvc_demangler.specs.Limits.{limits_of}
 use Rattle.msvc_demangler.proofs.demangler.Demangler+Global.demangle_within.Goals as goal
 
@@ -21,5 +21,5 @@ returns-in-Ok-clause-hashes c =
 
 pub returns-in-Err-clause-rejected : goal.returns-in-Err-clause-rejected
 returns-in-Err-clause-rejected c =
-    refused_under (limits_of c.args.nodes c.args.bytes) c.args.input.now c.args.flags.0 c.in-Err.failure c.error.result
+    error_under (limits_of c.args.nodes c.args.bytes) c.args.input.now c.args.flags.0 c.in-Err.failure c.error.result
     c.in-Err.ensures.fails c.error.ensures

@@ -23,6 +23,6 @@ loop-preserved g c =
           c.loop.self.rest.now c.character.new.self.rest.now (state_of c.loop.self) (state_of c.character.new.self)
           c.in_ok-character.character one_less read)
           ∙ c.loop.invariant.0,
-      omega (arith, c.in_ok-character.ensures.eats.0, c.loop.invariant.1),
-      c.in_ok-character.ensures.eats.1 ∙ c.loop.invariant.2,
+      omega (arith, c.in_ok-character.ensures.consumes.0, c.loop.invariant.1),
+      c.in_ok-character.ensures.consumes.1 ∙ c.loop.invariant.2,
     )

@@ -21,4 +21,4 @@ returns-in-None-clause-value g c =
     let none : read escaped_character c.args.self.now.rest.now (state_of c.args.self.now) ≡ None =
     escaped_other c.in_ok-letter.letter c.args.self.now.rest.now c.byte.new.self.rest.now (state_of c.args.self.now)
     (state_of c.byte.new.self) None byte c.if-letter-eq36.false (sym c.in-None.ensures) in
-    rw c.refuse.ensures.why none
+    rw c.reject.ensures.last_error none

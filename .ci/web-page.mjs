@@ -1,0 +1,279 @@
+// Uses the page in a headless Chromium as somebody would: types, checks flags, drops a file, opens links.
+//
+//     node .ci/web-page.mjs PAGE MAP WANTED [FOLDER]
+//
+// PAGE is the page's file. MAP is a large file to drop, WANTED what msvcfilt writes for it. No request may be seen, and
+// no task of the page's thread may take more than LONGEST milliseconds of the processor, 100 unless it is set, since
+// other checks slow it down. With FOLDER screenshots are left there: light.png, dark.png, phone.png and phone_dark.png.
+import assert from 'node:assert/strict';
+import { mkdirSync, mkdtempSync, readFileSync, rmSync, writeFileSync } from 'node:fs';
+import { tmpdir } from 'node:os';
+import { basename, join, resolve } from 'node:path';
+import { pathToFileURL } from 'node:url';
+import { openPage } from './web-chromium.mjs';
+
+const [file, map, wanted, folder] = process.argv.slice(2);
+const longest = Number(process.env.LONGEST ?? 100);
+const address = pathToFileURL(resolve(file)).href;
+const downloads = mkdtempSync(join(tmpdir(), 'downloads-'));
+const page = await openPage();
+const requests = [];
+const faults = [];
+const events = [];
+let seen = 0;
+
+page.listen((method, params, session) => {
+  if (method === 'Target.attachedToTarget') page.send('Network.enable', {}, params.sessionId);
+  if (method === 'Network.requestWillBeSent') requests.push(params.request.url);
+  if (method === 'Network.webSocketCreated') requests.push(params.url);
+  if (method === 'Runtime.exceptionThrown') faults.push(params.exceptionDetails.exception?.description);
+  if (method === 'Log.entryAdded' && params.entry.level === 'error') faults.push(params.entry.text);
+  if (method === 'Tracing.dataCollected') {
+    events.push(...params.value.filter(({ name }) => name === 'thread_name' || name.endsWith('RunTask')));
+  }
+  if (method === 'Page.javascriptDialogOpening') faults.push('a dialog of a script');
+});
+await page.send('Target.setAutoAttach', { autoAttach: true, waitForDebuggerOnStart: false, flatten: true });
+await page.send('Browser.setDownloadBehavior', { behavior: 'allow', downloadPath: downloads, eventsEnabled: true });
+await page.send('Page.addScriptToEvaluateOnNewDocument', { source: `
+  window.violations = [];
+  addEventListener('securitypolicyviolation', (event) => violations.push(event.effectiveDirective));` });
+
+const text = (id) => page.value(`document.getElementById('${id}').textContent`);
+const all = (selector, property) => page.value(
+  `[...document.querySelectorAll('${selector}')].map((element) => element.${property})`);
+const resize = (width, height, scale) => page.send('Emulation.setDeviceMetricsOverride',
+  { width, height, deviceScaleFactor: scale, mobile: width < 500 });
+const output = "document.getElementById('output')";
+const settled = () => page.until(`${output}.ariaBusy === 'false'`);
+const shows = async (what) => {
+  await page.until(`${output}.ariaBusy === 'false' && ${output}.textContent === ${JSON.stringify(what)}`);
+};
+const press = async (key, code) => {
+  for (const type of ['rawKeyDown', 'keyUp']) {
+    await page.send('Input.dispatchKeyEvent', { type, key, windowsVirtualKeyCode: code });
+  }
+};
+
+/** Clicks on the middle of an element, once it is seen there. */
+async function click(selector) {
+  const place = await page.value(`(async () => {
+    const element = document.querySelector(${JSON.stringify(selector)});
+    element.scrollIntoView({ block: 'center' });
+    for (let frame = 0; frame < 2; frame++) await new Promise(requestAnimationFrame);
+    const { x, y, width, height } = element.getClientRects()[0];
+    return { x: x + width / 2, y: y + height / 2 };
+  })()`);
+  for (const type of ['mousePressed', 'mouseReleased']) {
+    await page.send('Input.dispatchMouseEvent', { type, ...place, button: 'left', clickCount: 1 });
+  }
+}
+
+/** Types a text in place of what is there, key by key. */
+async function type(typed) {
+  await click('#clear');
+  for (const letter of typed) await page.send('Input.insertText', { text: letter });
+}
+
+async function open(url) {
+  await page.send('Page.navigate', { url: 'about:blank' });
+  await page.send('Page.navigate', { url });
+  await page.until("document.querySelector('#output .symbol') !== null");
+  await settled();
+}
+
+/** Makes sure of something, and counts it. */
+async function see(what, look) {
+  try {
+    await look();
+  } catch (error) {
+    throw new Error(`${what}: ${error.message}`);
+  }
+  seen++;
+}
+
+/** Ends the trace, and returns the milliseconds that each task of the page's threads took of the processor. */
+async function traced() {
+  const complete = new Promise((resume) => {
+    page.listen((method) => { if (method === 'Tracing.tracingComplete') resume(); });
+  });
+  await page.send('Tracing.end');
+  await complete;
+  const threads = events.filter(({ args }) => args.name === 'CrRendererMain').map(({ pid, tid }) => `${pid} ${tid}`);
+  return events.filter(({ pid, tid, tdur }) => tdur !== undefined && threads.includes(`${pid} ${tid}`)).map(
+    ({ tdur }) => tdur / 1000);
+}
+
+const SYMBOL = '?f@A@@SAHXZ';
+const DECLARATION = 'public: static int __cdecl A::f(void)';
+
+async function run() {
+  await resize(1280, 900, 1);
+  await page.send('Tracing.start', { traceConfig: { includedCategories: ['toplevel'] } });
+  await open(address);
+  await see('the first example', async () => {
+    assert.match(await text('output'), /^int ns::x\nvoid __cdecl f\([^]*\n\?x@@3L\n$/);
+    assert.match(await text('state'), /^5 symbols · 1 rejected · /);
+    assert.equal(await page.value("document.querySelectorAll('#output .symbol').length"), 5);
+  });
+
+  await see('typing', async () => {
+    await type(`in foo!${SYMBOL}+0x12 [a.cpp]`);
+    await shows(`in foo!${DECLARATION}+0x12 [a.cpp]`);
+    assert.equal(await page.value("document.querySelector('#output .symbol').title"), SYMBOL);
+  });
+
+  await see('flags', async () => {
+    const boxes = await all('#flags input', 'title');
+    const texts = { NAME_ONLY: 'A::f', NO_ACCESS_SPECIFIERS: 'static int __cdecl A::f(void)',
+      NO_MEMBER_TYPE: 'public: int __cdecl A::f(void)', NO_MS_KEYWORDS: 'public: static int A::f(void)',
+      NO_FUNCTION_RETURNS: 'A::f(void)' };
+    await type(SYMBOL);
+    for (const name of boxes) {
+      await click(`#flags input[title=${name}]`);
+      await shows(texts[name] ?? DECLARATION);
+      assert.notEqual(await text('word'), '0xE00400');
+      await click(`#flags input[title=${name}]`);
+      await shows(DECLARATION);
+    }
+    await click('#flags input[title=NAME_ONLY]');
+    await click('#reset');
+    await shows(DECLARATION);
+    assert.equal(await text('word'), '0xE00400');
+  });
+
+  await see('an error', async () => {
+    await type('at ?äx@@3LZ and ?y@@3HA0');
+    await shows('at ?äx@@3LZ and ?y@@3HA0');
+    assert.deepEqual(await all('#output mark', 'previousSibling.textContent'), ['?äx@@3L', '?y@@3HA']);
+    assert.deepEqual(await all('#output mark', 'textContent'), ['Z', '0']);
+    await click('#output .rejected');
+    await page.until("document.getElementById('details').open");
+    assert.match(await text('details-list'), /unknown primitive type \(offset: 8, /);
+    await click('#details-close');
+    await page.until("!document.getElementById('details').open");
+  });
+
+  await see('details of a symbol, by the keyboard', async () => {
+    await type(`${SYMBOL} ?x@ns@@3HA`);
+    await shows(`${DECLARATION} int ns::x`);
+    await page.value("document.querySelector('#output [tabindex=\"0\"]').focus()");
+    await press('ArrowRight', 39);
+    await press('Enter', 13);
+    await page.until("document.getElementById('details').open");
+    await page.until("document.getElementById('details-list').childElementCount === 6");
+    const said = await text('details-list');
+    for (const part of ['?x@ns@@3HA', 'int ns::x', 'ns::x']) assert.ok(said.includes(part), said);
+    assert.equal(await text('details-title'), 'Symbol of 10 characters');
+    await press('Escape', 27);
+    await page.until("!document.getElementById('details').open");
+  });
+
+  await see('hostile texts', async () => {
+    const hostile = ['<img src=x onerror="hurt=1">', '<script>hurt=1</script>', '?<b>x</b>@<svg/onload=hurt=1>@@3HA',
+      '?x@<img/src=x/onerror=hurt=1>@@3L', '?${hurt=1}@@3HA', '&lt;b&gt;', `?x@@3${'PEA'.repeat(3000)}HEA`,
+      `?f@@YAX${'P6AX'.repeat(680)}H${'@Z'.repeat(681)}`,
+      `?x@${'?1???0?$A@Va@'.repeat(20)}${'@@@QEAA@XZ'.repeat(20)}@3HA`, '\u202E?x@@3HA'];
+    for (const one of hostile) {
+      await page.value(`(() => {
+        document.getElementById('input').value = ${JSON.stringify(one)};
+        document.getElementById('input').dispatchEvent(new Event('input'));
+      })()`);
+      await settled();
+      assert.notEqual(await text('output'), '');
+      assert.match(await text('state'), /symbol/);
+    }
+    await type('?<b>x</b>@<svg/onload=hurt=1>@@3HA');
+    await shows('int <svg/onload=hurt=1>::<b>x</b>');
+    assert.deepEqual(await all('#output *', 'localName'), ['div', 'span']);
+    assert.equal(await page.value('typeof hurt'), 'undefined');
+  });
+
+  await see('a link', async () => {
+    await type(`${SYMBOL} ä&=#%+?`);
+    await click('#flags input[title=NAME_ONLY]');
+    await shows('A::f ä&=#%+?');
+    await click('#link');
+    const link = await page.value('location.href');
+    assert.ok(link.startsWith(`${address}#`));
+    await open(link);
+    await shows('A::f ä&=#%+?');
+    assert.equal(await page.value("document.getElementById('input').value"), `${SYMBOL} ä&=#%+?`);
+    assert.equal(await text('word'), '0xE01400');
+    await open(`${address}#text=${encodeURIComponent('?x@@3HA <b>')}&flags=nonsense`);
+    await shows('int x <b>');
+  });
+
+  await see('a dropped file', async () => {
+    await open(address);
+    const began = Date.now();
+    for (const type of ['dragEnter', 'dragOver', 'drop']) {
+      await page.send('Input.dispatchDragEvent', { type, x: 300, y: 300,
+        data: { items: [], files: [resolve(map)], dragOperationsMask: 1 } });
+    }
+    await page.until("!document.getElementById('save').hidden", 60);
+    console.log(`the dropped file: ${await text('file-state')}, ${Date.now() - began} ms until it can be saved`);
+    assert.match(await text('state'), /^The first lines: \d+ symbols/);
+    const name = await page.value("document.getElementById('save').download");
+    await click('#save');
+    const saved = await new Promise((resume) => {
+      page.listen((method, params) => {
+        if (method === 'Browser.downloadProgress' && params.state === 'completed') resume(join(downloads, name));
+      });
+    });
+    assert.ok(readFileSync(saved).equals(readFileSync(wanted)), 'the saved file is not what msvcfilt writes');
+    await click('#close');
+    await page.until("!document.getElementById('input').hidden");
+  });
+
+  await see('no request', async () => {
+    assert.deepEqual(requests.filter((url) => !url.startsWith('blob:') && !url.startsWith('data:') &&
+      url.split('#')[0] !== address && url !== 'about:blank'), []);
+    assert.deepEqual(await page.value('violations'), []);
+    assert.deepEqual(faults, []);
+  });
+
+  await see('the policy', async () => {
+    await page.value("fetch('http://127.0.0.1:9/').catch(() => {})");
+    await page.value("document.body.append(Object.assign(new Image(), { src: 'http://127.0.0.1:9/' }))");
+    await page.value("document.body.append(document.createElement('script'))");
+    await page.value("document.body.lastChild.append('hurt = 1')");
+    await page.until('violations.length >= 3');
+    assert.deepEqual((await page.value('violations')).sort(), ['connect-src', 'img-src', 'script-src-elem']);
+    assert.equal(await page.value('typeof hurt'), 'undefined');
+  });
+
+  await see('long tasks', async () => {
+    const tasks = (await traced()).sort((one, other) => other - one);
+    console.log(`${tasks.length} tasks of the page, the longest of ${tasks[0].toFixed(0)} ms`);
+    assert.ok(tasks.length > 100 && tasks[0] <= longest, `tasks of ${tasks.slice(0, 5)} ms`);
+  });
+}
+
+/** Leaves a screenshot. */
+async function shot(name, width, height, scheme, scale = 1) {
+  await resize(width, height, scale);
+  await page.send('Emulation.setEmulatedMedia', { features: [{ name: 'prefers-color-scheme', value: scheme }] });
+  await open(address);
+  const { data } = await page.send('Page.captureScreenshot', { captureBeyondViewport: width < 500 });
+  writeFileSync(join(folder, `${name}.png`), Buffer.from(data, 'base64'));
+}
+
+try {
+  await run();
+  if (folder) {
+    mkdirSync(folder, { recursive: true });
+    for (const scheme of ['light', 'dark']) {
+      await shot(scheme, 1280, 900, scheme);
+      await shot(scheme === 'light' ? 'phone' : 'phone_dark', 390, 844, scheme, 2);
+    }
+  }
+  console.log(`${seen} things are seen in the page`);
+} catch (error) {
+  console.log(`${basename(file)}: ${error.message}`);
+  if (faults.length) console.log(faults.join('\n'));
+  process.exitCode = 1;
+} finally {
+  await page.close();
+  rmSync(downloads, { recursive: true, force: true });
+}

@@ -1,0 +1,156 @@
+// Calls the ES module, over rows, and beside what the native programs printed.
+//
+//     node .ci/web.mjs FOLDER rows < ROWS             rows of crates/msvc_bench/stdin
+//     node .ci/web.mjs FOLDER prefix < ROWS           rows of crates/msvc_bench/prefix.tsv
+//     node .ci/web.mjs FOLDER lines TEXT ERRORS < IN  symbols, and what undname printed of them
+//     node .ci/web.mjs FOLDER filter FLAGS < IN       writes what the filter returns for bytes, and compares a string's
+//     node .ci/web.mjs FOLDER calls                   the edges of each call
+//
+// FOLDER has the module as tools/web leaves it. The last line counts; the status is 1 if anything differs.
+import assert from 'node:assert/strict';
+import { readFileSync, writeSync } from 'node:fs';
+import { inspect } from 'node:util';
+import { pathToFileURL } from 'node:url';
+import { resolve } from 'node:path';
+
+const [folder, command, ...words] = process.argv.slice(2);
+const module = await import(pathToFileURL(resolve(folder, 'index.mjs')));
+const { demangle, filter, symbolLength, Flags, DemangleError, version } = module;
+const NO_LIMITS = { maxNodes: Infinity, maxBytes: Infinity };
+const top = new URL('../', import.meta.url);
+
+const input = () => readFileSync(0);
+const lines = (bytes) => bytes.toString('latin1').split('\n').slice(0, -1).map((line) => Buffer.from(line, 'latin1'));
+const isUtf8 = (bytes) => Buffer.from(bytes.toString()).equals(bytes);
+const fields = (line) => line.toString('latin1').split('\t').map((field) => Buffer.from(field, 'latin1'));
+
+/** Returns what a call returns, or the error that it throws. */
+function outcome(call, ...given) {
+  try {
+    return call(...given);
+  } catch (error) {
+    return error;
+  }
+}
+
+/** Writes a line for each row that differs, and counts. */
+function compared(rows, what, agrees) {
+  const differing = rows.filter((row) => !agrees(row));
+  for (const row of differing) console.log(row.toString());
+  console.log(`${rows.length - differing.length} ${what} agree, ${differing.length} differ`);
+  process.exitCode = differing.length === 0 && rows.length > 0 ? 0 : 1;
+}
+
+/** Whether an outcome is the text, or the error with this message, at this offset in bytes of the symbol. */
+function isWanted(found, symbol, kind, wanted) {
+  if (kind === 'ok') return found === wanted[0];
+  if (!(found instanceof DemangleError)) return false;
+  const offset = Number(wanted[0]);
+  const inUnits = symbol.subarray(0, offset).toString().length;
+  const message = found.code === 'NOT_UTF8' ? wanted[1] : `${wanted[1]} (offset: ${offset}, remaining: `;
+  return found.message.startsWith(message) && [offset, inUnits].includes(found.offset) &&
+    ['INVALID', 'NOT_UTF8'].includes(found.code);
+}
+
+const commands = {
+  rows() {
+    const rows = lines(input()).filter((line) => !line.toString().startsWith('# '));
+    compared(rows, 'rows', (row) => {
+      const [flags, symbol, kind, ...wanted] = fields(row);
+      const given = [symbol, ...(isUtf8(symbol) ? [symbol.toString()] : [])];
+      return given.every((text) => isWanted(outcome(demangle, text, parseInt(flags, 16), NO_LIMITS), symbol,
+        kind.toString(), wanted.map(String)));
+    });
+  },
+
+  prefix() {
+    compared(lines(input()), 'texts', (row) => {
+      const [text, bytes, nodes] = fields(row);
+      if (nodes === undefined) return outcome(symbolLength, text, NO_LIMITS).code === 'INVALID';
+      const enough = outcome(symbolLength, text, { maxNodes: Number(nodes) });
+      const few = outcome(symbolLength, text, { maxNodes: Number(nodes) - 1 });
+      return enough === Number(bytes) && few.code === 'TOO_MANY_NODES';
+    });
+  },
+
+  lines(text, errors) {
+    const found = lines(input()).map((line) => outcome(demangle, line, Flags.LLVM, NO_LIMITS));
+    const symbols = lines(readFileSync(text));
+    const said = lines(readFileSync(errors)).map(String);
+    let at = 0;
+    compared(symbols, 'lines', (line) => {
+      const next = found.shift();
+      return next instanceof DemangleError ? said[at++] === `error: ${next.message}` : next === line.toString();
+    });
+    assert.equal(at, said.length);
+  },
+
+  filter(flags) {
+    const bytes = input();
+    const filtered = filter(bytes, Number(flags));
+    if (isUtf8(bytes)) assert.equal(filter(bytes.toString(), Number(flags)), Buffer.from(filtered).toString());
+    for (let at = 0; at < filtered.length;) at += writeSync(1, filtered, at);
+  },
+
+  calls() {
+    const header = readFileSync(new URL('include/msvc_demangler.h', top), 'utf8');
+    const constants = (pattern) => Object.fromEntries([...header.matchAll(pattern)].map(([, name, number]) =>
+      [name, Number(number)]));
+    assert.deepEqual({ ...Flags }, constants(/MSVC_DEMANGLER_([A-Z0-9_]+) (0x[0-9A-F]+)u/g));
+    const types = readFileSync(resolve(folder, 'index.d.ts'), 'utf8');
+    assert.deepEqual(Object.fromEntries([...types.matchAll(/readonly ([A-Z0-9_]+): (0x[0-9A-F]+);/g)].map(
+      ([, name, number]) => [name, Number(number)])), { ...Flags });
+    assert.equal(version, readFileSync(new URL('VERSION', top), 'utf8').trim());
+    assert.deepEqual(Object.keys(module).sort(), [...types.matchAll(/^export declare \w+ (\w+)/gm)].map(
+      ([, name]) => name).filter((name, at, all) => all.indexOf(name) === at).sort());
+
+    // Each line of the README's example, with what it says of it.
+    const example = /```js\n([^]*?)```/.exec(readFileSync(resolve(folder, 'README.md'), 'utf8'))[1];
+    const told = [...example.matchAll(/^ *(\S.*); +\/\/ (.*)$/gm)];
+    assert.ok(told.length > 3);
+    for (const [, code, value] of told) {
+      const call = new Function('error', ...Object.keys(module), `return ${code}`);
+      assert.equal(inspect(call(outcome(demangle, '?x@@3L'), ...Object.values(module))), value);
+    }
+
+    const rejected = (call, code, offset) => {
+      const error = outcome(call);
+      assert.ok(error instanceof DemangleError && error instanceof Error);
+      assert.deepEqual([error.code, error.offset, error.name], [code, offset, 'DemangleError']);
+    };
+    rejected(() => demangle(''), 'INVALID', 0);
+    rejected(() => demangle('?äö@@3'), 'INVALID', 6);
+    rejected(() => demangle(Buffer.from('?äö@@3')), 'INVALID', 8);
+    rejected(() => demangle('?😀@@3'), 'INVALID', 6);
+    rejected(() => demangle(Uint8Array.of(0x3F, 0x78, 0xFF)), 'NOT_UTF8', 2);
+    assert.equal(outcome(demangle, '?x@ns@@3HA', Flags.LLVM, { maxNodes: 1 }).code, 'TOO_MANY_NODES');
+    rejected(() => demangle('?x@ns@@3HA', Flags.LLVM, { maxBytes: 8 }), 'TOO_LONG', 10);
+    rejected(() => symbolLength('?x@@3L'), 'INVALID', 6);
+    for (const limit of [-1, NaN]) assert.throws(() => demangle('?x@@3HA', 0, { maxNodes: limit }), RangeError);
+    assert.equal(symbolLength('?äö😀@@3HA and more'), 10);
+    assert.equal(symbolLength(Buffer.from('?äö😀@@3HA and more')), 14);
+
+    assert.equal(filter(''), '');
+    assert.deepEqual(filter(new Uint8Array()), new Uint8Array());
+    assert.equal(filter('\uFEFF?x@ns@@3HA \uD800'), '\uFEFFint ns::x \uFFFD');
+    assert.deepEqual(Buffer.from(filter(Buffer.from('\0\xFF ?x@ns@@3HA\0', 'latin1'))),
+      Buffer.from('\0\xFF int ns::x\0', 'latin1'));
+    assert.equal(filter('?x@ns@@3HA', Flags.NAME_ONLY), 'ns::x');
+
+    // A declaration that needs a larger output, one that needs a larger workspace, and symbols that exhaust the stack.
+    const twice = (levels) => `?x@${'?1???0?$A@Va@'.repeat(levels)}${'@@@QEAA@XZ'.repeat(levels)}@3HA`;
+    assert.equal(demangle(twice(10)).length, 54_224);
+    rejected(() => demangle(twice(11)), 'TOO_LONG', 260);
+    assert.ok(demangle(twice(14), Flags.LLVM, NO_LIMITS).length > 500_000);
+    assert.equal(filter(`${twice(10)} `.repeat(500)), `${demangle(twice(10))} `.repeat(500));
+    for (const deep of ['PEA', 'V?$A@', 'P6AX', 'Y00']) {
+      const symbol = `?x@@3${deep.repeat(1_000_000)}`;
+      assert.equal(outcome(demangle, symbol, Flags.LLVM, { maxNodes: 1000 }).code, 'TOO_MANY_NODES');
+      assert.ok(outcome(demangle, symbol, Flags.LLVM, NO_LIMITS) instanceof RangeError);
+      assert.equal(demangle('?x@ns@@3HA'), 'int ns::x');
+      assert.equal(filter(symbol), symbol);
+    }
+    console.log('calls: all as they should be');
+  },
+};
+commands[command](...words);

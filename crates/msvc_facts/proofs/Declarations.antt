@@ -1,0 +1,93 @@
+-- Each fact about declarations is computed.
+use Rattle.std.proofs.Common.{refl}
+use Rattle.msvc_facts.proofs.OnLiterals.{printing, reading}
+use Rattle.msvc_facts.proofs.Symbols.{is_shown}
+use Rattle.msvc_facts.specs.Declarations.{AreDeclarations, AreFlags, AreNames, AreSpaces, AreTypes}
+
+pub spaces : AreSpaces
+unfolding printing
+spaces = record {
+  after_pointer = refl;
+  after_reference = refl;
+  after_word = refl;
+  unless_open = refl;
+  after_angle = refl;
+  at_the_start = refl;
+  opens_at_the_start = refl;
+  once = refl;
+}
+
+pub declarations : AreDeclarations
+unfolding printing
+declarations = record {
+  register_call = refl;
+  classless = refl;
+}
+
+pub names : AreNames
+unfolding reading printing
+names = record {
+  digit = is_shown refl;
+  empty = is_shown refl;
+  template = is_shown refl;
+  interface = is_shown refl;
+  constructor = is_shown refl;
+  without_a_class = is_shown refl;
+  destructor = is_shown refl;
+  conversion = is_shown refl;
+  no_conversion = is_shown refl;
+  literal = is_shown refl;
+  await = is_shown refl;
+  guard = is_shown refl;
+  numbered_guard = is_shown refl;
+  type_descriptor = is_shown refl;
+  base_class = is_shown refl;
+  hash = is_shown refl;
+}
+
+pub types : AreTypes
+unfolding reading printing
+types = record {
+  arrays = is_shown refl;
+  levels = is_shown refl;
+  array_of_parameters = is_shown refl;
+  reference = is_shown refl;
+  negative = is_shown refl;
+  wraps = is_shown refl;
+  functions = is_shown refl;
+  member_pointer = is_shown refl;
+  digit = is_shown refl;
+  one_byte = is_shown refl;
+  dollar = is_shown refl;
+  ellipsis = is_shown refl;
+  none = is_shown refl;
+  of_return = is_shown refl;
+  thunk = is_shown refl;
+  qualifiers = is_shown refl;
+  table = is_shown refl;
+  bases = is_shown refl;
+  virtual_call = is_shown refl;
+}
+
+pub flags : AreFlags
+unfolding reading printing
+flags = record {
+  none = is_shown refl;
+  of_lines = is_shown refl;
+  hug = is_shown refl;
+  before_pointer = is_shown refl;
+  words = is_shown refl;
+  no_words = is_shown refl;
+  comma = is_shown refl;
+  no_conventions = is_shown refl;
+  no_returns = is_shown refl;
+  half_of_this = is_shown refl;
+  no_this = is_shown refl;
+  no_access = is_shown refl;
+  of_a_variable = is_shown refl;
+  decoding = is_shown refl;
+  name_only = is_shown refl;
+  conversion = is_shown refl;
+  no_class = is_shown refl;
+  ptr64 = is_shown refl;
+}

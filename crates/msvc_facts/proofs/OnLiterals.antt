@@ -1,0 +1,25 @@
+-- What a fact unfolds to compute what is read of a text, and what is printed of a tree.
+use Rattle.std.specs.Prelude.{⊤}
+use Rattle.std.specs.Fmt.{digits}
+use Rattle.msvc_grammar.specs.Grammar.{arrays, grammar}
+use Rattle.msvc_grammar.specs.Reads.{counting, part_here, read_by, read_name, read_within}
+use Rattle.msvc_print.specs.Declaration.{conversion, declaration, grown, is_empty_pack, name_pieces, parameters}
+use Rattle.msvc_print.specs.Declaration.{quoted_unless, scope_pieces, table_end}
+use Rattle.msvc_print.specs.Functions.{access_words, calling, convention_pieces, each_function_qualifier}
+use Rattle.msvc_print.specs.Functions.{function_qualifiers, kind_words, member_start, member_words, separator}
+use Rattle.msvc_print.specs.Functions.{wide_qualifier}
+use Rattle.msvc_print.specs.Operators.{base_class_pieces, guard_number, guard_pieces, name_kind, operator_word, scoped}
+use Rattle.msvc_print.specs.Pieces.{settle_all}
+use Rattle.msvc_print.specs.Sides.{kept_left, kept_right}
+use Rattle.msvc_print.specs.Words.{closing, marked, opening, qualifiers}
+
+unfoldable pub reading : ⊤
+unfolding arrays counting grammar part_here read_by read_name read_within
+reading = tt
+
+unfoldable pub printing : ⊤
+unfolding access_words base_class_pieces calling closing conversion convention_pieces declaration digits
+    each_function_qualifier function_qualifiers grown guard_number guard_pieces is_empty_pack kept_left kept_right
+    kind_words marked member_start member_words name_kind name_pieces opening operator_word parameters qualifiers
+    quoted_unless scope_pieces scoped separator settle_all table_end wide_qualifier
+printing = tt

@@ -1,0 +1,38 @@
+use Rattle.msvc_facts.proofs.Declarations.{declarations, flags, names, spaces, types}
+use Rattle.msvc_facts.proofs.Letters.{tables}
+use Rattle.msvc_facts.proofs.Texts.{lines, words}
+use Rattle.msvc_facts.proofs.Trees.{counts, refusals, trees}
+use Rattle.msvc_facts.proofs.facts.Goals as goal
+
+pub returns-clause-tables : goal.returns-clause-tables
+returns-clause-tables c = tables
+
+pub returns-clause-trees : goal.returns-clause-trees
+returns-clause-trees c = trees
+
+pub returns-clause-counts : goal.returns-clause-counts
+returns-clause-counts c = counts
+
+pub returns-clause-refusals : goal.returns-clause-refusals
+returns-clause-refusals c = refusals
+
+pub returns-clause-spaces : goal.returns-clause-spaces
+returns-clause-spaces c = spaces
+
+pub returns-clause-declarations : goal.returns-clause-declarations
+returns-clause-declarations c = declarations
+
+pub returns-clause-names : goal.returns-clause-names
+returns-clause-names c = names
+
+pub returns-clause-types : goal.returns-clause-types
+returns-clause-types c = types
+
+pub returns-clause-flags : goal.returns-clause-flags
+returns-clause-flags c = flags
+
+pub returns-clause-lines : goal.returns-clause-lines
+returns-clause-lines c = lines
+
+pub returns-clause-words : goal.returns-clause-words
+returns-clause-words c = words

@@ -1,0 +1,5 @@
+pub mod Declarations
+pub mod Letters
+pub mod Symbols
+pub mod Texts
+pub mod Trees

@@ -1,0 +1,52 @@
+-- How bytes are cut into lines, and where a symbol may stand in a text.
+use Rattle.std.specs.Prelude.{List, [], ◌∷◌, ◌≡◌, codes, false, map, reverse, true}
+use Prim.Native.String.{String}
+use Rattle.msvc_demangler.specs.Lines.{lines_of}
+use Rattle.msvc_demangler.specs.SymbolBounds.{continues, is_start, is_visible, max_bytes, symbol_extent}
+
+-- the lines of some bytes
+abbrev AreLinesOf : String → List String → Type 0
+AreLinesOf bytes lines = lines_of (codes bytes) ≡ map codes lines
+
+pub record AreLines : Type 0 where
+  pub none : AreLinesOf "" []
+  pub empty : AreLinesOf "\n" ("" ∷ [])
+  -- the last line may lack its line feed
+  pub last : AreLinesOf "a\nb" ("a" ∷ "b" ∷ [])
+  pub no_other : AreLinesOf "a\n" ("a" ∷ [])
+  -- one carriage return goes with a line feed, and no other
+  pub returns : AreLinesOf "a\r\r\nb\rc\r\n" ("a\r" ∷ "b\rc" ∷ [])
+  pub last_return : AreLinesOf "a\r" ("a\r" ∷ [])
+
+-- a ? may begin a symbol after these bytes, which stand after a line feed
+abbrev Begins : String → Type 0
+Begins before = is_start 10 (reverse (codes before)) 63 ≡ true
+
+abbrev BeginsNot : String → Type 0
+BeginsNot before = is_start 10 (reverse (codes before)) 63 ≡ false
+
+pub record AreWords : Type 0 where
+  pub at_the_start : Begins ""
+  pub after_a_space : Begins "a "
+  pub after_an_underscore : Begins "__imp_"
+  pub after_a_dollar : Begins "$pdata$"
+  pub after_an_at_sign : Begins "$LN5@"
+  pub after_a_letter : BeginsNot "a"
+  pub after_a_digit : BeginsNot "_TI1"
+  pub after_a_full_stop : BeginsNot "."
+  -- the first of its word alone
+  pub second : BeginsNot "?a@"
+  pub of_another_word : Begins "?a "
+  -- spaces and control characters end a candidate, and no other byte
+  pub visible : map is_visible (0 ∷ 10 ∷ 32 ∷ 33 ∷ 126 ∷ 127 ∷ 128 ∷ 255 ∷ [])
+      ≡ false ∷ false ∷ false ∷ true ∷ true ∷ false ∷ true ∷ true ∷ []
+  pub longest : max_bytes ≡ 4096
+  -- a storage class or an @ that is left is taken where no word goes on
+  pub class_left : symbol_extent (codes "?x@@3PEBHEB\", <") 10 ≡ 11
+  pub at_sign_left : symbol_extent (codes "?x@@3HA@") 7 ≡ 8
+  pub small_letter_left : symbol_extent (codes "?x@@3HAb") 7 ≡ 7
+  pub two_left : symbol_extent (codes "?x@@3HABC") 7 ≡ 7
+  pub goes_on : continues (codes "b") ≡ true
+  pub goes_on_with_an_at_sign : continues (codes "@") ≡ true
+  pub ends_at_a_dollar : continues (codes "$filt$0") ≡ false
+  pub ends_at_a_question_mark : continues (codes "?") ≡ false

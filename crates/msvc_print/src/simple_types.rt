@@ -1,0 +1,164 @@
+//! Writes simple types, which need no stack: base types, numbers, and pointers and references to these. They have
+//! nothing after the name.
+
+ghost use Rattle.std.specs.Prelude.{ℕ, ◌≡◌, ◌≤◌, ◌++◌, ◌∷◌, [], Bool, true, false, OnOk, IfOk, drop, length};
+ghost use Rattle.msvc_nodes.specs.NodeView.{type_of, types_in};
+ghost use Rattle.msvc_print.specs.Declaration.{parameters};
+ghost use Rattle.msvc_print.specs.SimpleTypes as spec;
+ghost use Rattle.msvc_print.specs.Functions.{calling};
+ghost use Rattle.msvc_print.specs.Halves.{after, before};
+ghost use Rattle.msvc_print.specs.Limited.{Writes, add_all};
+ghost use Rattle.msvc_print.specs.Pieces.{text};
+ghost use Rattle.msvc_print.specs.Words.{base_word, marked, qualifiers as qualifier_pieces};
+
+use crate::function_types::{write_calling, write_separator};
+use crate::text::{Text, write_mark};
+use crate::types::{is_empty_pack, write_numbered, write_word};
+use crate::words::{base_word, mark_word};
+use msvc_nodes::flags::{DemangleFlags, StorageClass};
+use msvc_nodes::kinds::{CallingConv, PrimitiveKind};
+use msvc_nodes::nodes::Type;
+use std::alloc::{AllocError, Allocator};
+
+/// Writes the mark of a pointer or a reference after what it points to, unless that was left out.
+fn write_later_mark<A: Allocator>(
+    out: &mut Text<A>,
+    word: &[u8],
+    qualifiers: StorageClass,
+    flags: DemangleFlags,
+) -> Result<(), AllocError>
+    ensures { OnOk result (Writes (marked word.now qualifiers.0 flags.0) out.old out.new) }
+{
+    if out.is_whole() {
+        write_mark(out, word, qualifiers, flags)?;
+    }
+    Ok(())
+}
+
+/// Writes the calling convention of a function after what it returns, unless that was left out.
+pub fn write_later_calling<A: Allocator>(
+    out: &mut Text<A>,
+    pointed: bool,
+    convention: CallingConv,
+    flags: DemangleFlags,
+) -> Result<(), AllocError>
+    ensures { OnOk result (Writes (calling pointed convention flags.0) out.old out.new) }
+{
+    if out.is_whole() {
+        write_calling(out, pointed, convention, flags)?;
+    }
+    Ok(())
+}
+
+/// Writes the word of a base type, and its qualifiers. It stays a call, since a loop that has it inline first makes
+/// ready each word that depends on flags.
+#[tactic(auto, using(crate::proofs::Settling::settling))]
+#[inline(never)]
+fn write_base<A: Allocator>(
+    out: &mut Text<A>,
+    base: PrimitiveKind,
+    qualifiers: StorageClass,
+    flags: DemangleFlags,
+) -> Result<(), AllocError>
+    ensures { OnOk result (Writes (text (base_word base flags.0) ∷ qualifier_pieces qualifiers.0 flags.0) out.old
+        out.new) }
+{
+    write_word(out, base_word(base, flags), qualifiers, flags)
+}
+
+/// Writes a type that has no other in it, if it is simple. Returns whether it is.
+#[tactic(auto, using(crate::proofs::Nodes::printed), unfolding(crate::specs::Halves::after, crate::specs::Halves::before, msvc_nodes::specs::NodeView::type_of))]
+#[inline(always)]
+fn write_simple_inner<'a, 'b, A: Allocator>(
+    out: &mut Text<A>,
+    t: &'b Type<'a, 'b>,
+    flags: DemangleFlags,
+) -> Result<bool, AllocError>
+    ensures simple { IfOk result (λ is. is ≡ true → (pointed : Bool) →
+        Writes (before (type_of t.now) pointed flags.0) out.old out.new) }
+    ensures ends { IfOk result (λ is. is ≡ true → (pointed : Bool) → after (type_of t.now) pointed flags.0 ≡ []) }
+    ensures other { IfOk result (λ is. is ≡ false → out.new ≡ out.old) }
+{
+    match t {
+        Type::Base(base, qualifiers) => {
+            write_base(out, *base, *qualifiers, flags)?;
+            Ok(true)
+        }
+        Type::Numbered(kind, number) => {
+            write_numbered(out, *kind, *number, false, flags)?;
+            Ok(true)
+        }
+        _ => Ok(false),
+    }
+}
+
+/// Writes what a pointer or a reference has before the name, if what it points to is simple. Returns whether it is.
+#[tactic(auto, using(crate::proofs::Settling::settling))]
+#[inline(always)]
+pub fn write_simple_pointer<'a, 'b, A: Allocator>(
+    out: &mut Text<A>,
+    word: &[u8],
+    qualifiers: StorageClass,
+    inner: &'b Type<'a, 'b>,
+    flags: DemangleFlags,
+) -> Result<bool, AllocError>
+    ensures simple { IfOk result (λ is. is ≡ true →
+        Writes (before (type_of inner.now) true flags.0 ++ marked word.now qualifiers.0 flags.0) out.old out.new) }
+    ensures ends { IfOk result (λ is. is ≡ true → after (type_of inner.now) true flags.0 ≡ []) }
+    ensures other { IfOk result (λ is. is ≡ false → out.new ≡ out.old) }
+{
+    if !write_simple_inner(out, inner, flags)? {
+        return Ok(false);
+    }
+    write_later_mark(out, word, qualifiers, flags)?;
+    Ok(true)
+}
+
+/// Writes a type, if it is simple. Returns whether it is.
+#[tactic(auto, using(crate::proofs::Nodes::printed), unfolding(crate::specs::Halves::after, crate::specs::Halves::before, msvc_nodes::specs::NodeView::type_of))]
+#[inline(always)]
+pub fn write_simple<'a, 'b, A: Allocator>(
+    out: &mut Text<A>,
+    t: &'b Type<'a, 'b>,
+    flags: DemangleFlags,
+) -> Result<bool, AllocError>
+    ensures simple { IfOk result (λ is. is ≡ true → Writes (before (type_of t.now) false flags.0) out.old out.new) }
+    ensures ends { IfOk result (λ is. is ≡ true → after (type_of t.now) false flags.0 ≡ []) }
+    ensures other { IfOk result (λ is. is ≡ false → out.new ≡ out.old) }
+{
+    match t {
+        Type::Pointing(affinity, qualifiers, inner) => {
+            write_simple_pointer(out, mark_word(*affinity), *qualifiers, *inner, flags)
+        }
+        _ => write_simple_inner(out, t, flags),
+    }
+}
+
+/// Writes the types of a list that stand before the first one that is not simple, with a comma before each but the
+/// first, and the comma before that one. Returns its place, or the length of the list if all are simple. Ends where
+/// `out` is not whole.
+pub fn write_simple_types<'a, 'b, A: Allocator>(
+    out: &mut Text<A>,
+    types: &'b [&'b Type<'a, 'b>],
+    first: bool,
+    flags: DemangleFlags,
+) -> Result<usize, AllocError>
+    ensures fits { IfOk result (λ at. at ≤ length types.now) }
+    ensures text { IfOk result (λ at. add_all out.new (spec.begun (drop at types.now) flags.0)
+        ≡ add_all out.old (parameters (types_in types.now) first flags.0)) }
+{
+    let mut none_yet = first;
+    let mut at = 0;
+    'types: while at < types.len() && out.is_whole() {
+        let t = types[at];
+        if !is_empty_pack(t) {
+            write_separator(out, none_yet, flags)?;
+            if !write_simple(out, t, flags)? {
+                return Ok(at);
+            }
+            none_yet = false;
+        }
+        at += 1;
+    }
+    Ok(at)
+}

@@ -1,0 +1,18 @@
+// What the types of the ES module allow, and what they don't.
+import { demangle, filter, symbolLength, version, DemangleError, Flags } from 'msvc-demangler';
+
+const text: string = demangle('?x@ns@@3HA', Flags.LLVM | Flags.NAME_ONLY, { maxNodes: 100, maxBytes: Infinity });
+const filtered: string = filter(text + version);
+const bytes: Uint8Array = filter(new Uint8Array(), 0);
+const length: number = symbolLength(bytes, { maxNodes: 100 }) + filtered.length;
+// @ts-expect-error: a text is a string or bytes
+demangle(length);
+// @ts-expect-error: a length has no such limit
+symbolLength('?x@@3HA', { maxBytes: 1 });
+// @ts-expect-error: flags are constants
+Flags.LLVM = 0;
+try {
+  demangle('?x@@3L');
+} catch (error) {
+  if (error instanceof DemangleError && error.code === 'INVALID') console.log(error.offset.toFixed());
+}

@@ -1,0 +1,113 @@
+/* Calls the C library over each input of AFL++, for tools/fuzz. An input is the bytes of a symbol, or of a text to
+   filter. The program aborts if a call writes beyond its buffer, cuts a text otherwise than its length says, or returns
+   another status or length the second time.
+
+   The archive has no instrumentation, so the bytes of the result stand in for its branches: each three in a row take
+   one of 256 instrumented branches here. */
+
+#include <msvc_demangler.h>
+#include <stdlib.h>
+#include <string.h>
+#include <unistd.h>
+
+__AFL_FUZZ_INIT();
+
+enum { ROOM = 4096, GUARD = 64, MARK = 0xA5 };
+
+static void expect(int holds)
+{
+    if (!holds) {
+        abort();
+    }
+}
+
+#define BRANCH(n) \
+    case n: \
+        __asm__ volatile("" ::"i"(n)); \
+        break;
+#define BRANCHES4(n) BRANCH(n) BRANCH(n + 1) BRANCH(n + 2) BRANCH(n + 3)
+#define BRANCHES16(n) BRANCHES4(n) BRANCHES4(n + 4) BRANCHES4(n + 8) BRANCHES4(n + 12)
+#define BRANCHES64(n) BRANCHES16(n) BRANCHES16(n + 16) BRANCHES16(n + 32) BRANCHES16(n + 48)
+
+/* Takes the branch of three bytes. */
+static void branch(const unsigned char *bytes)
+{
+    switch ((bytes[0] * 31u + bytes[1] * 7u + bytes[2]) % 256) {
+        BRANCHES64(0)
+        BRANCHES64(64)
+        BRANCHES64(128)
+        BRANCHES64(192)
+    }
+}
+
+/* A buffer between guards. */
+struct room {
+    unsigned char before[GUARD];
+    char text[ROOM];
+    unsigned char after[GUARD];
+};
+
+static void clear(struct room *room)
+{
+    memset(room, MARK, sizeof *room);
+}
+
+/* Sees that nothing was written outside of so many bytes, and that a NUL is among them. */
+static void see(const struct room *room, size_t size)
+{
+    const unsigned char *bytes = (const unsigned char *)room->text;
+    for (size_t at = 0; at < GUARD; at++) {
+        expect(room->before[at] == MARK && room->after[at] == MARK);
+    }
+    for (size_t at = size; at < ROOM; at++) {
+        expect(bytes[at] == MARK);
+    }
+    expect(size == 0 || memchr(bytes, 0, size) != NULL);
+}
+
+typedef struct msvc_demangler_result call(const char *input, size_t length, char *out, size_t size);
+
+static struct msvc_demangler_result demangle(const char *input, size_t length, char *out, size_t size)
+{
+    return msvc_demangler_demangle(input, length, MSVC_DEMANGLER_LLVM, MSVC_DEMANGLER_DEFAULT_NODES,
+                                   MSVC_DEMANGLER_DEFAULT_BYTES, out, size);
+}
+
+static struct msvc_demangler_result filter(const char *input, size_t length, char *out, size_t size)
+{
+    return msvc_demangler_filter(input, length, MSVC_DEMANGLER_LLVM, out, size);
+}
+
+/* Makes a call with much room and with little. */
+static void try_call(call *called, const char *input, size_t length)
+{
+    static struct room large, small;
+    clear(&large);
+    struct msvc_demangler_result whole = called(input, length, large.text, ROOM);
+    see(&large, ROOM);
+    for (size_t at = 0; at + 2 < ROOM && large.text[at + 2] != '\0' && at < whole.length; at++) {
+        branch((const unsigned char *)large.text + at);
+    }
+    size_t size = length % 32;
+    clear(&small);
+    struct msvc_demangler_result cut = called(input, length, small.text, size);
+    see(&small, size);
+    expect(cut.status == whole.status && cut.length == whole.length);
+    if (size > 0) {
+        expect(strncmp(small.text, large.text, strlen(small.text)) == 0);
+    }
+}
+
+int main(void)
+{
+    __AFL_INIT();
+    const char *input = (const char *)__AFL_FUZZ_TESTCASE_BUF;
+    while (__AFL_LOOP(10000)) {
+        size_t length = (size_t)__AFL_FUZZ_TESTCASE_LEN;
+        try_call(demangle, input, length);
+        try_call(filter, input, length);
+        struct msvc_demangler_result read = msvc_demangler_prefix(input, length, MSVC_DEMANGLER_DEFAULT_NODES);
+        expect(read.status != MSVC_DEMANGLER_OK || read.length <= length);
+    }
+    return 0;
+}

@@ -1,0 +1,80 @@
+/** Turns C++ symbols, as Microsoft's compiler mangles them, into declarations. */
+
+/** The version of the library. */
+export declare const version: string;
+
+/** How a declaration is printed. Flags are combined with |. */
+export declare const Flags: {
+  /** No `__cdecl` and the like. */
+  readonly NO_MS_KEYWORDS: 0x2;
+  /** Of functions the name and the parameters alone. */
+  readonly NO_FUNCTION_RETURNS: 0x4;
+  /** This one and the next: no `const` after a member function. */
+  readonly NO_MS_THISTYPE: 0x20;
+  readonly NO_CV_THISTYPE: 0x40;
+  /** Both of these. */
+  readonly NO_THISTYPE: 0x60;
+  /** No `public:`, `protected:` and `private:` of functions. */
+  readonly NO_ACCESS_SPECIFIERS: 0x80;
+  /** No `static` and `virtual` of functions. */
+  readonly NO_MEMBER_TYPE: 0x200;
+  /** `__int64`, and not `int64_t`. */
+  readonly MS_TYPENAMES: 0x400;
+  /** Changes nothing. */
+  readonly DECODE_32_BIT: 0x800;
+  /** The name alone. */
+  readonly NAME_ONLY: 0x1000;
+  /** No `class`, `struct`, `union` and `enum` before names. */
+  readonly NO_CLASS_TYPE: 0x100000;
+  /** `(int, int)`. */
+  readonly SPACE_AFTER_COMMA: 0x200000;
+  /** `int*x`, and not `int *x`. */
+  readonly HUG_TYPE: 0x400000;
+  /** With HUG_TYPE `int *x`. */
+  readonly SPACE_BEFORE_POINTER: 0x800000;
+  /** `__ptr64` after the parameters of a member function. */
+  readonly WITH_PTR64: 0x1000000;
+  /** As llvm-undname prints: four of them. */
+  readonly LLVM: 0xE00400;
+};
+
+/** There is no declaration. The message says why. */
+export declare class DemangleError extends Error {
+  /** INVALID: the text begins with no symbol. The others: bytes are not UTF-8, and a limit is exceeded. */
+  readonly code: 'INVALID' | 'NOT_UTF8' | 'TOO_MANY_NODES' | 'TOO_LONG';
+  /** Where in the symbol that is: in code units of a string, or in bytes. For TOO_LONG it is where the symbol ends. */
+  readonly offset: number;
+}
+
+/** Limits for symbols that are not trusted. Infinity is no limit. */
+export interface Limits {
+  /** Of nodes of the tree, in which each name and each type is a node; 10,000 unless it is given. */
+  maxNodes?: number;
+  /** Of bytes of the declaration in UTF-8; 65,536 unless it is given. */
+  maxBytes?: number;
+}
+
+/**
+ * Returns the declaration of the symbol that the text begins with.
+ *
+ * @throws {DemangleError} if there is none
+ * @throws {RangeError} if memory or the engine's stack runs out
+ */
+export declare function demangle(symbol: string | Uint8Array, flags?: number, limits?: Limits): string;
+
+/**
+ * Returns the text with each symbol in it replaced by its declaration; all else stays. Bytes need not be UTF-8. A
+ * symbol that exceeds a default limit or the engine's stack stays.
+ *
+ * @throws {RangeError} if memory runs out
+ */
+export declare function filter(text: string, flags?: number): string;
+export declare function filter(text: Uint8Array, flags?: number): Uint8Array;
+
+/**
+ * Returns how much of the text the symbol takes that it begins with: in code units of a string, or in bytes.
+ *
+ * @throws {DemangleError} if it begins with none
+ * @throws {RangeError} if memory or the engine's stack runs out
+ */
+export declare function symbolLength(symbol: string | Uint8Array, limits?: Pick<Limits, 'maxNodes'>): number;

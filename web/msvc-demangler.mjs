@@ -1,0 +1,245 @@
+/**
+ * Turns C++ symbols, as Microsoft's compiler mangles them, into declarations:
+ *
+ *     import { demangle } from 'msvc-demangler';
+ *     demangle('?x@ns@@3HA');  // 'int ns::x'
+ *
+ * This file has the proved library inside, as a WebAssembly module, and asks for nothing else. A symbol or a text is a
+ * string, or bytes in UTF-8. In a string a surrogate without its other half counts as U+FFFD.
+ */
+
+/** The version of the library. */
+export const version = '@VERSION@';
+
+/** How a declaration is printed. Flags are combined with |. */
+export const Flags = Object.freeze({
+  NO_MS_KEYWORDS: 0x2,
+  NO_FUNCTION_RETURNS: 0x4,
+  NO_MS_THISTYPE: 0x20,
+  NO_CV_THISTYPE: 0x40,
+  NO_THISTYPE: 0x60,
+  NO_ACCESS_SPECIFIERS: 0x80,
+  NO_MEMBER_TYPE: 0x200,
+  MS_TYPENAMES: 0x400,
+  DECODE_32_BIT: 0x800,
+  NAME_ONLY: 0x1000,
+  NO_CLASS_TYPE: 0x100000,
+  SPACE_AFTER_COMMA: 0x200000,
+  HUG_TYPE: 0x400000,
+  SPACE_BEFORE_POINTER: 0x800000,
+  WITH_PTR64: 0x1000000,
+  LLVM: 0xE00400,
+});
+
+/** There is no declaration. The message says why, `code` which kind of error it is, and `offset` where it is. */
+export class DemangleError extends Error {
+  name = 'DemangleError';
+
+  constructor(message, code, offset) {
+    super(message);
+    this.code = code;
+    this.offset = offset;
+  }
+}
+
+/** A call has exhausted the engine's stack. */
+class OutOfStack extends RangeError {}
+
+const CODES = ['OK', 'INVALID', 'NOT_UTF8', 'OUT_OF_MEMORY', 'TOO_MANY_NODES', 'TOO_LONG'];
+const DEFAULT_NODES = 10_000;
+const DEFAULT_BYTES = 65_536;
+
+const DEFAULT_WORKSPACE = 1_228_800;
+const PAGE = 65_536;
+const MOST_MEMORY = 2 ** 31;
+
+// A longer text is filtered in pieces of at most so many bytes, unless it has a word that is longer.
+const PIECE = 65_536;
+const SPACE = 32;
+
+const encoder = new TextEncoder();
+const decoder = new TextDecoder('utf-8', { ignoreBOM: true });
+const compiled = await WebAssembly.compile(Uint8Array.from(atob('@MODULE@'), (letter) => letter.charCodeAt(0)));
+let library = (await WebAssembly.instantiate(compiled)).exports;
+let memory = new Uint8Array(library.memory.buffer);
+let view = new DataView(memory.buffer);
+
+// Where in the memory a call finds what include/msvc_demangler_in.h describes: its result, and the two parts of the
+// workspace, each with an address and a size. Behind these lie what the parts are of, the output and the input.
+// Addresses and sizes have 64 bits.
+const RESULT = Math.ceil(Number(library.__heap_base.value) / 16) * 16;
+const ARENA = RESULT + 32;
+const TEXT = ARENA + 16;
+const FREE = TEXT + 16;
+
+const bytesOf = (text) => (typeof text === 'string' ? encoder.encode(text) : text);
+
+/** Returns a limit as the library takes it. */
+function limit(value) {
+  if (!(value >= 0)) throw new RangeError(`a limit is at least 0, not ${value}`);
+  return value <= Number.MAX_SAFE_INTEGER ? BigInt(Math.floor(value)) : 2n ** 64n - 1n;
+}
+
+/** Returns how many code units of a string the first bytes of its UTF-8 stand for. */
+function units(bytes, end) {
+  let count = 0;
+  for (let at = 0; at < end; at++) count += (bytes[at] & 0xC0) === 0x80 ? 0 : bytes[at] < 0xF0 ? 1 : 2;
+  return count;
+}
+
+const place = (text, bytes, offset) => (typeof text === 'string' ? units(bytes, offset) : offset);
+
+/** Takes an instance of the library, or its memory after that has grown. */
+function use(exports) {
+  library = exports;
+  memory = new Uint8Array(exports.memory.buffer);
+  view = new DataView(memory.buffer);
+}
+
+/** Describes a part of the workspace, and returns where it ends. */
+function describe(part, begin, size) {
+  view.setBigUint64(part, BigInt(begin), true);
+  view.setBigUint64(part + 8, BigInt(size), true);
+  return begin + size;
+}
+
+/**
+ * Makes one call of the library, over an input, with so many bytes for the arena, the text and the output, each a
+ * multiple of 16. A call that exhausts the engine's stack leaves its instance unusable, and another takes its place.
+ */
+function call(make, input, arena, text, size) {
+  const end = FREE + arena + text + size + input.length;
+  if (end > MOST_MEMORY) throw new RangeError('out of memory');
+  if (end > memory.length) {
+    library.memory.grow(Math.ceil((end - memory.length) / PAGE));
+    use(library);
+  }
+  const out = describe(TEXT, describe(ARENA, FREE, arena), text);
+  const from = out + size;
+  memory.set(input, from);
+  try {
+    make(...[RESULT, from, input.length, ARENA, TEXT, out, size].map(BigInt));
+  } catch {
+    use(new WebAssembly.Instance(compiled).exports);
+    throw new OutOfStack('out of stack');
+  }
+  const length = Number(view.getBigUint64(RESULT + 16, true));
+  return {
+    code: CODES[view.getUint32(RESULT, true)],
+    offset: Number(view.getBigUint64(RESULT + 8, true)),
+    length,
+    written: memory.subarray(out, out + Math.min(length, size)),
+  };
+}
+
+/** Makes a call again with a larger output or workspace, as long as it needs that and there is memory. */
+function completed(make, input, size) {
+  let arena = DEFAULT_WORKSPACE - DEFAULT_BYTES;
+  let text = size ? DEFAULT_BYTES : 0;
+  for (;;) {
+    const found = call(make, input, arena, text, size);
+    if (found.code === 'OUT_OF_MEMORY') {
+      arena *= 2;
+      text *= 2;
+    } else if (size && found.length >= size) {
+      size = 16 * Math.ceil((found.length + 1) / 16);
+    } else {
+      return found;
+    }
+  }
+}
+
+/**
+ * Returns the declaration of the symbol that the text begins with. maxNodes limits its tree, in which each name and
+ * each type is a node, and maxBytes the declaration in UTF-8. Throws a DemangleError if there is none, and a RangeError
+ * if memory or the engine's stack runs out.
+ */
+export function demangle(symbol, flags = Flags.LLVM, { maxNodes = DEFAULT_NODES, maxBytes = DEFAULT_BYTES } = {}) {
+  const input = bytesOf(symbol);
+  const nodes = limit(maxNodes);
+  const bytes = limit(maxBytes);
+  const found = completed((result, from, length, arena, text, out, size) => {
+    library.msvc_demangler_demangle_in_parts(result, from, length, flags, nodes, bytes, arena, text, out, size);
+  }, input, DEFAULT_BYTES + 16);
+  const text = decoder.decode(found.written);
+  if (found.code !== 'OK') throw new DemangleError(text, found.code, place(symbol, input, found.offset));
+  return text;
+}
+
+/**
+ * Returns how much of the text the symbol takes that it begins with, in code units of a string, or in bytes. Throws as
+ * demangle does.
+ */
+export function symbolLength(symbol, { maxNodes = DEFAULT_NODES } = {}) {
+  const input = bytesOf(symbol);
+  const nodes = limit(maxNodes);
+  const found = completed((result, from, length, arena) => {
+    library.msvc_demangler_prefix_in_parts(result, from, length, nodes, arena);
+  }, input, 0);
+  if (found.code !== 'OK') {
+    const message = `no symbol within the limit (offset: ${found.offset})`;
+    throw new DemangleError(message, found.code, place(symbol, input, found.offset));
+  }
+  return place(symbol, input, found.length);
+}
+
+/** Returns where the piece of a text ends that begins there: behind a space or a control character, or at the end. */
+function pieceEnd(text, begin) {
+  if (text.length - begin <= PIECE) return text.length;
+  for (let end = begin + PIECE; end > begin; end--) {
+    if (text[end - 1] <= SPACE) return end;
+  }
+  const end = text.subarray(begin).findIndex((byte) => byte <= SPACE);
+  return end < 0 ? text.length : begin + end + 1;
+}
+
+/** Returns where a piece can be cut in two, near its middle, or 0 if it has no place for that. */
+function middleOf(piece) {
+  const half = piece.length >> 1;
+  const before = piece.subarray(0, half).findLastIndex((byte) => byte <= SPACE) + 1;
+  if (before > 0) return before;
+  const after = half + piece.subarray(half).findIndex((byte) => byte <= SPACE) + 1;
+  return after === half || after === piece.length ? 0 : after;
+}
+
+/** Returns a filtered piece of a text, in parts. What exhausts the stack stays, up to the next places to cut. */
+function filtered(piece, flags) {
+  try {
+    const found = completed((result, from, length, arena, text, out, size) => {
+      library.msvc_demangler_filter_in_parts(result, from, length, flags, arena, text, out, size);
+    }, piece, 16 * Math.ceil(piece.length / 8) + PIECE);
+    return [found.written.slice()];
+  } catch (error) {
+    if (!(error instanceof OutOfStack)) throw error;
+    const middle = middleOf(piece);
+    if (middle === 0) return [piece];
+    return [...filtered(piece.subarray(0, middle), flags), ...filtered(piece.subarray(middle), flags)];
+  }
+}
+
+/** Returns some bytes one after the other. */
+function joined(parts) {
+  const all = new Uint8Array(parts.reduce((sum, part) => sum + part.length, 0));
+  let at = 0;
+  for (const part of parts) {
+    all.set(part, at);
+    at += part.length;
+  }
+  return all;
+}
+
+/**
+ * Returns the text, a string or bytes, with each symbol in it replaced by its declaration; all else stays. Bytes need
+ * not be UTF-8. A symbol that exceeds a default limit or the engine's stack stays. Throws a RangeError if memory runs
+ * out.
+ */
+export function filter(text, flags = Flags.LLVM) {
+  const input = bytesOf(text);
+  const parts = [];
+  for (let begin = 0; begin < input.length;) {
+    const end = pieceEnd(input, begin);
+    parts.push(...filtered(input.subarray(begin, end), flags));
+    begin = end;
+  }
+  return typeof text === 'string' ? decoder.decode(joined(parts)) : joined(parts);
+}
