@@ -9,13 +9,13 @@ static uint64_t argument_count;
 static char **arguments;
 
 /* Copies an argument without its NUL. Returns its length; -1 if there is no such argument, -2 if it doesn't fit. */
-static int64_t argument(uint64_t index, char *to, uint64_t room)
+static int64_t argument(uint64_t index, char *to, uint64_t size)
 {
     if (index >= argument_count) {
         return -1;
     }
     size_t length = strlen(arguments[index]);
-    if (length > room) {
+    if (length > size) {
         return -2;
     }
     memcpy(to, arguments[index], length);

@@ -12,7 +12,7 @@
 
 __AFL_FUZZ_INIT();
 
-enum { ROOM = 4096, GUARD = 64, MARK = 0xA5 };
+enum { SIZE = 4096, GUARD = 64, FILL = 0xA5 };
 
 static void expect(int holds)
 {
@@ -41,26 +41,26 @@ static void branch(const unsigned char *bytes)
 }
 
 /* A buffer between guards. */
-struct room {
+struct buffer {
     unsigned char before[GUARD];
-    char text[ROOM];
+    char text[SIZE];
     unsigned char after[GUARD];
 };
 
-static void clear(struct room *room)
+static void clear(struct buffer *buffer)
 {
-    memset(room, MARK, sizeof *room);
+    memset(buffer, FILL, sizeof *buffer);
 }
 
 /* Sees that nothing was written outside of so many bytes, and that a NUL is among them. */
-static void see(const struct room *room, size_t size)
+static void see(const struct buffer *buffer, size_t size)
 {
-    const unsigned char *bytes = (const unsigned char *)room->text;
+    const unsigned char *bytes = (const unsigned char *)buffer->text;
     for (size_t at = 0; at < GUARD; at++) {
-        expect(room->before[at] == MARK && room->after[at] == MARK);
+        expect(buffer->before[at] == FILL && buffer->after[at] == FILL);
     }
-    for (size_t at = size; at < ROOM; at++) {
-        expect(bytes[at] == MARK);
+    for (size_t at = size; at < SIZE; at++) {
+        expect(bytes[at] == FILL);
     }
     expect(size == 0 || memchr(bytes, 0, size) != NULL);
 }
@@ -81,11 +81,11 @@ static struct msvc_demangler_result filter(const char *input, size_t length, cha
 /* Makes a call with much room and with little. */
 static void try_call(call *called, const char *input, size_t length)
 {
-    static struct room large, small;
+    static struct buffer large, small;
     clear(&large);
-    struct msvc_demangler_result whole = called(input, length, large.text, ROOM);
-    see(&large, ROOM);
-    for (size_t at = 0; at + 2 < ROOM && large.text[at + 2] != '\0' && at < whole.length; at++) {
+    struct msvc_demangler_result whole = called(input, length, large.text, SIZE);
+    see(&large, SIZE);
+    for (size_t at = 0; at + 2 < SIZE && large.text[at + 2] != '\0' && at < whole.length; at++) {
         branch((const unsigned char *)large.text + at);
     }
     size_t size = length % 32;

@@ -46,8 +46,8 @@ int main(int count, char **words)
         return fail("wants demangle or prefix, KILOBYTES and NODES");
     }
     static struct work work;
-    size_t room = 0;
-    ssize_t length = getline(&work.symbol, &room, stdin);
+    size_t capacity = 0;
+    ssize_t length = getline(&work.symbol, &capacity, stdin);
     if (length <= 0) {
         return fail("no symbol");
     }

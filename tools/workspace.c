@@ -31,12 +31,12 @@ static void append(const char *text, size_t times)
 
 static void make(char *const *kind, size_t levels)
 {
-    size_t room = 1;
+    size_t size = 1;
     for (size_t n = 0; n < parts; n++) {
-        room += strlen(kind[n]) * levels;
+        size += strlen(kind[n]) * levels;
     }
     free(symbol);
-    symbol = malloc(room);
+    symbol = malloc(size);
     length = 0;
     append(kind[0], 1);
     append(kind[1], levels);
@@ -114,8 +114,8 @@ int main(int count, char **words)
     bytes = strtoul(words[2], NULL, 10);
     work = malloc(most);
     char *line = NULL;
-    size_t room = 0;
-    for (ssize_t size; (size = getline(&line, &room, stdin)) > 0;) {
+    size_t capacity = 0;
+    for (ssize_t size; (size = getline(&line, &capacity, stdin)) > 0;) {
         char *kind[parts];
         char *rest = line;
         line[size - 1] = '\0';

@@ -15,19 +15,19 @@ void *__wrap_realloc(void *block, size_t size);
 void __wrap_free(void *block);
 
 static long requests; /* so far */
-static long refused;  /* the request that is refused, from 1 on; 0 for none */
+static long failing;  /* the request that is refused, from 1 on; 0 for none */
 static long blocks;   /* that are not freed */
 
 void *__wrap_malloc(size_t size)
 {
-    void *block = ++requests == refused ? NULL : __real_malloc(size);
+    void *block = ++requests == failing ? NULL : __real_malloc(size);
     blocks += block != NULL;
     return block;
 }
 
 void *__wrap_realloc(void *old, size_t size)
 {
-    void *block = ++requests == refused ? NULL : __real_realloc(old, size);
+    void *block = ++requests == failing ? NULL : __real_realloc(old, size);
     blocks += old == NULL && block != NULL;
     return block;
 }
@@ -100,27 +100,27 @@ static void make_pointers(char *symbol, size_t parameters)
 
 /* Refuses each request of a call on a large symbol in its turn, and counts the calls that don't say then that they are
    out of memory. Adds the requests to *tried. */
-static long refuse_large(size_t parameters, long *tried)
+static long fail_large(size_t parameters, long *tried)
 {
     static char symbol[65536];
     static char text[131072];
     struct msvc_demangler_result result;
     long wrong = 0;
     make_pointers(symbol, parameters);
-    refused = 0;
+    failing = 0;
     requests = 0;
     result = msvc_demangler_demangle(symbol, strlen(symbol), MSVC_DEMANGLER_LLVM, SIZE_MAX, SIZE_MAX, text,
                                      sizeof text);
     wrong += result.status != MSVC_DEMANGLER_OK || result.length >= sizeof text;
     long count = requests;
-    for (refused = 1; refused <= count; refused++) {
+    for (failing = 1; failing <= count; failing++) {
         requests = 0;
         result = msvc_demangler_demangle(symbol, strlen(symbol), MSVC_DEMANGLER_LLVM, SIZE_MAX, SIZE_MAX, text,
                                          sizeof text);
         wrong += result.status != MSVC_DEMANGLER_OUT_OF_MEMORY || strcmp(text, "out of memory") != 0 || blocks != 0;
     }
     *tried += count;
-    refused = 0;
+    failing = 0;
     return wrong;
 }
 
@@ -132,24 +132,24 @@ int main(void)
     for (size_t n = 0; n < kinds * (sizeof symbols / sizeof symbols[0]); n++) {
         const char *symbol = symbols[n / kinds];
         enum kind kind = (enum kind)(n % kinds);
-        refused = 0;
+        failing = 0;
         wrong += wants_memory(kind, symbol);
         long count = requests;
-        for (refused = 1; refused <= count; refused++) {
+        for (failing = 1; failing <= count; failing++) {
             tried++;
             if (!wants_memory(kind, symbol) || blocks != 0) {
-                printf("%s: request %ld of %ld: %ld blocks are kept\n", symbol, refused, count, blocks);
+                printf("%s: request %ld of %ld: %ld blocks are kept\n", symbol, failing, count, blocks);
                 wrong++;
             }
         }
     }
-    refused = 0;
+    failing = 0;
     if (requests_for(1000) == 0 || requests_for(1000000) != requests_for(1000)) {
         puts("a longer list of parameters has other requests where a hundred nodes are allowed");
         wrong++;
     }
-    wrong += refuse_large(2000, &tried);  /* a tree of 4,000 nodes */
-    wrong += refuse_large(9500, &tried);  /* a declaration of 64 KB */
-    printf("%ld refused requests, %ld wrong results\n", tried, wrong);
+    wrong += fail_large(2000, &tried);  /* a tree of 4,000 nodes */
+    wrong += fail_large(9500, &tried);  /* a declaration of 64 KB */
+    printf("%ld allocation failures, %ld wrong results\n", tried, wrong);
     return wrong != 0;
 }

@@ -24,10 +24,10 @@ static bool agrees(const char *text, size_t length, const char *wanted)
 int main(void)
 {
     char *line = NULL;
-    size_t room = 0;
+    size_t capacity = 0;
     long agree = 0;
     long differ = 0;
-    for (ssize_t length; (length = getline(&line, &room, stdin)) > 0;) {
+    for (ssize_t length; (length = getline(&line, &capacity, stdin)) > 0;) {
         size_t symbol = strcspn(line, "\t");
         if (agrees(line, symbol, line + symbol + 1)) {
             agree++;

@@ -72,10 +72,10 @@ static size_t cut(const char *text, size_t size)
 /* Whether a buffer of this size gets what it holds of the text, and a NUL, and no byte after that changes. */
 static bool is_written(const struct row *row, const char *text, size_t size)
 {
-    size_t room = strlen(text) + 16;
-    char *out = malloc(2 * room);
-    char *wanted = out + room;
-    memset(out, untouched, 2 * room);
+    size_t capacity = strlen(text) + 16;
+    char *out = malloc(2 * capacity);
+    char *wanted = out + capacity;
+    memset(out, untouched, 2 * capacity);
     if (size > 0) {
         size_t length = cut(text, size);
         memcpy(wanted, text, length);
@@ -84,7 +84,7 @@ static bool is_written(const struct row *row, const char *text, size_t size)
     struct msvc_demangler_result result =
         msvc_demangler_demangle(row->symbol, strlen(row->symbol), row->flags, MSVC_DEMANGLER_UNLIMITED,
                                 MSVC_DEMANGLER_UNLIMITED, out, size);
-    bool good = result.length == strlen(text) && memcmp(out, wanted, room) == 0;
+    bool good = result.length == strlen(text) && memcmp(out, wanted, capacity) == 0;
     free(out);
     return good;
 }
@@ -105,10 +105,10 @@ static bool agrees(const struct row *row)
 int main(void)
 {
     char *line = NULL;
-    size_t room = 0;
+    size_t capacity = 0;
     long agree = 0;
     long differ = 0;
-    for (ssize_t length; (length = getline(&line, &room, stdin)) > 0;) {
+    for (ssize_t length; (length = getline(&line, &capacity, stdin)) > 0;) {
         if (strncmp(line, "# ", 2) == 0) {
             continue;
         }

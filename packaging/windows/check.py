@@ -161,8 +161,8 @@ def check_code(path, listed):
         raise Wrong("no functions")
     for name, code in found.items():
         name = name[len(PREFIX):] if name.startswith(PREFIX) else name
-        told, reaches = faults(name, code, listed)
-        wrong += [f"{name}: {fault}" for fault in told]
+        function_faults, reaches = faults(name, code, listed)
+        wrong += [f"{name}: {fault}" for fault in function_faults]
         most = max(most, frame(code))
         reaching += reaches
     if wrong:

@@ -87,10 +87,10 @@ static void keeps(const char *name, void *function, const uint64_t *words)
 }
 
 /* Counts an answer that isn't the wanted one. */
-static void answers(const char *name, int holds)
+static void expect(const char *name, int holds)
 {
     if (!holds) {
-        printf("registers: %s answers wrongly\n", name);
+        printf("registers: %s returns a wrong result\n", name);
         wrong++;
     }
 }
@@ -104,13 +104,13 @@ static void all_calls(const char *symbol, size_t length, uint32_t status, const 
     uint64_t nodes = MSVC_DEMANGLER_DEFAULT_NODES, bytes = MSVC_DEMANGLER_DEFAULT_BYTES, flags = MSVC_DEMANGLER_LLVM;
     keeps("demangle", (void *)msvc_demangler_demangle,
           (uint64_t[WORDS]){at, in, length, flags, nodes, bytes, to, sizeof out});
-    answers("demangle", result.status == status && strcmp(out, wanted) == 0 && result.length == strlen(wanted));
+    expect("demangle", result.status == status && strcmp(out, wanted) == 0 && result.length == strlen(wanted));
     keeps("prefix", (void *)msvc_demangler_prefix, (uint64_t[WORDS]){at, in, length, nodes});
-    answers("prefix", result.status == status && result.length == (status == MSVC_DEMANGLER_OK ? length : 0));
+    expect("prefix", result.status == status && result.length == (status == MSVC_DEMANGLER_OK ? length : 0));
     keeps("filter", (void *)msvc_demangler_filter, (uint64_t[WORDS]){at, in, length, flags, to, sizeof out});
-    answers("filter", result.status == MSVC_DEMANGLER_OK);
+    expect("filter", result.status == MSVC_DEMANGLER_OK);
     keeps("version", (void *)msvc_demangler_version, (uint64_t[WORDS]){to, sizeof out});
-    answers("version", strcmp(out, MSVC_DEMANGLER_VERSION) == 0);
+    expect("version", strcmp(out, MSVC_DEMANGLER_VERSION) == 0);
 }
 
 int main(void)

@@ -24,12 +24,12 @@ struct names {
 static struct names read_names(void)
 {
     struct names names = {NULL, 0, NULL, 0};
-    size_t room = 0;
+    size_t capacity = 0;
     do {
-        room = 2 * room + 65536;
-        names.text = realloc(names.text, room);
-        names.length += fread(names.text + names.length, 1, room - names.length, stdin);
-    } while (names.length == room);
+        capacity = 2 * capacity + 65536;
+        names.text = realloc(names.text, capacity);
+        names.length += fread(names.text + names.length, 1, capacity - names.length, stdin);
+    } while (names.length == capacity);
     for (size_t at = 0; at < names.length;) {
         const char *end = memchr(names.text + at, '\n', names.length - at);
         size_t length = end == NULL ? names.length - at : (size_t)(end - names.text) - at;

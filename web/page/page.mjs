@@ -155,10 +155,10 @@ async function paint(parts, id) {
 function summary(parts, time) {
   const symbols = parts.filter((part) => part.symbol !== undefined).length;
   const rejected = parts.filter((part) => part.message !== undefined).length;
-  const said = [counted(symbols, 'symbol')];
-  if (rejected) said.push(`${rejected.toLocaleString('en')} rejected`);
-  if (time !== undefined) said.push(milliseconds(time));
-  return said.join(' · ');
+  const counts = [counted(symbols, 'symbol')];
+  if (rejected) counts.push(`${rejected.toLocaleString('en')} rejected`);
+  if (time !== undefined) counts.push(milliseconds(time));
+  return counts.join(' · ');
 }
 
 /** Asks for what the text or the file is. While the worker is busy with a text, the last state alone is asked for. */

@@ -51,7 +51,7 @@ fn named(alloc: Global, line: &str) -> Result<Option<Frame<'_>>, AllocError> {
     };
     let length = match symbol_length_within(alloc, symbol, DEFAULT_NODE_LIMIT) {
         Ok(length) => length,
-        Err(refusal) if refusal.is_out_of_memory() => return Err(AllocError),
+        Err(error) if error.is_out_of_memory() => return Err(AllocError),
         Err(_) => return Ok(None),
     };
     let Some((symbol, after)) = symbol.split_at_checked(length) else {
@@ -64,7 +64,7 @@ fn named(alloc: Global, line: &str) -> Result<Option<Frame<'_>>, AllocError> {
             name,
             after,
         })),
-        Err(refusal) if refusal.is_out_of_memory() => Err(AllocError),
+        Err(error) if error.is_out_of_memory() => Err(AllocError),
         Err(_) => Ok(None),
     }
 }

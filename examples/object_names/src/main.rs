@@ -34,7 +34,7 @@ fn declared(alloc: Global, line: &str) -> Result<Option<(&str, String)>, AllocEr
     };
     match demangle(alloc, symbol, DemangleFlags::llvm()) {
         Ok(declaration) => Ok(Some((columns, declaration))),
-        Err(refusal) if refusal.is_out_of_memory() => Err(AllocError),
+        Err(error) if error.is_out_of_memory() => Err(AllocError),
         Err(_) => Ok(None),
     }
 }

@@ -23,7 +23,7 @@ fn print_all<R: BufRead + Drop, W: Write>(alloc: Global, input: R, out: &mut W) 
         writeln!(out, "{line}")?;
         match parse_within(alloc, line.as_str(), MOST_NODES) {
             Ok(tree) => put_names(out, &tree.symbol)?,
-            Err(refusal) => writeln!(out, "  refused: {refusal}")?,
+            Err(error) => writeln!(out, "  error: {error}")?,
         }
     }
     Ok(())

@@ -29,8 +29,8 @@ static DWORD WINAPI call(void *argument)
 int main(void)
 {
     char *line = NULL;
-    size_t room = 0;
-    for (ssize_t length; (length = getline(&line, &room, stdin)) > 0;) {
+    size_t capacity = 0;
+    for (ssize_t length; (length = getline(&line, &capacity, stdin)) > 0;) {
         struct work work = {line, (size_t)length - (line[length - 1] == '\n'), NONE, NONE};
         HANDLE thread = CreateThread(NULL, STACK, call, &work, STACK_SIZE_PARAM_IS_A_RESERVATION, NULL);
         if (thread == NULL || WaitForSingleObject(thread, INFINITE) != WAIT_OBJECT_0) {
