@@ -113,10 +113,10 @@ fn compare<T: Drop>(
     rt: &HostRuntime,
     name: &str,
     row: &Row<'_>,
-    result: Result<T, Error>,
+    outcome: Result<T, Error>,
     is_right: impl Fn(&T) -> bool + Drop,
 ) -> Result<Option<T>, AllocError> {
-    let right = match &result {
+    let right = match &outcome {
         Ok(given) => !row.length.is_empty() && is_right(given),
         Err(error) => {
             stop_without_memory(rt, name, error)?;
@@ -124,7 +124,7 @@ fn compare<T: Drop>(
         }
     };
     check(rt, name, right);
-    Ok(result.ok())
+    Ok(outcome.ok())
 }
 
 /// Prints the name of a call whose error is that for memory, and fails then.

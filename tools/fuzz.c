@@ -1,6 +1,6 @@
 /* Calls the C library over each input of AFL++, for tools/fuzz. An input is the bytes of a symbol, or of a text to
-   filter. The program aborts if a call writes beyond its buffer, cuts a text otherwise than its length says, or returns
-   another status or length the second time.
+   filter. The program aborts if a call writes beyond its buffer, truncates a text in another way than documented, or
+   returns another status or length the second time.
 
    The archive has no instrumentation, so the bytes of the result stand in for its branches: each three in a row take
    one of 256 instrumented branches here. */
@@ -52,7 +52,7 @@ static void clear(struct buffer *buffer)
     memset(buffer, FILL, sizeof *buffer);
 }
 
-/* Sees that nothing was written outside of so many bytes, and that a NUL is among them. */
+/* Aborts if a byte beyond the first `size` ones was written, or if these have no NUL. */
 static void see(const struct buffer *buffer, size_t size)
 {
     const unsigned char *bytes = (const unsigned char *)buffer->text;
@@ -78,7 +78,7 @@ static struct msvc_demangler_result filter(const char *input, size_t length, cha
     return msvc_demangler_filter(input, length, MSVC_DEMANGLER_LLVM, out, size);
 }
 
-/* Makes a call with much room and with little. */
+/* Makes a call with a large and with a small buffer. */
 static void try_call(call *called, const char *input, size_t length)
 {
     static struct buffer large, small;

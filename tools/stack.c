@@ -4,7 +4,7 @@
        stack prefix KILOBYTES NODES < symbol
 
    The symbol is the first line of standard input. Printed are the status and, of msvc_demangler_demangle, the text.
-   Where the stack doesn't hold the call, a signal ends the program. */
+   If the stack doesn't suffice for the call, a signal ends the program. */
 
 #define _POSIX_C_SOURCE 200809L
 #include <msvc_demangler.h>

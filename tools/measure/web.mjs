@@ -2,8 +2,8 @@
 //
 //     node tools/measure/web.mjs FOLDER MSVCFILT
 //
-// FOLDER has the caller in C, the ES module, the names and the map file. Prints for each turn a line: what was called and
-// where, our time, and the native one: nanoseconds of the fastest round over all names, milliseconds for the map file.
+// FOLDER has the caller in C, the ES module, the names and the map file. Prints a line for each turn: the call and its
+// place, our time, and the native one: nanoseconds of the fastest round over all names, milliseconds for the map file.
 import { execFileSync } from 'node:child_process';
 import { readFileSync } from 'node:fs';
 import { join } from 'node:path';
@@ -54,7 +54,7 @@ const places = {
   node: { call: () => fastest(demangle, lines, ROUNDS), filter: () => taken(() => filter(map)) },
   Chromium: { call: () => page.value('call()'), filter: () => page.value('filterMap()') },
 };
-// A turn whose times are dropped has engines compile.
+// The first turn, in which engines compile, is not counted.
 for (let turn = 0; turn <= TURNS; turn++) {
   for (const [place, calls] of Object.entries(places)) {
     for (const [what, call] of Object.entries(calls)) {
