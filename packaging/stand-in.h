@@ -22,7 +22,7 @@ static int64_t argument(uint64_t index, char *to, uint64_t size)
     return (int64_t)length;
 }
 
-/* What a leaf of cpuid says, in the registers EAX, EBX, ECX and EDX, and what of it the system lets programs use. Both
+/* The result of a leaf of cpuid, in the registers EAX, EBX, ECX and EDX, and the part that the system enables. Both
    are the same for the features of x86-64-v2, for which a program asks as it starts. */
 struct cpuid_feature {
     unsigned present[4];

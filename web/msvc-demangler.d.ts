@@ -38,7 +38,7 @@ export declare const Flags: {
   readonly LLVM: 0xE00400;
 };
 
-/** There is no declaration. The message says why. */
+/** An error of a call, with its message. */
 export declare class DemangleError extends Error {
   /** INVALID: the text begins with no symbol. The others: bytes are not UTF-8, and a limit is exceeded. */
   readonly code: 'INVALID' | 'NOT_UTF8' | 'TOO_MANY_NODES' | 'TOO_LONG';

@@ -31,7 +31,7 @@ export const Flags = Object.freeze({
   LLVM: 0xE00400,
 });
 
-/** There is no declaration. The message says why, `code` which kind of error it is, and `offset` where it is. */
+/** An error of a call: its message, its kind `code`, and its place `offset`. */
 export class DemangleError extends Error {
   name = 'DemangleError';
 
@@ -80,7 +80,7 @@ function limit(value) {
   return value <= Number.MAX_SAFE_INTEGER ? BigInt(Math.floor(value)) : 2n ** 64n - 1n;
 }
 
-/** Returns how many code units of a string the first bytes of its UTF-8 stand for. */
+/** Returns the number of code units of a string that the first bytes of its UTF-8 encode. */
 function units(bytes, end) {
   let count = 0;
   for (let at = 0; at < end; at++) count += (bytes[at] & 0xC0) === 0x80 ? 0 : bytes[at] < 0xF0 ? 1 : 2;

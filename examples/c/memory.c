@@ -1,6 +1,6 @@
-/* Refuses each request for memory of a call in its turn: the call has to say so, and to keep none. A limit on nodes also
-   limits the requests, however long the symbol is. Link this with -Wl,--wrap=malloc,--wrap=realloc,--wrap=free, which
-   hands the library's requests to the functions here. */
+/* Lets each allocation of a call fail in turn: the call must return the status for it, and keep no memory. A limit on
+   nodes also limits the allocations, for symbols of any length. Link this with
+   -Wl,--wrap=malloc,--wrap=realloc,--wrap=free, which redirects the library's requests to the functions here. */
 
 #include <msvc_demangler.h>
 #include <stdbool.h>
@@ -15,7 +15,7 @@ void *__wrap_realloc(void *block, size_t size);
 void __wrap_free(void *block);
 
 static long requests; /* so far */
-static long failing;  /* the request that is refused, from 1 on; 0 for none */
+static long failing;  /* the number of the request that fails, from 1 on; 0 for none */
 static long blocks;   /* that are not freed */
 
 void *__wrap_malloc(size_t size)
@@ -47,7 +47,7 @@ static const char *const symbols[] = {
 
 enum kind { into_a_buffer, allocated, filtered, prefix, kinds };
 
-/* A call of this kind, and whether it says that it wants memory. */
+/* Makes a call of this kind. Returns whether its result is that of a failed allocation. */
 static bool wants_memory(enum kind kind, const char *symbol)
 {
     struct msvc_demangler_result result;
@@ -74,8 +74,8 @@ static bool wants_memory(enum kind kind, const char *symbol)
     }
 }
 
-/* The requests of a call on a function of so many parameters, of which a hundred nodes are allowed; 0 if it isn't
-   rejected for these nodes, near its beginning. */
+/* Returns the number of requests of a call on a function of `parameters` parameters, with a hundred nodes allowed; 0 if
+   the call doesn't reject it for its nodes, near its beginning. */
 static long requests_for(size_t parameters)
 {
     static char symbol[1000000 + sizeof "?f@@YAX@Z"] = "?f@@YAX";
@@ -89,7 +89,7 @@ static long requests_for(size_t parameters)
     return result.status == MSVC_DEMANGLER_TOO_MANY_NODES && result.offset < 1000 ? requests : 0;
 }
 
-/* Writes the symbol of a function with so many parameters, each a pointer. */
+/* Writes the symbol of a function with `parameters` parameters, each a pointer. */
 static void make_pointers(char *symbol, size_t parameters)
 {
     memcpy(symbol, "?f@@YAX", 7);
@@ -98,8 +98,8 @@ static void make_pointers(char *symbol, size_t parameters)
     memcpy(symbol + 7 + 3 * parameters, "@Z", 3);
 }
 
-/* Refuses each request of a call on a large symbol in its turn, and counts the calls that don't say then that they are
-   out of memory. Adds the requests to *tried. */
+/* Lets each request of a call on a large symbol fail in turn, and counts the calls that don't return the status for it.
+   Adds the requests to *tried. */
 static long fail_large(size_t parameters, long *tried)
 {
     static char symbol[65536];

@@ -5,7 +5,7 @@ from msvc_demangler import UNLIMITED, DemangleError, Status, demangle
 
 
 def result(symbol, flags):
-    """Returns the status, the offset, and the declaration of a symbol or why there is none."""
+    """Returns the status, the offset, and the declaration of a symbol or the error message."""
     try:
         return Status.OK, 0, demangle(symbol, flags, max_nodes=UNLIMITED, max_bytes=UNLIMITED)
     except DemangleError as error:

@@ -57,7 +57,7 @@ static struct msvc_demangler_result call(const struct row *row, char *work, size
     }
 }
 
-/* Whether a buffer holds this text, as much of it as fits, and has no other changed byte. */
+/* Returns whether a buffer has the part of this text that fits, and no other changed byte. */
 static bool holds(const char *out, const char *text, size_t size)
 {
     char wanted[text_size];
@@ -84,7 +84,7 @@ static bool is_whole(const struct row *row, struct msvc_demangler_result result,
            holds(out, row->text, row->size);
 }
 
-/* The memory that workspaces end in: before it stand bytes that are compared, and after it a page of no access. */
+/* The memory in which workspaces end: before it are bytes that are compared, and after it a page without access. */
 static char *memory_end(void)
 {
     char *memory = mmap(NULL, before + most + 2 * page, PROT_READ | PROT_WRITE, MAP_PRIVATE | MAP_ANONYMOUS, -1, 0);

@@ -1,10 +1,10 @@
-/* What the archive of the C library asks for memory by: on x86-64 the kit has it, and here it stands for other
+/* The functions by which the archive of the C library allocates. The kit has them for x86-64; these are for other
    processors. The kit's names and results are those of its liblibc_c.a. */
 
 #include <stdbool.h>
 #include <stdlib.h>
 
-/* Whether there is memory, and where; if there is none, some address that is not null. */
+/* Whether memory was allocated, and its address; if not, some address that is not null. */
 struct memory_result {
     bool is_given;
     void *memory;

@@ -23,7 +23,7 @@
  * Turns off a limit, max_bytes, or sets max_nodes to MSVC_DEMANGLER_MOST_NODES. The former is unsafe for symbols that\
  * are not trusted: a short symbol can have a declaration that takes much time, and memory up to 1 GiB.
 /^\/\* With MSVC_DEMANGLER_DLL defined/,/^#endif$/c\
-/* Stands before each declaration, as __declspec(dllexport). */\
+/* Precedes each declaration, as __declspec(dllexport). */\
 #ifndef MSVC_DEMANGLER_API\
 #define MSVC_DEMANGLER_API\
 #endif

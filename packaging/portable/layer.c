@@ -126,7 +126,7 @@ NO_INLINE static void run(Z_module_instance_t *machine, const struct call *call,
     }
 }
 
-/* Returns whether the call of the module came back. Its stack lies below its data, and where that is full it traps. */
+/* Returns whether the call of the module returned. Its stack is below its data, and it traps when the stack is full. */
 static int has_run(Z_module_instance_t *machine, const struct call *call, const struct places *places)
 {
     jmp_buf place;

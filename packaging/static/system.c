@@ -28,7 +28,7 @@ const struct cpuid_feature *__x86_get_cpuid_feature_leaf(unsigned number)
     return cpuid_feature(number);
 }
 
-/* A program tells by this that the processor is too old. */
+/* A program reports by this that the processor is too old. */
 ssize_t __write(int file, const void *bytes, size_t length)
 {
     return write(file, bytes, length);

@@ -71,7 +71,7 @@ static void result(const char *call, int64_t returned)
     end_line();
 }
 
-/* An argument that isn't there is asked for too, and one where there is no room. */
+/* Reads each argument, one that doesn't exist, and one into too small a buffer. */
 static void arguments(int count)
 {
     static char word[1000];

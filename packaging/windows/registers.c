@@ -1,6 +1,6 @@
 /* Sees that the calls of the library keep the registers that Windows' convention has a call keep, and System V's
    hasn't: RDI, RSI and XMM6 to XMM15; and those that both have: RBX, RBP, R12 to R15. It is linked with the library for
-   Windows. The status is 1 if a register changes, or an answer isn't the one that the header documents. */
+   Windows. The status is 1 if a register changes, or a result isn't the one that the header documents. */
 #include "../../include/msvc_demangler.h"
 
 #include <stdio.h>
@@ -9,7 +9,7 @@
 enum { WORDS = 8, GENERAL = 8, VECTORS = 10 };
 
 /* A call: what is called, and up to eight words that it is given. Before it the registers get these values; after it
-   their values stand here. */
+   this has their values. */
 struct call {
     void *function;
     uint64_t words[WORDS];
@@ -22,7 +22,7 @@ void call_with_registers(struct call *call);
 __asm__(".text\n"
         "call_with_registers:\n"
         "push %rbx; push %rbp; push %rdi; push %rsi; push %r12; push %r13; push %r14; push %r15\n"
-        "sub $0xf8, %rsp\n" /* four words of arguments after the room of four; the call; ten registers */
+        "sub $0xf8, %rsp\n" /* four words of arguments after the space for four; the call; ten registers */
         "mov %rcx, 0x40(%rsp)\n"
         "movups %xmm6, 0x50(%rsp); movups %xmm7, 0x60(%rsp); movups %xmm8, 0x70(%rsp); movups %xmm9, 0x80(%rsp)\n"
         "movups %xmm10, 0x90(%rsp); movups %xmm11, 0xa0(%rsp); movups %xmm12, 0xb0(%rsp); movups %xmm13, 0xc0(%rsp)\n"
@@ -86,7 +86,7 @@ static void keeps(const char *name, void *function, const uint64_t *words)
     }
 }
 
-/* Counts an answer that isn't the wanted one. */
+/* Counts and prints a wrong result. */
 static void expect(const char *name, int holds)
 {
     if (!holds) {
@@ -95,7 +95,7 @@ static void expect(const char *name, int holds)
     }
 }
 
-/* Makes all calls of a text: as a symbol, whose declaration is wanted, and as a text in which it stands. */
+/* Makes all calls: of a symbol, which must return the declaration, and of a text with the symbol. */
 static void all_calls(const char *symbol, size_t length, uint32_t status, const char *wanted)
 {
     static char out[1 << 16];

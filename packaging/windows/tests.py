@@ -73,7 +73,7 @@ REJECTED = {
     ".data\n.zero 0x10000001": "section .data: more than 268435456 bytes",
 }
 
-# Room of a size that isn't known, with the value that is written in each step, the bytes of a step, and the register
+# A block of unknown size, with the value that is written in each step, the bytes of a step, and the register
 # that the stack pointer gets.
 PROBED = (
     "f: push %%rbp\nmov %%rsp, %%rbp\npush %%rbx\nmov %%rsp, %%rsi\nsub %%rax, %%rsi\ncmp %%rsp, %%rsi\njge 2f\n"
@@ -81,7 +81,7 @@ PROBED = (
     "lea -8(%%rbp), %%rsp\npop %%rbx\npop %%rbp\nret"
 )
 
-# Code that may not run under Windows, or not unseen, and what the check then says.
+# Code that must not run under Windows, or only if listed, and the message of the check.
 FORBIDDEN = {
     "f: sub $4096, %rsp\nadd $4096, %rsp\nret": "f: a frame of 4096 bytes",
     "f: lea -0x2000(%rsp), %rsp\nret": "f: a frame of 8192 bytes",
@@ -149,10 +149,10 @@ class Case(unittest.TestCase):
         return self.folder / "merged.o"
 
     def rejected(self, path):
-        """Returns what the converter says of an object that it rejects. It must not write a file then."""
+        """Returns the error message for an object that the converter rejects. It must not write a file then."""
         printed = io.StringIO()
         with contextlib.redirect_stderr(printed):
-            self.assertEqual(coff.main(path, self.folder / "out.obj"), 1, "it is taken")
+            self.assertEqual(coff.main(path, self.folder / "out.obj"), 1, "it is accepted")
         self.assertFalse((self.folder / "out.obj").exists())
         return printed.getvalue()
 
@@ -275,7 +275,7 @@ class Converter(Case):
 
 class Code(Case):
     def checked(self, lines):
-        """Returns what the check says of the code of these lines, with its status."""
+        """Returns the status and the output of the check of the code of these lines."""
         (self.folder / "listed").write_text(LISTED)
         printed, wrong = io.StringIO(), io.StringIO()
         with contextlib.redirect_stdout(printed), contextlib.redirect_stderr(wrong):
@@ -312,7 +312,7 @@ class Linked(Case):
         return (self.folder / "main.exe").read_bytes()
 
     def checked(self, image):
-        """Returns what the check says of an image, with its status."""
+        """Returns the status and the output of the check of an image."""
         (self.folder / "changed.exe").write_bytes(image)
         printed, wrong = io.StringIO(), io.StringIO()
         with contextlib.redirect_stdout(printed), contextlib.redirect_stderr(wrong):

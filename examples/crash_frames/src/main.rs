@@ -41,7 +41,7 @@ struct Frame<'a> {
 }
 
 /// The frame of a line, whose symbol begins with the first question mark. A line that has none, or in which what begins
-/// there is refused, is no such frame.
+/// there is rejected, is no such frame.
 fn named(alloc: Global, line: &str) -> Result<Option<Frame<'_>>, AllocError> {
     let Some(start) = line.find('?') else {
         return Ok(None);

@@ -27,7 +27,7 @@ fn print_all<R: BufRead + Drop, W: Write>(alloc: Global, input: R, out: &mut W) 
     Ok(())
 }
 
-/// The columns before the last one, and the declaration of the symbol that stands there.
+/// Returns the columns before the last one, and the declaration of the symbol there.
 fn declared(alloc: Global, line: &str) -> Result<Option<(&str, String)>, AllocError> {
     let Some((columns, symbol)) = line.rsplit_once(' ') else {
         return Ok(None);

@@ -1,5 +1,5 @@
 //! Walks the trees of symbols, one a line: prints the names of a symbol's scope, the outermost first, and its
-//! unqualified name, each with the arguments of a template below it. A symbol of more than 1,000 nodes is refused.
+//! unqualified name, each with the arguments of a template below it. A symbol of more than 1,000 nodes is rejected.
 #![tactic(auto)]
 
 use msvc_demangler::{Name, Operator, Symbol, Type, parse_within};

@@ -1,4 +1,4 @@
-/* Calls the library on threads whose stack has 1 MB, which is what Windows gives a thread unless it is told otherwise,
+/* Calls the library on threads whose stack has 1 MB, the default size on Windows,
    under the default limits. Each line of standard input is a symbol. Printed are the statuses of
    msvc_demangler_demangle and of msvc_demangler_prefix. Where the stack doesn't hold a call, Windows ends the process,
    and wine the thread alone: the status is NONE then. */
