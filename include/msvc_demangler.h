@@ -47,9 +47,13 @@
  * @name Version of this header
  * @{
  */
+/** All three numbers, as a text. */
 #define MSVC_DEMANGLER_VERSION "0.11.0"
+/** The first number. */
 #define MSVC_DEMANGLER_VERSION_MAJOR 0
+/** The second number. */
 #define MSVC_DEMANGLER_VERSION_MINOR 11
+/** The third number. */
 #define MSVC_DEMANGLER_VERSION_PATCH 0
 /** @} */
 
@@ -61,7 +65,7 @@
 #define MSVC_DEMANGLER_NO_MS_KEYWORDS 0x2u         /**< drops __cdecl and the like */
 #define MSVC_DEMANGLER_NO_FUNCTION_RETURNS 0x4u    /**< drops everything before the name */
 #define MSVC_DEMANGLER_NO_MS_THISTYPE 0x20u        /**< with the next one drops const after a member function */
-#define MSVC_DEMANGLER_NO_CV_THISTYPE 0x40u
+#define MSVC_DEMANGLER_NO_CV_THISTYPE 0x40u        /**< changes nothing alone */
 #define MSVC_DEMANGLER_NO_THISTYPE 0x60u           /**< both of these */
 #define MSVC_DEMANGLER_NO_ACCESS_SPECIFIERS 0x80u  /**< drops public:, protected: and private: of functions */
 #define MSVC_DEMANGLER_NO_MEMBER_TYPE 0x200u       /**< drops static and virtual of functions */
@@ -82,7 +86,9 @@
  * smaller stack needs a lower limit: 100 bytes of stack a node, and 16,000 more.
  * @{
  */
+/** Nodes of a tree. */
 #define MSVC_DEMANGLER_DEFAULT_NODES ((size_t)10000)
+/** Bytes of a declaration. */
 #define MSVC_DEMANGLER_DEFAULT_BYTES ((size_t)65536)
 /** @} */
 

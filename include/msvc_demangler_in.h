@@ -46,7 +46,9 @@
  * Suit a workspace that is reserved for a crash: 676 real names have at most 189 nodes.
  * @{
  */
+/** Nodes of a tree. */
 #define MSVC_DEMANGLER_SMALL_NODES ((size_t)1000)
+/** Bytes of a declaration. */
 #define MSVC_DEMANGLER_SMALL_BYTES ((size_t)4096)
 /** @} */
 
@@ -55,7 +57,9 @@
  * Suffice for each symbol within the small limits, and within the default ones.
  * @{
  */
+/** Bytes for the small limits. */
 #define MSVC_DEMANGLER_SMALL_WORKSPACE ((size_t)98304)
+/** Bytes for the default limits. */
 #define MSVC_DEMANGLER_DEFAULT_WORKSPACE ((size_t)1228800)
 /** @} */
 
@@ -64,7 +68,9 @@
  * Limits in bytes on the stack of a call under the small and under the default limits, on x86-64 and AArch64.
  * @{
  */
+/** Bytes under the small limits. */
 #define MSVC_DEMANGLER_SMALL_STACK ((size_t)136000)
+/** Bytes under the default limits. */
 #define MSVC_DEMANGLER_DEFAULT_STACK ((size_t)1300000)
 /** @} */
 

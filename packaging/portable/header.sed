@@ -14,8 +14,10 @@
  * optimises the file. A thread with a smaller stack needs a lower limit: 300 bytes of stack a node, and 16,000 more.
 /^#define MSVC_DEMANGLER_DEFAULT_BYTES/a\
 \
-/* Limits the nodes of a symbol, whatever max_nodes is, so that the stack is bounded. Where stacks are small, compile\
-   msvc_demangler.c with a lower number. */\
+/**\
+ * Limit on the nodes of a symbol for any max_nodes, which bounds the stack. For small stacks compile msvc_demangler.c\
+ * with a lower number.\
+ */\
 #ifndef MSVC_DEMANGLER_MOST_NODES\
 #define MSVC_DEMANGLER_MOST_NODES ((size_t)20000)\
 #endif
