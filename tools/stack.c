@@ -1,9 +1,9 @@
-/* Calls the C library on a thread whose stack has so many kilobytes, for tools/stack, tools/measure/limits and .ci/c:
+/* Calls the C library on a thread with a stack of KILOBYTES KB, for tools/stack, tools/measure/limits and .ci/c:
 
        stack demangle KILOBYTES NODES < symbol
        stack prefix KILOBYTES NODES < symbol
 
-   The symbol is the first line of standard input. Printed are the status and, of msvc_demangler_demangle, the text.
+   The symbol is the first line of standard input. Prints the status and, for msvc_demangler_demangle, the text.
    If the stack doesn't suffice for the call, a signal ends the program. */
 
 #define _POSIX_C_SOURCE 200809L

@@ -53,7 +53,7 @@ const DEFAULT_WORKSPACE = 1_228_800;
 const PAGE = 65_536;
 const MOST_MEMORY = 2 ** 31;
 
-// A longer text is filtered in pieces of at most so many bytes, unless it has a word that is longer.
+// The most bytes of a piece in which a longer text is filtered, unless it has a longer word.
 const PIECE = 65_536;
 const SPACE = 32;
 
@@ -104,8 +104,9 @@ function describe(part, begin, size) {
 }
 
 /**
- * Makes one call of the library, over an input, with so many bytes for the arena, the text and the output, each a
- * multiple of 16. A call that exhausts the engine's stack leaves its instance unusable, and another takes its place.
+ * Makes one call of the library over an input. The last three arguments are the bytes of the arena, the text and the
+ * output, each a multiple of 16. A call that exhausts the engine's stack leaves its instance unusable, and another
+ * replaces it.
  */
 function call(make, input, arena, text, size) {
   const end = FREE + arena + text + size + input.length;

@@ -93,8 +93,8 @@ static void try_row(const struct row *row, size_t n)
     see(is_prefix(row, msvc_demangler_prefix(row->symbol, row->length, row->max_nodes)), "the prefix", n);
 }
 
-/* A text, and what the filter makes of it. So many bytes at its beginning are kept ones, at any of which it may be cut;
-   after them it is cut before characters alone. */
+/* A text and its filtered form. It may be truncated at any of the first bytes, which are kept ones, and after them only
+   before a character. */
 static const struct filtered {
     const char *text;
     size_t length;

@@ -1,4 +1,4 @@
-/* The calls of msvc_demangler.h. Each puts its input, a workspace and space for its output into the memory of a machine,
+/* The calls of msvc_demangler.h. Each puts its input, a workspace and space for its output into a machine's memory,
    above the stack and the data of the module, and runs a call of the module over them. */
 
 enum {

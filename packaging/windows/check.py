@@ -51,7 +51,7 @@ BELOW = re.compile(r"-0x[0-9a-f]+\(%rsp(,[^)]*)?\)")
 BELOW_FRAME = re.compile(r"-0x([0-9a-f]+)\(%rbp\)")
 LISTED = re.compile("::<.*")
 
-# A PE file: where its headers stand, and the numbers of those of its tables that are used.
+# A PE file: the places of its headers, and the numbers of its tables that are used.
 PE_OFFSET, OPTIONAL_HEADER, BASE_RELOCATIONS = 0x3C, 24, 5
 TO_64_BITS = 10
 EXECUTABLE, ZEROS = 0x20000000, 0x80000080

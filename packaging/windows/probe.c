@@ -1,6 +1,6 @@
 /* Makes the system calls of the programs, and prints each result on a line. It is built for Linux, as they are: over
-   glibc it prints the results that system.c and memory.c must return. Its arguments are printed; it reads probe.txt, which has 13
-   bytes. The status is 127. */
+   glibc it prints the results that system.c and memory.c must return. It prints its arguments, and reads probe.txt,
+   which has 13 bytes. The status is 127. */
 #include <stddef.h>
 #include <stdint.h>
 

@@ -1,6 +1,6 @@
-/* Sees that the calls of the library keep the registers that Windows' convention has a call keep, and System V's
-   hasn't: RDI, RSI and XMM6 to XMM15; and those that both have: RBX, RBP, R12 to R15. It is linked with the library for
-   Windows. The status is 1 if a register changes, or a result isn't the one that the header documents. */
+/* Tests that the calls of the library keep the registers that only Windows' convention requires, RDI, RSI and XMM6 to
+   XMM15, and those that System V's requires too, RBX, RBP and R12 to R15. It is linked with the library for Windows.
+   The status is 1 if a register changes, or a result isn't the one that the header documents. */
 #include "../../include/msvc_demangler.h"
 
 #include <stdio.h>
@@ -8,8 +8,8 @@
 
 enum { WORDS = 8, GENERAL = 8, VECTORS = 10 };
 
-/* A call: what is called, and up to eight words that it is given. Before it the registers get these values; after it
-   this has their values. */
+/* A call: its function and up to eight arguments. The registers get these values before the call; after the call this
+   has their values. */
 struct call {
     void *function;
     uint64_t words[WORDS];
