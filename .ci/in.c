@@ -1,5 +1,5 @@
-/* The calls of msvc_demangler.h, made of those of msvc_demangler_in.h in a workspace that each thread has, so that the
-   programs of examples/c that test the former test the latter. The workspaces are not aligned. */
+/* Implements the calls of msvc_demangler.h with those of msvc_demangler_in.h, in a workspace for each thread, so that
+   the programs of examples/c test both. The workspaces are not aligned. */
 
 #include <msvc_demangler_in.h>
 #include <stdatomic.h>
@@ -39,7 +39,7 @@ struct msvc_demangler_result msvc_demangler_filter(const char *text, size_t leng
     return msvc_demangler_filter_in(text, length, flags, workspace(), work_size, out, size);
 }
 
-/* There is no call for the version without malloc. */
+/* The library without malloc has no call for the version. */
 size_t msvc_demangler_version(char *out, size_t size)
 {
     return (size_t)snprintf(out, size, "%s", MSVC_DEMANGLER_VERSION);

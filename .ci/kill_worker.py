@@ -1,4 +1,4 @@
-"""Starts a job on a Dask cluster, and kills a worker that holds work. Prints how much that was.
+"""Starts a job on a Dask cluster, and kills a worker that holds tasks. Prints their number.
 
     DASK_SCHEDULER_ADDRESS=ADDRESS python3 kill_worker.py FOLDER COUNT COMMAND..
 
@@ -26,7 +26,7 @@ def main(folder, count, *command):
             time.sleep(0.01)
         for process in workers.values():
             os.kill(process, signal.SIGSTOP)
-        time.sleep(0.5)  # in which the scheduler hears of all that they have finished
+        time.sleep(0.5)  # the scheduler receives the results of finished tasks
         held = client.processing()
         lost = max(held, key=lambda worker: len(held[worker]))
         os.kill(workers.pop(lost), signal.SIGKILL)

@@ -1,4 +1,4 @@
-//! What .ci/memory puts before the program: it takes as many boxes as standard input has bytes, and at most 64.
+//! Allocates as many boxes as standard input has bytes, at most 64. .ci/memory calls it first in the program.
 
 use std::io::Read;
 

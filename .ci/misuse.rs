@@ -1,4 +1,4 @@
-//! A tree that outlives the text that its names borrow: no program may do this.
+//! Returns a tree that outlives the text that its names borrow, which the compiler must reject.
 
 use msvc_demangler::{Error, ParseResult, parse};
 use std::alloc::Global;

@@ -1,5 +1,5 @@
-/* A library to be preloaded, by LD_PRELOAD: the process ends with status 9 where malloc or its like is called on the
-   alternate stack of a signal handler. */
+/* A library for LD_PRELOAD: ends the process with status 9 if an allocation function is called on the alternate stack
+   of a signal handler. */
 
 #define _GNU_SOURCE
 #include <signal.h>
@@ -23,8 +23,8 @@ static void see(const char *name, size_t length)
     }
 }
 
-#define SAID " is called in a signal handler\n"
-#define SEE(name) see(name SAID, sizeof(name SAID) - 1)
+#define MESSAGE " is called in a signal handler\n"
+#define SEE(name) see(name MESSAGE, sizeof(name MESSAGE) - 1)
 
 void *malloc(size_t size)
 {

@@ -1,8 +1,8 @@
-/* What the calls return and write, to compare libraries with one another:
+/* Prints the results of the calls, to compare libraries with one another:
 
        portable rows < rows     each row, as those of msvc_bench, under its flags, into buffers of several sizes
        portable filter < text   the filtered text
-       portable held            over the file in C alone: the calls on machines of the caller's own */
+       portable held            over the file in C alone: the calls on the caller's own machines */
 
 #define _POSIX_C_SOURCE 200809L
 #include <msvc_demangler.h>
@@ -20,8 +20,7 @@ static const size_t limits[] = {0, 1, 3, 10, 100, MSVC_DEMANGLER_DEFAULT_NODES};
 static char out[most];
 static int wrong;
 
-/* Prints a result, and the buffer up to the last byte that is not as it was, of those that it may have written and some
-   more. */
+/* Prints a result, and the buffer up to the last changed byte, among the bytes that the call may write. */
 static void print(const char *what, struct msvc_demangler_result result)
 {
     size_t end = result.length < most - 16 ? result.length + 16 : most;
@@ -67,13 +66,13 @@ static void try_rows(void)
 static void filter_input(void)
 {
     char *text = NULL;
-    size_t room = 0;
+    size_t capacity = 0;
     size_t length = 0;
     do {
-        room = 2 * room + most;
-        text = (char *)realloc(text, room);
-        length += fread(text + length, 1, room - length, stdin);
-    } while (length == room);
+        capacity = 2 * capacity + most;
+        text = (char *)realloc(text, capacity);
+        length += fread(text + length, 1, capacity - length, stdin);
+    } while (length == capacity);
     size_t size = msvc_demangler_filter(text, length, MSVC_DEMANGLER_LLVM, NULL, 0).length + 1;
     char *filtered = (char *)malloc(size);
     msvc_demangler_filter(text, length, MSVC_DEMANGLER_LLVM, filtered, size);
@@ -122,7 +121,7 @@ static void try_held(void)
     }
     msvc_demangler_free(&right);
 
-    /* No limit is that of the file, and a declaration may be longer than the default limit. */
+    /* UNLIMITED means the limit of the file, and a declaration may be longer than the default limit. */
     large = pointers(MSVC_DEMANGLER_MOST_NODES);
     result = msvc_demangler_demangle_with(&left, large, strlen(large), 0, any, any, out, most);
     see(result.status == MSVC_DEMANGLER_TOO_MANY_NODES, "more nodes than the file accepts");

@@ -1,10 +1,10 @@
-//! What .ci/requests runs: a demangler that is kept reads as many of its symbols as standard input has bytes.
+//! The program of .ci/requests: a kept demangler reads as many of the symbols as standard input has bytes.
 #![tactic(auto)]
 
 use msvc_demangler::{DemangleFlags, Demangler};
 use std::io::{self, Read};
 
-/// The first symbol needs as much as each of the others, or more.
+/// Symbols; the first needs at least as much memory as each other one.
 const SYMBOLS: [&str; 8] = [
     "?f@?$basic_string@DU?$char_traits@D@std@@V?$allocator@D@2@@std@@QEAAAEAV12@PEBD_KAEBV12@@Z",
     "?x@@3PEAY1NKM@5HEA",

@@ -1,4 +1,4 @@
-//! The debug text of trees.
+//! Tests the debug text of trees.
 
 #[cfg(test)]
 mod tests {

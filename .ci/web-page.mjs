@@ -1,10 +1,10 @@
-// Uses the page in a headless Chromium as somebody would: types, checks flags, drops a file, opens links.
+// Uses the page in a headless Chromium: types, checks flags, drops a file, opens links.
 //
 //     node .ci/web-page.mjs PAGE MAP WANTED [FOLDER]
 //
-// PAGE is the page's file. MAP is a large file to drop, WANTED what msvcfilt writes for it. No request may be seen, and
-// no task of the page's thread may take more than LONGEST milliseconds of the processor, 100 unless it is set, since
-// other checks slow it down. With FOLDER screenshots are left there: light.png, dark.png, phone.png and phone_dark.png.
+// PAGE is the page's file. MAP is a large file to drop, WANTED what msvcfilt writes for it. Fails if the page makes a
+// request, or if a task of the page's thread takes more than LONGEST milliseconds of the processor (default 100, since
+// other checks slow it down). Writes screenshots to FOLDER: light.png, dark.png, phone.png and phone_dark.png.
 import assert from 'node:assert/strict';
 import { mkdirSync, mkdtempSync, readFileSync, rmSync, writeFileSync } from 'node:fs';
 import { tmpdir } from 'node:os';
@@ -55,7 +55,7 @@ const press = async (key, code) => {
   }
 };
 
-/** Clicks on the middle of an element, once it is seen there. */
+/** Clicks on the middle of an element, once it is visible. */
 async function click(selector) {
   const place = await page.value(`(async () => {
     const element = document.querySelector(${JSON.stringify(selector)});
@@ -69,7 +69,7 @@ async function click(selector) {
   }
 }
 
-/** Types a text in place of what is there, key by key. */
+/** Replaces the text of the input, key by key. */
 async function type(typed) {
   await click('#clear');
   for (const letter of typed) await page.send('Input.insertText', { text: letter });
@@ -82,7 +82,7 @@ async function open(url) {
   await settled();
 }
 
-/** Makes sure of something, and counts it. */
+/** Runs a test, and counts it. */
 async function see(what, look) {
   try {
     await look();
@@ -162,8 +162,8 @@ async function run() {
     await press('Enter', 13);
     await page.until("document.getElementById('details').open");
     await page.until("document.getElementById('details-list').childElementCount === 6");
-    const said = await text('details-list');
-    for (const part of ['?x@ns@@3HA', 'int ns::x', 'ns::x']) assert.ok(said.includes(part), said);
+    const details = await text('details-list');
+    for (const part of ['?x@ns@@3HA', 'int ns::x', 'ns::x']) assert.ok(details.includes(part), details);
     assert.equal(await text('details-title'), 'Symbol of 10 characters');
     await press('Escape', 27);
     await page.until("!document.getElementById('details').open");
@@ -250,7 +250,7 @@ async function run() {
   });
 }
 
-/** Leaves a screenshot. */
+/** Writes a screenshot. */
 async function shot(name, width, height, scheme, scale = 1) {
   await resize(width, height, scale);
   await page.send('Emulation.setEmulatedMedia', { features: [{ name: 'prefers-color-scheme', value: scheme }] });
@@ -268,7 +268,7 @@ try {
       await shot(scheme === 'light' ? 'phone' : 'phone_dark', 390, 844, scheme, 2);
     }
   }
-  console.log(`${seen} things are seen in the page`);
+  console.log(`${seen} tests of the page pass`);
 } catch (error) {
   console.log(`${basename(file)}: ${error.message}`);
   if (faults.length) console.log(faults.join('\n'));

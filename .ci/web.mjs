@@ -1,12 +1,12 @@
-// Calls the ES module, over rows, and beside what the native programs printed.
+// Calls the ES module over rows, and compares it with the output of the native programs.
 //
 //     node .ci/web.mjs FOLDER rows < ROWS             rows of crates/msvc_bench/stdin
 //     node .ci/web.mjs FOLDER prefix < ROWS           rows of crates/msvc_bench/prefix.tsv
-//     node .ci/web.mjs FOLDER lines TEXT ERRORS < IN  symbols, and what undname printed of them
+//     node .ci/web.mjs FOLDER lines TEXT ERRORS < IN  symbols, and undname's output for them
 //     node .ci/web.mjs FOLDER filter FLAGS < IN       writes what the filter returns for bytes, and compares a string's
-//     node .ci/web.mjs FOLDER calls                   the edges of each call
+//     node .ci/web.mjs FOLDER calls                   the edge cases of each call
 //
-// FOLDER has the module as tools/web leaves it. The last line counts; the status is 1 if anything differs.
+// FOLDER has the module that tools/web makes. The last line has the counts; the status is 1 if anything differs.
 import assert from 'node:assert/strict';
 import { readFileSync, writeSync } from 'node:fs';
 import { inspect } from 'node:util';
@@ -24,7 +24,7 @@ const lines = (bytes) => bytes.toString('latin1').split('\n').slice(0, -1).map((
 const isUtf8 = (bytes) => Buffer.from(bytes.toString()).equals(bytes);
 const fields = (line) => line.toString('latin1').split('\t').map((field) => Buffer.from(field, 'latin1'));
 
-/** Returns what a call returns, or the error that it throws. */
+/** Returns the result of a call, or the error that it throws. */
 function outcome(call, ...given) {
   try {
     return call(...given);
@@ -33,7 +33,7 @@ function outcome(call, ...given) {
   }
 }
 
-/** Writes a line for each row that differs, and counts. */
+/** Prints a line for each row that differs, and the counts. */
 function compared(rows, what, agrees) {
   const differing = rows.filter((row) => !agrees(row));
   for (const row of differing) console.log(row.toString());
@@ -41,7 +41,7 @@ function compared(rows, what, agrees) {
   process.exitCode = differing.length === 0 && rows.length > 0 ? 0 : 1;
 }
 
-/** Whether an outcome is the text, or the error with this message, at this offset in bytes of the symbol. */
+/** Returns whether an outcome is the text, or the error with this message at this offset in bytes of the symbol. */
 function isWanted(found, symbol, kind, wanted) {
   if (kind === 'ok') return found === wanted[0];
   if (!(found instanceof DemangleError)) return false;
@@ -76,13 +76,13 @@ const commands = {
   lines(text, errors) {
     const found = lines(input()).map((line) => outcome(demangle, line, Flags.LLVM, NO_LIMITS));
     const symbols = lines(readFileSync(text));
-    const said = lines(readFileSync(errors)).map(String);
+    const messages = lines(readFileSync(errors)).map(String);
     let at = 0;
     compared(symbols, 'lines', (line) => {
       const next = found.shift();
-      return next instanceof DemangleError ? said[at++] === `error: ${next.message}` : next === line.toString();
+      return next instanceof DemangleError ? messages[at++] === `error: ${next.message}` : next === line.toString();
     });
-    assert.equal(at, said.length);
+    assert.equal(at, messages.length);
   },
 
   filter(flags) {
@@ -104,11 +104,11 @@ const commands = {
     assert.deepEqual(Object.keys(module).sort(), [...types.matchAll(/^export declare \w+ (\w+)/gm)].map(
       ([, name]) => name).filter((name, at, all) => all.indexOf(name) === at).sort());
 
-    // Each line of the README's example, with what it says of it.
+    // Each line of the README's example, with its value.
     const example = /```js\n([^]*?)```/.exec(readFileSync(resolve(folder, 'README.md'), 'utf8'))[1];
-    const told = [...example.matchAll(/^ *(\S.*); +\/\/ (.*)$/gm)];
-    assert.ok(told.length > 3);
-    for (const [, code, value] of told) {
+    const shown = [...example.matchAll(/^ *(\S.*); +\/\/ (.*)$/gm)];
+    assert.ok(shown.length > 3);
+    for (const [, code, value] of shown) {
       const call = new Function('error', ...Object.keys(module), `return ${code}`);
       assert.equal(inspect(call(outcome(demangle, '?x@@3L'), ...Object.values(module))), value);
     }
@@ -150,7 +150,7 @@ const commands = {
       assert.equal(demangle('?x@ns@@3HA'), 'int ns::x');
       assert.equal(filter(symbol), symbol);
     }
-    console.log('calls: all as they should be');
+    console.log('calls: all results are right');
   },
 };
 commands[command](...words);

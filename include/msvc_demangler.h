@@ -47,9 +47,13 @@
  * @name Version of this header
  * @{
  */
+/** All three numbers, as a text. */
 #define MSVC_DEMANGLER_VERSION "0.11.0"
+/** The first number. */
 #define MSVC_DEMANGLER_VERSION_MAJOR 0
+/** The second number. */
 #define MSVC_DEMANGLER_VERSION_MINOR 11
+/** The third number. */
 #define MSVC_DEMANGLER_VERSION_PATCH 0
 /** @} */
 
@@ -61,7 +65,7 @@
 #define MSVC_DEMANGLER_NO_MS_KEYWORDS 0x2u         /**< drops __cdecl and the like */
 #define MSVC_DEMANGLER_NO_FUNCTION_RETURNS 0x4u    /**< drops everything before the name */
 #define MSVC_DEMANGLER_NO_MS_THISTYPE 0x20u        /**< with the next one drops const after a member function */
-#define MSVC_DEMANGLER_NO_CV_THISTYPE 0x40u
+#define MSVC_DEMANGLER_NO_CV_THISTYPE 0x40u        /**< changes nothing alone */
 #define MSVC_DEMANGLER_NO_THISTYPE 0x60u           /**< both of these */
 #define MSVC_DEMANGLER_NO_ACCESS_SPECIFIERS 0x80u  /**< drops public:, protected: and private: of functions */
 #define MSVC_DEMANGLER_NO_MEMBER_TYPE 0x200u       /**< drops static and virtual of functions */
@@ -82,7 +86,9 @@
  * smaller stack needs a lower limit: 100 bytes of stack a node, and 16,000 more.
  * @{
  */
+/** Nodes of a tree. */
 #define MSVC_DEMANGLER_DEFAULT_NODES ((size_t)10000)
+/** Bytes of a declaration. */
 #define MSVC_DEMANGLER_DEFAULT_BYTES ((size_t)65536)
 /** @} */
 
@@ -112,7 +118,7 @@
 extern "C" {
 #endif
 
-/** Tells whether a call succeeded. */
+/** Status of a call. */
 enum msvc_demangler_status {
     MSVC_DEMANGLER_OK = 0,
     MSVC_DEMANGLER_INVALID = 1,        /**< the input begins with no symbol within the limit on nodes */
@@ -122,11 +128,11 @@ enum msvc_demangler_status {
     MSVC_DEMANGLER_TOO_LONG = 5        /**< the declaration has more than max_bytes bytes */
 };
 
-/** Holds what a call returns. */
+/** Result of a call. */
 struct msvc_demangler_result {
     uint32_t status; /**< one of enum msvc_demangler_status */
-    size_t offset;   /**< place in the input, if the status has one; NOT_UTF8: number of bytes that are UTF-8; else 0 */
-    size_t length;   /**< length of the whole text without the NUL; msvc_demangler_prefix: length of the symbol */
+    size_t offset;   /**< place in the input if the status has one; with NOT_UTF8 the number of UTF-8 bytes; else 0 */
+    size_t length;   /**< length of the whole text without the NUL; of msvc_demangler_prefix that of the symbol */
 };
 
 #if defined(__cplusplus) && __cplusplus >= 201103L
@@ -145,7 +151,7 @@ MSVC_DEMANGLER_ASSERT(offsetof(struct msvc_demangler_result, length) == 16);
 /**
  * Writes the declaration of a symbol, or an error message, into a buffer.
  *
- * @param symbol     the input, which begins with the symbol. All of it must be UTF-8; what follows a complete symbol is
+ * @param symbol     the input, which begins with the symbol. All of it must be UTF-8; bytes after a complete symbol are
  *                   ignored.
  * @param length     the length of the input
  * @param flags      flags for printing
@@ -164,9 +170,9 @@ MSVC_DEMANGLER_ASSERT(offsetof(struct msvc_demangler_result, length) == 16);
  * | TOO_MANY_NODES | more nodes than allowed (offset: 9, remaining: "EA") | where reading stopped          |
  * | TOO_LONG       | longer than allowed (offset: 10, remaining: "")      | end of the symbol              |
  *
- * The texts of INVALID, TOO_MANY_NODES and TOO_LONG are examples, and may change; no status has the message of another
- * one. An input that is no symbol, as "main", is no failure of the program: print the input itself if the status is not
- * OK. Each limit may be MSVC_DEMANGLER_UNLIMITED; the other one still holds.
+ * The texts of INVALID, TOO_MANY_NODES and TOO_LONG are examples, and may change; no two statuses share a message. If
+ * the input may be no symbol, as "main", print the input itself unless the status is OK. Each limit may be
+ * MSVC_DEMANGLER_UNLIMITED; the other one still holds.
  *
  * @code
  * const char symbol[] = "?f@@YAXH@Z and more";
@@ -351,6 +357,7 @@ namespace msvc_demangler {
  * @param flags      flags for printing
  * @param max_nodes  the limit on the tree of the symbol
  * @param max_bytes  the limit on the length of the declaration
+ * @return the text
  * @throws std::bad_alloc if memory runs out
  */
 inline std::string demangle(std::string_view symbol, msvc_demangler_result &result,
@@ -379,6 +386,7 @@ inline std::string demangle(std::string_view symbol, msvc_demangler_result &resu
  * @param flags      flags for printing
  * @param max_nodes  the limit on the tree of the symbol
  * @param max_bytes  the limit on the length of the declaration
+ * @return the declaration, or nothing if the status is not OK
  * @throws std::bad_alloc if memory runs out
  */
 inline std::optional<std::string> demangle(std::string_view symbol, std::uint32_t flags = MSVC_DEMANGLER_LLVM,
@@ -398,6 +406,7 @@ inline std::optional<std::string> demangle(std::string_view symbol, std::uint32_
  *
  * @param text   the input, of any bytes
  * @param flags  flags for printing
+ * @return the filtered text
  * @throws std::bad_alloc if memory runs out
  */
 inline std::string filter(std::string_view text, std::uint32_t flags = MSVC_DEMANGLER_LLVM)

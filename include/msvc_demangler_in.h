@@ -1,6 +1,6 @@
 /**
  * @file
- * msvc_demangler 0.11.0 without malloc: the calls of msvc_demangler.h, in memory that the caller lends.
+ * msvc_demangler 0.11.0 without malloc: the calls of msvc_demangler.h, in memory of the caller.
  *
  * @code
  * #include <msvc_demangler_in.h>
@@ -30,7 +30,7 @@
  * - A call takes all its memory from a workspace, which need not be aligned, and may hold any bytes. Nothing is kept in
  *   it between calls. It must not overlap the input or the output.
  * - OUT_OF_MEMORY means that the workspace is too small for the symbol. The bytes of the buffer after the NUL are
- *   unspecified then. The call may be repeated with a larger workspace, or with lower limits.
+ *   unspecified then. Repeat the call with a larger workspace, or with lower limits.
  *
  * A workspace of MSVC_DEMANGLER_DEFAULT_WORKSPACE bytes suffices for each symbol within the default limits, and one of
  * MSVC_DEMANGLER_SMALL_WORKSPACE bytes for each symbol within the small ones. 12,288 bytes suffice for each of 676 real
@@ -43,10 +43,12 @@
 
 /**
  * @name Small limits
- * Suit a workspace that is kept for a crash: no name of 676 real ones has more than 189 nodes.
+ * Suit a workspace that is reserved for a crash: 676 real names have at most 189 nodes.
  * @{
  */
+/** Nodes of a tree. */
 #define MSVC_DEMANGLER_SMALL_NODES ((size_t)1000)
+/** Bytes of a declaration. */
 #define MSVC_DEMANGLER_SMALL_BYTES ((size_t)4096)
 /** @} */
 
@@ -55,23 +57,27 @@
  * Suffice for each symbol within the small limits, and within the default ones.
  * @{
  */
+/** Bytes for the small limits. */
 #define MSVC_DEMANGLER_SMALL_WORKSPACE ((size_t)98304)
+/** Bytes for the default limits. */
 #define MSVC_DEMANGLER_DEFAULT_WORKSPACE ((size_t)1228800)
 /** @} */
 
 /**
  * @name Sizes of stacks
- * Bound, in bytes, what a call takes under the small and under the default limits, on x86-64 and AArch64.
+ * Limits in bytes on the stack of a call under the small and under the default limits, on x86-64 and AArch64.
  * @{
  */
+/** Bytes under the small limits. */
 #define MSVC_DEMANGLER_SMALL_STACK ((size_t)136000)
+/** Bytes under the default limits. */
 #define MSVC_DEMANGLER_DEFAULT_STACK ((size_t)1300000)
 /** @} */
 
-/** Names a part of a workspace: memory that is aligned to 16, and a multiple of 16 bytes long. */
+/** Part of a workspace. */
 struct msvc_demangler_part {
-    void *memory;
-    size_t size;
+    void *memory; /**< its address, a multiple of 16, or null */
+    size_t size;  /**< its size in bytes, a multiple of 16 */
 };
 
 #ifdef __cplusplus
@@ -81,26 +87,64 @@ extern "C" {
 /**
  * @name Calls of the library
  * Take all their memory from parts of a workspace, which the inline calls below make. The parts are the same after a
- * call; only with OUT_OF_MEMORY a part may have been set to null and 0, and is lost then.
+ * call, except with OUT_OF_MEMORY, which may set a part to null and 0.
  * @{
  */
-/** Demangles a symbol, as msvc_demangler_demangle does, in a part for its nodes and one for its declaration. */
+/**
+ * Demangles a symbol, as msvc_demangler_demangle does, in parts of a workspace.
+ *
+ * @param symbol     the input, as of msvc_demangler_demangle
+ * @param length     the length of the input
+ * @param flags      flags for printing
+ * @param max_nodes  the limit on the tree of the symbol
+ * @param max_bytes  the limit on the length of the declaration
+ * @param arena      the part for the nodes
+ * @param text       the part for the declaration
+ * @param out        the buffer
+ * @param size       the size of the buffer
+ * @return the result of msvc_demangler_demangle
+ */
 struct msvc_demangler_result msvc_demangler_demangle_in_parts(const char *symbol, size_t length, uint32_t flags,
                                                               size_t max_nodes, size_t max_bytes,
                                                               struct msvc_demangler_part *arena,
                                                               struct msvc_demangler_part *text, char *out,
                                                               size_t size) MSVC_DEMANGLER_NOEXCEPT;
-/** Returns the length of a symbol, as msvc_demangler_prefix does, in a part for its nodes. */
+/**
+ * Returns the length of a symbol, as msvc_demangler_prefix does, in a part of a workspace.
+ *
+ * @param symbol     the input, as of msvc_demangler_demangle
+ * @param length     the length of the input
+ * @param max_nodes  the limit on the tree of the symbol
+ * @param arena      the part for the nodes
+ * @return the result of msvc_demangler_prefix
+ */
 struct msvc_demangler_result msvc_demangler_prefix_in_parts(const char *symbol, size_t length, size_t max_nodes,
                                                             struct msvc_demangler_part *arena) MSVC_DEMANGLER_NOEXCEPT;
-/** Filters a text, as msvc_demangler_filter does, in a part for the nodes of a symbol and one for its declaration. */
+/**
+ * Filters a text, as msvc_demangler_filter does, in parts of a workspace.
+ *
+ * @param input   the input
+ * @param length  the length of the input
+ * @param flags   flags for printing
+ * @param arena   the part for the nodes of a symbol
+ * @param text    the part for the declaration of a symbol
+ * @param out     the buffer
+ * @param size    the size of the buffer
+ * @return the result of msvc_demangler_filter
+ */
 struct msvc_demangler_result msvc_demangler_filter_in_parts(const char *input, size_t length, uint32_t flags,
                                                             struct msvc_demangler_part *arena,
                                                             struct msvc_demangler_part *text, char *out,
                                                             size_t size) MSVC_DEMANGLER_NOEXCEPT;
 /** @} */
 
-/** Returns the part of some memory from the first address on that is a multiple of 16, in whole units of 16 bytes. */
+/**
+ * Returns the largest aligned part of some memory.
+ *
+ * @param memory  the address of the memory
+ * @param size    its size in bytes
+ * @return the part from the first multiple of 16 on; null and 0 if the memory has no 16 bytes from there on
+ */
 static inline struct msvc_demangler_part msvc_demangler_aligned(void *memory, size_t size) MSVC_DEMANGLER_NOEXCEPT
 {
     size_t before = (size_t)(-(uintptr_t)memory & 15);
@@ -112,7 +156,13 @@ static inline struct msvc_demangler_part msvc_demangler_aligned(void *memory, si
     return part;
 }
 
-/** Cuts memory for a declaration off the end of a part, as much as the limit asks for and at most a quarter. */
+/**
+ * Splits the memory for a declaration off the end of a part.
+ *
+ * @param arena      the part, which becomes smaller
+ * @param max_bytes  the limit on the length of the declaration
+ * @return a part of max_bytes bytes, rounded up, but at most a quarter of the given one
+ */
 static inline struct msvc_demangler_part msvc_demangler_cut(struct msvc_demangler_part *arena,
                                                             size_t max_bytes) MSVC_DEMANGLER_NOEXCEPT
 {
@@ -126,7 +176,20 @@ static inline struct msvc_demangler_part msvc_demangler_cut(struct msvc_demangle
     return text;
 }
 
-/** Demangles a symbol, as msvc_demangler_demangle does, in a workspace of work_size bytes. */
+/**
+ * Demangles a symbol, as msvc_demangler_demangle does, in a workspace.
+ *
+ * @param symbol     the input, as of msvc_demangler_demangle
+ * @param length     the length of the input
+ * @param flags      flags for printing
+ * @param max_nodes  the limit on the tree of the symbol
+ * @param max_bytes  the limit on the length of the declaration
+ * @param work       the workspace
+ * @param work_size  the size of the workspace
+ * @param out        the buffer
+ * @param size       the size of the buffer
+ * @return the result of msvc_demangler_demangle
+ */
 static inline struct msvc_demangler_result msvc_demangler_demangle_in(const char *symbol, size_t length, uint32_t flags,
                                                                       size_t max_nodes, size_t max_bytes, void *work,
                                                                       size_t work_size, char *out,
@@ -137,7 +200,16 @@ static inline struct msvc_demangler_result msvc_demangler_demangle_in(const char
     return msvc_demangler_demangle_in_parts(symbol, length, flags, max_nodes, max_bytes, &arena, &text, out, size);
 }
 
-/** Returns the length of a symbol, as msvc_demangler_prefix does, in a workspace of work_size bytes. */
+/**
+ * Returns the length of a symbol, as msvc_demangler_prefix does, in a workspace.
+ *
+ * @param symbol     the input, as of msvc_demangler_demangle
+ * @param length     the length of the input
+ * @param max_nodes  the limit on the tree of the symbol
+ * @param work       the workspace
+ * @param work_size  the size of the workspace
+ * @return the result of msvc_demangler_prefix
+ */
 static inline struct msvc_demangler_result msvc_demangler_prefix_in(const char *symbol, size_t length, size_t max_nodes,
                                                                     void *work,
                                                                     size_t work_size) MSVC_DEMANGLER_NOEXCEPT
@@ -146,7 +218,18 @@ static inline struct msvc_demangler_result msvc_demangler_prefix_in(const char *
     return msvc_demangler_prefix_in_parts(symbol, length, max_nodes, &arena);
 }
 
-/** Filters a text of any length, as msvc_demangler_filter does, in a workspace of work_size bytes. */
+/**
+ * Filters a text of any length, as msvc_demangler_filter does, in a workspace.
+ *
+ * @param text       the input
+ * @param length     the length of the input
+ * @param flags      flags for printing
+ * @param work       the workspace
+ * @param work_size  the size of the workspace
+ * @param out        the buffer
+ * @param size       the size of the buffer
+ * @return the result of msvc_demangler_filter
+ */
 static inline struct msvc_demangler_result msvc_demangler_filter_in(const char *text, size_t length, uint32_t flags,
                                                                     void *work, size_t work_size, char *out,
                                                                     size_t size) MSVC_DEMANGLER_NOEXCEPT

@@ -9,20 +9,20 @@ static uint64_t argument_count;
 static char **arguments;
 
 /* Copies an argument without its NUL. Returns its length; -1 if there is no such argument, -2 if it doesn't fit. */
-static int64_t argument(uint64_t index, char *to, uint64_t room)
+static int64_t argument(uint64_t index, char *to, uint64_t size)
 {
     if (index >= argument_count) {
         return -1;
     }
     size_t length = strlen(arguments[index]);
-    if (length > room) {
+    if (length > size) {
         return -2;
     }
     memcpy(to, arguments[index], length);
     return (int64_t)length;
 }
 
-/* What a leaf of cpuid says, in the registers EAX, EBX, ECX and EDX, and what of it the system lets programs use. Both
+/* The result of a leaf of cpuid, in the registers EAX, EBX, ECX and EDX, and the part that the system enables. Both
    are the same for the features of x86-64-v2, for which a program asks as it starts. */
 struct cpuid_feature {
     unsigned present[4];

@@ -1,6 +1,6 @@
 /* Calls the C library over each input of AFL++, for tools/fuzz. An input is the bytes of a symbol, or of a text to
-   filter. The program aborts if a call writes beyond its buffer, cuts a text otherwise than its length says, or returns
-   another status or length the second time.
+   filter. The program aborts if a call writes beyond its buffer, truncates a text in another way than documented, or
+   returns another status or length the second time.
 
    The archive has no instrumentation, so the bytes of the result stand in for its branches: each three in a row take
    one of 256 instrumented branches here. */
@@ -12,7 +12,7 @@
 
 __AFL_FUZZ_INIT();
 
-enum { ROOM = 4096, GUARD = 64, MARK = 0xA5 };
+enum { SIZE = 4096, GUARD = 64, FILL = 0xA5 };
 
 static void expect(int holds)
 {
@@ -41,26 +41,26 @@ static void branch(const unsigned char *bytes)
 }
 
 /* A buffer between guards. */
-struct room {
+struct buffer {
     unsigned char before[GUARD];
-    char text[ROOM];
+    char text[SIZE];
     unsigned char after[GUARD];
 };
 
-static void clear(struct room *room)
+static void clear(struct buffer *buffer)
 {
-    memset(room, MARK, sizeof *room);
+    memset(buffer, FILL, sizeof *buffer);
 }
 
-/* Sees that nothing was written outside of so many bytes, and that a NUL is among them. */
-static void see(const struct room *room, size_t size)
+/* Aborts if a byte beyond the first `size` ones was written, or if these have no NUL. */
+static void see(const struct buffer *buffer, size_t size)
 {
-    const unsigned char *bytes = (const unsigned char *)room->text;
+    const unsigned char *bytes = (const unsigned char *)buffer->text;
     for (size_t at = 0; at < GUARD; at++) {
-        expect(room->before[at] == MARK && room->after[at] == MARK);
+        expect(buffer->before[at] == FILL && buffer->after[at] == FILL);
     }
-    for (size_t at = size; at < ROOM; at++) {
-        expect(bytes[at] == MARK);
+    for (size_t at = size; at < SIZE; at++) {
+        expect(bytes[at] == FILL);
     }
     expect(size == 0 || memchr(bytes, 0, size) != NULL);
 }
@@ -78,14 +78,14 @@ static struct msvc_demangler_result filter(const char *input, size_t length, cha
     return msvc_demangler_filter(input, length, MSVC_DEMANGLER_LLVM, out, size);
 }
 
-/* Makes a call with much room and with little. */
+/* Makes a call with a large and with a small buffer. */
 static void try_call(call *called, const char *input, size_t length)
 {
-    static struct room large, small;
+    static struct buffer large, small;
     clear(&large);
-    struct msvc_demangler_result whole = called(input, length, large.text, ROOM);
-    see(&large, ROOM);
-    for (size_t at = 0; at + 2 < ROOM && large.text[at + 2] != '\0' && at < whole.length; at++) {
+    struct msvc_demangler_result whole = called(input, length, large.text, SIZE);
+    see(&large, SIZE);
+    for (size_t at = 0; at + 2 < SIZE && large.text[at + 2] != '\0' && at < whole.length; at++) {
         branch((const unsigned char *)large.text + at);
     }
     size_t size = length % 32;

@@ -1,10 +1,10 @@
-/* Calls the C library on a thread whose stack has so many kilobytes, for tools/stack, tools/measure/limits and .ci/c:
+/* Calls the C library on a thread with a stack of KILOBYTES KB, for tools/stack, tools/measure/limits and .ci/c:
 
        stack demangle KILOBYTES NODES < symbol
        stack prefix KILOBYTES NODES < symbol
 
-   The symbol is the first line of standard input. Printed are the status and, of msvc_demangler_demangle, the text.
-   Where the stack doesn't hold the call, a signal ends the program. */
+   The symbol is the first line of standard input. Prints the status and, for msvc_demangler_demangle, the text.
+   If the stack doesn't suffice for the call, a signal ends the program. */
 
 #define _POSIX_C_SOURCE 200809L
 #include <msvc_demangler.h>
@@ -46,8 +46,8 @@ int main(int count, char **words)
         return fail("wants demangle or prefix, KILOBYTES and NODES");
     }
     static struct work work;
-    size_t room = 0;
-    ssize_t length = getline(&work.symbol, &room, stdin);
+    size_t capacity = 0;
+    ssize_t length = getline(&work.symbol, &capacity, stdin);
     if (length <= 0) {
         return fail("no symbol");
     }

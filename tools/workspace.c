@@ -1,10 +1,10 @@
-/* Finds how much workspace the calls without malloc need under two limits, for tools/workspace and .ci/in:
+/* Finds the workspace that the calls without malloc need under two limits, for tools/workspace and .ci/in:
 
        workspace NODES BYTES < kinds
 
    Each line of standard input is a kind of symbol: five texts, parted by tabs. A symbol of it is the first text, the
    second one so many times, the third, the fourth as many times, and the fifth. Symbols of a few and of many levels are
-   tried, up to twice as many as nodes are allowed, and a million levels. Printed are the bytes that suffice for all. */
+   tried, up to twice as many as nodes are allowed, and a million levels. Prints the bytes that suffice for all. */
 
 #define _POSIX_C_SOURCE 200809L
 #include <msvc_demangler_in.h>
@@ -31,12 +31,12 @@ static void append(const char *text, size_t times)
 
 static void make(char *const *kind, size_t levels)
 {
-    size_t room = 1;
+    size_t size = 1;
     for (size_t n = 0; n < parts; n++) {
-        room += strlen(kind[n]) * levels;
+        size += strlen(kind[n]) * levels;
     }
     free(symbol);
-    symbol = malloc(room);
+    symbol = malloc(size);
     length = 0;
     append(kind[0], 1);
     append(kind[1], levels);
@@ -55,7 +55,7 @@ static uint32_t status_in(size_t size)
     return measured == MSVC_DEMANGLER_OUT_OF_MEMORY ? measured : found;
 }
 
-/* Raises what is needed to what suffices for a symbol of so many levels, and returns its status. */
+/* Raises the needed bytes to those that suffice for a symbol of `levels` levels, and returns its status. */
 static uint32_t try_levels(char *const *kind, size_t levels)
 {
     make(kind, levels);
@@ -114,8 +114,8 @@ int main(int count, char **words)
     bytes = strtoul(words[2], NULL, 10);
     work = malloc(most);
     char *line = NULL;
-    size_t room = 0;
-    for (ssize_t size; (size = getline(&line, &room, stdin)) > 0;) {
+    size_t capacity = 0;
+    for (ssize_t size; (size = getline(&line, &capacity, stdin)) > 0;) {
         char *kind[parts];
         char *rest = line;
         line[size - 1] = '\0';

@@ -38,7 +38,7 @@ export declare const Flags: {
   readonly LLVM: 0xE00400;
 };
 
-/** There is no declaration. The message says why. */
+/** An error of a call, with its message. */
 export declare class DemangleError extends Error {
   /** INVALID: the text begins with no symbol. The others: bytes are not UTF-8, and a limit is exceeded. */
   readonly code: 'INVALID' | 'NOT_UTF8' | 'TOO_MANY_NODES' | 'TOO_LONG';
@@ -48,9 +48,9 @@ export declare class DemangleError extends Error {
 
 /** Limits for symbols that are not trusted. Infinity is no limit. */
 export interface Limits {
-  /** Of nodes of the tree, in which each name and each type is a node; 10,000 unless it is given. */
+  /** Limit on the nodes of the tree: each name and each type is a node. The default is 10,000. */
   maxNodes?: number;
-  /** Of bytes of the declaration in UTF-8; 65,536 unless it is given. */
+  /** Limit on the bytes of the declaration in UTF-8. The default is 65,536. */
   maxBytes?: number;
 }
 

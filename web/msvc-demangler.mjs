@@ -31,7 +31,7 @@ export const Flags = Object.freeze({
   LLVM: 0xE00400,
 });
 
-/** There is no declaration. The message says why, `code` which kind of error it is, and `offset` where it is. */
+/** An error of a call: its message, its kind `code`, and its place `offset`. */
 export class DemangleError extends Error {
   name = 'DemangleError';
 
@@ -53,7 +53,7 @@ const DEFAULT_WORKSPACE = 1_228_800;
 const PAGE = 65_536;
 const MOST_MEMORY = 2 ** 31;
 
-// A longer text is filtered in pieces of at most so many bytes, unless it has a word that is longer.
+// The most bytes of a piece in which a longer text is filtered, unless it has a longer word.
 const PIECE = 65_536;
 const SPACE = 32;
 
@@ -80,7 +80,7 @@ function limit(value) {
   return value <= Number.MAX_SAFE_INTEGER ? BigInt(Math.floor(value)) : 2n ** 64n - 1n;
 }
 
-/** Returns how many code units of a string the first bytes of its UTF-8 stand for. */
+/** Returns the number of code units of a string that the first bytes of its UTF-8 encode. */
 function units(bytes, end) {
   let count = 0;
   for (let at = 0; at < end; at++) count += (bytes[at] & 0xC0) === 0x80 ? 0 : bytes[at] < 0xF0 ? 1 : 2;
@@ -104,8 +104,9 @@ function describe(part, begin, size) {
 }
 
 /**
- * Makes one call of the library, over an input, with so many bytes for the arena, the text and the output, each a
- * multiple of 16. A call that exhausts the engine's stack leaves its instance unusable, and another takes its place.
+ * Makes one call of the library over an input. The last three arguments are the bytes of the arena, the text and the
+ * output, each a multiple of 16. A call that exhausts the engine's stack leaves its instance unusable, and another
+ * replaces it.
  */
 function call(make, input, arena, text, size) {
   const end = FREE + arena + text + size + input.length;

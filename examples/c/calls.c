@@ -7,7 +7,7 @@
 #define LLVM MSVC_DEMANGLER_LLVM
 #define ANY MSVC_DEMANGLER_UNLIMITED
 
-#define NO_MARK "does not start with b'?' (offset: 0, remaining: \"\")"
+#define NO_QUESTION_MARK "does not start with b'?' (offset: 0, remaining: \"\")"
 #define MANY_NODES "more nodes than allowed (offset: 9, remaining: \"EA\")"
 #define LONG "longer than allowed (offset: 10, remaining: \"A\")"
 
@@ -29,9 +29,9 @@ static const struct row {
     {"?x@@3HA\0", 8, LLVM, ANY, ANY, MSVC_DEMANGLER_OK, 0, "int x", 7},
     {"?x@@3L", 6, LLVM, ANY, ANY, MSVC_DEMANGLER_INVALID, 6, "unknown primitive type (offset: 6, remaining: \"\")", 0},
     {"?x@@3HA", 4, LLVM, ANY, ANY, MSVC_DEMANGLER_OK, 0, "x", 4},
-    {"", 0, LLVM, ANY, ANY, MSVC_DEMANGLER_INVALID, 0, NO_MARK, 0},
-    {NULL, 0, LLVM, ANY, ANY, MSVC_DEMANGLER_INVALID, 0, NO_MARK, 0},
-    {"", 0, LLVM, 0, 0, MSVC_DEMANGLER_INVALID, 0, NO_MARK, 0},
+    {"", 0, LLVM, ANY, ANY, MSVC_DEMANGLER_INVALID, 0, NO_QUESTION_MARK, 0},
+    {NULL, 0, LLVM, ANY, ANY, MSVC_DEMANGLER_INVALID, 0, NO_QUESTION_MARK, 0},
+    {"", 0, LLVM, 0, 0, MSVC_DEMANGLER_INVALID, 0, NO_QUESTION_MARK, 0},
     {"?x@@3HA\xff", 8, LLVM, ANY, ANY, MSVC_DEMANGLER_NOT_UTF8, 7, "not UTF-8", 0},
     {"?x@@3HA\xff", 8, LLVM, 0, 0, MSVC_DEMANGLER_NOT_UTF8, 7, "not UTF-8", 0},
     {"?x@@3HA\xff", 7, LLVM, ANY, ANY, MSVC_DEMANGLER_OK, 0, "int x", 7},
@@ -93,8 +93,8 @@ static void try_row(const struct row *row, size_t n)
     see(is_prefix(row, msvc_demangler_prefix(row->symbol, row->length, row->max_nodes)), "the prefix", n);
 }
 
-/* A text, and what the filter makes of it. So many bytes at its beginning are kept ones, at any of which it may be cut;
-   after them it is cut before characters alone. */
+/* A text and its filtered form. It may be truncated at any of the first bytes, which are kept ones, and after them only
+   before a character. */
 static const struct filtered {
     const char *text;
     size_t length;

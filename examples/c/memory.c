@@ -1,6 +1,6 @@
-/* Refuses each request for memory of a call in its turn: the call has to say so, and to keep none. A limit on nodes also
-   limits the requests, however long the symbol is. Link this with -Wl,--wrap=malloc,--wrap=realloc,--wrap=free, which
-   hands the library's requests to the functions here. */
+/* Lets each allocation of a call fail in turn: the call must return the status for it, and keep no memory. A limit on
+   nodes also limits the allocations, for symbols of any length. Link this with
+   -Wl,--wrap=malloc,--wrap=realloc,--wrap=free, which redirects the library's requests to the functions here. */
 
 #include <msvc_demangler.h>
 #include <stdbool.h>
@@ -15,19 +15,19 @@ void *__wrap_realloc(void *block, size_t size);
 void __wrap_free(void *block);
 
 static long requests; /* so far */
-static long refused;  /* the request that is refused, from 1 on; 0 for none */
+static long failing;  /* the number of the request that fails, from 1 on; 0 for none */
 static long blocks;   /* that are not freed */
 
 void *__wrap_malloc(size_t size)
 {
-    void *block = ++requests == refused ? NULL : __real_malloc(size);
+    void *block = ++requests == failing ? NULL : __real_malloc(size);
     blocks += block != NULL;
     return block;
 }
 
 void *__wrap_realloc(void *old, size_t size)
 {
-    void *block = ++requests == refused ? NULL : __real_realloc(old, size);
+    void *block = ++requests == failing ? NULL : __real_realloc(old, size);
     blocks += old == NULL && block != NULL;
     return block;
 }
@@ -47,7 +47,7 @@ static const char *const symbols[] = {
 
 enum kind { into_a_buffer, allocated, filtered, prefix, kinds };
 
-/* A call of this kind, and whether it says that it wants memory. */
+/* Makes a call of this kind. Returns whether its result is that of a failed allocation. */
 static bool wants_memory(enum kind kind, const char *symbol)
 {
     struct msvc_demangler_result result;
@@ -74,8 +74,8 @@ static bool wants_memory(enum kind kind, const char *symbol)
     }
 }
 
-/* The requests of a call on a function of so many parameters, of which a hundred nodes are allowed; 0 if it isn't
-   rejected for these nodes, near its beginning. */
+/* Returns the number of requests of a call on a function of `parameters` parameters, with a hundred nodes allowed; 0 if
+   the call doesn't reject it for its nodes, near its beginning. */
 static long requests_for(size_t parameters)
 {
     static char symbol[1000000 + sizeof "?f@@YAX@Z"] = "?f@@YAX";
@@ -89,7 +89,7 @@ static long requests_for(size_t parameters)
     return result.status == MSVC_DEMANGLER_TOO_MANY_NODES && result.offset < 1000 ? requests : 0;
 }
 
-/* Writes the symbol of a function with so many parameters, each a pointer. */
+/* Writes the symbol of a function with `parameters` parameters, each a pointer. */
 static void make_pointers(char *symbol, size_t parameters)
 {
     memcpy(symbol, "?f@@YAX", 7);
@@ -98,29 +98,29 @@ static void make_pointers(char *symbol, size_t parameters)
     memcpy(symbol + 7 + 3 * parameters, "@Z", 3);
 }
 
-/* Refuses each request of a call on a large symbol in its turn, and counts the calls that don't say then that they are
-   out of memory. Adds the requests to *tried. */
-static long refuse_large(size_t parameters, long *tried)
+/* Lets each request of a call on a large symbol fail in turn, and counts the calls that don't return the status for it.
+   Adds the requests to *tried. */
+static long fail_large(size_t parameters, long *tried)
 {
     static char symbol[65536];
     static char text[131072];
     struct msvc_demangler_result result;
     long wrong = 0;
     make_pointers(symbol, parameters);
-    refused = 0;
+    failing = 0;
     requests = 0;
     result = msvc_demangler_demangle(symbol, strlen(symbol), MSVC_DEMANGLER_LLVM, SIZE_MAX, SIZE_MAX, text,
                                      sizeof text);
     wrong += result.status != MSVC_DEMANGLER_OK || result.length >= sizeof text;
     long count = requests;
-    for (refused = 1; refused <= count; refused++) {
+    for (failing = 1; failing <= count; failing++) {
         requests = 0;
         result = msvc_demangler_demangle(symbol, strlen(symbol), MSVC_DEMANGLER_LLVM, SIZE_MAX, SIZE_MAX, text,
                                          sizeof text);
         wrong += result.status != MSVC_DEMANGLER_OUT_OF_MEMORY || strcmp(text, "out of memory") != 0 || blocks != 0;
     }
     *tried += count;
-    refused = 0;
+    failing = 0;
     return wrong;
 }
 
@@ -132,24 +132,24 @@ int main(void)
     for (size_t n = 0; n < kinds * (sizeof symbols / sizeof symbols[0]); n++) {
         const char *symbol = symbols[n / kinds];
         enum kind kind = (enum kind)(n % kinds);
-        refused = 0;
+        failing = 0;
         wrong += wants_memory(kind, symbol);
         long count = requests;
-        for (refused = 1; refused <= count; refused++) {
+        for (failing = 1; failing <= count; failing++) {
             tried++;
             if (!wants_memory(kind, symbol) || blocks != 0) {
-                printf("%s: request %ld of %ld: %ld blocks are kept\n", symbol, refused, count, blocks);
+                printf("%s: request %ld of %ld: %ld blocks are kept\n", symbol, failing, count, blocks);
                 wrong++;
             }
         }
     }
-    refused = 0;
+    failing = 0;
     if (requests_for(1000) == 0 || requests_for(1000000) != requests_for(1000)) {
         puts("a longer list of parameters has other requests where a hundred nodes are allowed");
         wrong++;
     }
-    wrong += refuse_large(2000, &tried);  /* a tree of 4,000 nodes */
-    wrong += refuse_large(9500, &tried);  /* a declaration of 64 KB */
-    printf("%ld refused requests, %ld wrong results\n", tried, wrong);
+    wrong += fail_large(2000, &tried);  /* a tree of 4,000 nodes */
+    wrong += fail_large(9500, &tried);  /* a declaration of 64 KB */
+    printf("%ld allocation failures, %ld wrong results\n", tried, wrong);
     return wrong != 0;
 }

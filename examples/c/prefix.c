@@ -1,6 +1,6 @@
-/* Compares with rows how much of a text is read. Each line of standard input is a text, how many of its bytes a symbol
-   takes, and how many nodes that has, or a text and the word `refused`, parted by tabs. With as many nodes allowed the
-   symbol is read, and with one less it is not. A row that differs is printed; the last line counts. */
+/* Compares with rows the part of a text that is read. Each line of standard input is a text, the number of bytes of its
+   symbol, and the number of nodes of that, or a text and the word `refused`, separated by tabs. With that limit on
+   nodes the symbol is read, and with one less it is not. Prints each row that differs; the last line has the counts. */
 
 #define _POSIX_C_SOURCE 200809L
 #include <msvc_demangler.h>
@@ -24,10 +24,10 @@ static bool agrees(const char *text, size_t length, const char *wanted)
 int main(void)
 {
     char *line = NULL;
-    size_t room = 0;
+    size_t capacity = 0;
     long agree = 0;
     long differ = 0;
-    for (ssize_t length; (length = getline(&line, &room, stdin)) > 0;) {
+    for (ssize_t length; (length = getline(&line, &capacity, stdin)) > 0;) {
         size_t symbol = strcspn(line, "\t");
         if (agrees(line, symbol, line + symbol + 1)) {
             agree++;

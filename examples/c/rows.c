@@ -13,10 +13,10 @@ struct row {
     const char *symbol;
     bool is_ok;
     size_t offset;
-    const char *text; /* or the message of a refusal */
+    const char *text; /* or the message of the error */
 };
 
-/* What stands in a buffer before a call. */
+/* The bytes of a buffer before a call. */
 static const char untouched = '#';
 
 /* The field that *rest begins with; *rest is what follows it. */
@@ -40,7 +40,7 @@ static struct row parsed(char *line)
     return row;
 }
 
-/* Whether the whole text and its result are those of the row. */
+/* Returns whether the whole text and its result are those of the row. */
 static bool is_wanted(const struct row *row, const char *text, struct msvc_demangler_result result)
 {
     if (result.offset != row->offset || result.length != strlen(text)) {
@@ -59,7 +59,7 @@ static bool is_wanted(const struct row *row, const char *text, struct msvc_deman
     }
 }
 
-/* The most bytes of a text that leave room for a NUL in a buffer of this size, and end before a character of UTF-8. */
+/* Returns the most bytes of a text that fit with a NUL in a buffer of this size, and split no character of UTF-8. */
 static size_t cut(const char *text, size_t size)
 {
     size_t length = strlen(text) < size ? strlen(text) : size - 1;
@@ -69,13 +69,13 @@ static size_t cut(const char *text, size_t size)
     return length;
 }
 
-/* Whether a buffer of this size gets what it holds of the text, and a NUL, and no byte after that changes. */
+/* Returns whether a buffer of this size gets the part of the text that fits, and a NUL, and no byte after that. */
 static bool is_written(const struct row *row, const char *text, size_t size)
 {
-    size_t room = strlen(text) + 16;
-    char *out = malloc(2 * room);
-    char *wanted = out + room;
-    memset(out, untouched, 2 * room);
+    size_t capacity = strlen(text) + 16;
+    char *out = malloc(2 * capacity);
+    char *wanted = out + capacity;
+    memset(out, untouched, 2 * capacity);
     if (size > 0) {
         size_t length = cut(text, size);
         memcpy(wanted, text, length);
@@ -84,7 +84,7 @@ static bool is_written(const struct row *row, const char *text, size_t size)
     struct msvc_demangler_result result =
         msvc_demangler_demangle(row->symbol, strlen(row->symbol), row->flags, MSVC_DEMANGLER_UNLIMITED,
                                 MSVC_DEMANGLER_UNLIMITED, out, size);
-    bool good = result.length == strlen(text) && memcmp(out, wanted, room) == 0;
+    bool good = result.length == strlen(text) && memcmp(out, wanted, capacity) == 0;
     free(out);
     return good;
 }
@@ -105,10 +105,10 @@ static bool agrees(const struct row *row)
 int main(void)
 {
     char *line = NULL;
-    size_t room = 0;
+    size_t capacity = 0;
     long agree = 0;
     long differ = 0;
-    for (ssize_t length; (length = getline(&line, &room, stdin)) > 0;) {
+    for (ssize_t length; (length = getline(&line, &capacity, stdin)) > 0;) {
         if (strncmp(line, "# ", 2) == 0) {
             continue;
         }

@@ -4,8 +4,8 @@ import sys
 from msvc_demangler import UNLIMITED, DemangleError, Status, demangle
 
 
-def answer(symbol, flags):
-    """Returns the status, the offset, and the declaration of a symbol or why there is none."""
+def result(symbol, flags):
+    """Returns the status, the offset, and the declaration of a symbol or the error message."""
     try:
         return Status.OK, 0, demangle(symbol, flags, max_nodes=UNLIMITED, max_bytes=UNLIMITED)
     except DemangleError as error:
@@ -14,12 +14,12 @@ def answer(symbol, flags):
 
 def agrees(row):
     flags, symbol, kind, wanted = row.split(b"\t", 3)
-    status, offset, text = answer(symbol, int(flags, 16))
+    status, offset, text = result(symbol, int(flags, 16))
     if kind == b"ok":
         return (status, offset, text.encode()) == (Status.OK, 0, wanted)
     place, message = wanted.split(b"\t", 1)
-    refusal = Status.NOT_UTF8 if message == b"not UTF-8" else Status.INVALID
-    return (status, offset) == (refusal, int(place)) and text.encode().startswith(message)
+    rejection = Status.NOT_UTF8 if message == b"not UTF-8" else Status.INVALID
+    return (status, offset) == (rejection, int(place)) and text.encode().startswith(message)
 
 
 rows = [line for line in sys.stdin.buffer.read().splitlines() if not line.startswith(b"# ")]

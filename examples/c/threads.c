@@ -1,4 +1,4 @@
-/* Two threads that call at once: each result has to be that of a single thread. */
+/* Two threads that call at once: each result must be that of a single thread. */
 
 #include <msvc_demangler.h>
 #include <pthread.h>

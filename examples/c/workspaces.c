@@ -1,7 +1,7 @@
-/* Makes the calls without malloc in workspaces of each size from 0 to 64 KiB, of other bytes each time. Each call has
-   to return its whole result, or OUT_OF_MEMORY, and to write nothing but that and the workspace: behind the workspace
-   the next page can't be touched, and the bytes before it and in the buffer are compared. The largest workspace has to
-   suffice, and so does each one that is larger than one that did. */
+/* Makes the calls without malloc in workspaces of each size from 0 to 64 KiB, with other bytes each time. Each call
+   must return its whole result, or OUT_OF_MEMORY, and write only that and the workspace: the page after the workspace
+   has no access, and the bytes before it and in the buffer are compared. The largest workspace must suffice, and so
+   must each one that is larger than a sufficient one. */
 
 #define _DEFAULT_SOURCE
 #include <msvc_demangler_in.h>
@@ -9,7 +9,7 @@
 #include <stdio.h>
 #include <sys/mman.h>
 
-enum { most = 65536, before = 64, page = 65536, room = 512 };
+enum { most = 65536, before = 64, page = 65536, full = 512 };
 
 enum kind { demangle, prefix, filter };
 
@@ -25,21 +25,21 @@ static const struct row {
     size_t size;   /* of the buffer */
     size_t length; /* of a symbol that is measured */
 } rows[] = {
-    {demangle, MSVC_DEMANGLER_OK, 0, "?x@ns@@3HA", "int ns::x", room, 0},
+    {demangle, MSVC_DEMANGLER_OK, 0, "?x@ns@@3HA", "int ns::x", full, 0},
     {demangle, MSVC_DEMANGLER_OK, 0, "?f@@YAXV?$A@PAH0@@PAD0@Z",
-     "void __cdecl f(class A<int *, int *>, char *, class A<int *, int *>)", room, 0},
+     "void __cdecl f(class A<int *, int *>, char *, class A<int *, int *>)", full, 0},
     {demangle, MSVC_DEMANGLER_OK, 0,
      "?wait_for@_Condition_variable@details@Concurrency@@QEAA_NAEAVcritical_section@3@I@Z",
      "public: bool __cdecl Concurrency::details::_Condition_variable::wait_for(class Concurrency::critical_section &, "
-     "unsigned int)", room, 0},
+     "unsigned int)", full, 0},
     {demangle, MSVC_DEMANGLER_OK, 0, "?x@ns@@3HA", "int ns", 7, 9},
-    {demangle, MSVC_DEMANGLER_INVALID, 6, "?x@@3L", "unknown primitive type (offset: 6, remaining: \"\")", room, 0},
-    {demangle, MSVC_DEMANGLER_INVALID, 0, "main", "does not start with b'?' (offset: 0, remaining: \"main\")", room, 0},
-    {demangle, MSVC_DEMANGLER_INVALID, 0, "", "does not start with b'?' (offset: 0, remaining: \"\")", room, 0},
+    {demangle, MSVC_DEMANGLER_INVALID, 6, "?x@@3L", "unknown primitive type (offset: 6, remaining: \"\")", full, 0},
+    {demangle, MSVC_DEMANGLER_INVALID, 0, "main", "does not start with b'?' (offset: 0, remaining: \"main\")", full, 0},
+    {demangle, MSVC_DEMANGLER_INVALID, 0, "", "does not start with b'?' (offset: 0, remaining: \"\")", full, 0},
     {prefix, MSVC_DEMANGLER_OK, 0, "?x@@3HA and more", NULL, 0, 7},
     {prefix, MSVC_DEMANGLER_INVALID, 6, "?x@@3L", NULL, 0, 0},
-    {filter, MSVC_DEMANGLER_OK, 0, "in ?x@ns@@3HA and ?y@@3HA", "in int ns::x and int y", room, 0},
-    {filter, MSVC_DEMANGLER_OK, 0, "no symbol", "no symbol", room, 0},
+    {filter, MSVC_DEMANGLER_OK, 0, "in ?x@ns@@3HA and ?y@@3HA", "in int ns::x and int y", full, 0},
+    {filter, MSVC_DEMANGLER_OK, 0, "no symbol", "no symbol", full, 0},
 };
 
 /* The call of a row in a workspace. */
@@ -57,10 +57,10 @@ static struct msvc_demangler_result call(const struct row *row, char *work, size
     }
 }
 
-/* Whether a buffer holds this text, as much of it as fits, and has no other changed byte. */
+/* Returns whether a buffer has the part of this text that fits, and no other changed byte. */
 static bool holds(const char *out, const char *text, size_t size)
 {
-    char wanted[room];
+    char wanted[full];
     memset(wanted, '#', sizeof wanted);
     if (text != NULL) {
         size_t length = strlen(text) < size ? strlen(text) : size - 1;
@@ -84,7 +84,7 @@ static bool is_whole(const struct row *row, struct msvc_demangler_result result,
            holds(out, row->text, row->size);
 }
 
-/* The memory that workspaces end in: before it stand bytes that are compared, and after it a page of no access. */
+/* The memory in which workspaces end: before it are bytes that are compared, and after it a page without access. */
 static char *memory_end(void)
 {
     char *memory = mmap(NULL, before + most + 2 * page, PROT_READ | PROT_WRITE, MAP_PRIVATE | MAP_ANONYMOUS, -1, 0);
@@ -100,7 +100,7 @@ static size_t least(const struct row *row, char *end)
     memset(untouched, '#', sizeof untouched);
     size_t found = most + 1;
     for (size_t size = 0; size <= most; size++) {
-        char out[room];
+        char out[full];
         char *work = end - size;
         memset(out, '#', sizeof out);
         memset(work - before, '#', before);
@@ -134,7 +134,7 @@ int main(void)
         wrong += size > most;
         largest = size > largest ? size : largest;
     }
-    printf("%zu calls in each workspace of 0 to %d bytes, %zu wrong, all answered from %zu bytes on\n", count, most,
+    printf("%zu calls in each workspace of 0 to %d bytes, %zu wrong, all successful from %zu bytes on\n", count, most,
            wrong, largest);
     return wrong != 0;
 }

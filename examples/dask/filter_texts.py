@@ -8,7 +8,7 @@ this path. It gets a part for each block, and `cat OUTPUT/part-*` prints the par
 another name and then renamed, so each is whole. A block is tried again, up to three times, if its worker is lost or
 fails. Without DASK_SCHEDULER_ADDRESS the workers are processes of this machine.
 
-Workers need the module msvc_demangler too. docs/scale.md tells how they are started.
+Workers need the module msvc_demangler too. docs/scale.md describes how to start them.
 """
 import argparse
 import itertools

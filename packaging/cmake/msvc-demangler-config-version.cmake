@@ -1,5 +1,5 @@
 # Accepts a version that is asked for if the first two numbers are the same and the third is not newer: below 1.0 the
-# second number says what is compatible. tools/install writes the version.
+# second number decides compatibility. tools/install writes the version.
 set(PACKAGE_VERSION "@VERSION@")
 string(REGEX REPLACE "\\.[0-9]+$" "" _msvc_demangler_least "${PACKAGE_VERSION}")
 set(PACKAGE_VERSION_COMPATIBLE FALSE)

@@ -1,11 +1,11 @@
 # Makes the header of the library in one file, of that of the compiled library.
 3s/: turns/ as one file in C: turns/
 /^ \* - The library keeps nothing after a call/,/^ \*   handler\. They throw no exceptions\.$/c\
- * - Nothing has to be set up, and no locale and no errno are involved. Any number of threads may call at once, if each\
- *   has an instance of its own or none.\
+ * - The library needs no set-up, and uses no locale and no errno. Any number of threads may call at once, if each has\
+ *   an instance of its own or none.\
  * - A call needs a machine: memory of 10 MiB, and more for large inputs and outputs and for limits above the default\
  *   ones. It requests that from malloc, keeps up to eight in a pool for later calls, and frees others. Nothing else is\
- *   kept. msvc_demangler_free frees the pool; a caller who wants a machine alone has an instance. The calls must not be\
+ *   kept. msvc_demangler_free frees the pool; an instance is a machine of one caller. The calls must not be\
  *   made where malloc must not be, as in a signal handler. They install no handlers, and throw no exceptions.
 /^ \* Within soname 0 no symbol/c\
  * docs/portable.md has more.
@@ -14,8 +14,10 @@
  * optimises the file. A thread with a smaller stack needs a lower limit: 300 bytes of stack a node, and 16,000 more.
 /^#define MSVC_DEMANGLER_DEFAULT_BYTES/a\
 \
-/* Limits the nodes of a symbol, whatever max_nodes is, so that the stack is bounded. Where stacks are small, compile\
-   msvc_demangler.c with a lower number. */\
+/**\
+ * Limit on the nodes of a symbol for any max_nodes, which bounds the stack. For small stacks compile msvc_demangler.c\
+ * with a lower number.\
+ */\
 #ifndef MSVC_DEMANGLER_MOST_NODES\
 #define MSVC_DEMANGLER_MOST_NODES ((size_t)20000)\
 #endif
@@ -23,7 +25,7 @@
  * Turns off a limit, max_bytes, or sets max_nodes to MSVC_DEMANGLER_MOST_NODES. The former is unsafe for symbols that\
  * are not trusted: a short symbol can have a declaration that takes much time, and memory up to 1 GiB.
 /^\/\* With MSVC_DEMANGLER_DLL defined/,/^#endif$/c\
-/* Stands before each declaration, as __declspec(dllexport). */\
+/* Precedes each declaration, as __declspec(dllexport). */\
 #ifndef MSVC_DEMANGLER_API\
 #define MSVC_DEMANGLER_API\
 #endif
@@ -40,8 +42,8 @@ s/malloc or realloc returned null \*\//malloc returned null, or 1 GiB is not eno
 /^size_t msvc_demangler_version/a\
 \
 /**\
- * Holds a machine of a caller's own: a call with it takes no machine of the pool, and so shares nothing with other\
- * calls. It begins as {NULL}. The calls are those above, which with a null pointer they are. No two calls may use an\
+ * Machine of one caller: a call with it takes no machine of the pool, and so shares nothing with other calls. It\
+ * begins as {NULL}. With a null pointer to it, the calls below do what those above do. No two calls may use an\
  * instance at the same time.\
  *\
  * @code\
@@ -56,21 +58,61 @@ s/malloc or realloc returned null \*\//malloc returned null, or 1 GiB is not eno
  * Prints "int x".\
  */\
 struct msvc_demangler_instance {\
-    void *machine;\
+    void *machine; /**< the machine, or null */\
 };\
+\
+/**\
+ * Does what msvc_demangler_demangle does, with an instance.\
+ *\
+ * @param instance   the instance, or null\
+ * @param symbol     the input, as of msvc_demangler_demangle\
+ * @param length     the length of the input\
+ * @param flags      flags for printing\
+ * @param max_nodes  the limit on the tree of the symbol\
+ * @param max_bytes  the limit on the length of the declaration\
+ * @param out        the buffer\
+ * @param size       the size of the buffer\
+ * @return the result of msvc_demangler_demangle\
+ */\
 MSVC_DEMANGLER_API\
 struct msvc_demangler_result msvc_demangler_demangle_with(struct msvc_demangler_instance *instance, const char *symbol,\
                                                           size_t length, uint32_t flags, size_t max_nodes,\
                                                           size_t max_bytes, char *out,\
                                                           size_t size) MSVC_DEMANGLER_NOEXCEPT;\
+\
+/**\
+ * Does what msvc_demangler_prefix does, with an instance.\
+ *\
+ * @param instance   the instance, or null\
+ * @param symbol     the input, as of msvc_demangler_demangle\
+ * @param length     the length of the input\
+ * @param max_nodes  the limit on the tree of the symbol\
+ * @return the result of msvc_demangler_prefix\
+ */\
 MSVC_DEMANGLER_API\
 struct msvc_demangler_result msvc_demangler_prefix_with(struct msvc_demangler_instance *instance, const char *symbol,\
                                                         size_t length, size_t max_nodes) MSVC_DEMANGLER_NOEXCEPT;\
+\
+/**\
+ * Does what msvc_demangler_filter does, with an instance.\
+ *\
+ * @param instance  the instance, or null\
+ * @param text      the input: any bytes, which need not be UTF-8\
+ * @param length    the length of the input\
+ * @param flags     flags for printing\
+ * @param out       the buffer\
+ * @param size      the size of the buffer\
+ * @return the result of msvc_demangler_filter\
+ */\
 MSVC_DEMANGLER_API\
 struct msvc_demangler_result msvc_demangler_filter_with(struct msvc_demangler_instance *instance, const char *text,\
                                                         size_t length, uint32_t flags, char *out,\
                                                         size_t size) MSVC_DEMANGLER_NOEXCEPT;\
 \
-/** Frees the machine of an instance, which may then be used again, or with a null pointer those of the pool. */\
+/**\
+ * Frees the machine of an instance, which may be used again, or the machines of the pool.\
+ *\
+ * @param instance  the instance, or null for the pool\
+ */\
 MSVC_DEMANGLER_API\
 void msvc_demangler_free(struct msvc_demangler_instance *instance) MSVC_DEMANGLER_NOEXCEPT;

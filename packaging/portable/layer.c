@@ -1,11 +1,11 @@
-/* The calls of msvc_demangler.h. Each puts its input, a workspace and room for its output into the memory of a machine,
+/* The calls of msvc_demangler.h. Each puts its input, a workspace and space for its output into a machine's memory,
    above the stack and the data of the module, and runs a call of the module over them. */
 
 enum {
     result_size = 32,        /* bytes of the result, whose fields have 64 bits, and more */
     part_size = 16,          /* of a part of the workspace: its address and its size */
     least_memory = 10 << 20, /* bytes of a machine's memory */
-    least_room = 1 << 16,    /* for an output, where its buffer is as large */
+    least_space = 1 << 16,    /* for an output, where its buffer is as large */
     pool_size = 8,
     longest_character = 4,   /* bytes */
     no_character = 0xff      /* a byte that is in no character and is no NUL */
@@ -63,7 +63,7 @@ static u64 smaller(u64 left, u64 right)
 }
 
 /* Divides a workspace as msvc_demangler_in.h does: the memory for a declaration is at most a quarter of it. */
-static struct places places_of(const struct call *call, u64 workspace, u64 room)
+static struct places places_of(const struct call *call, u64 workspace, u64 space)
 {
     struct places places;
     places.result = aligned(heap_base());
@@ -76,8 +76,8 @@ static struct places places_of(const struct call *call, u64 workspace, u64 room)
     places.text = places.arena + places.arena_size;
     places.input = places.arena + workspace;
     places.out = places.input + call->length;
-    places.out_size = room;
-    places.end = places.out + room;
+    places.out_size = space;
+    places.end = places.out + space;
     return places;
 }
 
@@ -126,7 +126,7 @@ NO_INLINE static void run(Z_module_instance_t *machine, const struct call *call,
     }
 }
 
-/* Returns whether the call of the module came back. Its stack lies below its data, and where that is full it traps. */
+/* Returns whether the call of the module returned. Its stack is below its data, and it traps when the stack is full. */
 static int has_run(Z_module_instance_t *machine, const struct call *call, const struct places *places)
 {
     jmp_buf place;
@@ -212,22 +212,22 @@ static struct msvc_demangler_result tried(Z_module_instance_t **machine, const s
     return result;
 }
 
-/* Makes a call, again with a larger workspace where the module's memory ran out, or with more room where an output
+/* Makes a call, again with a larger workspace where the module's memory ran out, or with more space where an output
    didn't fit, though its buffer is larger. */
 static struct msvc_demangler_result made(Z_module_instance_t **machine, const struct call *call)
 {
     u64 workspace = first_workspace;
-    u64 room = smaller(call->size, (u64)least_room + 4 * (u64)call->length);
+    u64 space = smaller(call->size, (u64)least_space + 4 * (u64)call->length);
     for (;;) {
-        struct places places = places_of(call, workspace, room);
+        struct places places = places_of(call, workspace, space);
         struct msvc_demangler_result result = tried(machine, call, &places);
         if (*machine == NULL) {
             return without_memory(call);
         }
         if (result.status == MSVC_DEMANGLER_OUT_OF_MEMORY && workspace < last_workspace) {
             workspace *= 2;
-        } else if (result.length >= room && room < call->size) {
-            room = smaller(call->size, (u64)result.length + 1);
+        } else if (result.length >= space && space < call->size) {
+            space = smaller(call->size, (u64)result.length + 1);
         } else {
             copy_out(*machine, call, &places, result.length);
             return result;

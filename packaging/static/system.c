@@ -18,9 +18,9 @@ int __wrap_main(int count, char **words)
     return __real_main(count, words);
 }
 
-int64_t rattle_arg(uint64_t index, char *to, uint64_t room)
+int64_t rattle_arg(uint64_t index, char *to, uint64_t size)
 {
-    return argument(index, to, room);
+    return argument(index, to, size);
 }
 
 const struct cpuid_feature *__x86_get_cpuid_feature_leaf(unsigned number)
@@ -28,7 +28,7 @@ const struct cpuid_feature *__x86_get_cpuid_feature_leaf(unsigned number)
     return cpuid_feature(number);
 }
 
-/* A program tells by this that the processor is too old. */
+/* A program reports by this that the processor is too old. */
 ssize_t __write(int file, const void *bytes, size_t length)
 {
     return write(file, bytes, length);

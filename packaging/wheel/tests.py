@@ -148,13 +148,13 @@ class Module(unittest.TestCase):
     def test_without_wheel(self) -> None:
         """Of the module alone the environment names the library."""
         package = os.path.dirname(msvc_demangler.__file__)
-        with tempfile.TemporaryDirectory() as room:
-            shutil.copy(os.path.join(package, "__init__.py"), os.path.join(room, "msvc_demangler.py"))
-            environment = {"PYTHONPATH": room,
+        with tempfile.TemporaryDirectory() as folder:
+            shutil.copy(os.path.join(package, "__init__.py"), os.path.join(folder, "msvc_demangler.py"))
+            environment = {"PYTHONPATH": folder,
                            "MSVC_DEMANGLER_LIBRARY": os.path.join(package, "libmsvc_demangler.so.0")}
             program = "import msvc_demangler; print(msvc_demangler.__file__, msvc_demangler.demangle('?x@ns@@3HA'))"
             printed = subprocess.check_output([sys.executable, "-c", program], env=environment, text=True)
-        self.assertEqual(printed, f"{room}/msvc_demangler.py int ns::x\n")
+        self.assertEqual(printed, f"{folder}/msvc_demangler.py int ns::x\n")
 
 
 class Wheel(unittest.TestCase):

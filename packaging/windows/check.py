@@ -39,7 +39,7 @@ CHANGES_STACK = re.compile(r".*,%([re]?sp|spl)$|pop +%rsp$")
 COMPARES = re.compile("(cmp|test)")
 TOUCHES = re.compile(r"push|call|(mov[a-z]*|xorq) +[^(]*,\(%rsp\)$")
 
-# How the compiler makes room of a size that it doesn't know: a loop that lowers the stack pointer by less than a page
+# How the compiler allocates a block of unknown size: a loop that lowers the stack pointer by less than a page
 # at a time and writes there, down to the address in a register, which the stack pointer gets then.
 TO_A_REGISTER = re.compile(r"mov +(%r[a-z0-9]+),%rsp$")
 PROBES = (
@@ -51,7 +51,7 @@ BELOW = re.compile(r"-0x[0-9a-f]+\(%rsp(,[^)]*)?\)")
 BELOW_FRAME = re.compile(r"-0x([0-9a-f]+)\(%rbp\)")
 LISTED = re.compile("::<.*")
 
-# A PE file: where its headers stand, and the numbers of those of its tables that are used.
+# A PE file: the places of its headers, and the numbers of its tables that are used.
 PE_OFFSET, OPTIONAL_HEADER, BASE_RELOCATIONS = 0x3C, 24, 5
 TO_64_BITS = 10
 EXECUTABLE, ZEROS = 0x20000000, 0x80000080
@@ -136,7 +136,7 @@ def below(code):
 
 
 def faults(name, code, listed):
-    """Returns what is wrong with a function, and whether it reaches below the stack pointer, as those listed may."""
+    """Returns the faults of a function, and whether it reaches below the stack pointer, as those listed may."""
     found = [instruction for instruction in code if SYSTEM.search(instruction)]
     found += [
         f"moves the stack pointer by {instruction}"
@@ -161,8 +161,8 @@ def check_code(path, listed):
         raise Wrong("no functions")
     for name, code in found.items():
         name = name[len(PREFIX):] if name.startswith(PREFIX) else name
-        told, reaches = faults(name, code, listed)
-        wrong += [f"{name}: {fault}" for fault in told]
+        function_faults, reaches = faults(name, code, listed)
+        wrong += [f"{name}: {fault}" for fault in function_faults]
         most = max(most, frame(code))
         reaching += reaches
     if wrong:
@@ -195,7 +195,7 @@ class Image:
         for begin, _, content, _ in self.sections:
             if begin <= address and address + length <= begin + len(content):
                 return content[address - begin : address - begin + length]
-        raise Wrong(f"nothing stands at {address:#x}")
+        raise Wrong(f"nothing is at {address:#x}")
 
     def is_part(self, flags, address, length=1):
         """Returns whether so many bytes from an address on are part of a section with these flags."""
@@ -238,7 +238,7 @@ def located(section, image):
                 found.append(begin + start)
             at = content.find(longest[1], at + 1)
     if len(found) != 1:
-        raise Wrong(f"{section.name} stands in the image {len(found)} times")
+        raise Wrong(f"{section.name} occurs in the image {len(found)} times")
     return found[0]
 
 
@@ -261,7 +261,7 @@ class Linked:
         return place
 
     def address(self, relocation, at):
-        """Returns the address of the symbol of a relocation, as the bytes there say it."""
+        """Returns the address of the symbol of a relocation, that the bytes there have."""
         if relocation.kind != elf.R_64:
             return struct.unpack("<i", self.image.read(at, 4))[0] - relocation.addend + at
         if at not in self.moved:
@@ -270,7 +270,7 @@ class Linked:
 
     def wanted(self, symbol, address):
         """Returns the address of a symbol: of one that the object has not, or only as zeros, what the first relocation
-        says, if a function stands there, or zeros."""
+        has, if a function is there, or zeros."""
         if symbol.section in self.places:
             return self.places[symbol.section] + symbol.value
         place = self.outside.setdefault(symbol.section or symbol.name, address - symbol.value)
@@ -305,7 +305,7 @@ def check_image(object_path, image_path):
 
 
 def main(words):
-    """Checks what the words say. Returns the exit status."""
+    """Makes the check that the words name. Returns the exit status."""
     try:
         if words[0] == "code":
             listed = set()

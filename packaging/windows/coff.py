@@ -18,7 +18,7 @@ CODE, INITIALIZED, UNINITIALIZED = 0x20, 0x40, 0x80
 MANY_RELOCATIONS = 0x01000000
 EXECUTABLE, READABLE, WRITABLE = 0x20000000, 0x40000000, 0x80000000
 
-# What each section of Windows is; and what ELF says of it, with or without the flag for writing if it is relocated.
+# The flags of each section on Windows, and those of ELF, with or without the flag for writing if it is relocated.
 SECTIONS = {
     ".text": (CODE | EXECUTABLE | READABLE, elf.PROGBITS, (elf.ALLOC | elf.EXECUTE,)),
     ".rdata": (INITIALIZED | READABLE, elf.PROGBITS, (elf.ALLOC, elf.ALLOC | elf.WRITE)),

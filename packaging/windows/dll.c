@@ -2,7 +2,7 @@
 #include "../../include/msvc_demangler.h"
 #include "sysv.h"
 
-/* A call: its result, name, parameters and arguments. The declaration in the header has to be the same. */
+/* A call: its result, name, parameters and arguments. The declaration in the header must be the same. */
 #define CALL(result, name, parameters, arguments) \
     result SYSV(name) parameters; \
     result name parameters \

@@ -14,7 +14,7 @@ R_64, R_PC32, R_PLT32 = 1, 2, 4
 # The name of each kind of relocation, and how many bytes it writes.
 RELOCATIONS = {R_64: ("R_X86_64_64", 8), R_PC32: ("R_X86_64_PC32", 4), R_PLT32: ("R_X86_64_PLT32", 4)}
 
-# Names for what is rejected, so that a message says more than a number.
+# Names of rejected kinds, for messages.
 SECTION_TYPES = {
     6: "DYNAMIC", 7: "NOTE", 9: "REL", 11: "DYNSYM", 14: "INIT_ARRAY", 15: "FINI_ARRAY", 16: "PREINIT_ARRAY",
     17: "GROUP", 18: "SYMTAB_SHNDX",

@@ -1,5 +1,5 @@
 # Defines the targets msvc-demangler::shared and msvc-demangler::static, and msvc-demangler::msvc-demangler, which is
-# the shared one unless BUILD_SHARED_LIBS is off. They are found from where this file stands, so the whole may be moved.
+# the shared one unless BUILD_SHARED_LIBS is off. They are found from this file's folder, so the whole may be moved.
 if(NOT WIN32)
   set(${CMAKE_FIND_PACKAGE_NAME}_FOUND FALSE)
   set(${CMAKE_FIND_PACKAGE_NAME}_NOT_FOUND_MESSAGE "this package of msvc-demangler is for Windows on x86-64 alone")

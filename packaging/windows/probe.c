@@ -1,6 +1,6 @@
-/* Asks the system what the programs ask it, and prints each answer on a line. It is built for Linux, as they are: over
-   glibc it says what system.c and memory.c have to answer. Its arguments are printed; it reads probe.txt, which has 13
-   bytes. The status is 127. */
+/* Makes the system calls of the programs, and prints each result on a line. It is built for Linux, as they are: over
+   glibc it prints the results that system.c and memory.c must return. It prints its arguments, and reads probe.txt,
+   which has 13 bytes. The status is 127. */
 #include <stddef.h>
 #include <stdint.h>
 
@@ -10,16 +10,16 @@ struct cpuid_feature {
     unsigned active[4];
 };
 const struct cpuid_feature *__x86_get_cpuid_feature_leaf(unsigned number);
-int64_t read(int file, void *to, size_t room);
+int64_t read(int file, void *to, size_t size);
 int64_t write(int file, const void *bytes, size_t length);
 int64_t __write(int file, const void *bytes, size_t length);
 int open(const char *path, int flags, ...);
 int close(int file);
 void *__sysv_signal(int number, void *handler);
-int __xpg_strerror_r(int number, char *to, size_t room);
+int __xpg_strerror_r(int number, char *to, size_t size);
 int rattle_errno(void);
 void rattle_set_errno(int number);
-int64_t rattle_arg(uint64_t index, char *to, uint64_t room);
+int64_t rattle_arg(uint64_t index, char *to, uint64_t size);
 void *malloc(size_t size);
 void *realloc(void *block, size_t size);
 void free(void *block);
@@ -32,7 +32,7 @@ enum { READ_ONLY = 0400 | 02000000, BROKEN_PIPE = 13, NO_SUCH_FILE = 2, SIZE_OF_
 static char line[4096];
 static size_t length;
 
-static void say(const char *word)
+static void print(const char *word)
 {
     while (*word != 0) {
         line[length++] = *word++;
@@ -42,7 +42,7 @@ static void say(const char *word)
 static void say_number(int64_t number)
 {
     if (number < 0) {
-        say("-");
+        print("-");
         number = -number;
     }
     if (number > 9) {
@@ -53,7 +53,7 @@ static void say_number(int64_t number)
 
 static void end_line(void)
 {
-    say("\n");
+    print("\n");
     __write(1, line, length);
     length = 0;
 }
@@ -61,17 +61,17 @@ static void end_line(void)
 /* Prints what a call has returned, and the error if it has failed. */
 static void result(const char *call, int64_t returned)
 {
-    say(call);
-    say(": ");
+    print(call);
+    print(": ");
     say_number(returned);
     if (returned < 0) {
-        say(", error ");
+        print(", error ");
         say_number(rattle_errno());
     }
     end_line();
 }
 
-/* An argument that isn't there is asked for too, and one where there is no room. */
+/* Reads each argument, one that doesn't exist, and one into too small a buffer. */
 static void arguments(int count)
 {
     static char word[1000];
@@ -94,11 +94,11 @@ static void texts(void)
     static char text[100];
     for (size_t i = 0; i < sizeof numbers / sizeof numbers[0]; i++) {
         result("the text of an error", __xpg_strerror_r(numbers[i], text, sizeof text));
-        say(text);
+        print(text);
         end_line();
     }
-    result("a text without room", __xpg_strerror_r(NO_SUCH_FILE, text, SIZE_OF_ITS_TEXT - 1));
-    result("a text with room", __xpg_strerror_r(NO_SUCH_FILE, text, SIZE_OF_ITS_TEXT));
+    result("a text in too small a buffer", __xpg_strerror_r(NO_SUCH_FILE, text, SIZE_OF_ITS_TEXT - 1));
+    result("a text in a buffer of its size", __xpg_strerror_r(NO_SUCH_FILE, text, SIZE_OF_ITS_TEXT));
     rattle_set_errno(NO_SUCH_FILE);
     result("a number that is kept", rattle_errno());
 }
@@ -140,7 +140,7 @@ static void processor(void)
         const unsigned *registers = __x86_get_cpuid_feature_leaf(i)->present;
         for (unsigned k = 0; k < 4; k++) {
             say_number(i == 0 && k == 1 ? 0 : registers[k] & (i == 0 && k == 2 ? ~(1u << 27) : ~0u));
-            say(" ");
+            print(" ");
         }
         end_line();
     }

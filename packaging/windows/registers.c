@@ -1,6 +1,6 @@
-/* Sees that the calls of the library keep the registers that Windows' convention has a call keep, and System V's
-   hasn't: RDI, RSI and XMM6 to XMM15; and those that both have: RBX, RBP, R12 to R15. It is linked with the library for
-   Windows. The status is 1 if a register changes, or an answer isn't the one that the header documents. */
+/* Tests that the calls of the library keep the registers that only Windows' convention requires, RDI, RSI and XMM6 to
+   XMM15, and those that System V's requires too, RBX, RBP and R12 to R15. It is linked with the library for Windows.
+   The status is 1 if a register changes, or a result isn't the one that the header documents. */
 #include "../../include/msvc_demangler.h"
 
 #include <stdio.h>
@@ -8,8 +8,8 @@
 
 enum { WORDS = 8, GENERAL = 8, VECTORS = 10 };
 
-/* A call: what is called, and up to eight words that it is given. Before it the registers get these values; after it
-   their values stand here. */
+/* A call: its function and up to eight arguments. The registers get these values before the call; after the call this
+   has their values. */
 struct call {
     void *function;
     uint64_t words[WORDS];
@@ -22,7 +22,7 @@ void call_with_registers(struct call *call);
 __asm__(".text\n"
         "call_with_registers:\n"
         "push %rbx; push %rbp; push %rdi; push %rsi; push %r12; push %r13; push %r14; push %r15\n"
-        "sub $0xf8, %rsp\n" /* four words of arguments after the room of four; the call; ten registers */
+        "sub $0xf8, %rsp\n" /* four words of arguments after the space for four; the call; ten registers */
         "mov %rcx, 0x40(%rsp)\n"
         "movups %xmm6, 0x50(%rsp); movups %xmm7, 0x60(%rsp); movups %xmm8, 0x70(%rsp); movups %xmm9, 0x80(%rsp)\n"
         "movups %xmm10, 0x90(%rsp); movups %xmm11, 0xa0(%rsp); movups %xmm12, 0xb0(%rsp); movups %xmm13, 0xc0(%rsp)\n"
@@ -86,16 +86,16 @@ static void keeps(const char *name, void *function, const uint64_t *words)
     }
 }
 
-/* Counts an answer that isn't the wanted one. */
-static void answers(const char *name, int holds)
+/* Counts and prints a wrong result. */
+static void expect(const char *name, int holds)
 {
     if (!holds) {
-        printf("registers: %s answers wrongly\n", name);
+        printf("registers: %s returns a wrong result\n", name);
         wrong++;
     }
 }
 
-/* Makes all calls of a text: as a symbol, whose declaration is wanted, and as a text in which it stands. */
+/* Makes all calls: of a symbol, which must return the declaration, and of a text with the symbol. */
 static void all_calls(const char *symbol, size_t length, uint32_t status, const char *wanted)
 {
     static char out[1 << 16];
@@ -104,13 +104,13 @@ static void all_calls(const char *symbol, size_t length, uint32_t status, const 
     uint64_t nodes = MSVC_DEMANGLER_DEFAULT_NODES, bytes = MSVC_DEMANGLER_DEFAULT_BYTES, flags = MSVC_DEMANGLER_LLVM;
     keeps("demangle", (void *)msvc_demangler_demangle,
           (uint64_t[WORDS]){at, in, length, flags, nodes, bytes, to, sizeof out});
-    answers("demangle", result.status == status && strcmp(out, wanted) == 0 && result.length == strlen(wanted));
+    expect("demangle", result.status == status && strcmp(out, wanted) == 0 && result.length == strlen(wanted));
     keeps("prefix", (void *)msvc_demangler_prefix, (uint64_t[WORDS]){at, in, length, nodes});
-    answers("prefix", result.status == status && result.length == (status == MSVC_DEMANGLER_OK ? length : 0));
+    expect("prefix", result.status == status && result.length == (status == MSVC_DEMANGLER_OK ? length : 0));
     keeps("filter", (void *)msvc_demangler_filter, (uint64_t[WORDS]){at, in, length, flags, to, sizeof out});
-    answers("filter", result.status == MSVC_DEMANGLER_OK);
+    expect("filter", result.status == MSVC_DEMANGLER_OK);
     keeps("version", (void *)msvc_demangler_version, (uint64_t[WORDS]){to, sizeof out});
-    answers("version", strcmp(out, MSVC_DEMANGLER_VERSION) == 0);
+    expect("version", strcmp(out, MSVC_DEMANGLER_VERSION) == 0);
 }
 
 int main(void)

@@ -141,12 +141,12 @@ static int fails_as_windows(void)
 }
 
 /* Writes the text of an error, with a NUL. Returns 0, or an error: the text doesn't fit, or there is none. */
-int SYSV(__xpg_strerror_r)(int number, char *to, size_t room)
+int SYSV(__xpg_strerror_r)(int number, char *to, size_t capacity)
 {
     for (size_t i = 0; i < sizeof texts / sizeof texts[0]; i++) {
         if (texts[i].number == number) {
             size_t size = strlen(texts[i].text) + 1;
-            if (size > room) {
+            if (size > capacity) {
                 return LINUX_ERANGE;
             }
             memcpy(to, texts[i].text, size);
@@ -157,7 +157,7 @@ int SYSV(__xpg_strerror_r)(int number, char *to, size_t room)
 }
 
 /* A stream that is open. A console is read and written in UTF-16, so that letters are right under any code page, and no
-   code page of the console has to be set and put back. A character of UTF-8 may come in two writes: its beginning is
+   code page of the console is set and restored. A character of UTF-8 may come in two writes: its beginning is
    held until the rest comes. */
 static struct stream {
     HANDLE handle; /* null if the stream isn't open */
@@ -234,33 +234,33 @@ static int take_typed(HANDLE console)
     return 1;
 }
 
-static int64_t read_console(HANDLE console, char *to, uint64_t room)
+static int64_t read_console(HANDLE console, char *to, uint64_t capacity)
 {
-    while (typed.at == typed.end && room != 0) {
+    while (typed.at == typed.end && capacity != 0) {
         int status = take_typed(console);
         if (status <= 0) {
             return status;
         }
     }
-    DWORD length = at_most(room, (DWORD)(typed.end - typed.at));
+    DWORD length = at_most(capacity, (DWORD)(typed.end - typed.at));
     memcpy(to, typed.bytes + typed.at, length);
     typed.at += length;
     return length;
 }
 
 /* Reads bytes. Returns how many; 0 at the end, which a pipe has when nobody writes it any more; or -1. */
-int64_t SYSV(read)(int number, char *to, uint64_t room)
+int64_t SYSV(read)(int number, char *to, uint64_t capacity)
 {
     struct stream *stream = stream_of(number);
     if (stream == NULL) {
         return fails(LINUX_EBADF);
     }
     if (stream->is_console) {
-        return read_console(stream->handle, to, room);
+        return read_console(stream->handle, to, capacity);
     }
     DWORD count = 0;
     do {
-        if (!ReadFile(stream->handle, to, at_most(room, MOST_AT_ONCE), &count, NULL)) {
+        if (!ReadFile(stream->handle, to, at_most(capacity, MOST_AT_ONCE), &count, NULL)) {
             switch (GetLastError()) {
             case ERROR_BROKEN_PIPE:
             case ERROR_HANDLE_EOF:
@@ -274,7 +274,7 @@ int64_t SYSV(read)(int number, char *to, uint64_t room)
             }
         }
         /* A write of no bytes ends a read of a pipe, and isn't the end. */
-    } while (count == 0 && room != 0 && GetNamedPipeInfo(stream->handle, NULL, NULL, NULL, NULL));
+    } while (count == 0 && capacity != 0 && GetNamedPipeInfo(stream->handle, NULL, NULL, NULL, NULL));
     return count;
 }
 
@@ -349,7 +349,7 @@ int64_t SYSV(write)(int number, const char *bytes, uint64_t length)
     return count;
 }
 
-/* A program tells by this that the processor is too old. */
+/* A program reports by this that the processor is too old. */
 int64_t SYSV(__write)(int number, const char *bytes, uint64_t length)
 {
     return sysv_write(number, bytes, length);
@@ -368,8 +368,8 @@ static const wchar_t *long_path(const wchar_t *path)
 {
     static const wchar_t drive[] = L"\\\\?\\", share[] = L"\\\\?\\UNC\\";
     enum { DRIVE = sizeof drive / sizeof drive[0] - 1, SHARE = sizeof share / sizeof share[0] - 1 };
-    static wchar_t room[SHARE + MOST_OF_PATH];
-    wchar_t *full = room + SHARE;
+    static wchar_t space[SHARE + MOST_OF_PATH];
+    wchar_t *full = space + SHARE;
     DWORD length = GetFullPathNameW(path, MOST_OF_PATH, full, NULL);
     if (length < MAX_PATH || length >= MOST_OF_PATH || wcsncmp(full, drive, DRIVE) == 0 ||
         wcsncmp(full, L"\\\\.\\", 4) == 0) {
@@ -436,9 +436,9 @@ void *SYSV(__sysv_signal)(int number, void *handler)
     return NULL;
 }
 
-int64_t SYSV(rattle_arg)(uint64_t index, char *to, uint64_t room)
+int64_t SYSV(rattle_arg)(uint64_t index, char *to, uint64_t capacity)
 {
-    return argument(index, to, room);
+    return argument(index, to, capacity);
 }
 
 const struct cpuid_feature *SYSV(__x86_get_cpuid_feature_leaf)(unsigned number)

@@ -73,7 +73,7 @@ REJECTED = {
     ".data\n.zero 0x10000001": "section .data: more than 268435456 bytes",
 }
 
-# Room of a size that isn't known, with the value that is written in each step, the bytes of a step, and the register
+# A block of unknown size, with the value that is written in each step, the bytes of a step, and the register
 # that the stack pointer gets.
 PROBED = (
     "f: push %%rbp\nmov %%rsp, %%rbp\npush %%rbx\nmov %%rsp, %%rsi\nsub %%rax, %%rsi\ncmp %%rsp, %%rsi\njge 2f\n"
@@ -81,7 +81,7 @@ PROBED = (
     "lea -8(%%rbp), %%rsp\npop %%rbx\npop %%rbp\nret"
 )
 
-# Code that may not run under Windows, or not unseen, and what the check then says.
+# Code that must not run under Windows, or only if listed, and the message of the check.
 FORBIDDEN = {
     "f: sub $4096, %rsp\nadd $4096, %rsp\nret": "f: a frame of 4096 bytes",
     "f: lea -0x2000(%rsp), %rsp\nret": "f: a frame of 8192 bytes",
@@ -128,33 +128,33 @@ class Case(unittest.TestCase):
     """A test with a folder of its own."""
 
     def setUp(self):
-        room = tempfile.TemporaryDirectory()
-        self.addCleanup(room.cleanup)
-        self.room = pathlib.Path(room.name)
+        folder = tempfile.TemporaryDirectory()
+        self.addCleanup(folder.cleanup)
+        self.folder = pathlib.Path(folder.name)
 
-    def run_in_room(self, *words):
+    def run_in_folder(self, *words):
         """Runs a command."""
-        subprocess.run(words, cwd=self.room, check=True)
+        subprocess.run(words, cwd=self.folder, check=True)
 
     def assembled(self, lines, *words):
         """Returns the object that the assembler makes of these lines."""
-        (self.room / "in.s").write_text(lines + "\n")
-        self.run_in_room("as", *words, "in.s", "-o", "in.o")
-        return self.room / "in.o"
+        (self.folder / "in.s").write_text(lines + "\n")
+        self.run_in_folder("as", *words, "in.s", "-o", "in.o")
+        return self.folder / "in.o"
 
     def merged(self, lines):
         """Returns this object, with the sections of merge.ld."""
         self.assembled(lines)
-        self.run_in_room("ld", "-r", "-T", str(HERE.resolve() / "merge.ld"), "-o", "merged.o", "in.o")
-        return self.room / "merged.o"
+        self.run_in_folder("ld", "-r", "-T", str(HERE.resolve() / "merge.ld"), "-o", "merged.o", "in.o")
+        return self.folder / "merged.o"
 
     def rejected(self, path):
-        """Returns what the converter says of an object that it rejects. It must not write a file then."""
-        said = io.StringIO()
-        with contextlib.redirect_stderr(said):
-            self.assertEqual(coff.main(path, self.room / "out.obj"), 1, "it is taken")
-        self.assertFalse((self.room / "out.obj").exists())
-        return said.getvalue()
+        """Returns the error message for an object that the converter rejects. It must not write a file then."""
+        printed = io.StringIO()
+        with contextlib.redirect_stderr(printed):
+            self.assertEqual(coff.main(path, self.folder / "out.obj"), 1, "it is accepted")
+        self.assertFalse((self.folder / "out.obj").exists())
+        return printed.getvalue()
 
 
 class Coff:
@@ -191,8 +191,8 @@ class Coff:
 class Converter(Case):
     def converted(self, lines):
         """Returns what the converter makes of these lines."""
-        self.assertEqual(coff.main(self.merged(lines), self.room / "out.obj"), 0)
-        return Coff((self.room / "out.obj").read_bytes())
+        self.assertEqual(coff.main(self.merged(lines), self.folder / "out.obj"), 0)
+        return Coff((self.folder / "out.obj").read_bytes())
 
     def test_whole(self):
         """Bytes, symbols and relocations are as the format wants them. What is added stands in the bytes: from the end
@@ -234,9 +234,9 @@ class Converter(Case):
 
     def test_same_bytes(self):
         self.converted(WHOLE)
-        first = (self.room / "out.obj").read_bytes()
+        first = (self.folder / "out.obj").read_bytes()
         self.converted(WHOLE)
-        self.assertEqual((self.room / "out.obj").read_bytes(), first)
+        self.assertEqual((self.folder / "out.obj").read_bytes(), first)
 
     def test_rejected(self):
         for lines, wanted in REJECTED.items():
@@ -250,12 +250,12 @@ class Converter(Case):
 
     def test_other_files(self):
         self.assertIn("not ELF of 64 bits", self.rejected(self.assembled("nop", "--32")))
-        (self.room / "in.o").write_bytes(b"!<arch>\n" + bytes(100))
-        self.assertIn("not ELF", self.rejected(self.room / "in.o"))
+        (self.folder / "in.o").write_bytes(b"!<arch>\n" + bytes(100))
+        self.assertIn("not ELF", self.rejected(self.folder / "in.o"))
         data = self.merged(WHOLE).read_bytes()
         for offset, value in ((18, 183), (16, 2)):
-            (self.room / "in.o").write_bytes(data[:offset] + struct.pack("<H", value) + data[offset + 2 :])
-            self.assertIn("not an object for x86-64", self.rejected(self.room / "in.o"))
+            (self.folder / "in.o").write_bytes(data[:offset] + struct.pack("<H", value) + data[offset + 2 :])
+            self.assertIn("not an object for x86-64", self.rejected(self.folder / "in.o"))
 
     def test_beyond(self):
         """Offsets that lead out of a section, which no assembler writes: of a relocation, and of a symbol."""
@@ -267,26 +267,26 @@ class Converter(Case):
             if place is not None:
                 changed = bytearray(data)
                 struct.pack_into("<Q", changed, offset + place, 1 << 40)
-                (self.room / "in.o").write_bytes(changed)
-                self.assertIn("beyond the section", self.rejected(self.room / "in.o"))
+                (self.folder / "in.o").write_bytes(changed)
+                self.assertIn("beyond the section", self.rejected(self.folder / "in.o"))
                 tried += 1
         self.assertEqual(tried, 4)
 
 
 class Code(Case):
     def checked(self, lines):
-        """Returns what the check says of the code of these lines, with its status."""
-        (self.room / "listed").write_text(LISTED)
-        said, wrong = io.StringIO(), io.StringIO()
-        with contextlib.redirect_stdout(said), contextlib.redirect_stderr(wrong):
-            status = check.main(["code", str(self.merged(".text\n" + lines)), str(self.room / "listed")])
-        return status, said.getvalue() + wrong.getvalue()
+        """Returns the status and the output of the check of the code of these lines."""
+        (self.folder / "listed").write_text(LISTED)
+        printed, wrong = io.StringIO(), io.StringIO()
+        with contextlib.redirect_stdout(printed), contextlib.redirect_stderr(wrong):
+            status = check.main(["code", str(self.merged(".text\n" + lines)), str(self.folder / "listed")])
+        return status, printed.getvalue() + wrong.getvalue()
 
     def test_forbidden(self):
         for lines, wanted in FORBIDDEN.items():
             with self.subTest(lines):
-                status, said = self.checked(lines)
-                self.assertIn(wanted, said)
+                status, printed = self.checked(lines)
+                self.assertIn(wanted, printed)
                 self.assertEqual(status, 1)
 
     def test_allowed(self):
@@ -302,26 +302,26 @@ class Linked(Case):
     def setUp(self):
         super().setUp()
         self.object = self.merged(WHOLE)
-        self.assertEqual(coff.main(self.object, self.room / "out.obj"), 0)
-        (self.room / "main.c").write_text(PROGRAM)
+        self.assertEqual(coff.main(self.object, self.folder / "out.obj"), 0)
+        (self.folder / "main.c").write_text(PROGRAM)
         self.image = self.linked()
 
     def linked(self, *words):
         """Returns the program that is linked of the object."""
-        self.run_in_room(MINGW + "gcc-win32", "-O1", "main.c", "out.obj", *words, "-o", "main.exe")
-        return (self.room / "main.exe").read_bytes()
+        self.run_in_folder(MINGW + "gcc-win32", "-O1", "main.c", "out.obj", *words, "-o", "main.exe")
+        return (self.folder / "main.exe").read_bytes()
 
     def checked(self, image):
-        """Returns what the check says of an image, with its status."""
-        (self.room / "changed.exe").write_bytes(image)
-        said, wrong = io.StringIO(), io.StringIO()
-        with contextlib.redirect_stdout(said), contextlib.redirect_stderr(wrong):
-            status = check.main(["image", str(self.object), str(self.room / "changed.exe")])
-        return status, said.getvalue() + wrong.getvalue()
+        """Returns the status and the output of the check of an image."""
+        (self.folder / "changed.exe").write_bytes(image)
+        printed, wrong = io.StringIO(), io.StringIO()
+        with contextlib.redirect_stdout(printed), contextlib.redirect_stderr(wrong):
+            status = check.main(["image", str(self.object), str(self.folder / "changed.exe")])
+        return status, printed.getvalue() + wrong.getvalue()
 
     def test_linked(self):
-        status, said = self.checked(self.image)
-        self.assertIn("28 bytes as for Linux, and 8 relocations", said)
+        status, printed = self.checked(self.image)
+        self.assertIn("28 bytes as for Linux, and 8 relocations", printed)
         self.assertEqual(status, 0)
 
     def test_changed(self):
@@ -340,8 +340,8 @@ class Linked(Case):
 
     def test_not_moved(self):
         """A program that can't be loaded elsewhere has no list of pointers."""
-        status, said = self.checked(self.linked("-Wl,--disable-dynamicbase,--disable-reloc-section"))
-        self.assertIn("stays as it is", said)
+        status, printed = self.checked(self.linked("-Wl,--disable-dynamicbase,--disable-reloc-section"))
+        self.assertIn("stays as it is", printed)
         self.assertEqual(status, 1)
 
     def test_no_image(self):

@@ -1,4 +1,4 @@
-/* How long the C library takes for names, within one process: with the names as lines of standard input
+/* Measures the time of the C library for names, in one process: with the names as lines of standard input
 
        c buffer ROUNDS
        c allocated ROUNDS
@@ -6,8 +6,8 @@
        c filter ROUNDS
 
    does what `llvm ROUNDS` of llvm.cpp does with LLVM's library. The texts go into one buffer of the caller, or into
-   one each that is allocated and freed, or are names alone, in one buffer; or all lines are filtered by one call. With
-   no round it also prints the names that have a declaration. */
+   a buffer each that is allocated and freed, or are only names, in one buffer; or one call filters all lines. With 0
+   rounds it prints the names that have a declaration. */
 
 #define _POSIX_C_SOURCE 200809L
 #include <msvc_demangler.h>
@@ -24,12 +24,12 @@ struct names {
 static struct names read_names(void)
 {
     struct names names = {NULL, 0, NULL, 0};
-    size_t room = 0;
+    size_t capacity = 0;
     do {
-        room = 2 * room + 65536;
-        names.text = realloc(names.text, room);
-        names.length += fread(names.text + names.length, 1, room - names.length, stdin);
-    } while (names.length == room);
+        capacity = 2 * capacity + 65536;
+        names.text = realloc(names.text, capacity);
+        names.length += fread(names.text + names.length, 1, capacity - names.length, stdin);
+    } while (names.length == capacity);
     for (size_t at = 0; at < names.length;) {
         const char *end = memchr(names.text + at, '\n', names.length - at);
         size_t length = end == NULL ? names.length - at : (size_t)(end - names.text) - at;
@@ -42,7 +42,7 @@ static struct names read_names(void)
     return names;
 }
 
-/* The length of a name's declaration, or 0. */
+/* Returns the length of a name's declaration, or 0. */
 static size_t length_under(const char *name, uint32_t flags)
 {
     static char text[1 << 16];
@@ -71,7 +71,7 @@ static size_t length_of_allocated(const char *name)
     return length;
 }
 
-/* One round: the bytes of the texts of all names. */
+/* Makes one round. Returns the bytes of the texts of all names. */
 static size_t sum(struct names names, size_t (*length)(const char *))
 {
     size_t bytes = 0;
@@ -113,7 +113,7 @@ static long long nanoseconds(void)
     return 1000000000LL * now.tv_sec + now.tv_nsec;
 }
 
-/* Does so many rounds; prints the nanoseconds of the fastest and the bytes of its texts. */
+/* Makes the rounds. Prints the nanoseconds of the fastest one and the bytes of its texts. */
 static void measure(struct names names, size_t (*round)(struct names), long rounds)
 {
     long long fastest = -1;
@@ -132,7 +132,7 @@ static const struct {
     size_t (*round)(struct names);
 } ways[] = {{"buffer", in_buffer}, {"allocated", allocated}, {"name", names_alone}, {"filter", filtered}};
 
-/* The round that a word names, or null. */
+/* Returns the round of that name, or null. */
 static size_t (*round_of(const char *word))(struct names)
 {
     for (size_t way = 0; way < sizeof ways / sizeof ways[0]; way++) {

@@ -1,5 +1,5 @@
-// How long LLVM's library takes for names, within one process: `llvm ROUNDS` with the names as lines of standard input
-// does what `msvc_bench measure ROUNDS` does with our library. With no round it also prints the text of each name.
+// Measures the time of LLVM's library for names, in one process: `llvm ROUNDS` with the names as lines of standard
+// input does what `msvc_bench measure ROUNDS` does with our library. With 0 rounds it prints the text of each name.
 
 #include <algorithm>
 #include <chrono>
@@ -12,13 +12,13 @@
 
 using Names = std::vector<std::string>;
 
-// The text of a name, which the caller frees, or null.
+// Returns the text of a name, which the caller frees, or null.
 static char *demangle(const std::string &name) {
   int status;
   return llvm::microsoftDemangle(name.c_str(), nullptr, nullptr, nullptr, &status);
 }
 
-// The names that have a text, a line each: the name, a tab, and the text.
+// Prints the names that have a text, a line each: the name, a tab, and the text.
 static void print_demangled(const Names &names) {
   for (const std::string &name : names) {
     if (char *text = demangle(name)) {
@@ -28,7 +28,7 @@ static void print_demangled(const Names &names) {
   }
 }
 
-// How many bytes the texts of the names have together: one round.
+// Makes one round. Returns the bytes of the texts of all names.
 static std::size_t length_of_texts(const Names &names) {
   std::size_t bytes = 0;
   for (const std::string &name : names) {

@@ -1,6 +1,6 @@
-//! How long the Rust crate takes for names, within one process: `upstream ROUNDS` with the names as lines of standard
-//! input does what `msvc_bench measure ROUNDS` does with our library. `tools/measure/run` builds it where that crate is
-//! at hand.
+//! Measures the time of the Rust crate for names, in one process: `upstream ROUNDS` with the names as lines of standard
+//! input does what `msvc_bench measure ROUNDS` does with our library. `tools/measure/run` builds it if that crate is
+//! available.
 
 use msvc_demangler::{demangle, DemangleFlags};
 use std::io;
@@ -17,7 +17,7 @@ fn main() -> io::Result<()> {
     Ok(())
 }
 
-/// The names that have a text, a line each.
+/// Prints the names that have a text, a line each.
 fn print_demangled(names: &[String]) {
     for name in names {
         if demangle(name, DemangleFlags::llvm()).is_ok() {
@@ -38,7 +38,7 @@ fn measure(names: &[String], rounds: u64) {
     println!("{} {bytes}", fastest.as_nanos());
 }
 
-/// How many bytes the texts of the names have together: one round.
+/// Makes one round. Returns the bytes of the texts of all names.
 fn length_of_texts(names: &[String]) -> usize {
     let texts = names.iter().filter_map(|name| demangle(name, DemangleFlags::llvm()).ok());
     texts.map(|text| text.len()).sum()

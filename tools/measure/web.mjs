@@ -1,19 +1,19 @@
 // Turns of tools/measure/web.
 //
-//     node tools/measure/web.mjs ROOM MSVCFILT
+//     node tools/measure/web.mjs FOLDER MSVCFILT
 //
-// ROOM has the caller in C, the ES module, the names and the map file. Prints for each turn a line: what was called and
-// where, our time, and the native one: nanoseconds of the fastest round over all names, milliseconds for the map file.
+// FOLDER has the caller in C, the ES module, the names and the map file. Prints a line for each turn: the call and its
+// place, our time, and the native one: nanoseconds of the fastest round over all names, milliseconds for the map file.
 import { execFileSync } from 'node:child_process';
 import { readFileSync } from 'node:fs';
 import { join } from 'node:path';
 import { openPage } from '../../.ci/web-chromium.mjs';
 
-const [room, msvcfilt] = process.argv.slice(2);
+const [folder, msvcfilt] = process.argv.slice(2);
 const TURNS = 15;
 const ROUNDS = 20;
-const names = readFileSync(join(room, 'names'), 'latin1');
-const map = readFileSync(join(room, 'map'));
+const names = readFileSync(join(folder, 'names'), 'latin1');
+const map = readFileSync(join(folder, 'map'));
 
 /** Returns the nanoseconds of the fastest of some rounds over all names. It is called in the browser too. */
 function fastest(demangle, names, rounds) {
@@ -34,11 +34,11 @@ function taken(call) {
 }
 
 const native = {
-  call: () => parseFloat(execFileSync(join(room, 'in'), ['buffer', String(ROUNDS)], { input: names })),
-  filter: () => taken(() => execFileSync(msvcfilt, [join(room, 'map')], { maxBuffer: 1 << 30 })),
+  call: () => parseFloat(execFileSync(join(folder, 'in'), ['buffer', String(ROUNDS)], { input: names })),
+  filter: () => taken(() => execFileSync(msvcfilt, [join(folder, 'map')], { maxBuffer: 1 << 30 })),
 };
 
-const module = join(room, 'web/msvc-demangler/index.mjs');
+const module = join(folder, 'web/msvc-demangler/index.mjs');
 const { demangle, filter } = await import(module);
 const lines = names.trim().split('\n');
 const page = await openPage();
@@ -54,7 +54,7 @@ const places = {
   node: { call: () => fastest(demangle, lines, ROUNDS), filter: () => taken(() => filter(map)) },
   Chromium: { call: () => page.value('call()'), filter: () => page.value('filterMap()') },
 };
-// A turn whose times are dropped has engines compile.
+// The first turn, in which engines compile, is not counted.
 for (let turn = 0; turn <= TURNS; turn++) {
   for (const [place, calls] of Object.entries(places)) {
     for (const [what, call] of Object.entries(calls)) {

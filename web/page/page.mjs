@@ -55,7 +55,7 @@ const EXAMPLES = {
 
 const worker = new Worker(URL.createObjectURL(new Blob([$('worker').textContent], { type: 'text/javascript' })));
 
-let file = null; // what stands in place of the text
+let file = null; // the file that replaces the text
 let latest = 0; // the number of the last request
 let painted = 0; // that of the parts that are shown
 let busy = false; // whether a text is being demangled
@@ -99,7 +99,7 @@ function setFlags(word) {
 
 // What is shown
 
-/** Returns a word that looks like a symbol and isn't one, with the place marked at which it is rejected. */
+/** Returns a word that looks like a symbol and isn't one, with the place highlighted at which it is rejected. */
 function markedAt(text, offset) {
   const [letter = ''] = text.slice(offset);
   return [text.slice(0, offset), make('mark', {}, letter), text.slice(offset + letter.length)];
@@ -155,10 +155,10 @@ async function paint(parts, id) {
 function summary(parts, time) {
   const symbols = parts.filter((part) => part.symbol !== undefined).length;
   const rejected = parts.filter((part) => part.message !== undefined).length;
-  const said = [counted(symbols, 'symbol')];
-  if (rejected) said.push(`${rejected.toLocaleString('en')} rejected`);
-  if (time !== undefined) said.push(milliseconds(time));
-  return said.join(' · ');
+  const counts = [counted(symbols, 'symbol')];
+  if (rejected) counts.push(`${rejected.toLocaleString('en')} rejected`);
+  if (time !== undefined) counts.push(milliseconds(time));
+  return counts.join(' · ');
 }
 
 /** Asks for what the text or the file is. While the worker is busy with a text, the last state alone is asked for. */
@@ -271,7 +271,7 @@ function explained({ name, length }) {
   $('details-title').textContent = `Symbol of ${counted(length, 'character')}`;
 }
 
-// Links: what stands behind # is text and flags.
+// Links: text and flags follow the #.
 
 function fragment() {
   const words = new URLSearchParams({ text: input.value });

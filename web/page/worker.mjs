@@ -102,7 +102,7 @@ async function showBeginning({ id, file, flags }) {
   postMessage({ kind: 'beginning', id, parts: partsOf(lines, flags), whole });
 }
 
-/** Filters a file in slices, each up to its last space or control character, tells how far it is, and sends a Blob. */
+/** Filters a file in slices, each up to its last space or control character, reports its progress, and sends a Blob. */
 async function filterFile({ id, file, flags }) {
   const began = performance.now();
   const filtered = [];

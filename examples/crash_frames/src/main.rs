@@ -41,7 +41,7 @@ struct Frame<'a> {
 }
 
 /// The frame of a line, whose symbol begins with the first question mark. A line that has none, or in which what begins
-/// there is refused, is no such frame.
+/// there is rejected, is no such frame.
 fn named(alloc: Global, line: &str) -> Result<Option<Frame<'_>>, AllocError> {
     let Some(start) = line.find('?') else {
         return Ok(None);
@@ -51,7 +51,7 @@ fn named(alloc: Global, line: &str) -> Result<Option<Frame<'_>>, AllocError> {
     };
     let length = match symbol_length_within(alloc, symbol, DEFAULT_NODE_LIMIT) {
         Ok(length) => length,
-        Err(refusal) if refusal.is_out_of_memory() => return Err(AllocError),
+        Err(error) if error.is_out_of_memory() => return Err(AllocError),
         Err(_) => return Ok(None),
     };
     let Some((symbol, after)) = symbol.split_at_checked(length) else {
@@ -64,7 +64,7 @@ fn named(alloc: Global, line: &str) -> Result<Option<Frame<'_>>, AllocError> {
             name,
             after,
         })),
-        Err(refusal) if refusal.is_out_of_memory() => Err(AllocError),
+        Err(error) if error.is_out_of_memory() => Err(AllocError),
         Err(_) => Ok(None),
     }
 }

@@ -27,14 +27,14 @@ fn print_all<R: BufRead + Drop, W: Write>(alloc: Global, input: R, out: &mut W) 
     Ok(())
 }
 
-/// The columns before the last one, and the declaration of the symbol that stands there.
+/// Returns the columns before the last one, and the declaration of the symbol there.
 fn declared(alloc: Global, line: &str) -> Result<Option<(&str, String)>, AllocError> {
     let Some((columns, symbol)) = line.rsplit_once(' ') else {
         return Ok(None);
     };
     match demangle(alloc, symbol, DemangleFlags::llvm()) {
         Ok(declaration) => Ok(Some((columns, declaration))),
-        Err(refusal) if refusal.is_out_of_memory() => Err(AllocError),
+        Err(error) if error.is_out_of_memory() => Err(AllocError),
         Err(_) => Ok(None),
     }
 }

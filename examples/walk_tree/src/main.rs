@@ -1,5 +1,5 @@
 //! Walks the trees of symbols, one a line: prints the names of a symbol's scope, the outermost first, and its
-//! unqualified name, each with the arguments of a template below it. A symbol of more than 1,000 nodes is refused.
+//! unqualified name, each with the arguments of a template below it. A symbol of more than 1,000 nodes is rejected.
 #![tactic(auto)]
 
 use msvc_demangler::{Name, Operator, Symbol, Type, parse_within};
@@ -23,7 +23,7 @@ fn print_all<R: BufRead + Drop, W: Write>(alloc: Global, input: R, out: &mut W) 
         writeln!(out, "{line}")?;
         match parse_within(alloc, line.as_str(), MOST_NODES) {
             Ok(tree) => put_names(out, &tree.symbol)?,
-            Err(refusal) => writeln!(out, "  refused: {refusal}")?,
+            Err(error) => writeln!(out, "  error: {error}")?,
         }
     }
     Ok(())

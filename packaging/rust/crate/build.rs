@@ -11,7 +11,7 @@ const VARIABLES: [&str; 4] = [
     "PKG_CONFIG_PATH",
 ];
 
-/// Returns the folder of the library, as pkg-config says.
+/// Returns the folder of the library that pkg-config prints.
 fn installed() -> Result<String, Box<dyn Error>> {
     let program = env::var_os("PKG_CONFIG").unwrap_or_else(|| "pkg-config".into());
     let wanted = concat!("msvc-demangler >= ", env!("CARGO_PKG_VERSION"));
@@ -30,7 +30,7 @@ fn main() {
     let folder = env::var("MSVC_DEMANGLER_LIB_DIR")
         .or_else(|_| installed())
         .unwrap_or_else(|cause| {
-            panic!("neither MSVC_DEMANGLER_LIB_DIR nor pkg-config says where libmsvc_demangler is: {cause}")
+            panic!("neither MSVC_DEMANGLER_LIB_DIR nor pkg-config names the folder of libmsvc_demangler: {cause}")
         });
     let archive = Path::new(&folder).join("libmsvc_demangler.a");
     let is_shared = env::var_os("MSVC_DEMANGLER_SHARED").is_some() || !archive.exists();

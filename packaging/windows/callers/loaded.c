@@ -1,5 +1,5 @@
 /* The calls of the library by LoadLibrary and GetProcAddress: a caller that is linked with this needs no import
-   library. The DLL has to stand beside the program. */
+   library. The DLL must be in the folder of the program. */
 
 #include <msvc_demangler.h>
 #include <stdio.h>

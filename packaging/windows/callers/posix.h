@@ -14,14 +14,14 @@ __attribute__((constructor)) static void keep_bytes(void)
 }
 
 /* Reads a line with its line feed into a block that grows. Returns its length, or -1 at the end. */
-static inline ssize_t getline(char **line, size_t *room, FILE *stream)
+static inline ssize_t getline(char **line, size_t *capacity, FILE *stream)
 {
     size_t length = 0;
     int byte = 0;
     while (byte != '\n' && (byte = getc(stream)) != EOF) {
-        if (length + 1 >= *room) {
-            *room = 2 * *room + 128;
-            *line = realloc(*line, *room);
+        if (length + 1 >= *capacity) {
+            *capacity = 2 * *capacity + 128;
+            *line = realloc(*line, *capacity);
         }
         (*line)[length++] = (char)byte;
     }

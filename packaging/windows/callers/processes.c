@@ -83,7 +83,7 @@ static void writes(struct run *run, const char *text)
     WriteFile(run->ends[INPUT_END], text, (DWORD)strlen(text), &count, NULL);
 }
 
-/* Whether the program next writes this text to that stream. */
+/* Returns whether the program next writes this text to that stream. */
 static bool gives(struct run *run, int stream, const char *text)
 {
     char got[256];
@@ -94,7 +94,7 @@ static bool gives(struct run *run, int stream, const char *text)
     return length == wanted && memcmp(got, text, wanted) == 0;
 }
 
-/* Whether nothing more comes from that stream. */
+/* Returns whether that stream has ended. */
 static bool is_silent(struct run *run, int stream)
 {
     char byte;
@@ -102,7 +102,7 @@ static bool is_silent(struct run *run, int stream)
     return !ReadFile(run->ends[stream], &byte, 1, &count, NULL) || count == 0;
 }
 
-/* Whether the program ends with this status, within ten seconds after nothing more is written to it. */
+/* Closes the program's input. Returns whether it ends with this status within ten seconds. */
 static bool ends(struct run *run, DWORD status)
 {
     DWORD found = 0;
@@ -140,19 +140,19 @@ static void try_conversations(void)
 {
     struct run run = start(L"undname", L"", true);
     writes(&run, "?x@@3HA\r\n");
-    see(gives(&run, OUTPUT_END, "int x\n"), "undname answers");
+    see(gives(&run, OUTPUT_END, "int x\n"), "undname demangles");
     writes(&run, "nope\n?f");
     see(gives(&run, ERROR_END, "error: does not start with b'?' (offset: 0, remaining: \"nope\")\n") &&
             gives(&run, OUTPUT_END, "nope\n"),
-        "undname answers a line that is no symbol");
+        "undname echoes a line that is no symbol");
     writes(&run, "@@");
     see(ends(&run, 0), "undname after a conversation");
 
     run = start(L"msvcfilt", L"-n", true);
     writes(&run, "a ?x@@3HA\r\n\x1a\n");
-    see(gives(&run, OUTPUT_END, "a x\r\n\x1a\n"), "msvcfilt answers");
+    see(gives(&run, OUTPUT_END, "a x\r\n\x1a\n"), "msvcfilt filters");
     writes(&run, "what?\n");
-    see(gives(&run, OUTPUT_END, "what?\n"), "msvcfilt answers again");
+    see(gives(&run, OUTPUT_END, "what?\n"), "msvcfilt filters again");
     see(ends(&run, 0), "msvcfilt after a conversation");
 }
 

@@ -1,4 +1,4 @@
-/* Calls the library on threads whose stack has 1 MB, which is what Windows gives a thread unless it is told otherwise,
+/* Calls the library on threads whose stack has 1 MB, the default size on Windows,
    under the default limits. Each line of standard input is a symbol. Printed are the statuses of
    msvc_demangler_demangle and of msvc_demangler_prefix. Where the stack doesn't hold a call, Windows ends the process,
    and wine the thread alone: the status is NONE then. */
@@ -29,8 +29,8 @@ static DWORD WINAPI call(void *argument)
 int main(void)
 {
     char *line = NULL;
-    size_t room = 0;
-    for (ssize_t length; (length = getline(&line, &room, stdin)) > 0;) {
+    size_t capacity = 0;
+    for (ssize_t length; (length = getline(&line, &capacity, stdin)) > 0;) {
         struct work work = {line, (size_t)length - (line[length - 1] == '\n'), NONE, NONE};
         HANDLE thread = CreateThread(NULL, STACK, call, &work, STACK_SIZE_PARAM_IS_A_RESERVATION, NULL);
         if (thread == NULL || WaitForSingleObject(thread, INFINITE) != WAIT_OBJECT_0) {

@@ -10,13 +10,13 @@ fn agrees(row: &[u8]) -> Option<bool> {
     let mut fields = row.splitn(4, |byte| *byte == b'\t');
     let bits = u32::from_str_radix(std::str::from_utf8(fields.next()?).ok()?, 16).ok()?;
     let flags = DemangleFlags::from_bits_retain(bits);
-    let answer = demangle_within(fields.next()?, flags, UNLIMITED, UNLIMITED);
+    let result = demangle_within(fields.next()?, flags, UNLIMITED, UNLIMITED);
     let is_ok = fields.next()? == b"ok";
     let wanted = std::str::from_utf8(fields.next()?).ok()?;
     if is_ok {
-        return Some(answer.as_deref() == Ok(wanted));
+        return Some(result.as_deref() == Ok(wanted));
     }
-    let error = answer.err()?;
+    let error = result.err()?;
     let (offset, message) = wanted.split_once('\t')?;
     Some(error.offset() == offset.parse().ok() && error.to_string().starts_with(message))
 }

@@ -37,7 +37,7 @@ pub fn demangle(input: &str, flags: DemangleFlags) -> Result<String> {
     demangle_within(input, flags, DEFAULT_NODE_LIMIT, DEFAULT_BYTE_LIMIT)
 }
 
-/// Does what [`demangle`] does, under other limits, and for bytes too, as they stand in an object file.
+/// Does what [`demangle`] does, under other limits, and for bytes too, as an object file has them.
 ///
 /// A call takes up to 100 bytes of stack a node, and 16,000 more, so a thread with a small stack needs fewer `nodes`.
 /// `usize::MAX` is no limit: this is unsafe for symbols that are not trusted. Without a limit on `nodes` a symbol that

@@ -59,9 +59,9 @@ class Status(enum.IntEnum):
 
 
 class DemangleError(ValueError):
-    """There is no declaration. The text of the error says why.
+    """An error of a call. Its text is the message.
 
-    status is one of Status. offset says where in the symbol, in bytes of UTF-8: for INVALID where it is rejected, for
+    status is one of Status. offset is the place in the symbol, in bytes of UTF-8: for INVALID where it is rejected, for
     NOT_UTF8 how much of it is UTF-8, for TOO_MANY_NODES where reading stopped, for TOO_LONG where it ends.
     """
 
