@@ -1,5 +1,5 @@
-//! The public calls on errors and sets, each once, with ample memory: its answer is compared with what the documents
-//! say. The debug text of trees is tested in `.ci/trees.rs`, without a proof.
+//! Tests the public calls on errors and sets, each once, with ample memory, against the documents. `.ci/trees.rs` tests
+//! the debug text of trees, without a proof.
 
 #[cfg(test)]
 mod tests {
@@ -29,7 +29,7 @@ mod tests {
         Ok(())
     }
 
-    /// What remains is shown up to 20 bytes, also where they end inside of a character.
+    /// Tests that an error shows up to 20 bytes of the rest, also if they end inside a character.
     #[test]
     fn rejections(rt: HostRuntime) -> Result<(), Fail> {
         let rows = [
@@ -67,7 +67,7 @@ mod tests {
         assert_eq!(rt; DemangleFlags::llvm().bits(), 0xE00400);
     }
 
-    /// A flag that adds no bit to those before it is left out, and bits that are no flag come last.
+    /// Tests that a flag without a new bit is omitted, and that bits without a flag come last.
     #[test]
     fn sets_listed(rt: HostRuntime) {
         let set = DemangleFlags::from_bits_retain(0x61);

@@ -1,5 +1,5 @@
-//! The digits of symbols that stand for parameters: which are listed, those of symbols whose digits multiply too, and
-//! that none is left when all of them are written out.
+//! Tests the digits of symbols that represent parameters: the listed ones, those of symbols whose digits multiply, and
+//! that none remains when all of them are written out.
 
 #[cfg(test)]
 mod tests {
@@ -8,7 +8,7 @@ mod tests {
     use std::alloc::{AllocError, Global};
     use std::test::Fail;
 
-    /// The digits of a symbol, each as its place and those of the bytes that it stands for.
+    /// Returns the digits of a symbol, each with its place and the start and end of its bytes.
     fn listed(alloc: Global, symbol: &str) -> Result<String, Error> {
         let mut text = String::new(alloc);
         for found in &back_references(alloc, symbol)? {
@@ -71,8 +71,8 @@ mod tests {
         Ok(())
     }
 
-    /// A variable of a template with functions as above for its arguments, whose first is such a template again, and so
-    /// on to a depth: each level has a thousand times the nodes of the one in it, and 79 bytes more.
+    /// Returns a variable of a template with functions as above for its arguments, whose first is such a template
+    /// again, down to a depth: each level has a thousand times the nodes of the next one, and 79 bytes more.
     fn nested(alloc: Global, depth: u32) -> Result<String, AllocError> {
         let mut text = String::from_str(alloc, "?x@@3")?;
         for _ in 0..=depth {
@@ -97,7 +97,7 @@ mod tests {
         Ok(())
     }
 
-    /// The symbol with the bytes in place of the digit that stands for their type.
+    /// Returns the symbol with the bytes of its type in place of the digit.
     fn written_out(
         alloc: Global,
         symbol: &str,
@@ -109,7 +109,7 @@ mod tests {
         format!(in alloc; "{before}{bytes}{after}")
     }
 
-    /// A symbol with its first digit written out so many times.
+    /// Returns a symbol with its first digit written out `times` times.
     fn without_digits(alloc: Global, text: String, times: u32) -> Result<String, Error> {
         let mut text = text;
         for _ in 0..times {

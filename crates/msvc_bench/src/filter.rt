@@ -1,5 +1,4 @@
-//! The filter over texts, on streams of memory: what it writes is compared with what `docs/msvcfilt.md` says, also
-//! where a stream fails.
+//! Tests the filter over texts, on streams in memory, against `docs/msvcfilt.md`, also if a stream fails.
 
 #[cfg(test)]
 mod tests {
@@ -9,7 +8,7 @@ mod tests {
     use std::io::ErrorKind;
     use std::test::Fail;
 
-    /// What the filter writes for some bytes, and why it ends.
+    /// Returns the output of the filter for some bytes, and its result.
     fn filtered(alloc: Global, bytes: &[u8], flags: DemangleFlags) -> (Vec<u8>, Result<(), Fault>) {
         let mut input = Watched::new(bytes);
         let mut out = Watched::new(Vec::new(alloc));
@@ -17,7 +16,7 @@ mod tests {
         (out.into_inner(), done)
     }
 
-    /// Texts, and what they become.
+    /// Texts and their filtered forms.
     const TEXTS: [(&[u8], &[u8]); 19] = [
         (b"", b""),
         (b"\n\r\n\0", b"\n\r\n\0"),
@@ -56,18 +55,18 @@ mod tests {
             b"?x@@3HA$?x@@3HA ?x@@3HA?x@@3HA",
             b"int x$int x int x?x@@3HA",
         ),
-        // A byte that is left of a symbol goes with it only where it ends its word, and what goes on is none.
+        // A trailing byte belongs to its symbol only at the end of the word; a word that continues is no symbol.
         (
             b"?f@@YAXXZ@ ?f@@YAXXZB, ?f@@YAXXZBb ?f@@YAXXZ@@ ?f@@YAXXZ?",
             b"void __cdecl f(void) void __cdecl f(void), ?f@@YAXXZBb ?f@@YAXXZ@@ void __cdecl f(void)?",
         ),
         // A pointer to a member that is no function: no form of the grammar, which reads the beginning of it.
         (b"?mp@@3PEQD@@HEQ1@", b"?mp@@3PEQD@@HEQ1@"),
-        // Names have bytes that words have not; what is no UTF-8 ends a candidate.
+        // Names have bytes that words have not; a byte that is not UTF-8 ends a candidate.
         (b"?<f>@@3HA?x", b"int <f>?x"),
         (b"?\xC3\xA9@@3HA\xFF?x@@3HA", b"int \xC3\xA9\xFFint x"),
         (b"?\xFF@@3HA ?f\x7F@@3HA", b"?\xFF@@3HA ?f\x7F@@3HA"),
-        // A word with a `?` goes on over letters, and ends at the first byte that is of no word.
+        // A word with a `?` continues over letters, and ends at the first byte that no word has.
         (
             b"a?bc$d_0@?x@@3HA a?bc$d-?x@@3HA a?b cd-e?x@@3HA a?b c-?x@@3HA",
             b"a?bc$d_0@?x@@3HA a?bc$d-int x a?b cd-e?x@@3HA a?b c-int x",
@@ -88,7 +87,7 @@ mod tests {
         }
     }
 
-    /// A slice of any size gets a beginning of the text, and no byte after it is changed.
+    /// Tests that a slice of any size gets a beginning of the text, and that no byte after it changes.
     #[test]
     fn slices(rt: HostRuntime) -> Result<(), Fail> {
         for (bytes, text) in TEXTS {
@@ -122,7 +121,7 @@ mod tests {
         assert_eq!(rt; out.as_slice(), b"a!n::f+1".as_slice());
     }
 
-    /// So many bytes, and others on both sides.
+    /// Returns `count` bytes with others on both sides.
     fn around(
         alloc: Global,
         before: &[u8],
@@ -138,7 +137,7 @@ mod tests {
         Ok(bytes)
     }
 
-    /// A candidate has room for so many bytes, and a storage class may stand after it.
+    /// Tests the longest candidate, and a storage class after it.
     #[test]
     fn longest_candidates(rt: HostRuntime) -> Result<(), Fail> {
         for (count, is_symbol) in [(4_091, true), (4_092, false)] {
@@ -151,7 +150,7 @@ mod tests {
         Ok(())
     }
 
-    /// Parameters that are all of one class, whose name is long: of a declaration that is too long, nothing is shown.
+    /// Tests parameters of one class with a long name: a declaration that is too long is not shown.
     #[test]
     fn longest_declarations(rt: HostRuntime) -> Result<(), Fail> {
         for (more, is_symbol) in [(20, true), (21, false)] {
@@ -172,8 +171,8 @@ mod tests {
 
     const TEXT: &[u8] = b"a int x\r\nb\nvoid __cdecl f(void)";
 
-    /// How many bytes at a time a stream moves at most, and how it fails: a reader by an error, a writer also by
-    /// taking no byte.
+    /// The most bytes that a stream moves in a call, and how it fails: a reader by an error, a writer also by taking no
+    /// byte.
     const FAILURES: [(usize, Option<ErrorKind>); 4] = [
         (1, Some(ErrorKind::Other)),
         (usize::MAX, Some(ErrorKind::Interrupted)),
@@ -181,8 +180,8 @@ mod tests {
         (usize::MAX, None),
     ];
 
-    /// Runs over a reader of `LINES` and a writer, of so many bytes at a time at most, which fail as is said. Says why
-    /// it ended, which streams are marked, how many calls came after a failure, what is left and what was written.
+    /// Runs over a reader of `LINES` and a writer, both with a limit on the bytes of a call, which fail as given.
+    /// Returns the result, the failed streams, the number of calls after a failure, the unread bytes and the output.
     fn run_over(
         alloc: Global,
         most: usize,
@@ -203,7 +202,7 @@ mod tests {
         (done, (marked.0, marked.1, late), input.bytes, out.taken)
     }
 
-    /// From 2 bytes at a time on, the reader shows some lines whole and others in parts.
+    /// Tests few bytes at a time: from 2 on, the reader shows some lines whole and others in parts.
     #[test]
     fn few_bytes_at_a_time(rt: HostRuntime) {
         for most in 1..=LINES.len() {

@@ -1,4 +1,4 @@
-//! The limits on nodes and bytes: which of them a call names, at which offset, and what the default limits allow.
+//! Tests the limits on nodes and bytes: the one that a call names, at which offset, and what the default limits allow.
 
 #[cfg(test)]
 mod tests {
@@ -57,7 +57,7 @@ mod tests {
         Ok(())
     }
 
-    /// Messages of errors for limits, and of one that is none.
+    /// Tests the messages of errors for limits, and of one that is none.
     #[test]
     fn messages(rt: HostRuntime) -> Result<(), Fail> {
         let rows = [
@@ -96,7 +96,7 @@ mod tests {
         Ok(())
     }
 
-    /// A symbol that is rejected exceeds no limit, and a limit on nodes is that of the other calls too.
+    /// Tests that a rejected symbol exceeds no limit, and that a limit on nodes holds for the other calls too.
     #[test]
     fn other_calls(rt: HostRuntime) -> Result<(), Fail> {
         let rejected = demangle(rt.alloc(), "?x@@3L", DemangleFlags::llvm())
@@ -113,7 +113,7 @@ mod tests {
         Ok(())
     }
 
-    /// Makes a function of so many parameters.
+    /// Returns a function of `parameters` parameters.
     fn function(alloc: Global, parameters: usize) -> Result<String, AllocError> {
         let mut symbol = String::from_str(alloc, "?f@@YAX")?;
         for _ in 0..parameters {
@@ -123,7 +123,7 @@ mod tests {
         Ok(symbol)
     }
 
-    /// Where 100 nodes are allowed, reading stops near the beginning of a list, however long it is.
+    /// Tests that reading stops near the beginning of a list of any length if 100 nodes are allowed.
     #[test]
     fn parameters(rt: HostRuntime) -> Result<(), Fail> {
         for count in [1000, 1_000_000] {
@@ -137,8 +137,7 @@ mod tests {
         Ok(())
     }
 
-    /// Makes a symbol of constructors of templates that stand in one another. Each level of 23 bytes doubles the
-    /// declaration.
+    /// Returns a symbol of constructors of nested templates. Each level of 23 bytes doubles the declaration.
     fn doubled(alloc: Global, levels: usize) -> Result<String, AllocError> {
         let mut symbol = String::from_str(alloc, "?x@")?;
         for _ in 0..levels {
@@ -151,7 +150,8 @@ mod tests {
         Ok(symbol)
     }
 
-    /// Ten levels are within the default limits, with 54,224 bytes; from eleven on the declaration is too long.
+    /// Tests that ten levels are within the default limits, with 54,224 bytes, and that the declaration is too long
+    /// from eleven on.
     #[test]
     fn doubling(rt: HostRuntime) -> Result<(), Fail> {
         for levels in [1, 10, 11, 40] {

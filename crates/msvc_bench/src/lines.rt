@@ -1,5 +1,5 @@
-//! `undname` over lines and words, on streams of memory, with ample memory: what it writes is compared with what the
-//! documents say, also where a stream fails.
+//! Tests `undname` over lines and words, on streams in memory, with ample memory, against the documents, also if a
+//! stream fails.
 
 #[cfg(test)]
 mod tests {
@@ -9,14 +9,14 @@ mod tests {
     use std::io::ErrorKind;
     use std::test::Fail;
 
-    /// A line that is demangled, one that is rejected, one that is not UTF-8, and one that no line feed ends.
+    /// A symbol, a line that is rejected, one that is not UTF-8, and one without a line feed.
     const LINES: &[u8] = b"?x@@3HA\r\nnope\n\xFF\n?f@@";
 
     const TEXT: &[u8] = b"int x\nnope\nf\n";
 
     const REFUSAL: &[u8] = b"error: does not start with b'?' (offset: 0, remaining: \"nope\")\n";
 
-    /// What a run over bytes writes, and why it ends.
+    /// Returns both outputs of a run over bytes, and its result.
     fn filtered(alloc: Global, bytes: &[u8]) -> (Vec<u8>, Vec<u8>, Result<(), Fault>) {
         let mut input = Watched::new(bytes);
         let mut out = Watched::new(Vec::new(alloc));
@@ -59,7 +59,8 @@ mod tests {
         err: Writer,
     }
 
-    /// How a run ended: why, whether the reader, `out` and `err` are marked, and how many calls came after a failure.
+    /// The end of a run: its result, whether the reader, `out` and `err` have failed, and the number of calls after a
+    /// failure.
     #[derive(Debug, PartialEq, Eq, Drop)]
     struct End {
         done: Result<(), Fault>,
@@ -67,7 +68,7 @@ mod tests {
         late: usize,
     }
 
-    /// Runs over a reader of `LINES` and two writers, all of so many bytes at a time at most, which fail as is said.
+    /// Runs over a reader of `LINES` and two writers, all with a limit on the bytes of a call, which fail as given.
     fn run_over(
         alloc: Global,
         most: usize,
@@ -86,7 +87,7 @@ mod tests {
         (End { done, marked, late }, Streams { input, out, err })
     }
 
-    /// What the reader has left, and what `out` and `err` have.
+    /// Returns the unread bytes, and the contents of `out` and `err`.
     fn contents<'a>(streams: &'a Streams<'_>) -> (&'a [u8], &'a [u8], &'a [u8]) {
         let Streams { input, out, err } = streams;
         (input.bytes, out.taken.as_slice(), err.taken.as_slice())
@@ -105,8 +106,8 @@ mod tests {
         assert_eq!(rt; contents(&streams), (b"".as_slice(), TEXT, REFUSAL));
     }
 
-    /// How many bytes at a time a stream moves at most, and how it fails: a reader by an error, a writer also by
-    /// taking no byte.
+    /// The most bytes that a stream moves in a call, and how it fails: a reader by an error, a writer also by taking no
+    /// byte.
     const FAILURES: [(usize, Option<ErrorKind>); 6] = [
         (1, Some(ErrorKind::Other)),
         (1, Some(ErrorKind::Interrupted)),
@@ -123,7 +124,7 @@ mod tests {
             marked: (true, false, false),
             late: 0,
         };
-        // From where to where the reader fails, and what has gone out then: the answers to the lines that ended before.
+        // The first and the last place at which the reader fails, and the output then: the results of earlier lines.
         let rows: [(usize, usize, &[u8], &[u8]); 3] = [
             (0, 9, b"", b""),
             (9, 14, b"int x\n", b""),
@@ -158,7 +159,7 @@ mod tests {
             marked: (false, true, false),
             late: 0,
         };
-        // From where to where `out` fails, what the reader has left then, and what `err` has.
+        // The first and the last place at which `out` fails, the unread bytes then, and the contents of `err`.
         let rows: [(usize, usize, &[u8], &[u8]); 3] = [
             (0, 6, b"nope\n\xFF\n?f@@", b""),
             (6, 11, b"\xFF\n?f@@", REFUSAL),
@@ -214,7 +215,7 @@ mod tests {
         }
     }
 
-    /// What a run writes that is given these words, and these bytes to read.
+    /// Returns both outputs and the result of a run with these words and these bytes as input.
     fn run(alloc: Global, words: &[&str], bytes: &[u8]) -> Result<(Vec<u8>, Vec<u8>), AllocError> {
         let mut owned = Vec::new(alloc);
         for word in words {
@@ -254,7 +255,7 @@ mod tests {
         Ok(())
     }
 
-    /// A symbol of a variable with a name of a megabyte, and its declaration.
+    /// Returns the symbol of a variable with a name of a megabyte, and its declaration.
     fn long_line(alloc: Global) -> Result<(Vec<u8>, Vec<u8>), AllocError> {
         let mut symbol = Vec::new(alloc);
         let mut text = Vec::new(alloc);

@@ -1,4 +1,4 @@
-//! Compares the demangler with answers that come from outside, and its calls with one another.
+//! Compares the demangler with expected results from outside, and its calls with one another.
 //!
 //!     msvc_bench < stdin
 //!     msvc_bench prefix < prefix.tsv
@@ -37,7 +37,7 @@ fn main(rt: HostRuntime) -> io::Result<()> {
     }
 }
 
-/// The number that a word stands for, and 0 for any other word or none.
+/// Returns the number that a word spells, and 0 for any other word or none.
 fn number(word: Option<String>) -> u64 {
     word.and_then(|digits| digits.as_str().parse().ok())
         .unwrap_or(0)

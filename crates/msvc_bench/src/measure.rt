@@ -1,5 +1,5 @@
-//! How long the demangler takes for names, within one process: `msvc_bench measure ROUNDS` with the names as lines of
-//! standard input, and `msvc_bench kept ROUNDS` by one demangler that is kept. `tools/measure/run` runs both beside LLVM's
+//! Measures the time of the demangler for names, in one process: `msvc_bench measure ROUNDS` with the names as lines of
+//! standard input, and `msvc_bench kept ROUNDS` with one kept demangler. `tools/measure/run` compares both with LLVM's
 //! library.
 
 use msvc_demangler::{DemangleFlags, Demangler, demangle};
@@ -7,8 +7,8 @@ use std::alloc::Global;
 use std::io;
 use std::time::{Duration, Instant};
 
-/// Demangles all names in each of so many rounds, and prints the nanoseconds of the fastest round and the bytes of its
-/// texts. With no round, prints the names that are demangled: those to measure.
+/// Demangles all names in each of `rounds` rounds, and prints the nanoseconds of the fastest round and the bytes of its
+/// texts. With 0 rounds, prints the names that are demangled.
 pub fn measure(rt: &HostRuntime, rounds: u64) -> io::Result<()> {
     let names = read_names(rt)?;
     if rounds == 0 {
@@ -53,7 +53,7 @@ fn print_round(rt: &HostRuntime, fastest: Duration, bytes: u64) -> io::Result<()
     println!(rt; "{nanoseconds} {bytes}")
 }
 
-/// The names that have a text, a line each.
+/// Prints the names that have a text, a line each.
 fn print_demangled(rt: &HostRuntime, names: &[String]) -> io::Result<()> {
     for name in names {
         if demangle(rt.alloc(), name.as_str(), DemangleFlags::llvm()).is_ok() {
@@ -63,7 +63,7 @@ fn print_demangled(rt: &HostRuntime, names: &[String]) -> io::Result<()> {
     Ok(())
 }
 
-/// How many bytes the texts of the names have together: one round.
+/// Makes one round. Returns the bytes of the texts of all names.
 fn length_of_texts(alloc: Global, names: &[String]) -> u64 {
     let mut bytes = 0u64;
     for name in names {
@@ -74,7 +74,7 @@ fn length_of_texts(alloc: Global, names: &[String]) -> u64 {
     bytes
 }
 
-/// How many bytes the texts have together that one demangler makes: one round.
+/// Makes one round with one demangler. Returns the bytes of the texts of all names.
 fn length_of_kept_texts(demangler: &mut Demangler, names: &[String]) -> u64 {
     let mut bytes = 0u64;
     for name in names {

@@ -1,6 +1,6 @@
 //! Compares the demangler with rows. Each line of standard input is one: flags in hexadecimal, a symbol, and `ok` with
-//! the text or `err` with the offset and the message, parted by tabs. A row that differs is printed; the last line
-//! counts. A line that begins with `#` and a space is a heading, which says what the rows below it show.
+//! the text or `err` with the offset and the message, separated by tabs. Prints each row that differs; the last line
+//! has the counts. A line that begins with `#` and a space is a heading for the rows below it.
 
 use msvc_demangler::{DemangleFlags, Flags, demangle};
 use std::alloc::{AllocError, Global};
@@ -24,7 +24,7 @@ pub fn compare(rt: &HostRuntime) -> io::Result<()> {
     println!(rt; "{agree} rows agree, {differ} differ")
 }
 
-/// Whether the demangler answers what the row says.
+/// Returns whether the demangler returns the result of the row.
 fn agrees(alloc: Global, row: &str) -> Result<bool, AllocError> {
     let mut fields = row.splitn(5, '\t');
     let flags = fields.next().unwrap_or("");

@@ -1,5 +1,5 @@
-//! A reader and a writer of memory that move as few bytes in a call as is asked for, and fail in one call, where and
-//! how is asked for. After that they would go on, and count the calls that still come.
+//! A reader and a writer in memory, with a limit on the bytes of a call, which fail in a given call in a given way.
+//! After that call they succeed, and count the calls.
 
 ghost use Rattle.std.specs.Prelude.{◌≤◌, IfOk};
 
@@ -7,19 +7,19 @@ use std::alloc::Global;
 use std::io;
 use std::io::{BufRead, ErrorKind, Read, Write};
 
-/// Where and how a stream fails, and how many calls come after that.
+/// The place and the way of a stream's failure, and the number of calls after it.
 #[derive(Drop)]
 pub struct Failing {
-    /// How many bytes move before the call that fails.
+    /// The number of bytes that move before the call that fails.
     before: usize,
-    /// What that call answers; without an error it moves no byte.
+    /// The error of that call; without an error it moves no byte.
     error: Option<ErrorKind>,
     has_failed: bool,
     late: usize,
 }
 
 impl Failing {
-    /// A stream fails where so many bytes have moved.
+    /// Returns a failure after `before` bytes.
     pub fn after(before: usize, error: Option<ErrorKind>) -> Failing {
         Failing {
             before,
@@ -29,17 +29,17 @@ impl Failing {
         }
     }
 
-    /// No stream moves as many bytes.
+    /// Returns a failure that does not occur.
     pub fn never() -> Failing {
         Failing::after(usize::MAX, None)
     }
 
-    /// How many calls came after the one that failed.
+    /// Returns the number of calls after the one that failed.
     pub fn late(&self) -> usize {
         self.late
     }
 
-    /// How many of so many bytes a call may move.
+    /// Returns how many of `count` bytes a call may move.
     fn meet(&mut self, count: usize) -> io::Result<usize>
         ensures { IfOk result (λ n. n ≤ count) }
     {
@@ -57,13 +57,13 @@ impl Failing {
         }
     }
 
-    /// So many bytes have moved.
+    /// Counts `count` moved bytes.
     fn moved(&mut self, count: usize) {
         self.before = self.before.saturating_sub(count);
     }
 }
 
-/// A reader of so many bytes at a time at most.
+/// A reader with a limit on the bytes of a call.
 #[derive(Drop)]
 pub struct Reader<'a> {
     pub bytes: &'a [u8],
@@ -72,7 +72,7 @@ pub struct Reader<'a> {
 }
 
 impl<'a> Reader<'a> {
-    /// A reader of these bytes.
+    /// Returns a reader of these bytes.
     pub fn new(bytes: &'a [u8], most: usize, failing: Failing) -> Reader<'a> {
         Reader {
             bytes,
@@ -103,7 +103,7 @@ impl BufRead for Reader<'_> {
     }
 }
 
-/// A writer of so many bytes at a time at most.
+/// A writer with a limit on the bytes of a call.
 #[derive(Drop)]
 pub struct Writer {
     pub taken: Vec<u8>,
@@ -112,7 +112,7 @@ pub struct Writer {
 }
 
 impl Writer {
-    /// A writer that has taken nothing.
+    /// Returns a writer that has taken nothing.
     pub fn new(alloc: Global, most: usize, failing: Failing) -> Writer {
         Writer {
             taken: Vec::new(alloc),

@@ -1,4 +1,4 @@
-//! What the libraries for C share: the result of a call, its statuses, and how a text is written into a buffer.
+//! Shared parts of the libraries for C: the result of a call, its statuses, and writing a text into a buffer.
 #![tactic(auto)]
 
 ghost use Rattle.std.specs.Prelude.{◌≡◌, IfErr, IfOk, IfSome, length, set};
@@ -46,7 +46,7 @@ pub struct CallResult {
 }
 
 /// Returns the status of a rejected symbol by the limit that it exceeds, or `None` if that limit was not set: no memory
-/// has room for so many nodes or bytes.
+/// holds that many nodes or bytes.
 pub fn status_of(limit: Option<Limit>, max_nodes: usize, max_bytes: usize) -> Option<u32>
     ensures { IfSome result (λ status. IsStatus (limits_of max_nodes max_bytes) limit status) }
 {
@@ -74,8 +74,8 @@ pub fn write(text: &str, out: &mut [u8]) -> usize
     whole
 }
 
-/// Ends what the filter has written into all of a buffer but its last byte by a NUL, and returns the result of the call.
-/// If memory ran out, writes that instead.
+/// Writes a NUL after the bytes that the filter has written into a buffer without its last byte, and returns the result
+/// of the call. If memory ran out, writes that message instead.
 pub fn end_filtered(found: Result<Filtered, AllocError>, out: &mut [u8]) -> CallResult
     ensures offset { result.offset ≡ 0 }
     ensures filtered { IfOk found (λ f. (result.status ≡ 0) × (result.length ≡ f.length)

@@ -24,14 +24,14 @@ use std::str::from_utf8;
 /// The version of the library.
 const VERSION: &str = "0.11.0";
 
-/// What is found of a symbol.
+/// The result of a call on a symbol, with its text.
 #[derive(Drop)]
 struct Reply {
-    /// As of the result.
+    /// The status of the result.
     status: u32,
-    /// As of the result, in bytes.
+    /// The offset of the result, in bytes.
     offset: usize,
-    /// The declaration, or why there is none.
+    /// The declaration or the error message.
     text: CowStr<'static>,
 }
 

@@ -1,5 +1,5 @@
-//! Tries all calls on one text, with ample memory: those that accept it have to find the memory, and those that reject
-//! it have to print the same error. That they accept the same texts, and what they return, is proved.
+//! Makes all calls on one text, with ample memory. Calls that accept it must not run out of memory, and calls that
+//! reject it must print the same error. Proofs cover which texts they accept and what they return.
 
 use crate::made::{is_made, is_rejected_so, is_within, shown_as};
 use crate::within;
@@ -9,27 +9,27 @@ use msvc_demangler::{
 };
 use std::alloc::Global;
 
-/// The words of flags that each text is tried under: none, and that of LLVM's texts.
+/// The flags under which each text is tried: none, and those of LLVM's texts.
 const WORDS: [u32; 2] = [0, 0xE00400];
 
-/// What all calls answer for a text.
+/// The common result of all calls on a text.
 #[derive(Clone, Copy, Drop)]
 pub enum Answer {
     /// Each rejects it alike, at a place within it.
     Rejected,
     /// It is a symbol.
     Accepted {
-        /// How many of its bytes are read.
+        /// The number of its bytes that are read.
         bytes: usize,
-        /// How many digits of it are whole parameters.
+        /// The number of its digits that are whole parameters.
         digits: usize,
     },
-    /// They contradict one another, or one of them finds no memory.
+    /// They contradict one another, or one of them runs out of memory.
     Contradicted,
 }
 
-/// What `parse_prefix`, `parse`, `demangle`, `back_references`, `serialize`, `symbol_length` and those of them that
-/// have a limit answer for a text.
+/// Makes all calls on a text: `parse_prefix`, `parse`, `demangle`, `back_references`, `serialize`, `symbol_length` and
+/// their variants with a limit. Returns their common result.
 pub fn all_answers(alloc: Global, text: &str) -> Answer {
     let read = parse_prefix(alloc, text);
     let answer = match &read {
@@ -40,7 +40,7 @@ pub fn all_answers(alloc: Global, text: &str) -> Answer {
     answer
 }
 
-/// The answer for a text of which this was read: a tree, and how many bytes.
+/// Returns the result for an accepted text, of which a tree and a number of bytes were read.
 fn accepted(alloc: Global, text: &str, read: &(ParseResult<'_>, usize)) -> Answer {
     let Ok(found) = back_references(alloc, text) else {
         return Answer::Contradicted;
@@ -54,7 +54,7 @@ fn accepted(alloc: Global, text: &str, read: &(ParseResult<'_>, usize)) -> Answe
     Answer::Contradicted
 }
 
-/// Whether each other call accepts a text of this tree, and those with a limit name it where no node is allowed.
+/// Returns whether each other call accepts a text of this tree, and those with a limit name it if no node is allowed.
 fn all_accept(alloc: Global, text: &str, tree: &ParseResult<'_>) -> bool {
     is_made(parse(alloc, text))
         && is_made(symbol_length(alloc, text))
@@ -62,7 +62,7 @@ fn all_accept(alloc: Global, text: &str, tree: &ParseResult<'_>) -> bool {
         && within::wants_nodes(alloc, text, 0)
 }
 
-/// Whether a text and its tree have declarations under each word.
+/// Returns whether a text and its tree have declarations under each set of flags.
 fn is_printed(alloc: Global, text: &str, tree: &ParseResult<'_>) -> bool {
     for word in WORDS {
         let flags = DemangleFlags::from_bits_retain(word);
@@ -73,7 +73,7 @@ fn is_printed(alloc: Global, text: &str, tree: &ParseResult<'_>) -> bool {
     true
 }
 
-/// The answer for a text that `parse_prefix` rejects.
+/// Returns the result for a text that `parse_prefix` rejects.
 fn rejected(alloc: Global, text: &str, refusal: &Error) -> Answer {
     match shown_as(alloc, refusal) {
         Ok(shown) if is_within(refusal, text) && all_reject(alloc, text, shown.as_str()) => {
@@ -83,7 +83,7 @@ fn rejected(alloc: Global, text: &str, refusal: &Error) -> Answer {
     }
 }
 
-/// Whether each other call rejects a text for a reason that is shown so.
+/// Returns whether each other call rejects a text with the error text `shown`.
 fn all_reject(alloc: Global, text: &str, shown: &str) -> bool {
     is_rejected_so(alloc, parse(alloc, text), shown)
         && is_rejected_so(alloc, symbol_length(alloc, text), shown)
@@ -92,7 +92,7 @@ fn all_reject(alloc: Global, text: &str, shown: &str) -> bool {
         && within::is_rejected(alloc, text, shown)
 }
 
-/// Whether `demangle` rejects a text like this under each word.
+/// Returns whether `demangle` rejects a text with the error text `shown` under each set of flags.
 fn is_rejected(alloc: Global, text: &str, shown: &str) -> bool {
     for word in WORDS {
         let flags = DemangleFlags::from_bits_retain(word);

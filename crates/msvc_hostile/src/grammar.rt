@@ -1,20 +1,20 @@
-//! The grammar of symbols as tables of rows, for texts to be written by it.
+//! The grammar of symbols as tables of rows, from which texts are generated.
 //!
-//! A row is a list of words: the name of a table, of which one row is written there; a mark, which the writer acts on;
-//! or a text that stands for itself. The first row of each table leads to an end soon.
+//! A row is a list of words: the name of a table, of which one row is written there; a word of the writer; or a literal
+//! text. The first row of each table leads to an end soon.
 //!
-//! What is written is read as it was written, since what stands in the place of an optional part begins with none of
-//! its letters: the rows of a table whose name ends in `clear` begin with no letter of a storage class and no `?`.
+//! A text is read as it was generated, since the text in place of an optional part begins with none of its letters: the
+//! rows of a table whose name ends in `clear` begin with no letter of a storage class and no `?`.
 
 /// The table that a text begins with.
 pub const TEXT: &str = "text";
 
-/// Marks: a name was written that the table of names takes up, or a parameter that the table of types takes up.
+/// Words of the writer: a name was written that the table of names gets, or a parameter that the table of types gets.
 pub const NAME_DONE: &str = "name_done";
 
 pub const TYPE_DONE: &str = "type_done";
 
-/// Marks: what stands between these two has a table of names and one of types of its own.
+/// Words of the writer: the part between these two has a table of names and one of types of its own.
 pub const TEMPLATE_BEGINS: &str = "template_begins";
 
 pub const TEMPLATE_ENDS: &str = "template_ends";

@@ -1,13 +1,13 @@
 //! Texts that are meant to break the calls: `msvc_bench hostile SEED COUNT`, with rows on standard input. All calls
-//! have to answer alike for
+//! must return the same result for
 //!
 //! - the symbol of each row, its beginnings, and the symbol with another character in the place of each of its own,
 //! - symbols whose digits multiply,
-//! - COUNT texts that are drawn from an alphabet, and COUNT that are drawn so after a question mark,
-//! - COUNT texts that the grammar writes; these are read whole, or rejected for a digit that has no entry.
+//! - COUNT texts that are drawn from an alphabet, and COUNT such texts after a question mark,
+//! - COUNT texts that are generated from the grammar; these are read whole, or rejected for a digit without an entry.
 //!
-//! A text for which they don't is printed. Each kind of text has a line that counts, and so has each table of the
-//! grammar: how many of its rows were read in texts that were accepted. It has to be all.
+//! Prints a text on which calls disagree. Prints a line of counts for each kind of text, and for each table of the
+//! grammar: the number of its rows that were read in accepted texts, which must be all.
 
 use crate::answers::{Answer, all_answers};
 use crate::multiplied::multiplied;
@@ -18,7 +18,7 @@ use std::alloc::{AllocError, Global};
 use std::io;
 use std::io::ErrorKind;
 
-/// What stands in the place of each character of a symbol.
+/// The replacements for each character of a symbol.
 const REPLACEMENTS: &str = "?@$09APZ_";
 
 /// The characters of a text that is drawn, and how many it has at most.
@@ -26,10 +26,10 @@ const ALPHABET: &[u8] = b"?@$_0123456789ABCDEHPQVXYZax";
 
 const DRAWN: usize = 60;
 
-/// How many bytes a text that the grammar writes has at most. A longer one is not tried.
+/// The most bytes of a text that is generated from the grammar. A longer one is not tried.
 const WRITTEN: usize = 100;
 
-/// What was counted of one kind of texts.
+/// The counts for one kind of texts.
 #[derive(Clone, Copy, Drop)]
 struct Tally {
     texts: u64,
@@ -63,7 +63,7 @@ impl Tally {
         Ok(answer)
     }
 
-    /// Prints a text that was answered wrongly.
+    /// Prints a text on which calls disagree.
     fn blame(&mut self, rt: &HostRuntime, text: &str) -> io::Result<()> {
         self.wrong = self.wrong.saturating_add(1);
         println!(rt; "answered wrongly: {text}")
@@ -98,7 +98,7 @@ pub fn run(rt: &HostRuntime, seed: u64, count: u64) -> io::Result<()> {
     Err(io::Error::from(ErrorKind::Other))
 }
 
-/// Tries the symbols of the rows on standard input, and what becomes of them.
+/// Tries the symbols of the rows on standard input, and their changed forms.
 fn changed_rows(rt: &HostRuntime) -> io::Result<Tally> {
     let mut tally = Tally::new();
     for line in rt.lines(rt.alloc()) {
@@ -137,7 +137,7 @@ fn replacements(rt: &HostRuntime, tally: &mut Tally, before: &str, after: &str) 
     Ok(())
 }
 
-/// Tries symbols of none up to as many functions as the table of types has room for.
+/// Tries symbols of no function up to as many functions as the table of types holds.
 fn multiplied_digits(rt: &HostRuntime) -> io::Result<Tally> {
     let mut tally = Tally::new();
     for functions in 0..=10 {
@@ -147,7 +147,7 @@ fn multiplied_digits(rt: &HostRuntime) -> io::Result<Tally> {
     Ok(tally)
 }
 
-/// Tries so many texts that begin so and go on as it is drawn.
+/// Tries `count` random texts with this beginning.
 fn drawn_texts(rt: &HostRuntime, seed: u64, count: u64, beginning: &str) -> io::Result<Tally> {
     let mut tally = Tally::new();
     let mut random = Pcg32::new(seed, 0);
@@ -158,7 +158,7 @@ fn drawn_texts(rt: &HostRuntime, seed: u64, count: u64, beginning: &str) -> io::
     Ok(tally)
 }
 
-/// A text with this beginning, and a rest that is drawn: its length, and then each of its characters.
+/// Returns a text with this beginning and a random rest: its length, then each of its characters.
 fn drawn(alloc: Global, random: &mut Pcg32, beginning: &str) -> Result<String, AllocError> {
     let mut text = String::from_str(alloc, beginning)?;
     for _ in beginning.len()..below(random, DRAWN.saturating_add(1)) {
@@ -171,7 +171,7 @@ fn drawn(alloc: Global, random: &mut Pcg32, beginning: &str) -> Result<String, A
     Ok(text)
 }
 
-/// Tries so many texts that the grammar writes.
+/// Tries `count` texts that are generated from the grammar.
 fn written_texts(
     rt: &HostRuntime,
     seed: u64,
@@ -211,7 +211,7 @@ fn read_back(
     if right { Ok(()) } else { tally.blame(rt, text) }
 }
 
-/// Whether a text is rejected for a digit that has no entry in its table.
+/// Returns whether a text is rejected for a digit that has no entry in its table.
 fn lacks_an_entry(alloc: Global, text: &str) -> Result<bool, AllocError> {
     let Some(refusal) = back_references(alloc, text).err() else {
         return Ok(false);

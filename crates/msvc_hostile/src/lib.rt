@@ -1,7 +1,6 @@
-//! What `msvc_bench` tries beside rows: hostile texts, how much of a text is read, and few nodes allowed.
+//! Tests of `msvc_bench` beside rows: hostile texts, the number of bytes that are read, and low limits on nodes.
 //!
-//! It is a library without tests, since a crate with tests is proved twice; the tests of what is here stand in
-//! `msvc_bench`.
+//! This is a library without tests, since a crate with tests is proved twice; its tests are in `msvc_bench`.
 #![tactic(auto)]
 
 mod answers;

@@ -1,15 +1,15 @@
-//! What a call made, asked without being opened by its caller. These functions are generic, so that only the code that
-//! drops a tree is proved for trees.
+//! Queries on the result of a call, which the caller does not open. These functions are generic, so that only the code
+//! that drops a tree is proved for trees.
 
 use msvc_demangler::Error;
 use std::alloc::{AllocError, Global};
 
-/// Whether a call made anything.
+/// Returns whether a call succeeded.
 pub fn is_made<T: Drop>(made: Result<T, Error>) -> bool {
     made.is_ok()
 }
 
-/// Why a call made nothing.
+/// Returns the error of a call, if it failed.
 pub fn rejection_of<T: Drop>(made: Result<T, Error>) -> Option<Error> {
     match made {
         Ok(_) => None,
@@ -17,7 +17,7 @@ pub fn rejection_of<T: Drop>(made: Result<T, Error>) -> Option<Error> {
     }
 }
 
-/// Whether a call made nothing, for a reason that is shown so.
+/// Returns whether a call failed with the error text `shown`.
 pub fn is_rejected_so<T: Drop>(alloc: Global, made: Result<T, Error>, shown: &str) -> bool {
     match made {
         Ok(_) => false,
@@ -25,7 +25,7 @@ pub fn is_rejected_so<T: Drop>(alloc: Global, made: Result<T, Error>, shown: &st
     }
 }
 
-/// Whether a rejection is shown so.
+/// Returns whether the text of an error is `shown`.
 fn is_shown(alloc: Global, refusal: &Error, shown: &str) -> bool {
     match shown_as(alloc, refusal) {
         Ok(other) => other.as_str() == shown,
@@ -33,12 +33,12 @@ fn is_shown(alloc: Global, refusal: &Error, shown: &str) -> bool {
     }
 }
 
-/// What a rejection is shown as.
+/// Returns the text of an error.
 pub fn shown_as(alloc: Global, refusal: &Error) -> Result<String, AllocError> {
     format!(in alloc; "{refusal}")
 }
 
-/// Whether the place of a rejection is in the text.
+/// Returns whether the offset of an error is inside the text.
 pub fn is_within(refusal: &Error, text: &str) -> bool {
     match refusal.offset() {
         Some(offset) => offset <= text.len(),

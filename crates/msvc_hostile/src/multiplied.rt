@@ -1,8 +1,9 @@
-//! Symbols whose trees are far larger than their texts, since each digit stands for a type with two digits in it.
+//! Symbols whose trees are far larger than their texts, since each digit represents a type with two digits in it.
 
 use std::alloc::{AllocError, Global};
 
-/// A function of a pointer and of so many pointers to functions, each of which has two parameters of the type before.
+/// Returns a function of a pointer and of `functions` pointers to functions, each of which has two parameters of the
+/// type before.
 pub fn multiplied(alloc: Global, functions: u32) -> Result<String, AllocError> {
     let mut text = String::from_str(alloc, "?f@@YAXPAH")?;
     for digit in 0..functions {

@@ -1,6 +1,6 @@
-//! Compares with rows how much of a text is read. Each line of standard input is a text, how many of its bytes are
-//! read, and how many nodes its tree has, or a text and the word `refused`, parted by tabs. With one node less allowed
-//! the calls have to name that limit. A row that differs is printed; the last line counts.
+//! Compares with rows the part of a text that is read. Each line of standard input is a text, the number of its bytes
+//! that are read, and the number of nodes of its tree, or a text and the word `refused`, separated by tabs. With one
+//! node less allowed the calls must name that limit. Prints each row that differs; the last line has the counts.
 
 use crate::answers::{Answer, all_answers};
 use crate::within::{fewest_nodes, wants_nodes};
@@ -22,7 +22,7 @@ pub fn compare(rt: &HostRuntime) -> io::Result<()> {
     println!(rt; "{agree} texts are read so far, {differ} otherwise")
 }
 
-/// Whether so much of the text is read, and so many nodes, as the row says.
+/// Returns whether as much of the text is read, and as many nodes, as the row states.
 fn agrees(alloc: Global, row: &str) -> bool {
     let mut fields = row.splitn(3, '\t');
     let text = fields.next().unwrap_or("");

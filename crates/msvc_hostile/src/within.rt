@@ -1,16 +1,16 @@
 //! Compares the errors of calls with limits with each other and with those of the calls without.
 //!
-//! `msvc_bench within NODES` prints for each line of standard input how they reject it where so many nodes are allowed.
+//! `msvc_bench within NODES` prints for each line of standard input its error under that limit on nodes.
 
 use crate::made::{is_rejected_so, is_within, rejection_of, shown_as};
 use msvc_demangler::{DemangleFlags, Error, demangle_within, parse_within, symbol_length_within};
 use std::alloc::Global;
 use std::io;
 
-/// How a rejection for want of nodes begins.
+/// The beginning of the error for the limit on nodes.
 const WANT: &str = "more nodes than allowed (offset: ";
 
-/// How often a limit is tried at most, until the fewest nodes are found.
+/// The most limits that are tried until the fewest nodes are found.
 const TRIES: usize = 64;
 
 pub fn reject(rt: &HostRuntime, nodes: u64) -> io::Result<()> {
@@ -25,8 +25,8 @@ pub fn reject(rt: &HostRuntime, nodes: u64) -> io::Result<()> {
     Ok(())
 }
 
-/// The fewest nodes with which a text is accepted, first by doubling, then by bisection; the largest number where none
-/// is found.
+/// Returns the fewest nodes with which a text is accepted, found by doubling, then by bisection; the largest number if
+/// none is found.
 pub fn fewest_nodes(alloc: Global, text: &str) -> usize {
     let mut rejected = 0usize;
     let mut accepted = usize::MAX;
@@ -44,12 +44,12 @@ pub fn fewest_nodes(alloc: Global, text: &str) -> usize {
     accepted
 }
 
-/// Whether a text is accepted where so many nodes are allowed.
+/// Returns whether a text is accepted with `nodes` nodes allowed.
 fn is_accepted(alloc: Global, text: &str, nodes: usize) -> bool {
     demangle_within(alloc, text, DemangleFlags::NAME_ONLY, nodes, usize::MAX).is_ok()
 }
 
-/// What is tried between a limit that is rejected and one that is accepted; the former where nothing lies between.
+/// Returns the next limit to try between a rejected and an accepted one; the former if there is none between them.
 fn next_try(rejected: usize, accepted: usize) -> usize {
     if accepted == usize::MAX {
         return rejected.saturating_mul(2).max(1);
@@ -57,7 +57,7 @@ fn next_try(rejected: usize, accepted: usize) -> usize {
     rejected.saturating_add(accepted.saturating_sub(rejected) / 2)
 }
 
-/// Whether these calls reject a text for want of nodes.
+/// Returns whether these calls reject a text for the limit on nodes.
 pub fn wants_nodes(alloc: Global, text: &str, nodes: usize) -> bool {
     match rejection_within(alloc, text, nodes) {
         Some(shown) => shown.as_str().starts_with(WANT),
@@ -65,7 +65,8 @@ pub fn wants_nodes(alloc: Global, text: &str, nodes: usize) -> bool {
     }
 }
 
-/// Whether these calls reject a text that `parse` rejects so: so too, or for want of nodes, and so where none can lack.
+/// Returns whether these calls reject a text that `parse` rejects: with the same error, or for the limit on nodes if
+/// that can be exceeded.
 pub fn is_rejected(alloc: Global, text: &str, wanted: &str) -> bool {
     for nodes in [0, 1] {
         let Some(shown) = rejection_within(alloc, text, nodes) else {
@@ -81,14 +82,14 @@ pub fn is_rejected(alloc: Global, text: &str, wanted: &str) -> bool {
     }
 }
 
-/// How these calls reject a text where so many nodes are allowed; nothing where one of them accepts it, where they
-/// differ, where the place isn't in the text, or where there is no memory to tell.
+/// Returns the common error text of these calls under a limit on nodes; `None` if one of them accepts the text, if they
+/// differ, if the offset isn't inside the text, or if memory runs out.
 fn rejection_within(alloc: Global, text: &str, nodes: usize) -> Option<String> {
     let refusal = rejection_of(parse_within(alloc, text, nodes))?;
     shown_by_all(alloc, text, nodes, &refusal)
 }
 
-/// How a rejection of `parse_within` is shown, if the other calls reject the text so too, at a place in it.
+/// Returns the text of the error of `parse_within`, if the other calls reject the text with it too, at a place in it.
 fn shown_by_all(alloc: Global, text: &str, nodes: usize, refusal: &Error) -> Option<String> {
     let shown = shown_as(alloc, refusal).ok()?;
     let declared = demangle_within(alloc, text, DemangleFlags::COMPLETE, nodes, usize::MAX);

@@ -1,4 +1,4 @@
-//! Texts that the grammar writes at random.
+//! Random texts that are generated from the grammar.
 
 use crate::grammar::{
     KNOWN_NAME, KNOWN_PARAMETER, KNOWN_TYPE, NAME_DONE, TABLES, TEMPLATE_BEGINS, TEMPLATE_ENDS,
@@ -8,10 +8,10 @@ use rand_core::utils::NextWord;
 use rand_pcg::Pcg32;
 use std::alloc::{AllocError, Global};
 
-/// Once a text and the words that are left for it are so many, the first row of a table is taken.
+/// The number of bytes and remaining words from which on the first row of a table is taken.
 const ROOM: usize = 70;
 
-/// No text has so many words.
+/// A number of words that no text reaches.
 const WORDS: usize = 10_000;
 
 /// A table of the grammar.
@@ -19,7 +19,7 @@ const WORDS: usize = 10_000;
 pub struct Table {
     pub name: &'static str,
     pub rows: Vec<&'static str>,
-    /// How often each row was read in a text that was accepted.
+    /// For each row, how often it was read in an accepted text.
     pub read: Vec<u64>,
 }
 
@@ -28,9 +28,9 @@ pub struct Table {
 pub struct Draft {
     pub text: String,
     words: Vec<&'static str>,
-    /// How many entries the tables of names and types have at most.
+    /// The most entries that the tables of names and types have.
     known: Known,
-    /// The same outside of each template that the next word stands in.
+    /// The same outside of each template around the next word.
     outer: Vec<Known>,
     /// The rows that were taken: the place of a table, and of a row in it.
     taken: Vec<(usize, usize)>,
@@ -42,7 +42,7 @@ struct Known {
     types: usize,
 }
 
-/// The tables of the grammar.
+/// Returns the tables of the grammar.
 pub fn tables(alloc: Global) -> Result<Vec<Table>, AllocError> {
     let mut tables = Vec::new(alloc);
     for line in TABLES.lines() {
@@ -53,7 +53,7 @@ pub fn tables(alloc: Global) -> Result<Vec<Table>, AllocError> {
     Ok(tables)
 }
 
-/// A table of these rows, none of which was read.
+/// Returns a table of these rows, none of which was read.
 fn table_of(alloc: Global, name: &'static str, listed: &'static str) -> Result<Table, AllocError> {
     let mut rows = Vec::new(alloc);
     let mut read = Vec::new(alloc);
@@ -64,7 +64,7 @@ fn table_of(alloc: Global, name: &'static str, listed: &'static str) -> Result<T
     Ok(Table { name, rows, read })
 }
 
-/// A text by the grammar.
+/// Returns a text that is generated from the grammar.
 pub fn written(alloc: Global, tables: &[Table], random: &mut Pcg32) -> Result<Draft, AllocError> {
     let mut draft = Draft {
         text: String::new(alloc),
@@ -84,7 +84,7 @@ pub fn written(alloc: Global, tables: &[Table], random: &mut Pcg32) -> Result<Dr
 }
 
 impl Draft {
-    /// Writes a word: a mark is acted on, of a table a row is taken, and any other word is a text.
+    /// Writes a word: runs a word of the writer, takes a row of a table, and appends any other word as a text.
     fn write(
         &mut self,
         tables: &[Table],
@@ -130,8 +130,8 @@ impl Draft {
         }
     }
 
-    /// How many rows of a table can be taken: of digits those that have an entry, and only the first where room is
-    /// short.
+    /// Returns the number of rows of a table that can be taken: of digits those that have an entry, and only the first
+    /// if the text is nearly full.
     fn choices(&self, table: &Table) -> usize {
         if self.text.len().saturating_add(self.words.len()) >= ROOM {
             return 1;
@@ -145,7 +145,7 @@ impl Draft {
     }
 }
 
-/// A number below another, or 0.
+/// Returns a number below `end`, or 0.
 pub fn below(random: &mut Pcg32, end: usize) -> usize {
     random.next_word() as usize % end.max(1)
 }

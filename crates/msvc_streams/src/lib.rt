@@ -1,5 +1,5 @@
-//! What the programs share: their arguments and their end, an output that several owners write to, and an input that
-//! flushes it before it reads, so that no output waits for the next input.
+//! Shared parts of the programs: their arguments and their end, an output that several owners write to, and an input
+//! that flushes it before it reads, so that no output waits for the next input.
 #![tactic(auto)]
 
 mod program;
@@ -27,7 +27,7 @@ impl<W: Write> Write for Shared<'_, W> {
 pub struct Input<'a, R, W> {
     held: BufReader<R>,
     output: &'a RefCell<W>,
-    /// Whether a flush has failed. Its error is passed on as one of the reader.
+    /// True if a flush has failed. Its error is returned as one of the reader.
     pub flush_failed: bool,
 }
 

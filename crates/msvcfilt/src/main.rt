@@ -1,10 +1,10 @@
 //! `msvcfilt [OPTIONS] [FILE..]` writes each file, or standard input if there is none, with each symbol in it replaced
 //! by its declaration, as `llvm-undname` spells it: `foo!void __cdecl crash(void)+0x12` for `foo!?crash@@YAXXZ+0x12`.
-//! With `-n` it prints names without types. The text of each line is written before the program waits for the next.
+//! With `-n` it prints names without types. It writes the text of each line before it waits for the next.
 //!
 //! The exit status is 0, or 1 if a file or standard input can't be read, the text can't be written, or an allocation
-//! fails, or 2 if the arguments are wrong. Then standard error says which, except where nobody reads the pipe that is
-//! written. After a file that can't be read the others are still filtered.
+//! fails, or 2 if the arguments are wrong. Then standard error has a message, unless the reader of the output pipe has
+//! exited. After a file that can't be read the others are still filtered.
 #![tactic(auto)]
 
 mod options;
@@ -30,7 +30,7 @@ fn main(rt: HostRuntime) -> ExitCode {
     }
 }
 
-/// Does what the words of the command line ask for, and returns the exit status.
+/// Runs the program on the words of the command line, and returns the exit status.
 fn perform(rt: &HostRuntime, words: &[String]) -> ExitCode {
     let program = Command::new(rt.alloc(), PROGRAM).version("0.11.0");
     match options::read(rt.alloc(), program, words) {
@@ -141,7 +141,7 @@ fn report_read(rt: &HostRuntime, name: &str) {
     };
 }
 
-/// Returns the status of a write that failed, and reports it, except where nobody reads the pipe.
+/// Reports a write that failed, unless the reader of the pipe has exited, and returns its exit status.
 fn write_failure(rt: &HostRuntime, is_closed: bool) -> ExitCode {
     if is_closed {
         return ExitCode::FAILURE;

@@ -5,7 +5,7 @@ use clap::{Arg, ArgAction, ArgMatches, Command, Error};
 use msvc_demangler::{DemangleFlags, Flags};
 use std::alloc::{AllocError, Global};
 
-/// What `--help` prints: at most 24 lines of 80 columns.
+/// The output of `--help`: at most 24 lines of 80 columns.
 const HELP: &str = "\
 Replaces each symbol of Microsoft's C++ compiler in a text by its declaration.
 
@@ -32,7 +32,7 @@ Example: echo 'at ?f@@YAXXZ+0x5' | msvcfilt
 Exit status: 0 if all was read and written, 2 if the arguments are wrong, else 1
 ";
 
-/// The file that stands for standard input.
+/// The name of a file that means standard input.
 pub(crate) const STANDARD_INPUT: &str = "-";
 
 /// The names of the options that set flags.

@@ -6,7 +6,7 @@ use std::io::{BufWriter, ErrorKind, Result, Stdout, Write};
 #[derive(Drop)]
 pub(crate) struct Output {
     held: BufWriter<Stdout>,
-    /// Whether a write has failed since nobody reads the pipe any more.
+    /// True if a write has failed since the reader of the pipe has exited.
     pub(crate) is_closed: bool,
 }
 

@@ -1,10 +1,11 @@
 //! `undname [-v] [symbols]` prints the declaration of each symbol on a line, as `llvm-undname` spells it: `int ns::x`
-//! for `?x@ns@@3HA`. Without symbols it reads them from the lines of standard input, and answers each line before it
-//! waits for the next. A rejected symbol is printed unchanged, and the error goes to standard error; `-v`, as the first
-//! argument, also prints each tree there. `--version`, as the first argument, prints the version, and no symbol.
+//! for `?x@ns@@3HA`. Without symbols it reads them from the lines of standard input, and prints the result of each line
+//! before it waits for the next. A rejected symbol is printed unchanged, and the error goes to standard error; `-v`, as
+//! the first argument, also prints each tree there. `--version`, as the first argument, prints the version, and no
+//! symbol.
 //!
 //! The exit status is 0, or 1 if standard input can't be read, a line can't be written, or an allocation fails, or 2 if
-//! an argument isn't UTF-8. Then standard error says which, and the lines before are printed.
+//! an argument isn't UTF-8. Then standard error has a message, and the lines before are printed.
 #![tactic(auto)]
 
 mod streams;
@@ -19,7 +20,7 @@ use streams::{Outputs, Remarks};
 /// The program's name.
 const PROGRAM: &str = "undname";
 
-/// What `--version` prints.
+/// The output of `--version`.
 const VERSION: &str = "undname 0.11.0";
 
 fn main(rt: HostRuntime) -> ExitCode {
@@ -32,7 +33,7 @@ fn main(rt: HostRuntime) -> ExitCode {
     }
 }
 
-/// Does what the words ask for that stand after the program's name.
+/// Runs the program on the words after its name.
 fn perform(rt: &HostRuntime, words: &[String]) -> Result<(), Fault> {
     match words.first() {
         Some(word) if word.as_str() == "--version" => show_version(rt),
@@ -56,7 +57,7 @@ fn run(rt: &HostRuntime, words: &[String]) -> Result<(), Fault> {
     done.and(flushed)
 }
 
-/// Answers the symbols among the words or, if there are none, those of standard input.
+/// Demangles the symbols among the words or, if there are none, those of standard input.
 fn answer(rt: &HostRuntime, words: &[String], outputs: &RefCell<Outputs>) -> Result<(), Fault> {
     let Ok(held) = BufReader::with_capacity(rt.alloc(), BUFFER_LENGTH, rt.stdin()) else {
         return Err(Fault::Memory);
@@ -68,7 +69,7 @@ fn answer(rt: &HostRuntime, words: &[String], outputs: &RefCell<Outputs>) -> Res
     ended(input, done)
 }
 
-/// Buffers a stream that is written in large pieces.
+/// Returns a buffer for a stream that is written in large pieces.
 fn writer<W: Write + Drop>(rt: &HostRuntime, stream: W) -> Result<BufWriter<W>, Fault> {
     BufWriter::with_capacity(rt.alloc(), BUFFER_LENGTH, stream).map_err(|_| Fault::Memory)
 }

@@ -1,10 +1,10 @@
-//! The two outputs, each with a buffer. The remarks on a symbol, on standard error, are never written later than its
-//! answer on standard output.
+//! The two outputs, each with a buffer. The messages about a symbol, on standard error, are never written later than
+//! its result on standard output.
 
 use std::cell::RefCell;
 use std::io::{BufWriter, Result, Stderr, Stdout, Write};
 
-/// The buffers of both outputs. As a writer it takes answers, and writes none before the remarks that it holds.
+/// The buffers of both outputs. As a writer it takes results, and writes none before the messages that it holds.
 #[derive(Drop)]
 pub(crate) struct Outputs {
     pub(crate) answers: BufWriter<Stdout>,
@@ -23,7 +23,8 @@ impl Write for Outputs {
         self.answers.write(bytes)
     }
 
-    /// Writes what both buffers hold, the remarks first. Writes the answers even if the remarks can't be written.
+    /// Writes the contents of both buffers, the messages first. Writes the results even if the messages can't be
+    /// written.
     fn flush(&mut self) -> Result<()> {
         let explained = self.remarks.flush();
         let printed = self.answers.flush();
