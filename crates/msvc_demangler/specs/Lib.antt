@@ -1,17 +1,9 @@
-pub mod Answers
-pub mod Demangled
-pub mod Failures
-pub mod Faults
-pub mod SliceWriters
-pub mod Filtered
-pub mod Limits
-pub mod Lines
 pub mod Runs
-pub mod WordStates
-pub mod Streams
-pub mod Taking
-pub mod SymbolBounds
--- what the clauses of the calls at the crate's root cite of the crates below
+-- what the clauses of the public calls cite of the crates below
+pub use Rattle.msvc_filter.specs.Filtered
+pub use Rattle.msvc_filter.specs.SliceWriters
+pub use Rattle.msvc_filter.specs.SymbolBounds
+pub use Rattle.msvc_filter.specs.WordStates
 pub use Rattle.msvc_grammar.specs.Counts
 pub use Rattle.msvc_grammar.specs.Grammar
 pub use Rattle.msvc_grammar.specs.Hashes
@@ -23,6 +15,8 @@ pub use Rattle.msvc_grammar.specs.Reads
 pub use Rattle.msvc_grammar.specs.Rejections
 pub use Rattle.msvc_grammar.specs.State
 pub use Rattle.msvc_grammar.specs.Written
+pub use Rattle.msvc_lines.specs.Answers
+pub use Rattle.msvc_lines.specs.Lines
 pub use Rattle.msvc_nodes.specs.EachName
 pub use Rattle.msvc_nodes.specs.Errors
 pub use Rattle.msvc_nodes.specs.Trees
@@ -33,6 +27,14 @@ pub use Rattle.msvc_parser.specs.Parser
 pub use Rattle.msvc_print.specs.Declaration
 pub use Rattle.msvc_print.specs.Laws as PrintLaws
 pub use Rattle.msvc_read.specs.Failures as ReadFailures
+pub use Rattle.msvc_symbol.specs.Demangled
+pub use Rattle.msvc_symbol.specs.Failures
+pub use Rattle.msvc_symbol.specs.Limits
+pub use Rattle.msvc_symbol.specs.declared.failure.Failure
 pub use Rattle.msvc_tree.specs.Equality
 pub use Rattle.msvc_tree.specs.View
+pub use Rattle.msvc_watched.specs.Faults
+pub use Rattle.msvc_watched.specs.Streams
+pub use Rattle.msvc_watched.specs.Taking
+pub use Rattle.msvc_watched.specs.declared.watched.Fault
 pub use Rattle.msvc_write.specs.Serialized

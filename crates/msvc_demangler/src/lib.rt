@@ -6,27 +6,13 @@
 ghost use Rattle.std.specs.Prelude.{IfErr, IfOk, string_bytes};
 ghost use Rattle.msvc_nodes.specs.Trees.{SymbolTree};
 ghost use Rattle.msvc_grammar.specs.Parsed.{GrammarLaws, IsRejected};
-ghost use Rattle.msvc_demangler.specs.Demangled.{HashesAreShown, IsDeclared, IsDeclaredWithin, IsErrorUnder};
-ghost use Rattle.msvc_demangler.specs.Limits.{limits_of};
-
-mod debug;
-mod debug_words;
-mod demangler;
-mod failure;
-mod filter;
-mod lines;
-mod output;
-mod run;
-mod symbol_bounds;
-mod watched;
+ghost use Rattle.msvc_symbol.specs.Demangled.{HashesAreShown, IsDeclared, IsDeclaredWithin, IsErrorUnder};
+ghost use Rattle.msvc_symbol.specs.Limits.{limits_of};
 
 pub use alloc_fuse::Fuse;
 pub use bitflags::Flags;
-pub use demangler::Demangler;
-use demangler::demangle_once;
-pub use failure::Failure;
-pub use filter::{Filtered, filter_slice, filter_slice_in, filter_text};
-pub use lines::{undname_lines, undname_one};
+pub use msvc_filter::{Filtered, filter_slice, filter_slice_in, filter_text};
+pub use msvc_lines::{undname_lines, undname_one, undname_run};
 pub use msvc_nodes::error::{Error, ErrorRepr, Limit};
 pub use msvc_nodes::flags::{DemangleFlags, FuncClass, StorageClass};
 pub use msvc_parser::refusal::{Message, Refusal};
@@ -35,20 +21,14 @@ pub use msvc_read::{
     BackReference, back_references, parse, parse_prefix, parse_within, symbol_length,
     symbol_length_within,
 };
+pub use msvc_symbol::{DEFAULT_BYTE_LIMIT, DEFAULT_NODE_LIMIT, Demangler, Failure};
+use msvc_symbol::{demangle_once, error_of};
 pub use msvc_tree::tree::{
     CallingConv, Name, NameSequence, Operator, Params, ParseResult, Symbol, Type, VarStorageKind,
 };
+pub use msvc_watched::{Fault, Watched};
 pub use msvc_write::serialize;
-pub use run::undname_run;
 use std::alloc::Global;
-pub use watched::{Fault, Watched};
-
-/// The most nodes to allow for a symbol that is not trusted. A call takes stack by the nodes that are allowed
-/// (`docs/limits.md` has the figures), so a thread with a small stack needs a lower limit.
-pub const DEFAULT_NODE_LIMIT: usize = 10_000;
-
-/// The most bytes to allow for the declaration of a symbol that is not trusted.
-pub const DEFAULT_BYTE_LIMIT: usize = 65_536;
 
 /// Returns the declaration of the symbol that `input` begins with, under `flags`.
 ///
@@ -115,6 +95,6 @@ pub fn demangle_within(
     let mut text = Text::new(alloc);
     match demangle_once(alloc, &mut text, input, flags, nodes, bytes) {
         Ok(_) => Ok(text.into_string()),
-        Err(failure) => Err(failure.error(alloc, input)),
+        Err(failure) => Err(error_of(failure, alloc, input)),
     }
 }

@@ -14,8 +14,8 @@ use Rattle.msvc_demangler.specs.Limit.{Limit}
 use Rattle.msvc_demangler.specs.Limit.TheVariants.{Bytes, Nodes}
 use Rattle.msvc_demangler.specs.Limits.{Limits}
 use Rattle.msvc_demangler.specs.Rejections.{begins_with}
-use Rattle.msvc_demangler.specs.declared.failure.Failure.{Failure}
-use Rattle.msvc_demangler.specs.declared.failure.Failure.TheVariants.{Unread, TooLong}
+use Rattle.msvc_demangler.specs.Failure.{Failure}
+use Rattle.msvc_demangler.specs.Failure.TheVariants.{Unread, TooLong}
 use Rattle.msvc_c_calls.proofs.Rejected.{rejected}
 use Rattle.msvc_c_calls.specs.Calls.{IsFound, IsMeasured, IsNoSymbolUnder, IsNotRead, IsRejection, IsStatus, Says}
 use Rattle.msvc_c_calls.specs.Calls.{not_measured, not_read, out_of_memory, out_of_memory_text, too_long}

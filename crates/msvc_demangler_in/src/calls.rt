@@ -2,7 +2,7 @@
 
 ghost use Rattle.std.specs.Prelude.{◌≡◌, ◌≢◌, ◌++◌, ℕ, IfNone, IfOk, IfSome, List, drop, length};
 ghost use Rattle.msvc_parser.specs.declared.refusal.Refusal.TheVariants as refusal;
-ghost use Rattle.msvc_demangler.specs.declared.failure.Failure.TheVariants.{Unread};
+ghost use Rattle.msvc_demangler.specs.Failure.TheVariants.{Unread};
 ghost use Rattle.msvc_demangler.specs.Failures.{IsFailure, IsFailureText, IsInside, limit_of_failure, offset_of_failure};
 ghost use Rattle.msvc_demangler.specs.Filtered.{AreOnlyParts, Part, fitting, text_of_parts};
 ghost use Rattle.msvc_demangler.specs.Limits.{limits_of};

@@ -1,8 +1,8 @@
 use Rattle.msvc_print.proofs.Texts.{declaration-utf8}
 use Rattle.msvc_print.specs.Declaration.{declaration}
-use Rattle.msvc_demangler.proofs.Demangled.{declared_of, hashes_shown}
-use Rattle.msvc_demangler.proofs.Failed.{error_under}
-use Rattle.msvc_demangler.specs.Limits.{limits_of}
+use Rattle.msvc_symbol.proofs.Demangled.{declared_of, hashes_shown}
+use Rattle.msvc_symbol.proofs.Failed.{error_under}
+use Rattle.msvc_symbol.specs.Limits.{limits_of}
 use Rattle.msvc_demangler.proofs.demangle_within.Goals as goal
 
 pub into_string-requires : goal.into_string-requires
@@ -21,5 +21,5 @@ returns-in-Ok-clause-hashes c =
 
 pub returns-in-Err-clause-rejected : goal.returns-in-Err-clause-rejected
 returns-in-Err-clause-rejected c =
-    error_under (limits_of c.args.nodes c.args.bytes) c.args.input.now c.args.flags.0 c.in-Err.failure c.error.result
-    c.in-Err.ensures.fails c.error.ensures
+    error_under (limits_of c.args.nodes c.args.bytes) c.args.input.now c.args.flags.0 c.in-Err.failure c.error_of.result
+    c.in-Err.ensures.fails c.error_of.ensures

@@ -1,5 +1,0 @@
-use Rattle.msvc_read.proofs.WholeTexts.{laws}
-use Rattle.msvc_demangler.proofs.demangler.Demangler+Global.demangle.Goals as goal
-
-pub returns-clause-laws : goal.returns-clause-laws
-returns-clause-laws c = laws c.args.input.now

@@ -1,0 +1,9 @@
+pub mod CandidatePrefix
+pub mod Failed
+pub mod Filled
+pub mod Replaced
+pub mod ScanParts
+pub mod Starts
+pub mod Streamed
+pub mod SymbolLookahead
+pub mod Symbols

@@ -1,0 +1,227 @@
+-- The parts of some bytes, on their way.
+use Rattle.std.proofs.Common.{◌≡◌, ◌≤◌, ◌<◌, ◌+◌, ◌-◌, ◌++◌, ◌∷◌, [], ◌∙◌, inl, inr, ℕ, List, true, false, Option, map}
+use Rattle.std.proofs.Common.{length, take, drop, get_or, refl, sym, ap, subst, arith, add-one}
+use Rattle.std.proofs.Common.{append_assoc, append-nil, drop-cons, length-drop, length-take}
+use Rattle.std.proofs.Common.{◌≢◌, ne_eqb}
+use Rattle.std.proofs.Math.Seq.{take-add}
+use Rattle.std.proofs.lemmas.Bool.{or_parts}
+use Rattle.std.proofs.lemmas.List.{drop-append-le, drop-drop, get_or-drop, get_or_append_left, map-append, take-take}
+use Rattle.std.proofs.lemmas.List.{take_more}
+use Rattle.std.proofs.lemmas.List.Elements.{All-head, All-tail}
+use Rattle.std.proofs.lemmas.Simd.{chunk-drop}
+use Rattle.std.specs.List.{list_any}
+use Rattle.std.specs.Prelude.{◌==◌, ◌&&◌, ◌||◌, not}
+use Rattle.msvc_filter.specs.Filtered.{IsFilteredFrom, IsNoSymbol, IsSymbol, Part, declared, kept}
+use Rattle.msvc_filter.specs.Filtered.{nothing, replaced, stays, text_of_parts}
+use Rattle.msvc_filter.specs.WordStates.{ArePartsUpTo, AreRest, IsDecided, IsFound, IsPlain, IsSymbolShown, Keeps}
+use Rattle.msvc_filter.specs.WordStates.{max_looked_at, past}
+use Rattle.msvc_filter.specs.SymbolBounds.{blocks_start, byte_before, has_question_mark, is_start, word_before}
+use Rattle.msvc_filter.specs.declared.symbol_bounds.WordState.{WordState}
+use Rattle.msvc_filter.proofs.SymbolLookahead.{no_symbol-more, symbol-more}
+use Rattle.msvc_filter.proofs.Replaced.{text-append}
+
+-- bytes after these that decide a symbol change nothing
+enough : (left : List ℕ) (at until : ℕ) → at < until → until + max_looked_at ≤ length left
+    → max_looked_at ≤ length (drop at left)
+enough left at until below far = omega (arith, length-drop at left)
+
+no_symbol-decided : (flags : ℕ) (left : List ℕ) (at until : ℕ) (more : List ℕ) → at < until → IsDecided left until more
+    → IsNoSymbol flags (drop at left) → IsNoSymbol flags (drop at left ++ more)
+no_symbol-decided flags left at until more below (inl e) none =
+    subst (IsNoSymbol flags) (sym (append-nil (drop at left)) ∙ ap (λ l. drop at left ++ l) (sym e)) none
+no_symbol-decided flags left at until more below (inr far) none =
+    no_symbol-more flags (drop at left) more (inl (enough left at until below far)) none
+
+symbol-decided : (flags : ℕ) (left : List ℕ) (at until : ℕ) (more : List ℕ) (bytes : ℕ) (text : List ℕ) → at < until
+    → IsDecided left until more → IsSymbol flags (drop at left) bytes text
+    → IsSymbol flags (drop at left ++ more) bytes text
+symbol-decided flags left at until more bytes text below (inl e) is =
+    subst (λ l. IsSymbol flags l bytes text)
+    (sym (append-nil (drop at left)) ∙ ap (λ l. drop at left ++ l) (sym e)) is
+symbol-decided flags left at until more bytes text below (inr far) is =
+    symbol-more flags (drop at left) more bytes text (inl (enough left at until below far)) is
+
+-- before the first byte
+pub parts-start : (flags : ℕ) (scan : WordState) (left : List ℕ) (until : ℕ) → ArePartsUpTo flags scan left until [] 0
+    scan
+parts-start flags scan left until more rest decided h = h
+
+-- the bytes from a place on begin with that one
+from : (left more : List ℕ) (at : ℕ) → at < length left
+    → drop at left ++ more ≡ get_or left at 0 ∷ (drop (at + 1) left ++ more)
+from left more at inside =
+    ap (λ l. l ++ more)
+    (drop-cons left at 0 inside ∙ ap (λ n. get_or left at 0 ∷ drop n left) (sym (add-one at)))
+
+kept-more : (left : List ℕ) (at : ℕ) (rest : List Part) → at < length left
+    → map kept (take at left) ++ (kept (get_or left at 0) ∷ rest) ≡ map kept (take (at + 1) left) ++ rest
+kept-more left at rest inside =
+    sym (append_assoc (map kept (take at left)) (kept (get_or left at 0) ∷ []) rest)
+    ∙ ap (λ l. l ++ rest) (sym (map-append kept (take at left) (get_or left at 0 ∷ []))
+    ∙ ap (map kept) (sym (take_more left at 0 inside)))
+
+-- where no `?` is, no symbol starts
+no_start : (last : ℕ) (passed : List ℕ) (b : ℕ) → (b == 63) ≡ false → is_start last passed b ≡ true → ⊥
+no_start last passed b is starts =
+    let blocked = has_question_mark (word_before passed) || blocks_start (byte_before last passed) in
+    let no : false && not blocked ≡ true = subst (λ t. t && not blocked ≡ true) is starts in cc
+
+plain-parts : (flags last : ℕ) (passed run left : List ℕ) (rest : List Part) → IsPlain run
+    → IsFilteredFrom flags last (past run passed) left rest
+    → IsFilteredFrom flags last passed (run ++ left) (map kept run ++ rest)
+plain-parts flags last passed [] left rest plain h = h
+plain-parts flags last passed (b ∷ run) left rest plain h =
+    let none = ne_eqb b 63 (All-head (λ b. b ≢ 63) b run plain) in
+    stays (λ starts. absurd (no_start last passed b none starts))
+    (plain-parts flags last (b ∷ passed) run left rest (All-tail (λ b. b ≢ 63) b run plain) h)
+
+-- bytes without a `?` stay
+pub parts-plain : (flags : ℕ) (scan now after : WordState) (left : List ℕ) (until at end : ℕ)
+    → ArePartsUpTo flags scan left until (map kept (take at left)) at now → at ≤ end → end ≤ length left
+    → IsPlain (take (end - at) (drop at left))
+    → ((last : ℕ) (passed : List ℕ) → Keeps now last passed
+    → Keeps after last (past (take (end - at) (drop at left)) passed))
+    → ArePartsUpTo flags scan left until (map kept (take end left)) end after
+parts-plain flags scan now after left until at end so order within plain keeps more rest decided h =
+    let run = take (end - at) (drop at left) in
+    let count : at + (end - at) ≡ end = omega arith in
+    let front : take at left ++ run ≡ take end left =
+    sym (take-add at (end - at) left) ∙ ap (λ n. take n left) count in
+    let past_run : drop at left ++ more ≡ run ++ (drop end left ++ more) =
+    ap (λ l. l ++ more) (chunk-drop at (end - at) left ∙ ap (λ n. run ++ drop n left) count)
+    ∙ append_assoc run (drop end left) more in
+    let parts : map kept (take at left) ++ (map kept run ++ rest) ≡ map kept (take end left) ++ rest =
+    sym (append_assoc (map kept (take at left)) (map kept run) rest)
+    ∙ ap (λ l. l ++ rest) (sym (map-append kept (take at left) run) ∙ ap (map kept) front) in
+    subst (AreRest flags scan (left ++ more)) parts
+    (so more (map kept run ++ rest) decided (λ last passed k.
+    subst (λ l. IsFilteredFrom flags last passed l (map kept run ++ rest)) (sym past_run)
+    (plain-parts flags last passed run (drop end left ++ more) rest plain (h last (past run passed)
+    (keeps last passed k)))))
+
+-- the bytes before the first `?` of a part
+pub plain-run : (left : List ℕ) (at count until : ℕ) → count ≤ length (take (until - at) (drop at left))
+    → IsPlain (take count (take (until - at) (drop at left))) → IsPlain (take (at + count - at) (drop at left))
+plain-run left at count until within plain =
+    let here : at + count - at ≡ count = omega arith in
+    let long = length-take (until - at) (drop at left) in
+    let enough : count ≤ until - at = omega (arith, long, within) in
+    let same = take-take count (until - at) (drop at left) enough ∙ ap (λ n. take n (drop at left)) (sym here) in
+    subst IsPlain same plain
+
+-- a byte stays
+pub parts-stays : (flags : ℕ) (scan now after : WordState) (left : List ℕ) (until at : ℕ)
+    → ArePartsUpTo flags scan left until (map kept (take at left)) at now → at < until → until ≤ length left
+    → ((last : ℕ) (passed : List ℕ) → Keeps now last passed → is_start last passed (get_or left at 0) ≡ true
+    → IsNoSymbol flags (drop at left))
+    → ((last : ℕ) (passed : List ℕ) → Keeps now last passed → Keeps after last (get_or left at 0 ∷ passed))
+    → ArePartsUpTo flags scan left until (map kept (take (at + 1) left)) (at + 1) after
+parts-stays flags scan now after left until at so below within none keeps more rest decided h =
+    let inside : at < length left = omega arith in
+    let b = get_or left at 0 in
+    let whole = from left more at inside in
+    subst (AreRest flags scan (left ++ more)) (kept-more left at rest inside)
+    (so more (kept b ∷ rest) decided (λ last passed k.
+    subst (λ l. IsFilteredFrom flags last passed l (kept b ∷ rest)) (sym whole)
+    (stays (λ start. subst (IsNoSymbol flags) whole
+    (no_symbol-decided flags left at until more below decided (none last passed k start)))
+    (h last (b ∷ passed) (keeps last passed k)))))
+
+-- a symbol is found
+pub parts-found : (flags : ℕ) (scan now after : WordState) (left : List ℕ) (until at bytes : ℕ) (shown : Option (List
+    ℕ))
+    → ArePartsUpTo flags scan left until (map kept (take at left)) at now → at < until → until ≤ length left
+    → ((last : ℕ) (passed : List ℕ) → Keeps now last passed → is_start last passed (get_or left at 0) ≡ true)
+    → IsSymbolShown flags (drop at left) bytes shown → Keeps after (get_or left (at + bytes - 1) 0) []
+    → IsFound flags scan left until at bytes shown after
+parts-found flags scan now after left until at bytes shown so below within start is keeps = record {
+  text = is.0;
+  printed = is.1;
+  some = is.3;
+  inside = omega (arith, is.4, length-drop at left);
+  parts = λ more rest decided h.
+      let inside : at < length left = omega arith in
+      let b = get_or left at 0 in
+      let whole = from left more at inside in
+      let fits : bytes ≤ length (drop at left) = is.4 in
+      let last_byte : get_or (drop at left ++ more) (bytes - 1) 0 ≡ get_or left (at + bytes - 1) 0 =
+      get_or_append_left (drop at left) more 0 (bytes - 1) (omega (arith, is.3)) ∙ get_or-drop at left (bytes - 1) 0
+      ∙ ap (λ i. get_or left i 0) (let e : at + (bytes - 1) ≡ at + bytes - 1 = omega (arith, is.3) in e) in
+      let past : drop (at + bytes) left ++ more ≡ drop bytes (drop at left ++ more) =
+      ap (λ l. l ++ more) (sym (drop-drop bytes at left)) ∙ sym (drop-append-le bytes (drop at left) more fits) in
+      subst (AreRest flags scan (left ++ more))
+      (sym (append_assoc (map kept (take at left)) (declared is.0 ∷ []) rest))
+      (so more (declared is.0 ∷ rest) decided (λ last passed k.
+      subst (λ l. IsFilteredFrom flags last passed l (declared is.0 ∷ rest)) (sym whole)
+      (replaced (start last passed k)
+      (subst (λ l. IsSymbol flags l bytes is.0) whole
+      (symbol-decided flags left at until more bytes is.0 below decided is.2))
+      (subst (λ l. IsFilteredFrom flags (get_or l (bytes - 1) 0) [] (drop bytes l) rest) whole
+      (subst (λ n. IsFilteredFrom flags n [] (drop bytes (drop at left ++ more)) rest) (sym last_byte)
+      (subst (λ l. IsFilteredFrom flags (get_or left (at + bytes - 1) 0) [] l rest) past
+      (h (get_or left (at + bytes - 1) 0) [] keeps)))))));
+}
+
+-- parts after others
+pub parts-further : (flags : ℕ) (scan now after : WordState) (left : List ℕ) (until at on : ℕ) (parts others : List
+    Part)
+    → ArePartsUpTo flags scan left until parts at now → at ≤ until → until ≤ length left
+    → ArePartsUpTo flags now (drop at left) (until - at) others on after
+    → ArePartsUpTo flags scan left until (parts ++ others) (at + on) after
+parts-further flags scan now after left until at on parts others so below within further more rest decided h =
+    subst (AreRest flags scan (left ++ more)) (sym (append_assoc parts others rest))
+    (so more (others ++ rest) decided (further more rest (later decided)
+    (subst (λ l. AreRest flags after (l ++ more) rest) (sym (drop-drop on at left)) h)))
+  where
+    later : IsDecided left until more → IsDecided (drop at left) (until - at) more
+    later (inl e) = inl e
+    later (inr far) = inr (omega (arith, length-drop at left))
+
+-- bytes that stay are their text
+pub text-kept : (bytes : List ℕ) → text_of_parts (map kept bytes) ≡ bytes
+text-kept [] = refl
+text-kept (b ∷ bytes) = ap (λ l. b ∷ l) (text-kept bytes)
+
+-- to the end
+pub parts-all : (flags : ℕ) (scan after : WordState) (left : List ℕ) (until at : ℕ) (parts : List Part)
+    → ArePartsUpTo flags scan left until parts at after → length left ≤ at → AreRest flags scan left parts
+parts-all flags scan after left until at parts so end =
+    let none : drop at left ++ [] ≡ [] =
+    append-nil (drop at left) ∙ empty (drop at left) (omega (arith, length-drop at left)) in
+    subst (AreRest flags scan left) (append-nil parts)
+    (subst (λ l. AreRest flags scan l (parts ++ [])) (append-nil left)
+    (so [] [] (inl refl) (λ last passed k. subst (λ l. IsFilteredFrom flags last passed l []) (sym none) nothing)))
+  where
+    empty : (l : List ℕ) → length l ≡ 0 → l ≡ []
+    empty [] e = refl
+    empty (x ∷ xs) e = absurd (omega arith)
+
+-- what has no `?` stays as it is
+pub without_question_mark : (flags : ℕ) (last : ℕ) (passed left : List ℕ) → list_any (λ b. b == 63) left ≡ false
+    → IsFilteredFrom flags last passed left (map kept left)
+without_question_mark flags last passed [] none = nothing
+without_question_mark flags last passed (b ∷ bs) none =
+    let parts = or_parts (b == 63) (list_any (λ c. c == 63) bs) none in
+    stays (λ starts. absurd (no_start last passed b parts.0 starts))
+    (without_question_mark flags last (b ∷ passed) bs parts.1)
+
+pub first-of : (left : List ℕ) (at : ℕ) → get_or (drop at left) 0 0 ≡ get_or left at 0
+first-of left at = get_or-drop at left 0 0 ∙ ap (λ i. get_or left i 0) (let e : at + 0 ≡ at = omega arith in e)
+
+-- what is appended for a symbol
+pub text-further : (text shown : List ℕ) (parts : List Part) (bytes : List ℕ) → text ≡ text_of_parts parts
+    → (text ++ bytes) ++ shown ≡ text_of_parts (parts ++ (map kept bytes ++ declared shown ∷ []))
+text-further text shown parts bytes is =
+    append_assoc text bytes shown ∙ ap (λ t. t ++ (bytes ++ shown)) is
+    ∙ ap (λ t. text_of_parts parts ++ t)
+    (ap (λ b. b ++ shown) (sym (text-kept bytes))
+    ∙ ap (λ t. text_of_parts (map kept bytes) ++ t) (sym (append-nil shown))
+    ∙ sym (text-append (map kept bytes) (declared shown ∷ [])))
+    ∙ sym (text-append parts (map kept bytes ++ declared shown ∷ []))
+
+-- and for bytes that stay
+pub text-stays : (text : List ℕ) (parts : List Part) (bytes : List ℕ) → text ≡ text_of_parts parts
+    → text ++ bytes ≡ text_of_parts (parts ++ map kept bytes)
+text-stays text parts bytes is =
+    ap (λ t. t ++ bytes) is ∙ ap (λ t. text_of_parts parts ++ t) (sym (text-kept bytes))
+    ∙ sym (text-append parts (map kept bytes))

@@ -1,0 +1,9 @@
+use Rattle.std.proofs.Common.{◌≡◌}
+use Rattle.msvc_filter.proofs.Streamed.{Streaming}
+use Rattle.msvc_filter.proofs.filter.filter_text.Given as goal
+
+abbrev pub invariant-pieces : goal.invariant-pieces
+invariant-pieces g l =
+    Streaming l.flags.0 (g.R.Read.remaining l.fn.input.stream) (g.R.Read.remaining l.input.stream)
+    (g.W.Write.contents l.fn.out.stream) (g.W.Write.contents l.out.stream) l.piece.items l.scan
+    × (l.input.failed ≡ l.fn.input.failed) × (l.out.failed ≡ l.fn.out.failed)

@@ -1,0 +1,5 @@
+pub mod FilterRuns
+pub mod Filtered
+pub mod SliceWriters
+pub mod SymbolBounds
+pub mod WordStates

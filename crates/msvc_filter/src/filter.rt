@@ -1,0 +1,482 @@
+//! The filter over texts: each symbol in them is replaced by its declaration.
+
+ghost use Rattle.std.specs.Prelude.{◌≡◌, ◌≤◌, ◌<◌, ◌+◌, ◌++◌, ◌∷◌, ℕ, List, [], IfNone, IfOk, IfSome};
+ghost use Rattle.std.specs.Prelude.{MatchResult};
+ghost use Rattle.std.specs.Prelude.{OnOk, OnSome, Some, drop, length, map, slice_index, take, true, vec_len};
+ghost use Rattle.std.specs.Io.KnownBytes.{Appends, Consumes, IsAtEnd};
+ghost use Rattle.msvc_nodes.specs.Trees.{SymbolTree};
+ghost use Rattle.msvc_grammar.specs.Counts.{node_count};
+ghost use Rattle.msvc_grammar.specs.Parsed.{IsParsed, IsSymbolLength};
+ghost use Rattle.msvc_print.specs.Declaration.{declaration};
+ghost use Rattle.msvc_watched.specs.Faults.{SetsFailureFlag, failure_flag, no_stream};
+ghost use Rattle.msvc_filter.specs.SliceWriters.{IsSliceWriter, space_after};
+ghost use Rattle.msvc_filter.specs.Filtered.{AreOnlyParts, IsNoSymbol, IsNoneWithin, Part, declared, fitting};
+ghost use Rattle.msvc_filter.specs.Filtered.{kept, max_declared, max_nodes, text_of_parts};
+ghost use Rattle.msvc_watched.specs.Runs.{Writes, WritesPart};
+ghost use Rattle.msvc_filter.specs.FilterRuns.{WritesFiltered};
+ghost use Rattle.msvc_filter.specs.WordStates.{ArePartsUpTo, IsFilteredUpTo, IsFound};
+ghost use Rattle.msvc_filter.specs.WordStates.{IsDecidedText, IsDecidedTextOf, IsRestText};
+ghost use Rattle.msvc_filter.specs.WordStates.{IsSymbolShown, Keeps};
+ghost use Rattle.msvc_filter.specs.SymbolBounds.{is_start};
+
+use crate::symbol_bounds::{
+    MAX_LOOKED_AT, WordState, candidate, continues, plain_len, symbol_extent, utf8_front,
+};
+use msvc_nodes::flags::DemangleFlags;
+use msvc_symbol::{DEFAULT_BYTE_LIMIT, DEFAULT_NODE_LIMIT, Demangler, print_symbol, printed_bytes};
+use msvc_watched::{Fault, Taken, Watched, consume, fail, fill_buf, line_end, write_all};
+use std::alloc::{AllocError, Allocator, Global};
+use std::io::{BufRead, Write};
+
+/// The most bytes of a line that are held before a piece of the line is written.
+const MAX_HELD: usize = 65_536;
+
+/// Copies `input` to `out`, with each symbol in it replaced by its declaration under `flags`. All other bytes stay as
+/// they are.
+///
+/// A line of at most 65,536 bytes is read whole, then filtered, then written, so that a fault leaves no part of it
+/// behind, unless a write fails. A line that the reader shows whole is written from the reader's buffer, and consumed
+/// then, also if the write failed; so reader and writer must not share a borrow that lasts from `fill_buf` to
+/// `consume`, as of a `RefCell`. Of a longer line pieces are written as they come, so that a line of any length takes
+/// no more memory. At each start at most 4,096 bytes are read as a symbol, of at most 10,000 nodes, and at most 65,536
+/// bytes are printed; so the time is linear in the bytes.
+///
+/// # Errors
+///
+/// The first fault: [`Fault::Read`] if the reader fails, [`Fault::Write`] if the writer fails, [`Fault::Memory`] if an
+/// allocation fails. The lines before it are written.
+pub fn filter_text<R: BufRead, W: Write>(
+    alloc: Global,
+    input: &mut Watched<R>,
+    out: &mut Watched<W>,
+    flags: DemangleFlags,
+) -> Result<(), Fault>
+    ensures text { (taken text : List ℕ) × Consumes (R.remaining input.old.stream) (R.remaining input.new.stream) taken
+        × Appends (W.contents out.old.stream) (W.contents out.new.stream) text
+        × WritesFiltered result flags.0 taken text }
+    ensures end { OnOk result (OnSome (R.remaining input.old.stream) (IsAtEnd (R.remaining input.new.stream))) }
+    ensures sets_failed { SetsFailureFlag result (failure_flag input.old input.new) (failure_flag out.old out.new)
+        no_stream }
+{
+    let mut demangler = Demangler::new(alloc);
+    let mut text = Vec::new(alloc);
+    let mut piece = Vec::new(alloc);
+    let mut scan = WordState::new(b'\n');
+    'pieces: for _ in 0..u64::MAX {
+        let Ok(shown) = fill_buf(input) else {
+            return Err(fail(input));
+        };
+        let (end, taken) = line_end(shown);
+        match taken {
+            Taken::Line if piece.is_empty() => {
+                // A line that the reader shows whole is not copied.
+                let put = write_rest(&mut demangler, &mut text, &shown[..end], scan, out, flags);
+                consume(input, end);
+                put?;
+                scan = WordState::new(b'\n');
+            }
+            Taken::Line => {
+                if piece.extend_from_slice(&shown[..end]).is_err() {
+                    return Err(Fault::Memory);
+                }
+                consume(input, end);
+                write_rest(&mut demangler, &mut text, &piece, scan, out, flags)?;
+                piece.clear();
+                scan = WordState::new(b'\n');
+            }
+            Taken::Part => {
+                if piece.extend_from_slice(&shown[..end]).is_err() {
+                    return Err(Fault::Memory);
+                }
+                consume(input, end);
+                write_decided(&mut demangler, &mut text, &mut piece, &mut scan, out, flags)?;
+            }
+            Taken::End => return write_rest(&mut demangler, &mut text, &piece, scan, out, flags),
+        }
+    }
+    Err(fail(input))
+}
+
+/// Writes what is settled of a line whose end has not come, if more bytes of it are held than [`MAX_HELD`], and leaves
+/// the other bytes in `piece`.
+fn write_decided<W: Write>(
+    demangler: &mut Demangler,
+    text: &mut Vec<u8>,
+    piece: &mut Vec<u8>,
+    scan: &mut WordState,
+    out: &mut Watched<W>,
+    flags: DemangleFlags,
+) -> Result<(), Fault>
+    ensures text { (written : List ℕ) × Appends (W.contents out.old.stream) (W.contents out.new.stream) written
+        × MatchResult result (λ _. IsDecidedText flags.0 scan.old piece.old.items written scan.new piece.new.items)
+        (λ fault. WritesPart fault (IsDecidedTextOf flags.0 scan.old piece.old.items) written) }
+    ensures sets_failed { SetsFailureFlag result no_stream (failure_flag out.old out.new) no_stream }
+{
+    if piece.len() <= MAX_HELD {
+        return Ok(());
+    }
+    let until = piece.len() - MAX_LOOKED_AT;
+    match filter_piece(demangler, piece, until, scan, text, flags) {
+        Ok(at) => {
+            write_all(out, text)?;
+            drop_front(piece, at);
+            Ok(())
+        }
+        Err(_) => Err(Fault::Memory),
+    }
+}
+
+/// Removes the first bytes.
+fn drop_front(bytes: &mut Vec<u8>, count: usize)
+    requires { count ≤ vec_len bytes.old }
+    ensures { bytes.new.items ≡ drop count bytes.old.items }
+{
+    let rest = bytes.len() - count;
+    bytes.copy_within(count.., 0);
+    bytes.truncate(rest);
+}
+
+/// Writes the filtered text of the rest of a line, for which `text` has room.
+fn write_rest<W: Write>(
+    demangler: &mut Demangler,
+    text: &mut Vec<u8>,
+    piece: &[u8],
+    mut scan: WordState,
+    out: &mut Watched<W>,
+    flags: DemangleFlags,
+) -> Result<(), Fault>
+    ensures text { (written : List ℕ) × Appends (W.contents out.old.stream) (W.contents out.new.stream) written
+        × Writes result (IsRestText flags.0 scan piece.now) written }
+    ensures sets_failed { SetsFailureFlag result no_stream (failure_flag out.old out.new) no_stream }
+{
+    // Most lines have no symbol, and stay as they are.
+    if !piece.contains(&b'?') {
+        return write_all(out, piece);
+    }
+    match filter_piece(demangler, piece, piece.len(), &mut scan, text, flags) {
+        Ok(_) => write_all(out, text),
+        Err(_) => Err(Fault::Memory),
+    }
+}
+
+/// The result of [`filter_slice`].
+#[derive(Clone, Copy)]
+pub struct Filtered {
+    /// Bytes of the whole filtered text, whether they fitted or not.
+    pub length: usize,
+    /// Bytes written.
+    pub written: usize,
+}
+
+/// Writes `text` into `out` with each symbol in it replaced by its declaration under `flags`.
+///
+/// Writes as much as fits, in whole characters of declarations. Bytes of `out` after these are unchanged. Requests
+/// memory for symbols, and none for the text.
+///
+/// # Errors
+///
+/// Fails if an allocation fails, or if the filtered text has more bytes than a `usize` counts. The contents of `out`
+/// are unspecified then.
+///
+/// # Examples
+///
+/// ```
+/// let mut out = [0; 64];
+/// let filtered = filter_slice(alloc, b"at ?f@@YAXXZ+0x5", DemangleFlags::llvm(), &mut out)?;
+/// assert_eq!(rt; &out[..filtered.written], b"at void __cdecl f(void)+0x5".as_slice());
+/// ```
+pub fn filter_slice(
+    alloc: Global,
+    text: &[u8],
+    flags: DemangleFlags,
+    out: &mut [u8],
+) -> Result<Filtered, AllocError>
+    ensures text { IfOk result (λ f. (parts : List Part) × AreOnlyParts flags.0 text.now parts
+        × (f.length ≡ length (text_of_parts parts)) × (f.written ≡ length (fitting (length out.old) parts))
+        × (out.new ≡ fitting (length out.old) parts ++ drop (length (fitting (length out.old) parts)) out.old)) }
+{
+    filter_slice_in(&mut Demangler::new(alloc), text, flags, out)
+}
+
+/// Writes `text` into `out`, as [`filter_slice`] does, with the memory of a demangler.
+///
+/// # Errors
+///
+/// Those of [`filter_slice`].
+pub fn filter_slice_in<A: Allocator + Copy>(
+    demangler: &mut Demangler<A>,
+    text: &[u8],
+    flags: DemangleFlags,
+    out: &mut [u8],
+) -> Result<Filtered, AllocError>
+    ensures text { IfOk result (λ f. (parts : List Part) × AreOnlyParts flags.0 text.now parts
+        × (f.length ≡ length (text_of_parts parts)) × (f.written ≡ length (fitting (length out.old) parts))
+        × (out.new ≡ fitting (length out.old) parts ++ drop (length (fitting (length out.old) parts)) out.old)) }
+{
+    let mut scan = WordState::new(b'\n');
+    let mut writer = SliceWriter {
+        length: 0,
+        written: 0,
+        space: out.len(),
+    };
+    let mut at = 0;
+    'symbols: while at < text.len() {
+        match next_symbol(demangler, &text[at..], text.len() - at, &mut scan, flags)? {
+            Some(found) => {
+                writer = write_verbatim(out, writer, &text[at..at + found.before])?;
+                writer = write_declaration(out, writer, printed_bytes(demangler))?;
+                at += found.before + found.bytes;
+            }
+            None => {
+                writer = write_verbatim(out, writer, &text[at..])?;
+                at = text.len();
+            }
+        }
+    }
+    Ok(Filtered {
+        length: writer.length,
+        written: writer.written,
+    })
+}
+
+/// How far a slice is filled.
+#[derive(Clone, Copy)]
+struct SliceWriter {
+    /// Bytes of the filtered text, whether they fitted or not.
+    length: usize,
+    /// Bytes written.
+    written: usize,
+    /// Bytes that later parts may take: none after a declaration that was cut.
+    space: usize,
+}
+
+/// Writes as many bytes that stay as fit.
+fn write_verbatim(
+    out: &mut [u8],
+    writer: SliceWriter,
+    bytes: &[u8],
+) -> Result<SliceWriter, AllocError>
+    requires { writer.written + writer.space ≤ length out.old }
+    ensures { IfOk result (λ f. (given : List ℕ) (parts : List Part) → IsSliceWriter given parts writer out.old
+        → IsSliceWriter given (parts ++ map kept bytes.now) f out.new) }
+{
+    write_first(out, writer, bytes, bytes.len().min(writer.space))
+}
+
+/// Writes as many whole characters of a declaration as fit.
+fn write_declaration(
+    out: &mut [u8],
+    writer: SliceWriter,
+    text: &[u8],
+) -> Result<SliceWriter, AllocError>
+    requires { writer.written + writer.space ≤ length out.old }
+    ensures { IfOk result (λ f. (given : List ℕ) (parts : List Part) → IsSliceWriter given parts writer out.old
+        → IsSliceWriter given (parts ++ declared text.now ∷ []) f out.new) }
+{
+    let taken = fitting_len(text, writer.space);
+    write_first(out, writer, text, taken)
+}
+
+/// Counts the bytes of a declaration that fit into `space` bytes in whole characters.
+fn fitting_len(text: &[u8], space: usize) -> usize
+    ensures bound { result ≤ space }
+    ensures within { result ≤ length text.now }
+    ensures fits { (rest : List Part) → fitting space (declared text.now ∷ rest)
+        ≡ take result text.now ++ fitting (space_after result (length text.now) space) rest }
+{
+    if text.len() <= space {
+        text.len()
+    } else {
+        utf8_front(&text[..space]).len()
+    }
+}
+
+/// Writes the first `taken` of some bytes.
+fn write_first(
+    out: &mut [u8],
+    writer: SliceWriter,
+    bytes: &[u8],
+    taken: usize,
+) -> Result<SliceWriter, AllocError>
+    requires room { writer.written + writer.space ≤ length out.old }
+    requires bound { taken ≤ writer.space }
+    requires within { taken ≤ length bytes.now }
+    ensures { IfOk result (λ f. (given : List ℕ) (parts others : List Part) → text_of_parts others ≡ bytes.now
+        → ((rest : List Part) → fitting writer.space (others ++ rest)
+        ≡ take taken bytes.now ++ fitting (space_after taken (length bytes.now) writer.space) rest)
+        → IsSliceWriter given parts writer out.old → IsSliceWriter given (parts ++ others) f out.new) }
+{
+    let length = match writer.length.checked_add(bytes.len()) {
+        Some(length) => length,
+        None => return Err(AllocError),
+    };
+    copy_into(out, writer.written, &bytes[..taken]);
+    Ok(SliceWriter {
+        length,
+        written: writer.written + taken,
+        space: if taken < bytes.len() {
+            0
+        } else {
+            writer.space - taken
+        },
+    })
+}
+
+/// Writes some bytes into a slice from a place on.
+fn copy_into(out: &mut [u8], at: usize, bytes: &[u8])
+    requires { at + length bytes.now ≤ length out.old }
+    ensures { out.new ≡ take at out.old ++ (bytes.now ++ drop (at + length bytes.now) out.old) }
+{
+    out[at..at + bytes.len()].copy_from_slice(bytes);
+}
+
+/// Replaces the contents of `text` by the filtered text of `piece` up to `until`, or up to the end of the symbol that
+/// `until` is inside. Returns how many bytes of `piece` these are.
+fn filter_piece(
+    demangler: &mut Demangler,
+    piece: &[u8],
+    until: usize,
+    scan: &mut WordState,
+    text: &mut Vec<u8>,
+    flags: DemangleFlags,
+) -> Result<usize, AllocError>
+    requires { until ≤ length piece.now }
+    ensures { IfOk result (λ at.
+        IsFilteredUpTo flags.0 scan.old piece.now until text.new.items at scan.new) }
+{
+    text.clear();
+    let mut at = 0;
+    'symbols: while at < until {
+        match next_symbol(demangler, &piece[at..], until - at, scan, flags)? {
+            Some(found) => {
+                text.extend_from_slice(&piece[at..at + found.before])?;
+                text.extend_from_slice(printed_bytes(demangler))?;
+                at += found.before + found.bytes;
+            }
+            None => {
+                text.extend_from_slice(&piece[at..until])?;
+                at = until;
+            }
+        }
+    }
+    Ok(at)
+}
+
+/// The place of a symbol in a text.
+#[derive(Clone, Copy)]
+struct Found {
+    /// Bytes before the symbol.
+    before: usize,
+    /// Bytes that the symbol takes.
+    bytes: usize,
+}
+
+/// Finds the first symbol of `left` that begins before `until`, and prints its declaration as the demangler's text. Moves
+/// the scan to the end of the symbol, or to `until` if there is none.
+fn next_symbol<A: Allocator + Copy>(
+    demangler: &mut Demangler<A>,
+    left: &[u8],
+    until: usize,
+    scan: &mut WordState,
+    flags: DemangleFlags,
+) -> Result<Option<Found>, AllocError>
+    requires { until ≤ length left.now }
+    ensures none { IfOk result (λ found. IfNone found
+        (ArePartsUpTo flags.0 scan.old left.now until (map kept (take until left.now)) until scan.new)) }
+    ensures some { IfOk result (λ found. IfSome found (λ f.
+        IsFound flags.0 scan.old left.now until f.before f.bytes demangler.new.text scan.new)) }
+{
+    let mut at = 0;
+    'bytes: while at < until {
+        if left[at] != b'?' {
+            // No symbol starts before the next `?`.
+            let end = at + plain_len(&left[at..until]);
+            *scan = scan.pass(&left[at..end]);
+            at = end;
+            continue;
+        }
+        match symbol_at(demangler, &left[at..], *scan, flags)? {
+            Some(bytes) => {
+                *scan = WordState::new(left[at + bytes - 1]);
+                return Ok(Some(Found { before: at, bytes }));
+            }
+            None => {
+                *scan = scan.after(left[at]);
+                at += 1;
+            }
+        }
+    }
+    Ok(None)
+}
+
+/// Returns how many bytes the symbol takes that begins here, if one does, with its declaration as the demangler's text.
+fn symbol_at<A: Allocator + Copy>(
+    demangler: &mut Demangler<A>,
+    left: &[u8],
+    scan: WordState,
+    flags: DemangleFlags,
+) -> Result<Option<usize>, AllocError>
+    ensures none { IfOk result (λ found. IfNone found ((last : ℕ) (passed : List ℕ) → Keeps scan last passed
+        → is_start last passed (slice_index left.now 0) ≡ true → IsNoSymbol flags.0 left.now)) }
+    ensures some { IfOk result (λ found. IfSome found (λ bytes. ((last : ℕ) (passed : List ℕ) → Keeps scan last passed
+        → is_start last passed (slice_index left.now 0) ≡ true)
+        × IsSymbolShown flags.0 left.now bytes demangler.new.text)) }
+{
+    match left {
+        [byte, ..] if scan.is_start(*byte) => match_symbol(demangler, left, flags),
+        _ => Ok(None),
+    }
+}
+
+/// Returns how many bytes the symbol takes that begins at a start, if one does, with its declaration as the demangler's
+/// text.
+fn match_symbol<A: Allocator + Copy>(
+    demangler: &mut Demangler<A>,
+    left: &[u8],
+    flags: DemangleFlags,
+) -> Result<Option<usize>, AllocError>
+    ensures none { IfOk result (λ found. IfNone found (IsNoSymbol flags.0 left.now)) }
+    ensures some { IfOk result (λ found. IfSome found (λ bytes.
+        IsSymbolShown flags.0 left.now bytes demangler.new.text)) }
+{
+    match demangle_candidate(demangler, candidate(left), flags)? {
+        Some(read) => {
+            let bytes = symbol_extent(left, read);
+            if continues(left, bytes) {
+                return Ok(None);
+            }
+            Ok(Some(bytes))
+        }
+        None => Ok(None),
+    }
+}
+
+/// Prints the declaration of the symbol that `input` begins with as the demangler's text, and returns how many bytes
+/// were read for it. Returns none if there is no symbol, or one that exceeds a limit; the text is no declaration then.
+fn demangle_candidate<A: Allocator + Copy>(
+    demangler: &mut Demangler<A>,
+    input: &str,
+    flags: DemangleFlags,
+) -> Result<Option<usize>, AllocError>
+    ensures declared { IfOk result (λ found. IfSome found (λ bytes. (tree : SymbolTree) × IsParsed input.now tree
+        × (demangler.new.text ≡ Some (declaration tree flags.0)) × (node_count tree ≤ max_nodes)
+        × IsSymbolLength bytes input.now × (length (declaration tree flags.0) ≤ max_declared))) }
+    ensures none { IfOk result (λ found. IfNone found (IsNoneWithin flags.0 input.now)) }
+{
+    match print_symbol(
+        demangler,
+        input,
+        flags,
+        DEFAULT_NODE_LIMIT,
+        DEFAULT_BYTE_LIMIT,
+    ) {
+        Ok(read) => Ok(Some(read)),
+        Err(failure) => {
+            if failure.is_out_of_memory() {
+                Err(AllocError)
+            } else {
+                Ok(None)
+            }
+        }
+    }
+}

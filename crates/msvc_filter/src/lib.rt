@@ -1,0 +1,7 @@
+//! Symbols inside text: each is replaced by its declaration, and no other byte changes.
+#![tactic(auto)]
+
+mod filter;
+mod symbol_bounds;
+
+pub use filter::{Filtered, filter_slice, filter_slice_in, filter_text};

@@ -1,0 +1,4 @@
+pub mod LineRun
+pub mod LineTexts
+pub mod Pieces
+pub mod Texts

@@ -1,0 +1,60 @@
+-- Lines, and the text of lines that follow one another.
+use Rattle.std.proofs.Common.{◌≡◌, ◌++◌, ◌∷◌, [], ℕ, List, ap, sym, subst, refl, ◌∙◌, append_assoc, append-nil}
+use Rattle.std.proofs.Common.{inl, inr}
+use Rattle.std.specs.Str.{IsUtf8}
+use Rattle.msvc_print.specs.Declaration.{declaration}
+use Rattle.msvc_lines.specs.Lines.{line_of, lines_of}
+use Rattle.msvc_lines.specs.Answers.{IsAnswer, IsLineText, IsText, line_flags, nothing, left_out}
+use Rattle.msvc_lines.specs.Answers.{answered}
+use Rattle.msvc_lines.proofs.LineTexts.{AreJoined}
+use Rattle.msvc_lines.proofs.Pieces.{lines_of-append, lines_of-nil}
+
+-- the text of one line
+pub IsText-one : (line text : List ℕ) → IsUtf8 line → IsLineText line text → IsText (line ∷ []) text
+IsText-one line text utf8 h = subst (IsText (line ∷ [])) (append-nil text) (answered utf8 h nothing)
+
+-- the text of lines, and then of others
+pub IsText-append : {lines others : List (List ℕ)} {text more : List ℕ} → IsText lines text → IsText others more
+    → IsText (lines ++ others) (text ++ more)
+IsText-append nothing h = h
+IsText-append (left_out broken t) h = left_out broken (IsText-append t h)
+IsText-append {others = others} {more = more}
+    (answered {line = line} {lines = lines} {first = first} {text = text} utf8 a t) h =
+    subst (IsText (line ∷ (lines ++ others))) (sym (append_assoc first text more)) (answered utf8 a (IsText-append t h))
+
+-- a symbol has one answer, and a line one text
+IsAnswer-only : (symbol first second : List ℕ) → IsAnswer symbol first → IsAnswer symbol second → second ≡ first
+IsAnswer-only symbol first second (inl a) (inl b) =
+    b.2 ∙ ap (λ t. declaration t line_flags) (a.1.3 b.0 b.1.0 b.1.1 b.1.2).0 ∙ sym a.2
+IsAnswer-only symbol first second (inl a) (inr b) = absurd (b.0 a.0 a.1.0 a.1.1 a.1.2)
+IsAnswer-only symbol first second (inr a) (inl b) = absurd (a.0 b.0 b.1.0 b.1.1 b.1.2)
+IsAnswer-only symbol first second (inr a) (inr b) = b.1 ∙ sym a.1
+
+IsLineText-only : (symbol first second : List ℕ) → IsLineText symbol first → IsLineText symbol second → second ≡ first
+IsLineText-only symbol first second a b =
+    b.2 ∙ ap (λ l. l ++ 10 ∷ []) (IsAnswer-only symbol a.0 b.0 a.1 b.1) ∙ sym a.2
+
+IsText-only : (lines : List (List ℕ)) (first second : List ℕ) → IsText lines first → IsText lines second
+    → second ≡ first
+IsText-only _ _ _ nothing nothing = refl
+IsText-only _ _ _ (left_out broken t) (left_out again u) = IsText-only _ _ _ t u
+IsText-only _ _ _ (left_out broken t) (answered utf8 a u) = absurd (broken utf8)
+IsText-only _ _ _ (answered utf8 a t) (left_out broken u) = absurd (broken utf8)
+IsText-only _ _ _ (answered {line = line} {first = first} {text = text} utf8 a t)
+    (answered {first = other} {text = more} again b u) =
+    ap (λ l. l ++ more) (IsLineText-only line first other a b) ∙ ap (λ l. first ++ l) (IsText-only _ text more t u)
+
+-- as pieces of bytes have them
+abbrev pub AreAnswered : List ℕ → List ℕ → Type 0
+AreAnswered bytes text = IsText (lines_of bytes) text
+
+abbrev pub IsAnswered : List ℕ → List ℕ → Type 0
+IsAnswered piece text = IsText (line_of piece ∷ []) text
+
+pub answers-joined : AreJoined AreAnswered IsAnswered
+answers-joined = record {
+  none = rw lines_of-nil nothing;
+  line = λ finished part text more lines some one is h.
+      rw (lines_of-append finished part lines some one) (IsText-append is h);
+  only = λ bytes first second a b. IsText-only (lines_of bytes) first second a b;
+}

@@ -1,0 +1,58 @@
+//! The whole run of the program `undname`, over readers and writers: its options, and the symbols among its arguments.
+
+ghost use Rattle.msvc_watched.specs.Faults.{SetsFailureFlag, failure_flag, no_stream};
+
+use crate::lines::{undname_in, undname_lines};
+use msvc_symbol::Demangler;
+use msvc_watched::{Fault, Watched};
+use std::alloc::Global;
+use std::io::{BufRead, Write};
+
+/// Runs `undname` on its arguments, without the program's name: demangles each symbol in order or, if there is none,
+/// each line of `input`. A first argument `-v` is an option: with it each tree is written to `err` before its
+/// declaration.
+///
+/// # Errors
+///
+/// The first fault, at which the run ends. The caller flushes the writers and reports the fault.
+pub fn undname_run<R: BufRead, W: Write, E: Write>(
+    alloc: Global,
+    words: &[String],
+    input: &mut Watched<R>,
+    out: &mut Watched<W>,
+    err: &mut Watched<E>,
+) -> Result<(), Fault>
+    ensures sets_failed { SetsFailureFlag result (failure_flag input.old input.new) (failure_flag out.old out.new)
+        (failure_flag err.old err.new) }
+{
+    let (symbols, verbose) = options(words);
+    if symbols.is_empty() {
+        return undname_lines(alloc, input, out, err, verbose);
+    }
+    undname_all(alloc, symbols, out, err, verbose)
+}
+
+/// Parts the arguments into the symbols and whether the first argument asks for trees.
+fn options(words: &[String]) -> (&[String], bool) {
+    match words.split_first() {
+        Some((first, symbols)) if first.as_str() == "-v" => (symbols, true),
+        _ => (words, false),
+    }
+}
+
+/// Demangles each symbol, in order.
+fn undname_all<W: Write, E: Write>(
+    alloc: Global,
+    symbols: &[String],
+    out: &mut Watched<W>,
+    err: &mut Watched<E>,
+    verbose: bool,
+) -> Result<(), Fault>
+    ensures sets_failed { SetsFailureFlag result no_stream (failure_flag out.old out.new) (failure_flag err.old err.new) }
+{
+    let mut demangler = Demangler::new(alloc);
+    for symbol in symbols {
+        undname_in(alloc, &mut demangler, symbol.as_str(), out, err, verbose)?;
+    }
+    Ok(())
+}

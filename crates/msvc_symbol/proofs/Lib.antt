@@ -1,0 +1,2 @@
+pub mod Demangled
+pub mod Failed

@@ -1,0 +1,5 @@
+use Rattle.msvc_read.proofs.WholeTexts.{laws}
+use Rattle.msvc_symbol.proofs.demangler.Demangler+Global.demangle.Goals as goal
+
+pub returns-clause-laws : goal.returns-clause-laws
+returns-clause-laws c = laws c.args.input.now

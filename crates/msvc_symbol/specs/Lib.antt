@@ -1,0 +1,3 @@
+pub mod Demangled
+pub mod Failures
+pub mod Limits

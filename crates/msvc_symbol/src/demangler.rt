@@ -1,0 +1,449 @@
+//! Reads a symbol and prints its declaration, in memory that is kept from one symbol to the next or made for one. The
+//! sizes of this memory stand here.
+
+ghost use Rattle.std.specs.Prelude.{◌≡◌, ℕ, List, IfErr, IfOk, Some, true};
+ghost use Rattle.msvc_nodes.specs.NodeView.{typed_symbol_of};
+ghost use Rattle.msvc_nodes.specs.Trees.{SymbolTree};
+ghost use Rattle.msvc_grammar.specs.Counts.{node_count};
+ghost use Rattle.msvc_grammar.specs.Parsed.{GrammarLaws, IsParsed, IsRejected, IsSymbolLength};
+ghost use Rattle.msvc_read.specs.Failures.{Fails};
+ghost use Rattle.msvc_print.specs.Declaration.{declaration};
+ghost use Rattle.msvc_print.specs.Within.{IsPrintedWithin};
+ghost use Rattle.msvc_symbol.specs.Demangled.{HashesAreShown, IsDeclared, IsDeclaredWithin, IsErrorUnder};
+ghost use Rattle.msvc_symbol.specs.Failures.{FailsUnder, IsFailure, IsInside};
+ghost use Rattle.msvc_symbol.specs.Limits.{IsPrinted, IsRejectedUnder, IsWithin, limit_of_number, limits_of};
+
+use crate::failure::{Failure, error_of};
+use alloc_fuse::Fuse;
+use bumpalo::Bump;
+use msvc_debug::write_tree;
+use msvc_nodes::error::Error;
+use msvc_nodes::flags::DemangleFlags;
+use msvc_nodes::nodes::TypedSymbol;
+use msvc_parser::refusal::Refusal;
+use msvc_print::{Text, print_arena_bytes, print_arena_bytes_within, print_within};
+use msvc_read::{parse_arena_bytes, parse_arena_bytes_within, read_symbol, read_symbol_within};
+use std::alloc::{AllocError, Allocator, Global};
+use std::marker::Model;
+
+/// Bytes to reserve for a declaration, for each byte of its symbol: few names need more.
+const TEXT_OF_A_BYTE: usize = 3;
+
+/// Bytes to reserve beside these.
+const TEXT_AT_FIRST: usize = 64;
+
+/// The most bytes to reserve for a declaration.
+const MAX_TEXT: usize = 1 << 16;
+
+/// The most bytes that an arena begins with.
+const MAX_ARENA_BYTES: usize = 1 << 20;
+
+/// The bytes of an arena that is never made anew.
+const FIXED: usize = usize::MAX;
+
+/// A demangler that keeps its memory: a symbol that needs no more than those before it makes no request.
+///
+/// # Examples
+///
+/// ```
+/// let mut demangler = Demangler::new(alloc);
+/// assert_eq!(rt; demangler.demangle("?x@@3HA", DemangleFlags::llvm())?, "int x");
+/// assert_eq!(rt; demangler.demangle("?f@@YAXXZ", DemangleFlags::NAME_ONLY)?, "f");
+/// ```
+#[derive(Drop)]
+pub struct Demangler<A: Allocator + Copy = Global>
+where
+    Fuse<A>: Allocator,
+{
+    alloc: A,
+    /// The nodes of the last symbol, and the stack of the printer.
+    arena: Bump<Fuse<A>>,
+    /// Bytes that the arena began with, or [`FIXED`].
+    began: usize,
+    /// The declaration of the last symbol that was printed.
+    text: Text<A>,
+}
+
+impl<A: Allocator + Copy> Model for Demangler<A>
+where
+    Fuse<A>: Allocator,
+{
+    ghost use Rattle.msvc_print.specs.Limited.{LimitedText};
+
+    ghost Value = { LimitedText };
+
+    ghost view = { λ d. d.text };
+}
+
+impl<A: Allocator + Copy> Demangler<A> {
+    /// Makes a demangler. Requests no memory.
+    pub fn new(alloc: A) -> Demangler<A> {
+        Demangler {
+            alloc,
+            arena: Bump::new(Fuse::new(alloc)),
+            began: 0,
+            text: Text::new(alloc),
+        }
+    }
+
+    /// Makes a demangler of an arena and a text that have all the memory that there is: neither is made anew, and for
+    /// no symbol is more reserved than it takes.
+    pub fn over(alloc: A, arena: Bump<Fuse<A>>, text: Text<A>) -> Demangler<A> {
+        Demangler {
+            alloc,
+            arena,
+            began: FIXED,
+            text,
+        }
+    }
+
+    /// Returns the declaration of the symbol that `input` begins with, as `demangle_within` does. It is
+    /// borrowed until the next call.
+    ///
+    /// # Errors
+    ///
+    /// Fails where `demangle_within` does, with the reason for its error.
+    pub fn try_demangle(
+        &mut self,
+        input: &str,
+        flags: DemangleFlags,
+        nodes: usize,
+        bytes: usize,
+    ) -> Result<&str, Failure>
+        ensures declared { IfOk result (λ text.
+            IsDeclaredWithin (limits_of nodes bytes) input.now flags.0 text.now) }
+        ensures fails { IfErr result (λ failure. IsFailure (limits_of nodes bytes) input.now flags.0 failure) }
+        ensures inside { IfErr result (λ failure. IsInside input.now failure) }
+    {
+        match print_symbol(self, input, flags, nodes, bytes) {
+            Ok(_) => Ok(self.text.as_str()),
+            Err(failure) => Err(failure),
+        }
+    }
+
+    /// Returns the length in bytes of the symbol that `input` begins with, if its tree has at most `nodes` nodes.
+    ///
+    /// # Errors
+    ///
+    /// Fails where `symbol_length_within` does, with the reason for its error.
+    pub fn try_symbol_length(&mut self, input: &str, nodes: usize) -> Result<usize, Refusal>
+        ensures parsed { IfOk result (λ _. (tree : SymbolTree) × IsParsed input.now tree
+            × IsWithin (limit_of_number nodes) (node_count tree)) }
+        ensures length { IfOk result (λ bytes. IsSymbolLength bytes input.now) }
+        ensures fails { IfErr result (λ reason. FailsUnder (limit_of_number nodes) input.now reason) }
+    {
+        if self.prepare(input, nodes).is_err() {
+            return Err(Refusal::Memory);
+        }
+        let measured = match read(&self.arena, input, nodes) {
+            Ok((_, bytes)) => Ok(bytes),
+            Err(refusal) => Err(refusal),
+        };
+        if let Err(Refusal::Memory) = measured {
+            self.drop_arena_next();
+        }
+        measured
+    }
+
+    /// Gives all memory back. The next symbol requests it again.
+    pub fn clear(&mut self) {
+        *self = Demangler::new(self.alloc);
+    }
+
+    /// Has the next symbol make a new arena, unless this one is fixed: an arena that has failed once fails for good.
+    #[cold]
+    fn drop_arena_next(&mut self)
+        ensures { self.new ≡ self.old }
+    {
+        if self.began != FIXED {
+            self.began = 0;
+        }
+    }
+
+    /// Returns how many bytes to reserve for the declaration of the symbol that `input` begins with.
+    #[inline(always)]
+    fn text_bytes(&self, input: &str) -> usize {
+        if self.began == FIXED {
+            0
+        } else {
+            text_bytes(input)
+        }
+    }
+
+    /// Empties the arena, and makes it large enough to read and to print a symbol of at most `nodes` nodes, unless it
+    /// is fixed. Requests no memory for a text that doesn't begin with `?`.
+    #[inline(always)]
+    fn prepare(&mut self, input: &str, nodes: usize) -> Result<(), AllocError> {
+        // An arena that some list was not given back to stays as it is, and can still be used.
+        let _ = self.arena.reset();
+        let bytes = arena_bytes(input, nodes);
+        if self.began < bytes {
+            self.arena = Bump::try_with_capacity(Fuse::new(self.alloc), bytes)?;
+            self.began = bytes;
+        }
+        Ok(())
+    }
+}
+
+impl Demangler<Global> {
+    /// Returns the declaration of the symbol that `input` begins with, as `demangle` does. It is borrowed
+    /// until the next call.
+    ///
+    /// # Errors
+    ///
+    /// Fails where `demangle` does, with the same error.
+    pub fn demangle(&mut self, input: &str, flags: DemangleFlags) -> Result<&str, Error>
+        ensures declared { IfOk result (λ text. (tree : SymbolTree) × IsDeclared input.now tree flags.0 text.now) }
+        ensures rejected { IfErr result (λ e. IsRejected input.now e) }
+        ensures laws { GrammarLaws input.now }
+        ensures hashes { IfOk result (λ text. HashesAreShown input.now text.now) }
+    {
+        self.demangle_within(input, flags, usize::MAX, usize::MAX)
+    }
+
+    /// Returns the declaration of the symbol that `input` begins with, as `demangle_within` does. It is
+    /// borrowed until the next call.
+    ///
+    /// # Errors
+    ///
+    /// Fails where `demangle_within` does, with the same error.
+    pub fn demangle_within(
+        &mut self,
+        input: &str,
+        flags: DemangleFlags,
+        nodes: usize,
+        bytes: usize,
+    ) -> Result<&str, Error>
+        ensures declared { IfOk result (λ text.
+            IsDeclaredWithin (limits_of nodes bytes) input.now flags.0 text.now) }
+        ensures rejected { IfErr result (λ e. IsErrorUnder (limits_of nodes bytes) input.now flags.0 e) }
+        ensures hashes { IfOk result (λ text. HashesAreShown input.now text.now) }
+    {
+        match print_symbol(self, input, flags, nodes, bytes) {
+            Ok(_) => Ok(self.text.as_str()),
+            Err(failure) => Err(error_of(failure, self.alloc, input)),
+        }
+    }
+
+    /// Returns the length in bytes of the symbol that `input` begins with, as `symbol_length_within` does;
+    /// `usize::MAX` is no limit.
+    ///
+    /// # Errors
+    ///
+    /// Fails where `symbol_length_within` does, with the same error.
+    pub fn symbol_length_within(&mut self, input: &str, nodes: usize) -> Result<usize, Error>
+        ensures parsed { IfOk result (λ _. (tree : SymbolTree) × IsParsed input.now tree
+            × IsWithin (limit_of_number nodes) (node_count tree)) }
+        ensures length { IfOk result (λ bytes. IsSymbolLength bytes input.now) }
+        ensures rejected { IfErr result (λ e. IsRejectedUnder (limit_of_number nodes) input.now e) }
+    {
+        match self.try_symbol_length(input, nodes) {
+            Ok(bytes) => Ok(bytes),
+            Err(refusal) => Err(refusal.error(self.alloc, input.as_bytes())),
+        }
+    }
+}
+
+/// Reads the symbol that `input` begins with, if its tree has at most `nodes` nodes, and prints its declaration as the
+/// demangler's text, if that has at most `bytes` bytes. `usize::MAX` is no limit. Returns how many bytes the symbol
+/// takes.
+///
+/// # Errors
+///
+/// Fails where [`Demangler::try_demangle`] does, with the same reason.
+pub fn print_symbol<A: Allocator + Copy>(
+    demangler: &mut Demangler<A>,
+    input: &str,
+    flags: DemangleFlags,
+    nodes: usize,
+    bytes: usize,
+) -> Result<usize, Failure>
+    ensures printed { IfOk result (λ read.
+        IsPrinted (limits_of nodes bytes) input.now flags.0 read demangler.new.text) }
+    ensures fails { IfErr result (λ failure. IsFailure (limits_of nodes bytes) input.now flags.0 failure) }
+    ensures inside { IfErr result (λ failure. IsInside input.now failure) }
+{
+    demangler.prepare(input, nodes)?;
+    let reserved = demangler.text_bytes(input);
+    let done = demangle_in(
+        &demangler.arena,
+        &mut demangler.text,
+        reserved,
+        input,
+        flags,
+        nodes,
+        bytes,
+    );
+    if let Err(Failure::Unread(Refusal::Memory)) = done {
+        demangler.drop_arena_next();
+    }
+    done
+}
+
+/// Reads the symbol that `input` begins with, and prints its declaration as the demangler's text, both without a limit.
+/// If `verbose`, appends the symbol's tree and a line feed to `tree` in between.
+///
+/// # Errors
+///
+/// Fails if `input` begins with no symbol, or if an allocation fails.
+pub fn print_with_tree(
+    demangler: &mut Demangler,
+    input: &str,
+    flags: DemangleFlags,
+    verbose: bool,
+    tree: &mut String,
+) -> Result<(), Refusal>
+    ensures printed { IfOk result (λ _. (tree : SymbolTree) × IsParsed input.now tree
+        × (demangler.new.text ≡ Some (declaration tree flags.0))) }
+    ensures fails { IfErr result (λ reason. Fails input.now reason) }
+{
+    if demangler.prepare(input, usize::MAX).is_err() {
+        return Err(Refusal::Memory);
+    }
+    let reserved = demangler.text_bytes(input);
+    let (symbol, _) = read(&demangler.arena, input, usize::MAX)?;
+    if verbose
+        && (write_tree(demangler.alloc, &symbol, tree).is_err() || tree.push('\n').is_err())
+    {
+        return Err(Refusal::Memory);
+    }
+    let printed = print_in(
+        &demangler.arena,
+        &mut demangler.text,
+        reserved,
+        &symbol,
+        flags,
+        usize::MAX,
+    );
+    match printed {
+        Ok(_) => Ok(()),
+        Err(_) => Err(Refusal::Memory),
+    }
+}
+
+/// Returns the declaration of the last symbol that was printed, in bytes, which are unspecified if that failed.
+#[inline(always)]
+pub fn printed_bytes<A: Allocator + Copy>(demangler: &Demangler<A>) -> &[u8]
+    ensures { (bytes : List ℕ) → demangler.now.text ≡ Some bytes → result.now ≡ bytes }
+{
+    demangler.text.as_bytes()
+}
+
+/// Does what [`print_symbol`] does, in an arena that is made for this symbol, and prints the declaration to `text`.
+#[inline(always)]
+pub fn demangle_once<A: Allocator + Copy>(
+    alloc: A,
+    text: &mut Text<A>,
+    input: &str,
+    flags: DemangleFlags,
+    nodes: usize,
+    bytes: usize,
+) -> Result<usize, Failure>
+    ensures printed { IfOk result (λ read.
+        IsPrinted (limits_of nodes bytes) input.now flags.0 read text.new.text) }
+    ensures fails { IfErr result (λ failure. IsFailure (limits_of nodes bytes) input.now flags.0 failure) }
+    ensures inside { IfErr result (λ failure. IsInside input.now failure) }
+{
+    let arena = Bump::try_with_capacity(Fuse::new(alloc), arena_bytes(input, nodes))?;
+    demangle_in(&arena, text, text_bytes(input), input, flags, nodes, bytes)
+}
+
+/// Reads a symbol and prints its declaration to `text`, as [`print_symbol`] says, in an arena that is empty and large
+/// enough. Reserves so many bytes of text before it prints.
+#[inline(always)]
+fn demangle_in<B: Allocator, A: Allocator>(
+    arena: &Bump<B>,
+    text: &mut Text<A>,
+    reserved: usize,
+    input: &str,
+    flags: DemangleFlags,
+    nodes: usize,
+    bytes: usize,
+) -> Result<usize, Failure>
+    ensures printed { IfOk result (λ read.
+        IsPrinted (limits_of nodes bytes) input.now flags.0 read text.new.text) }
+    ensures fails { IfErr result (λ failure. IsFailure (limits_of nodes bytes) input.now flags.0 failure) }
+    ensures inside { IfErr result (λ failure. IsInside input.now failure) }
+{
+    match read(arena, input, nodes) {
+        Ok((symbol, read)) => {
+            if print_in(arena, text, reserved, &symbol, flags, bytes)? {
+                Ok(read)
+            } else {
+                Err(Failure::TooLong(read))
+            }
+        }
+        Err(refusal) => Err(Failure::Unread(refusal)),
+    }
+}
+
+/// Prints the declaration of a symbol as the text, if it has at most `bytes` bytes, and returns whether it has.
+/// `usize::MAX` is no limit. Reserves so many bytes of text first.
+#[inline(always)]
+fn print_in<'a, 'b, B: Allocator, A: Allocator>(
+    arena: &'b Bump<B>,
+    text: &mut Text<A>,
+    reserved: usize,
+    symbol: &'b TypedSymbol<'a, 'b>,
+    flags: DemangleFlags,
+    bytes: usize,
+) -> Result<bool, AllocError>
+    ensures printed { IfOk result (λ within.
+        IsPrintedWithin bytes (declaration (typed_symbol_of symbol.now) flags.0) within text.new.text) }
+    ensures unlimited { IfOk result (λ within. bytes ≡ usize.MAX → within ≡ true) }
+{
+    text.clear(bytes);
+    text.try_reserve(reserved)?;
+    let within = print_within(arena, symbol, flags, bytes, text)?;
+    if !within && bytes == usize::MAX {
+        // No allocation has so many bytes.
+        return Err(AllocError);
+    }
+    Ok(within)
+}
+
+/// Returns how many bytes the declarations take of most symbols that are as long as `input`.
+#[inline(always)]
+fn text_bytes(input: &str) -> usize {
+    input
+        .len()
+        .saturating_mul(TEXT_OF_A_BYTE)
+        .saturating_add(TEXT_AT_FIRST)
+        .min(MAX_TEXT)
+}
+
+/// Returns how many bytes of an arena it takes to read and to print a symbol of at most `nodes` nodes: none if `input`
+/// doesn't begin with `?`.
+#[inline(always)]
+fn arena_bytes(input: &str, nodes: usize) -> usize {
+    let [b'?', ..] = input.as_bytes() else {
+        return 0;
+    };
+    let (tree, stack) = if nodes == usize::MAX {
+        (parse_arena_bytes(input), print_arena_bytes(input.len()))
+    } else {
+        let stack = print_arena_bytes_within(input.len(), nodes);
+        (parse_arena_bytes_within(input, nodes), stack)
+    };
+    tree.saturating_add(stack).min(MAX_ARENA_BYTES)
+}
+
+/// Reads the symbol that `input` begins with as nodes in `arena`, if it has at most `nodes` nodes, and returns it and
+/// its length in bytes. Counts no nodes if any number is allowed.
+#[inline(always)]
+fn read<'a, 'b, B: Allocator>(
+    arena: &'b Bump<B>,
+    input: &'a str,
+    nodes: usize,
+) -> Result<(TypedSymbol<'a, 'b>, usize), Refusal>
+    ensures parsed { IfOk result (λ r. IsParsed input.now (typed_symbol_of r.0)) }
+    ensures within { IfOk result (λ r. IsWithin (limit_of_number nodes) (node_count (typed_symbol_of r.0))) }
+    ensures length { IfOk result (λ r. IsSymbolLength r.1 input.now) }
+    ensures fails { IfErr result (λ reason. FailsUnder (limit_of_number nodes) input.now reason) }
+{
+    if nodes == usize::MAX {
+        read_symbol(arena, input)
+    } else {
+        read_symbol_within(arena, input, nodes)
+    }
+}

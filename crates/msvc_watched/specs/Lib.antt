@@ -1,0 +1,4 @@
+pub mod Faults
+pub mod Runs
+pub mod Streams
+pub mod Taking

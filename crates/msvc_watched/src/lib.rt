@@ -1,0 +1,8 @@
+//! Readers and writers that remember whether a call on them has failed, and the fault that ends a run over them.
+#![tactic(auto)]
+
+mod output;
+mod watched;
+
+pub use output::{write_all, write_line};
+pub use watched::{Fault, Taken, Watched, consume, fail, fill_buf, line_end, read_piece};
