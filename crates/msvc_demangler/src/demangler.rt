@@ -178,7 +178,6 @@ impl<A: Allocator + Copy> Demangler<A> {
     }
 
     /// Returns how many bytes to reserve for the declaration of the symbol that `input` begins with.
-    #[inline(always)]
     pub(crate) fn text_bytes(&self, input: &str) -> usize {
         if self.began == FIXED {
             0
@@ -262,7 +261,6 @@ impl Demangler<Global> {
 }
 
 /// Does what [`Demangler::run`] does, in an arena that is made for this symbol, and prints the declaration to `text`.
-#[inline(always)]
 pub(crate) fn demangle_once<A: Allocator + Copy>(
     alloc: A,
     text: &mut Text<A>,
@@ -335,7 +333,6 @@ pub(crate) fn print_in<'a, 'b, B: Allocator, A: Allocator>(
 }
 
 /// Returns how many bytes the declarations take of most symbols that are as long as `input`.
-#[inline(always)]
 fn text_bytes(input: &str) -> usize {
     input
         .len()
@@ -346,7 +343,6 @@ fn text_bytes(input: &str) -> usize {
 
 /// Returns how many bytes of an arena it takes to read and to print a symbol of at most `nodes` nodes: none if `input`
 /// doesn't begin with `?`.
-#[inline(always)]
 fn arena_bytes(input: &str, nodes: usize) -> usize {
     let [b'?', ..] = input.as_bytes() else {
         return 0;

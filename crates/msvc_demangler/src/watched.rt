@@ -82,7 +82,6 @@ impl<T> Watched<T> {
 
 impl<R: BufRead> Watched<R> {
     /// Polls the reader once, and returns the bytes that it shows: none only at its end. Takes none of them.
-    #[inline(always)]
     pub(crate) fn fill_buf(&mut self) -> io::Result<&[u8]>
         ensures front { IfSome (R.remaining self.old.stream) (λ xs. IfOk result (λ s. StartsWith xs s.now)) }
         ensures end { IfSome (R.remaining self.old.stream) (λ xs. IfOk result (λ s. length s.now ≡ 0 → xs ≡ [])) }
@@ -104,7 +103,6 @@ impl<R: BufRead> Watched<R> {
     }
 
     /// Takes so many of the bytes that the reader shows.
-    #[inline(always)]
     pub(crate) fn consume(&mut self, count: usize)
         ensures bytes { DropsConsumable (R.remaining self.old.stream) (R.remaining self.new.stream)
             (R.consumable_len self.old.stream) count }
@@ -145,7 +143,6 @@ impl<R: BufRead> Watched<R> {
 }
 
 /// Finds how many of the bytes shown are taken at once, and what they are.
-#[inline(always)]
 pub(crate) fn line_end(shown: &[u8]) -> (usize, Taken)
     ensures bound { result.0 ≤ length shown.now }
     ensures taken { IsCut result.1 (take result.0 shown.now) }
