@@ -122,7 +122,6 @@ impl<'a, 'b, L: NodeBudget, A: Allocator> BackrefTables<'a, 'b, L, A> {
 
 impl<'a, 'b, L: NodeBudget, A: Allocator> Parser<'a, 'b, L, A> {
     /// Stores a name without parts in the arena, memorizes it and returns it.
-    #[inline(always)]
     pub fn put_and_add_name(&mut self, name: Name<'a, 'b>) -> Result<&'b Name<'a, 'b>, Failed>
         requires { name_count L.weight (name_of name) ≡ L.weight }
         ensures value { ReadsAs name_at self.old self.new result
@@ -150,7 +149,6 @@ impl<'a, 'b, L: NodeBudget, A: Allocator> Parser<'a, 'b, L, A> {
     }
 
     /// Memorizes a name that has `nodes` nodes, and returns it.
-    #[inline(never)]
     pub fn add_name(&mut self, name: &'b Name<'a, 'b>, nodes: L) -> Result<&'b Name<'a, 'b>, Failed>
         requires { L.used nodes ≡ name_count L.weight (name_of name.now) }
         ensures value { ReadsAs name_at self.old self.new result
@@ -197,7 +195,6 @@ impl<'a, 'b, L: NodeBudget, A: Allocator> Parser<'a, 'b, L, A> {
     }
 
     /// Returns the type that a digit inside another type refers to, or an error if the table has no such entry.
-    #[inline(always)]
     pub fn type_of_digit(&mut self, digit: u8) -> Result<&'b Type<'a, 'b>, Failed>
         ensures value { ReadsAs type_at self.old self.new result
             (λ left s. type_known (slice_get s.types digit) left s) }
@@ -213,7 +210,6 @@ impl<'a, 'b, L: NodeBudget, A: Allocator> Parser<'a, 'b, L, A> {
     /// Returns the type of a letter that needs no other: a base type with the given qualifiers, or the type that a
     /// digit refers to, as it was memorized. Fails at any other letter.
     #[tactic(auto, unfolding(msvc_nodes::specs::NodeView::type_of))]
-    #[inline(never)]
     pub fn type_of_letter(
         &mut self,
         letter: u8,
@@ -319,7 +315,6 @@ fn is_known_type<'a, 'b, L: NodeBudget>(
 }
 
 /// Returns whether more than one byte was read from `left` to `rest`. Only such a parameter is memorized.
-#[inline(always)]
 pub fn enters_table(left: &[u8], rest: &[u8]) -> bool
     ensures { result ≡ nat_lt 1 (length left.now - length rest.now) }
 {

@@ -127,7 +127,6 @@ pub enum OptionalLetters {
 }
 
 /// Returns the qualifiers of a letter in the given table.
-#[inline(always)]
 pub fn optional_letter(letters: OptionalLetters, letter: u8) -> Option<StorageClass>
     ensures { option_map (λ (q : StorageClass). q.0) result ≡ lookup letter (optional_letters letters) }
 {

@@ -47,22 +47,18 @@ impl NodeBudget for Unlimited {
 
     ghost max = { λ l. 0 };
 
-    #[inline(always)]
     fn one() -> Unlimited {
         Unlimited
     }
 
-    #[inline(always)]
     fn count_node(&mut self) -> bool {
         true
     }
 
-    #[inline(always)]
     fn count_nodes(&mut self, nodes: Unlimited) -> bool {
         true
     }
 
-    #[inline(always)]
     fn since(self, before: Unlimited) -> Unlimited {
         Unlimited
     }

@@ -129,7 +129,6 @@ impl<'a, 'b, L: NodeBudget, A: Allocator> Parser<'a, 'b, L, A> {
 
     /// Counts a node before it is read, or fails if the limit is reached.
     #[tactic(auto, unfolding(msvc_grammar::specs::Reads::counting))]
-    #[inline(always)]
     pub fn count_node(&mut self) -> Result<(), Failed>
         ensures value { ReadsAs (λ _. tt) self.old self.new result (λ left s. counting s.count.weight left s) }
         ensures stays { Stays self.old self.new result }
@@ -142,7 +141,6 @@ impl<'a, 'b, L: NodeBudget, A: Allocator> Parser<'a, 'b, L, A> {
 
     /// Counts the nodes of a table entry, or fails if they exceed the limit.
     #[tactic(auto, unfolding(msvc_grammar::specs::Reads::counting))]
-    #[inline(always)]
     pub fn count_nodes(&mut self, nodes: L) -> Result<(), Failed>
         ensures value { ReadsAs (λ _. tt) self.old self.new result (counting (L.used nodes)) }
         ensures stays { Stays self.old self.new result }
@@ -194,7 +192,6 @@ impl<'a, 'b, L: NodeBudget, A: Allocator> Parser<'a, 'b, L, A> {
 
     /// Reads the next byte, if there is one.
     #[tactic(auto, unfolding(crate::specs::Parser::byte_here))]
-    #[inline(always)]
     pub fn next_byte(&mut self) -> Option<u8>
         ensures value { option_map (λ b. (b, self.new.rest.now, state_of self.new)) result
             ≡ byte_here self.old.rest.now (state_of self.old) }
@@ -211,7 +208,6 @@ impl<'a, 'b, L: NodeBudget, A: Allocator> Parser<'a, 'b, L, A> {
     }
 
     /// Reads the next byte, or fails at the end.
-    #[inline(always)]
     pub fn byte(&mut self) -> Result<u8, Failed>
         ensures value { ReadsAs (λ b. b) self.old self.new result byte_here }
         ensures consumes { Consumes self.old self.new result }
@@ -223,7 +219,6 @@ impl<'a, 'b, L: NodeBudget, A: Allocator> Parser<'a, 'b, L, A> {
     }
 
     /// Reads the next byte if it is a digit, and returns its value.
-    #[inline(always)]
     pub fn digit(&mut self) -> Option<u8>
         ensures value { option_map (λ d. (d, self.new.rest.now, state_of self.new)) result
             ≡ letter_here digits self.old.rest.now (state_of self.old) }

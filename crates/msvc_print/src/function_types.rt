@@ -234,7 +234,6 @@ fn write_comma<A: Allocator>(out: &mut Text<A>, flags: DemangleFlags) -> Result<
 
 /// Writes the comma before a parameter that is not the first.
 #[tactic(auto, using(crate::proofs::Settling::settling), unfolding(crate::specs::Functions::separator))]
-#[inline(always)]
 pub fn write_separator<A: Allocator>(
     out: &mut Text<A>,
     first: bool,

@@ -71,7 +71,6 @@ pub fn push<'a, 'b, S: Allocator>(
 }
 
 /// Pops the last item, if it is what is left of a list. Returns the list.
-#[inline(always)]
 pub fn pop_list<'a, 'b, S: Allocator>(stack: &mut Vec<Item<'a, 'b>, S>) -> Option<TypeList<'a, 'b>>
     ensures list { IfSome result (λ list. stack.old.items ≡ stack.new.items ++ Parameters list ∷ []) }
     ensures other { IfNone result (stack.new.items ≡ stack.old.items) }

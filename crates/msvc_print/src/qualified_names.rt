@@ -287,7 +287,6 @@ pub fn print_name<'a, 'b, S: Allocator, A: Allocator>(
 }
 
 /// Pushes the names of a scope, if it has any.
-#[inline(always)]
 fn push_scope<'a, 'b, S: Allocator>(
     stack: &mut Vec<Item<'a, 'b>, S>,
     names: &'b [&'b Name<'a, 'b>],

@@ -68,7 +68,6 @@ fn write_base<A: Allocator>(
 
 /// Writes a type that has no other in it, if it is simple. Returns whether it is.
 #[tactic(auto, using(crate::proofs::Nodes::printed), unfolding(crate::specs::Halves::after, crate::specs::Halves::before, msvc_nodes::specs::NodeView::type_of))]
-#[inline(always)]
 fn write_simple_inner<'a, 'b, A: Allocator>(
     out: &mut Text<A>,
     t: &'b Type<'a, 'b>,
@@ -94,7 +93,6 @@ fn write_simple_inner<'a, 'b, A: Allocator>(
 
 /// Writes what a pointer or a reference has before the name, if what it points to is simple. Returns whether it is.
 #[tactic(auto, using(crate::proofs::Settling::settling))]
-#[inline(always)]
 pub fn write_simple_pointer<'a, 'b, A: Allocator>(
     out: &mut Text<A>,
     word: &[u8],

@@ -189,7 +189,6 @@ impl Space {
 }
 
 /// Copies the first `N` bytes of `piece` into `bytes` from index `at`.
-#[inline(always)]
 fn copy_front<const N: usize>(bytes: &mut [u8], at: usize, piece: &[u8])
     requires { (N ≤ length piece.now) × (at + N ≤ length bytes.old) }
     ensures start { take (at + N) bytes.new ≡ take at bytes.old ++ take N piece.now }
@@ -199,7 +198,6 @@ fn copy_front<const N: usize>(bytes: &mut [u8], at: usize, piece: &[u8])
 }
 
 /// Copies a piece of `N` to twice `N` bytes into `bytes` from index `at`: its first `N` bytes, and its last.
-#[inline(always)]
 fn copy_ends<const N: usize>(bytes: &mut [u8], at: usize, piece: &[u8])
     requires fits { at + length piece.now ≤ length bytes.old }
     requires covers { (N ≤ length piece.now) × (length piece.now ≤ N + N) }
@@ -222,7 +220,6 @@ fn copy_long(bytes: &mut [u8], at: usize, piece: &[u8])
 }
 
 /// Copies `piece`, of fewer than 8 bytes, into `bytes` from index `at`.
-#[inline(always)]
 fn copy_short(bytes: &mut [u8], at: usize, piece: &[u8])
     requires fits { at + length piece.now ≤ length bytes.old }
     requires short { length piece.now < 8 }

@@ -449,7 +449,6 @@ pub fn is_empty_pack<'a, 'b>(t: &'b Type<'a, 'b>) -> bool
 
 /// Prints the simple types that a list begins with, with a comma before each but the first. If one that is not simple
 /// follows, begins to print it and pushes the rest; else prints what stands after the last.
-#[inline(always)]
 fn print_list<'a, 'b, S: Allocator, A: Allocator>(
     stack: &mut Vec<Item<'a, 'b>, S>,
     out: &mut Text<A>,

@@ -186,7 +186,6 @@ pub fn put_member_pointer<'a, 'b, L: NodeBudget, A: Allocator>(
 }
 
 /// Stores the parts of a function, with the parameters on the list.
-#[inline(never)]
 pub fn put_parts<'a, 'b, L: NodeBudget, A: Allocator>(
     parser: &mut Parser<'a, 'b, L, A>,
     convention: CallingConv,
@@ -299,7 +298,6 @@ pub fn this_qualifiers<'a, 'b, L: NodeBudget, A: Allocator>(
 /// Reads `SIGNATURE = convention RETURN_QUALIFIERS RETURNED FUNCTION_PARAMETERS`.
 #[cycle(readers)]
 #[tactic(auto, using(msvc_parser::proofs::FunctionSteps::signature_is))]
-#[inline(never)]
 pub fn signature<'a, 'b, L: NodeBudget, A: Allocator>(
     parser: &mut Parser<'a, 'b, L, A>,
     kind: FunctionKind,

@@ -29,7 +29,6 @@ use std::alloc::Allocator;
 /// Reads `FUNCTION_PARAMETERS = ("X" | PARAMETERS) "Z"`: an `X` means one `void`.
 #[cycle(readers)]
 #[tactic(auto, using(msvc_parser::proofs::FunctionSteps::function_parameters_step))]
-#[inline(never)]
 pub fn function_parameters<'a, 'b, L: NodeBudget, A: Allocator>(
     parser: &mut Parser<'a, 'b, L, A>,
 ) -> Result<usize, Failed>
@@ -69,7 +68,6 @@ pub fn no_parameters<'a, 'b, L: NodeBudget, A: Allocator>(
 /// parser's list, and the result ends that part.
 #[cycle(readers)]
 #[tactic(auto, using(msvc_parser::proofs::RowSteps::parameters_go_on))]
-#[inline(never)]
 pub fn parameters<'a, 'b, L: NodeBudget, A: Allocator>(
     parser: &mut Parser<'a, 'b, L, A>,
 ) -> Result<usize, Failed>
@@ -93,7 +91,6 @@ pub fn parameters<'a, 'b, L: NodeBudget, A: Allocator>(
 /// Reads `PARAMETER = digit | TYPE`.
 #[cycle(readers)]
 #[tactic(auto, using(msvc_parser::proofs::FunctionSteps::parameter_is))]
-#[inline(always)]
 pub fn parameter<'a, 'b, L: NodeBudget, A: Allocator>(
     parser: &mut Parser<'a, 'b, L, A>,
 ) -> Result<&'b Type<'a, 'b>, Failed>
@@ -173,7 +170,6 @@ pub fn list_ellipsis<'a, 'b, L: NodeBudget, A: Allocator>(
 
 /// Returns whether an ellipsis is last and the bytes that follow, if the parameters end here.
 #[tactic(auto, unfolding(msvc_parser::specs::Parser::parameters_stop))]
-#[inline(always)]
 fn parameters_stop<'a>(left: &'a [u8]) -> Option<(Ellipsis, &'a [u8])>
     ensures value { option_map (λ stop. (stop.0, stop.1.now)) result ≡ parameters_stop left.now }
     ensures shorter { IfSome result (λ stop. length stop.1.now ≤ length left.now) }

@@ -31,7 +31,6 @@ use msvc_parser::source_names::name_length;
 use std::alloc::Allocator;
 
 /// Reads `SOURCE_NAME = {byte} "@"`: the bytes up to the next `@`, possibly none.
-#[inline(always)]
 pub fn source_name<'a, 'b, L: NodeBudget, A: Allocator>(
     parser: &mut Parser<'a, 'b, L, A>,
 ) -> Result<&'a [u8], Failed>
@@ -61,7 +60,6 @@ pub fn take_until_at<'a, 'b, L: NodeBudget, A: Allocator>(
 
 /// Reads a source name and memorizes it.
 #[tactic(auto, using(msvc_parser::proofs::NameSteps::new_source_name_is), unfolding(msvc_nodes::specs::NodeView::name_of))]
-#[inline(never)]
 pub fn new_source_name<'a, 'b, L: NodeBudget, A: Allocator>(
     parser: &mut Parser<'a, 'b, L, A>,
 ) -> Result<&'b Name<'a, 'b>, Failed>
@@ -173,7 +171,6 @@ pub fn template_name<'a, 'b, L: NodeBudget, A: Allocator>(
 /// Reads the name and the arguments of a template.
 #[cycle(readers)]
 #[tactic(auto, using(msvc_parser::proofs::NameSteps::template_inside_step))]
-#[inline(always)]
 pub fn template<'a, 'b, L: NodeBudget, A: Allocator>(
     parser: &mut Parser<'a, 'b, L, A>,
 ) -> Result<&'b Name<'a, 'b>, Failed>
@@ -379,7 +376,6 @@ pub fn hexadecimal_digit<'a, 'b, L: NodeBudget, A: Allocator>(
 /// the result ends that part.
 #[cycle(readers)]
 #[tactic(auto, using(msvc_parser::proofs::RowSteps::scope_goes_on))]
-#[inline(never)]
 pub fn scope<'a, 'b, L: NodeBudget, A: Allocator>(
     parser: &mut Parser<'a, 'b, L, A>,
 ) -> Result<usize, Failed>
@@ -401,7 +397,6 @@ pub fn scope<'a, 'b, L: NodeBudget, A: Allocator>(
 /// Reads `QUALIFIED_NAME = UNQUALIFIED_NAME SCOPE`.
 #[cycle(readers)]
 #[tactic(auto, using(msvc_parser::proofs::NameSteps::qualified_name_is))]
-#[inline(never)]
 pub fn qualified_name<'a, 'b, L: NodeBudget, A: Allocator>(
     parser: &mut Parser<'a, 'b, L, A>,
     templates: TemplateNames,
@@ -416,7 +411,6 @@ pub fn qualified_name<'a, 'b, L: NodeBudget, A: Allocator>(
 }
 
 /// Stores a name in the scope on the list.
-#[inline(never)]
 pub fn put_symbol<'a, 'b, L: NodeBudget, A: Allocator>(
     parser: &mut Parser<'a, 'b, L, A>,
     name: &'b Name<'a, 'b>,

@@ -380,7 +380,6 @@ pub fn nested_arrays<'a, 'b, L: NodeBudget, A: Allocator>(
 
 /// Reads a base type by its second letter.
 #[tactic(auto, using(msvc_parser::proofs::TypeSteps::extended_is), unfolding(msvc_nodes::specs::NodeView::type_of))]
-#[inline(never)]
 pub fn extended_type<'a, 'b, L: NodeBudget, A: Allocator>(
     parser: &mut Parser<'a, 'b, L, A>,
     qualifiers: StorageClass,

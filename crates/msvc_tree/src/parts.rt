@@ -20,7 +20,6 @@ use msvc_nodes::kinds::{PointerAffinity, SpecialTableKind, TagKind};
 use std::alloc::AllocError;
 
 /// Makes a symbol with its type.
-#[inline(always)]
 pub fn typed_symbol_from<'a>(
     symbol: Result<Symbol<'a>, AllocError>,
     symbol_type: Result<Type<'a>, AllocError>,
@@ -37,7 +36,6 @@ pub fn typed_symbol_from<'a>(
 }
 
 /// Makes a name in its scope.
-#[inline(always)]
 pub fn symbol_from<'a>(
     name: Result<Name<'a>, AllocError>,
     scope: Result<NameSequence<'a>, AllocError>,
@@ -50,7 +48,6 @@ pub fn symbol_from<'a>(
 }
 
 /// Makes a class, struct, union, enumeration or alias of its name in its scope.
-#[inline(always)]
 pub fn tagged_from<'a>(
     tag: TagKind,
     symbol: Result<Symbol<'a>, AllocError>,
@@ -63,7 +60,6 @@ pub fn tagged_from<'a>(
 }
 
 /// Makes a string literal of its bytes.
-#[inline(always)]
 pub fn constant_string_from<'a>(text: Result<Vec<u8>, AllocError>) -> Result<Type<'a>, AllocError>
     ensures { IfOk result (λ t. IsOkAnd text (λ v. type_of t ≡ constant_string v.items)) }
 {
@@ -71,7 +67,6 @@ pub fn constant_string_from<'a>(text: Result<Vec<u8>, AllocError>) -> Result<Typ
 }
 
 /// Makes a pointer or a reference of the type that it points to.
-#[inline(always)]
 pub fn pointing_from<'a>(
     affinity: PointerAffinity,
     inner: Result<Box<Type<'a>>, AllocError>,
@@ -83,7 +78,6 @@ pub fn pointing_from<'a>(
 }
 
 /// Makes an array of its length and its elements.
-#[inline(always)]
 pub fn array_from<'a>(
     length: i32,
     inner: Result<Box<Type<'a>>, AllocError>,
@@ -95,7 +89,6 @@ pub fn array_from<'a>(
 }
 
 /// Makes a plain function of its parameters and the type that it returns.
-#[inline(always)]
 pub fn function_from<'a>(
     convention: CallingConv,
     parameters: Result<Params<'a>, AllocError>,
@@ -110,7 +103,6 @@ pub fn function_from<'a>(
 }
 
 /// Makes a member function of its parameters and the type that it returns.
-#[inline(always)]
 pub fn member_function_from<'a>(
     class: FuncClass,
     convention: CallingConv,
@@ -126,7 +118,6 @@ pub fn member_function_from<'a>(
 }
 
 /// Makes a pointer to a member function of its class, its parameters and the type that it returns.
-#[inline(always)]
 pub fn member_pointer_from<'a>(
     pointed: Result<Symbol<'a>, AllocError>,
     class: FuncClass,
@@ -144,7 +135,6 @@ pub fn member_pointer_from<'a>(
 }
 
 /// Makes a variable of its type.
-#[inline(always)]
 pub fn variable_from<'a>(
     inner: Result<Box<Type<'a>>, AllocError>,
     kind: VarStorageKind,
@@ -156,7 +146,6 @@ pub fn variable_from<'a>(
 }
 
 /// Makes a table of virtual functions or bases of the scope of the base that it is for.
-#[inline(always)]
 pub fn table_from<'a>(
     which: SpecialTableKind,
     scope: Result<NameSequence<'a>, AllocError>,
@@ -168,7 +157,6 @@ pub fn table_from<'a>(
 }
 
 /// Makes a template of its name and its arguments.
-#[inline(always)]
 pub fn template_from<'a>(
     name: Result<Box<Name<'a>>, AllocError>,
     arguments: Result<Params<'a>, AllocError>,
@@ -181,7 +169,6 @@ pub fn template_from<'a>(
 }
 
 /// Makes a scope of a symbol with its type.
-#[inline(always)]
 pub fn nested_from<'a>(
     symbol: Result<Box<ParseResult<'a>>, AllocError>,
 ) -> Result<Name<'a>, AllocError>
@@ -192,7 +179,6 @@ pub fn nested_from<'a>(
 }
 
 /// Makes the descriptor of a type.
-#[inline(always)]
 pub fn type_descriptor_from<'a>(
     qualifiers: StorageClass,
     described: Result<Box<Type<'a>>, AllocError>,

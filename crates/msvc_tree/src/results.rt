@@ -8,7 +8,6 @@ ghost use Rattle.msvc_tree.specs.Results.{IsBoxed};
 use std::alloc::{AllocFailed, Global};
 
 /// Boxes the value that was made. Returns its error if it failed, or that of a failed allocation.
-#[inline(always)]
 pub fn box_ok<T: Drop, E: From<AllocFailed<T>>>(
     alloc: Global,
     made: Result<T, E>,
@@ -22,7 +21,6 @@ pub fn box_ok<T: Drop, E: From<AllocFailed<T>>>(
 }
 
 /// Pushes the value that was made to a list with spare capacity. Returns its error if it failed.
-#[inline(always)]
 pub fn push_ok<T: Drop, E: Drop>(list: &mut Vec<T>, made: Result<T, E>) -> Result<(), E>
     requires { vec_len list.old < vec_capacity list.old }
     ensures items { IfOk result (λ _. IsOkAnd made (λ x. list.new.items ≡ list.old.items ++ x ∷ [])) }
@@ -35,7 +33,6 @@ pub fn push_ok<T: Drop, E: Drop>(list: &mut Vec<T>, made: Result<T, E>) -> Resul
 }
 
 /// Pairs two values that were made. Returns the first error if one failed.
-#[inline(always)]
 pub fn pair_ok<A: Drop, B: Drop, E: Drop>(
     first: Result<A, E>,
     second: Result<B, E>,

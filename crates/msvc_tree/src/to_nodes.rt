@@ -110,7 +110,6 @@ fn any_name_to_nodes<'a, 'b>(
 
 /// Converts an operator to the node of a name.
 #[cycle(to_nodes)]
-#[inline(always)]
 fn operator_to_nodes<'a, 'b>(
     arena: &'b Bump<Fuse>,
     tree: &'b Operator<'a>,
@@ -228,7 +227,6 @@ pub(crate) fn types_to_nodes<'a, 'b>(
 }
 
 /// Moves a value into the arena.
-#[inline(always)]
 fn put<'b, T: Copy>(arena: &'b Bump<Fuse>, node: T) -> Result<&'b T, AllocError>
     ensures { IfOk result (λ t. t.now ≡ node) }
 {

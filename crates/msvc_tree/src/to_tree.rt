@@ -53,7 +53,6 @@ pub(crate) fn symbol_to_tree<'a, 'b>(
 
 /// Converts a name: one of the source where this is called, any other by a call.
 #[cycle(to_tree)]
-#[inline(always)]
 pub(crate) fn name_to_tree<'a, 'b>(
     alloc: Global,
     name: &'b nodes::Name<'a, 'b>,
@@ -68,7 +67,6 @@ pub(crate) fn name_to_tree<'a, 'b>(
 
 /// Converts any name.
 #[cycle(to_tree)]
-#[inline(never)]
 fn any_name_to_tree<'a, 'b>(
     alloc: Global,
     name: &'b nodes::Name<'a, 'b>,
@@ -151,7 +149,6 @@ pub(crate) fn type_to_tree<'a, 'b>(
 
 /// Converts a type and boxes it.
 #[cycle(to_tree)]
-#[inline(always)]
 fn boxed_to_tree<'a, 'b>(
     alloc: Global,
     node: &'b nodes::Type<'a, 'b>,

@@ -64,7 +64,6 @@ pub enum TypeRef<'t, 'a> {
 }
 
 /// Returns which variant a name is.
-#[inline(always)]
 pub fn name_ref<'t, 'a>(tree: &'t Name<'a>) -> NameRef<'t, 'a>
     ensures { name_in result ≡ name_of tree.now }
 {
@@ -91,7 +90,6 @@ macro_rules! kind_of_operator {
 }
 
 /// Returns which variant an operator is.
-#[inline(always)]
 pub fn operator_ref<'t, 'a>(tree: &'t Operator<'a>) -> OperatorRef<'t, 'a>
     ensures { operator_in result ≡ operator_of tree.now }
 {
@@ -112,7 +110,6 @@ pub fn operator_ref<'t, 'a>(tree: &'t Operator<'a>) -> OperatorRef<'t, 'a>
 }
 
 /// Returns which variant a type is.
-#[inline(always)]
 pub fn type_ref<'t, 'a>(tree: &'t Type<'a>) -> TypeRef<'t, 'a>
     ensures { type_in result ≡ without_class (type_of tree.now) }
 {
