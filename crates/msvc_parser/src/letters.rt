@@ -10,6 +10,7 @@ ghost use Rattle.msvc_grammar.specs.Rules.{lookup};
 ghost use Rattle.msvc_parser.specs.Parser.{optional_letters};
 
 use bitflags::Flags;
+use msvc_nodes::base_types;
 use msvc_nodes::flags::{FuncClass, StorageClass};
 use msvc_nodes::kinds::{CallingConv, PrimitiveKind};
 
@@ -138,26 +139,31 @@ pub fn optional_letter(letters: OptionalLetters, letter: u8) -> Option<StorageCl
     }
 }
 
+/// Matches a letter with one of the two lists of `base_types`.
+macro_rules! base_type_of_letter {
+    ((alone $letter:ident) $rows:tt $after_underscore:tt) => {
+        base_type_in!($letter $rows)
+    };
+    ((after_underscore $letter:ident) $alone:tt $rows:tt) => {
+        base_type_in!($letter $rows)
+    };
+}
+
+/// Matches a letter with rows of base types. Any other letter returns `None`.
+macro_rules! base_type_in {
+    ($letter:ident { $($code:literal $base:ident $word:literal $($other:literal)?,)* }) => {
+        match $letter {
+            $($code => PrimitiveKind::$base,)*
+            _ => return None,
+        }
+    };
+}
+
 /// Returns the base type of a letter.
 pub fn base_type(letter: u8) -> Option<PrimitiveKind>
     ensures { result ≡ lookup letter base_types }
 {
-    let base = match letter {
-        b'X' => PrimitiveKind::Void,
-        b'C' => PrimitiveKind::Schar,
-        b'D' => PrimitiveKind::Char,
-        b'E' => PrimitiveKind::Uchar,
-        b'F' => PrimitiveKind::Short,
-        b'G' => PrimitiveKind::Ushort,
-        b'H' => PrimitiveKind::Int,
-        b'I' => PrimitiveKind::Uint,
-        b'J' => PrimitiveKind::Long,
-        b'K' => PrimitiveKind::Ulong,
-        b'M' => PrimitiveKind::Float,
-        b'N' => PrimitiveKind::Double,
-        b'O' => PrimitiveKind::Ldouble,
-        _ => return None,
-    };
+    let base = base_types!(base_type_of_letter (alone letter));
     Some(base)
 }
 
@@ -165,18 +171,7 @@ pub fn base_type(letter: u8) -> Option<PrimitiveKind>
 pub fn extended_type(letter: u8) -> Option<PrimitiveKind>
     ensures { result ≡ lookup letter extended_types }
 {
-    let base = match letter {
-        b'N' => PrimitiveKind::Bool,
-        b'W' => PrimitiveKind::Wchar,
-        b'Q' => PrimitiveKind::Char8,
-        b'S' => PrimitiveKind::Char16,
-        b'U' => PrimitiveKind::Char32,
-        b'J' => PrimitiveKind::Int64,
-        b'K' => PrimitiveKind::Uint64,
-        b'L' => PrimitiveKind::Int128,
-        b'M' => PrimitiveKind::Uint128,
-        _ => return None,
-    };
+    let base = base_types!(base_type_of_letter (after_underscore letter));
     Some(base)
 }
 
