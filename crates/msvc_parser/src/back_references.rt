@@ -14,7 +14,7 @@ ghost use Rattle.msvc_parser.specs.NestedList.{current, enclosing};
 use crate::entries::{MemorizedName, MemorizedType};
 use crate::letters;
 use crate::limit::NodeBudget;
-use crate::nested_list::NestedList;
+use crate::nested_list::{Checkpoint, NestedList};
 use crate::parser::Parser;
 use crate::refusal::{Failed, Message};
 use bumpalo::Bump;
@@ -48,8 +48,8 @@ pub struct BackrefTables<'a, 'b, L: NodeBudget, A: Allocator> {
 /// Where the tables that enclose a template begin.
 #[derive(Clone, Copy)]
 pub struct SavedTables {
-    names: usize,
-    types: usize,
+    names: Checkpoint,
+    types: Checkpoint,
 }
 
 impl<'a, 'b, L: NodeBudget, A: Allocator> BackrefTables<'a, 'b, L, A> {
@@ -66,8 +66,8 @@ impl<'a, 'b, L: NodeBudget, A: Allocator> BackrefTables<'a, 'b, L, A> {
 
     /// Begins a template, whose tables are empty. The result ends it.
     pub fn open_template(&mut self) -> SavedTables
-        ensures place { (result.names ≡ length (enclosing self.old.names))
-            × (result.types ≡ length (enclosing self.old.types)) }
+        ensures place { (result.names.from ≡ length (enclosing self.old.names))
+            × (result.types.from ≡ length (enclosing self.old.types)) }
         ensures current { (current self.new.names ≡ []) × (current self.new.types ≡ []) }
         ensures enclosing { (enclosing self.new.names ≡ enclosing self.old.names ++ current self.old.names)
             × (enclosing self.new.types ≡ enclosing self.old.types ++ current self.old.types) }
@@ -80,12 +80,12 @@ impl<'a, 'b, L: NodeBudget, A: Allocator> BackrefTables<'a, 'b, L, A> {
 
     /// Ends a template: drops its entries and restores the enclosing tables.
     pub fn close_template(&mut self, saved: SavedTables)
-        requires { (saved.names ≤ length (enclosing self.old.names))
-            × (saved.types ≤ length (enclosing self.old.types)) }
-        ensures current { (current self.new.names ≡ drop saved.names (enclosing self.old.names))
-            × (current self.new.types ≡ drop saved.types (enclosing self.old.types)) }
-        ensures enclosing { (enclosing self.new.names ≡ take saved.names (enclosing self.old.names))
-            × (enclosing self.new.types ≡ take saved.types (enclosing self.old.types)) }
+        requires { (saved.names.from ≤ length (enclosing self.old.names))
+            × (saved.types.from ≤ length (enclosing self.old.types)) }
+        ensures current { (current self.new.names ≡ drop saved.names.from (enclosing self.old.names))
+            × (current self.new.types ≡ drop saved.types.from (enclosing self.old.types)) }
+        ensures enclosing { (enclosing self.new.names ≡ take saved.names.from (enclosing self.old.names))
+            × (enclosing self.new.types ≡ take saved.types.from (enclosing self.old.types)) }
     {
         self.names.end(saved.names);
         self.types.end(saved.types);
