@@ -8,17 +8,15 @@ ghost use Rattle.msvc_nodes.specs.NodeView.{name_at, name_of, type_at, type_of};
 ghost use Rattle.msvc_grammar.specs.Counts.{name_count, type_count};
 ghost use Rattle.msvc_grammar.specs.Reads.{name_known, type_known, type_noted, with_value};
 ghost use Rattle.msvc_grammar.specs.State.{remember_name, remember_type, span_of, with_name, with_type};
-ghost use Rattle.msvc_parser.specs.Parser.{known_name_of, memorized_of, ReadsAs, Stays, type_of_letter};
+ghost use Rattle.msvc_parser.specs.Parser.{known_name_of, memorized_of, ReadsAs, Stays};
 ghost use Rattle.msvc_parser.specs.NestedList.{current, enclosing};
 
 use crate::entries::{MemorizedName, MemorizedType};
-use crate::letters;
 use crate::limit::NodeBudget;
 use crate::nested_list::{Checkpoint, NestedList};
 use crate::parser::Parser;
 use crate::refusal::{Failed, Message};
 use bumpalo::Bump;
-use msvc_nodes::flags::StorageClass;
 use msvc_nodes::nodes::{Name, Type};
 use msvc_nodes::same::{is_same_name, is_same_type};
 use std::alloc::{AllocError, Allocator};
@@ -208,27 +206,6 @@ impl<'a, 'b, L: NodeBudget, A: Allocator> Parser<'a, 'b, L, A> {
         };
         self.count_nodes(known.nodes)?;
         Ok(known.memorized)
-    }
-
-    /// Returns the type of a letter that needs no other: a base type with the given qualifiers, or the type that a
-    /// digit refers to, as it was memorized. Fails at any other letter.
-    #[tactic(auto, unfolding(msvc_nodes::specs::NodeView::type_of))]
-    #[inline(never)]
-    pub fn type_of_letter(
-        &mut self,
-        letter: u8,
-        qualifiers: StorageClass,
-    ) -> Result<&'b Type<'a, 'b>, Failed>
-        ensures value { ReadsAs type_at self.old self.new result (type_of_letter qualifiers.0 letter) }
-        ensures stays { Stays self.old self.new result }
-    {
-        if let Some(base) = letters::base_type(letter) {
-            return self.new_type(Type::Base(base, qualifiers));
-        }
-        let Some(digit) = letters::digit(letter) else {
-            return Err(self.reject(Message::UnknownPrimitiveType));
-        };
-        self.type_of_digit(digit)
     }
 
     /// Returns the type that a digit as a parameter refers to, and notes the back reference. `start` begins with the

@@ -1,18 +1,27 @@
-//! Tables of letters: one function per table returns what a letter stands for.
+//! Tables of letters: one function per table returns what a letter stands for. Below them stand the readers of base
+//! types.
 
 ghost use Rattle.std.specs.Option.{option_map};
 ghost use Rattle.std.specs.Prelude.{◌≡◌};
+ghost use Rattle.msvc_nodes.specs.NodeView.{type_at};
 ghost use Rattle.msvc_grammar.specs.Letters.{base_types, character_sizes, conventions, digits, escaped_characters};
 ghost use Rattle.msvc_grammar.specs.Letters.{extended_types, function_classes, hexadecimal, hexadecimal_codes};
 ghost use Rattle.msvc_grammar.specs.Letters.{plain_characters, qualifiers, qualifiers_of_arrays, qualifiers_of_returns};
 ghost use Rattle.msvc_grammar.specs.Letters.{reference_qualifiers, storage_classes};
-ghost use Rattle.msvc_grammar.specs.Rules.{lookup};
-ghost use Rattle.msvc_parser.specs.Parser.{optional_letters};
+ghost use Rattle.msvc_grammar.specs.Reads.{read_name};
+ghost use Rattle.msvc_grammar.specs.Rules.{lookup, type_after};
+ghost use Rattle.msvc_grammar.specs.Sorts.{extended};
+ghost use Rattle.msvc_parser.specs.Parser.{Consumes, optional_letters, ReadsAs, Stays, type_of_letter};
 
+use crate::limit::NodeBudget;
+use crate::parser::Parser;
+use crate::refusal::{Failed, Message};
 use bitflags::Flags;
 use msvc_nodes::base_types;
 use msvc_nodes::flags::{FuncClass, StorageClass};
 use msvc_nodes::kinds::{CallingConv, PrimitiveKind};
+use msvc_nodes::nodes::Type;
+use std::alloc::Allocator;
 
 /// Returns the table entry that a digit refers to.
 pub fn digit(letter: u8) -> Option<u8>
@@ -311,4 +320,42 @@ pub fn function_class(letter: u8) -> Option<FuncClass>
         _ => return None,
     };
     Some(class)
+}
+
+impl<'a, 'b, L: NodeBudget, A: Allocator> Parser<'a, 'b, L, A> {
+    /// Returns the type of a letter that needs no other: a base type with the given qualifiers, or the type that a
+    /// digit refers to, as it was memorized. Fails at any other letter.
+    #[tactic(auto, unfolding(msvc_nodes::specs::NodeView::type_of))]
+    #[inline(never)]
+    pub fn type_of_letter(
+        &mut self,
+        letter: u8,
+        qualifiers: StorageClass,
+    ) -> Result<&'b Type<'a, 'b>, Failed>
+        ensures value { ReadsAs type_at self.old self.new result (type_of_letter qualifiers.0 letter) }
+        ensures stays { Stays self.old self.new result }
+    {
+        if let Some(base) = base_type(letter) {
+            return self.new_type(Type::Base(base, qualifiers));
+        }
+        let Some(digit) = digit(letter) else {
+            return Err(self.reject(Message::UnknownPrimitiveType));
+        };
+        self.type_of_digit(digit)
+    }
+
+    /// Reads a base type by its second letter.
+    #[tactic(auto, using(crate::proofs::TypeSteps::extended_is), unfolding(msvc_nodes::specs::NodeView::type_of))]
+    #[inline(never)]
+    pub fn extended_type(&mut self, qualifiers: StorageClass) -> Result<&'b Type<'a, 'b>, Failed>
+        ensures value { ReadsAs type_at self.old self.new result (read_name (type_after qualifiers.0 extended)) }
+        ensures consumes { Consumes self.old self.new result }
+    {
+        self.count_node()?;
+        let letter = self.byte()?;
+        match extended_type(letter) {
+            Some(base) => self.put_type(Type::Base(base, qualifiers)),
+            None => Err(self.reject(Message::UnknownPrimitiveType)),
+        }
+    }
 }
