@@ -234,6 +234,44 @@ pub enum PrimitiveKind {
     Uint128,
 }
 
+/// Calls the macro `rows` with `arguments` and the table of base types: two lists of rows, for the codes that are one
+/// letter, and for those that are `_` with a letter after it. A row is that letter, the type and its word, and then the
+/// word that MS_TYPENAMES chooses, if it is another.
+#[macro_export]
+macro_rules! base_types {
+    ($rows:ident $arguments:tt) => {
+        $rows! {
+            $arguments
+            {
+                b'X' Void b"void",
+                b'D' Char b"char",
+                b'C' Schar b"signed char",
+                b'E' Uchar b"unsigned char",
+                b'F' Short b"short",
+                b'G' Ushort b"unsigned short",
+                b'H' Int b"int",
+                b'I' Uint b"unsigned int",
+                b'J' Long b"long",
+                b'K' Ulong b"unsigned long",
+                b'M' Float b"float",
+                b'N' Double b"double",
+                b'O' Ldouble b"long double",
+            }
+            {
+                b'N' Bool b"bool",
+                b'W' Wchar b"wchar_t",
+                b'Q' Char8 b"char8_t",
+                b'S' Char16 b"char16_t",
+                b'U' Char32 b"char32_t",
+                b'J' Int64 b"int64_t" b"__int64",
+                b'K' Uint64 b"uint64_t" b"unsigned __int64",
+                b'L' Int128 b"int128_t" b"__int128",
+                b'M' Uint128 b"uint128_t" b"unsigned __int128",
+            }
+        }
+    };
+}
+
 /// The types that are named.
 #[derive(Clone, Copy, PartialEq, Eq, Debug)]
 pub enum TagKind {

@@ -1,5 +1,5 @@
 -- The lists of the parser after a reader, and views of the nodes that readers store in the arena.
-use Rattle.std.specs.Prelude.{ℕ, List, Result, IfOk, ◌≡◌, ◌++◌, drop, length, map, take}
+use Rattle.std.specs.Prelude.{List, Result, IfOk, ◌≡◌, ◌++◌, drop, length, map, take}
 use Rattle.std.specs.Borrow.{Bor}
 use Rattle.msvc_nodes.specs.Trees.{NameTree, SymbolTree, TypeTree}
 use Rattle.msvc_nodes.specs.NodeView.{name_at, type_at, typed_symbol_of}
@@ -9,13 +9,14 @@ use Rattle.msvc_nodes.specs.declared.nodes.TypedSymbol.{TypedSymbol}
 use Rattle.msvc_nodes.specs.declared.kinds.CallingConv.{CallingConv}
 use Rattle.msvc_parser.specs.Parser.{frame_of}
 use Rattle.msvc_parser.specs.NestedList.{current, enclosing}
+use Rattle.msvc_parser.specs.declared.nested_list.Checkpoint.{Checkpoint}
 use Rattle.msvc_parser.specs.declared.parser.Parser.{Parser}
 use Rattle.msvc_parser.specs.declared.refusal.Failed.{Failed}
 
 -- a reader of names leaves them on a new part of the list, and returns the checkpoint that ends that part
-abbrev pub ListsNames : {L A : Type 0} {g h : _} → Parser L A g h → Parser L A g h → Result ℕ Failed → Type 0
+abbrev pub ListsNames : {L A : Type 0} {g h : _} → Parser L A g h → Parser L A g h → Result Checkpoint Failed → Type 0
 ListsNames before after result =
-    IfOk result (λ checkpoint. (checkpoint ≡ length (enclosing before.listed_names))
+    IfOk result (λ checkpoint. (checkpoint.from ≡ length (enclosing before.listed_names))
     × (frame_of after
     ≡ record (frame_of before) {
       listed_names = current after.listed_names;
@@ -23,9 +24,9 @@ ListsNames before after result =
     }))
 
 -- the same for types
-abbrev pub ListsTypes : {L A : Type 0} {g h : _} → Parser L A g h → Parser L A g h → Result ℕ Failed → Type 0
+abbrev pub ListsTypes : {L A : Type 0} {g h : _} → Parser L A g h → Parser L A g h → Result Checkpoint Failed → Type 0
 ListsTypes before after result =
-    IfOk result (λ checkpoint. (checkpoint ≡ length (enclosing before.listed_types))
+    IfOk result (λ checkpoint. (checkpoint.from ≡ length (enclosing before.listed_types))
     × (frame_of after
     ≡ record (frame_of before) {
       listed_types = current after.listed_types;
@@ -33,23 +34,23 @@ ListsTypes before after result =
     }))
 
 -- a part of the list of names is dropped, and the list is as it was before that part began
-abbrev pub EndsNames : {L A : Type 0} {g h : _} {X : Type 0} → ℕ → Parser L A g h → Parser L A g h → Result X Failed →
-    Type 0
+abbrev pub EndsNames : {L A : Type 0} {g h : _} {X : Type 0} → Checkpoint → Parser L A g h → Parser L A g h →
+    Result X Failed → Type 0
 EndsNames checkpoint before after result =
     IfOk result (λ _. frame_of after
     ≡ record (frame_of before) {
-      listed_names = drop checkpoint (enclosing before.listed_names);
-      names_before = take checkpoint (enclosing before.listed_names);
+      listed_names = drop checkpoint.from (enclosing before.listed_names);
+      names_before = take checkpoint.from (enclosing before.listed_names);
     })
 
 -- the same for types
-abbrev pub EndsTypes : {L A : Type 0} {g h : _} {X : Type 0} → ℕ → Parser L A g h → Parser L A g h → Result X Failed →
-    Type 0
+abbrev pub EndsTypes : {L A : Type 0} {g h : _} {X : Type 0} → Checkpoint → Parser L A g h → Parser L A g h →
+    Result X Failed → Type 0
 EndsTypes checkpoint before after result =
     IfOk result (λ _. frame_of after
     ≡ record (frame_of before) {
-      listed_types = drop checkpoint (enclosing before.listed_types);
-      types_before = take checkpoint (enclosing before.listed_types);
+      listed_types = drop checkpoint.from (enclosing before.listed_types);
+      types_before = take checkpoint.from (enclosing before.listed_types);
     })
 
 -- a name and its scope

@@ -8,17 +8,15 @@ ghost use Rattle.msvc_nodes.specs.NodeView.{name_at, name_of, type_at, type_of};
 ghost use Rattle.msvc_grammar.specs.Counts.{name_count, type_count};
 ghost use Rattle.msvc_grammar.specs.Reads.{name_known, type_known, type_noted, with_value};
 ghost use Rattle.msvc_grammar.specs.State.{remember_name, remember_type, span_of, with_name, with_type};
-ghost use Rattle.msvc_parser.specs.Parser.{known_name_of, memorized_of, ReadsAs, Stays, type_of_letter};
+ghost use Rattle.msvc_parser.specs.Parser.{known_name_of, memorized_of, ReadsAs, Stays};
 ghost use Rattle.msvc_parser.specs.NestedList.{current, enclosing};
 
 use crate::entries::{MemorizedName, MemorizedType};
-use crate::letters;
 use crate::limit::NodeBudget;
-use crate::nested_list::NestedList;
+use crate::nested_list::{Checkpoint, NestedList};
 use crate::parser::Parser;
 use crate::refusal::{Failed, Message};
 use bumpalo::Bump;
-use msvc_nodes::flags::StorageClass;
 use msvc_nodes::nodes::{Name, Type};
 use msvc_nodes::same::{is_same_name, is_same_type};
 use std::alloc::{AllocError, Allocator};
@@ -48,8 +46,8 @@ pub struct BackrefTables<'a, 'b, L: NodeBudget, A: Allocator> {
 /// Where the tables that enclose a template begin.
 #[derive(Clone, Copy)]
 pub struct SavedTables {
-    names: usize,
-    types: usize,
+    names: Checkpoint,
+    types: Checkpoint,
 }
 
 impl<'a, 'b, L: NodeBudget, A: Allocator> BackrefTables<'a, 'b, L, A> {
@@ -66,8 +64,8 @@ impl<'a, 'b, L: NodeBudget, A: Allocator> BackrefTables<'a, 'b, L, A> {
 
     /// Begins a template, whose tables are empty. The result ends it.
     pub fn open_template(&mut self) -> SavedTables
-        ensures place { (result.names ≡ length (enclosing self.old.names))
-            × (result.types ≡ length (enclosing self.old.types)) }
+        ensures place { (result.names.from ≡ length (enclosing self.old.names))
+            × (result.types.from ≡ length (enclosing self.old.types)) }
         ensures current { (current self.new.names ≡ []) × (current self.new.types ≡ []) }
         ensures enclosing { (enclosing self.new.names ≡ enclosing self.old.names ++ current self.old.names)
             × (enclosing self.new.types ≡ enclosing self.old.types ++ current self.old.types) }
@@ -80,12 +78,12 @@ impl<'a, 'b, L: NodeBudget, A: Allocator> BackrefTables<'a, 'b, L, A> {
 
     /// Ends a template: drops its entries and restores the enclosing tables.
     pub fn close_template(&mut self, saved: SavedTables)
-        requires { (saved.names ≤ length (enclosing self.old.names))
-            × (saved.types ≤ length (enclosing self.old.types)) }
-        ensures current { (current self.new.names ≡ drop saved.names (enclosing self.old.names))
-            × (current self.new.types ≡ drop saved.types (enclosing self.old.types)) }
-        ensures enclosing { (enclosing self.new.names ≡ take saved.names (enclosing self.old.names))
-            × (enclosing self.new.types ≡ take saved.types (enclosing self.old.types)) }
+        requires { (saved.names.from ≤ length (enclosing self.old.names))
+            × (saved.types.from ≤ length (enclosing self.old.types)) }
+        ensures current { (current self.new.names ≡ drop saved.names.from (enclosing self.old.names))
+            × (current self.new.types ≡ drop saved.types.from (enclosing self.old.types)) }
+        ensures enclosing { (enclosing self.new.names ≡ take saved.names.from (enclosing self.old.names))
+            × (enclosing self.new.types ≡ take saved.types.from (enclosing self.old.types)) }
     {
         self.names.end(saved.names);
         self.types.end(saved.types);
@@ -205,26 +203,6 @@ impl<'a, 'b, L: NodeBudget, A: Allocator> Parser<'a, 'b, L, A> {
         };
         self.count_nodes(known.nodes)?;
         Ok(known.memorized)
-    }
-
-    /// Returns the type of a letter that needs no other: a base type with the given qualifiers, or the type that a
-    /// digit refers to, as it was memorized. Fails at any other letter.
-    #[tactic(auto, unfolding(msvc_nodes::specs::NodeView::type_of))]
-    pub fn type_of_letter(
-        &mut self,
-        letter: u8,
-        qualifiers: StorageClass,
-    ) -> Result<&'b Type<'a, 'b>, Failed>
-        ensures value { ReadsAs type_at self.old self.new result (type_of_letter qualifiers.0 letter) }
-        ensures stays { Stays self.old self.new result }
-    {
-        if let Some(base) = letters::base_type(letter) {
-            return self.new_type(Type::Base(base, qualifiers));
-        }
-        let Some(digit) = letters::digit(letter) else {
-            return Err(self.reject(Message::UnknownPrimitiveType));
-        };
-        self.type_of_digit(digit)
     }
 
     /// Returns the type that a digit as a parameter refers to, and notes the back reference. `start` begins with the

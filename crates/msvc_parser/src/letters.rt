@@ -1,17 +1,27 @@
-//! Tables of letters: one function per table returns what a letter stands for.
+//! Tables of letters: one function per table returns what a letter stands for. Below them stand the readers of base
+//! types.
 
 ghost use Rattle.std.specs.Option.{option_map};
 ghost use Rattle.std.specs.Prelude.{◌≡◌};
+ghost use Rattle.msvc_nodes.specs.NodeView.{type_at};
 ghost use Rattle.msvc_grammar.specs.Letters.{base_types, character_sizes, conventions, digits, escaped_characters};
 ghost use Rattle.msvc_grammar.specs.Letters.{extended_types, function_classes, hexadecimal, hexadecimal_codes};
 ghost use Rattle.msvc_grammar.specs.Letters.{plain_characters, qualifiers, qualifiers_of_arrays, qualifiers_of_returns};
 ghost use Rattle.msvc_grammar.specs.Letters.{reference_qualifiers, storage_classes};
-ghost use Rattle.msvc_grammar.specs.Rules.{lookup};
-ghost use Rattle.msvc_parser.specs.Parser.{optional_letters};
+ghost use Rattle.msvc_grammar.specs.Reads.{read_name};
+ghost use Rattle.msvc_grammar.specs.Rules.{lookup, type_after};
+ghost use Rattle.msvc_grammar.specs.Sorts.{extended};
+ghost use Rattle.msvc_parser.specs.Parser.{Consumes, optional_letters, ReadsAs, Stays, type_of_letter};
 
+use crate::limit::NodeBudget;
+use crate::parser::Parser;
+use crate::refusal::{Failed, Message};
 use bitflags::Flags;
+use msvc_nodes::base_types;
 use msvc_nodes::flags::{FuncClass, StorageClass};
 use msvc_nodes::kinds::{CallingConv, PrimitiveKind};
+use msvc_nodes::nodes::Type;
+use std::alloc::Allocator;
 
 /// Returns the table entry that a digit refers to.
 pub fn digit(letter: u8) -> Option<u8>
@@ -137,26 +147,31 @@ pub fn optional_letter(letters: OptionalLetters, letter: u8) -> Option<StorageCl
     }
 }
 
+/// Matches a letter with one of the two lists of `base_types`.
+macro_rules! base_type_of_letter {
+    ((alone $letter:ident) $rows:tt $after_underscore:tt) => {
+        base_type_in!($letter $rows)
+    };
+    ((after_underscore $letter:ident) $alone:tt $rows:tt) => {
+        base_type_in!($letter $rows)
+    };
+}
+
+/// Matches a letter with rows of base types. Any other letter returns `None`.
+macro_rules! base_type_in {
+    ($letter:ident { $($code:literal $base:ident $word:literal $($other:literal)?,)* }) => {
+        match $letter {
+            $($code => PrimitiveKind::$base,)*
+            _ => return None,
+        }
+    };
+}
+
 /// Returns the base type of a letter.
 pub fn base_type(letter: u8) -> Option<PrimitiveKind>
     ensures { result ≡ lookup letter base_types }
 {
-    let base = match letter {
-        b'X' => PrimitiveKind::Void,
-        b'C' => PrimitiveKind::Schar,
-        b'D' => PrimitiveKind::Char,
-        b'E' => PrimitiveKind::Uchar,
-        b'F' => PrimitiveKind::Short,
-        b'G' => PrimitiveKind::Ushort,
-        b'H' => PrimitiveKind::Int,
-        b'I' => PrimitiveKind::Uint,
-        b'J' => PrimitiveKind::Long,
-        b'K' => PrimitiveKind::Ulong,
-        b'M' => PrimitiveKind::Float,
-        b'N' => PrimitiveKind::Double,
-        b'O' => PrimitiveKind::Ldouble,
-        _ => return None,
-    };
+    let base = base_types!(base_type_of_letter (alone letter));
     Some(base)
 }
 
@@ -164,18 +179,7 @@ pub fn base_type(letter: u8) -> Option<PrimitiveKind>
 pub fn extended_type(letter: u8) -> Option<PrimitiveKind>
     ensures { result ≡ lookup letter extended_types }
 {
-    let base = match letter {
-        b'N' => PrimitiveKind::Bool,
-        b'W' => PrimitiveKind::Wchar,
-        b'Q' => PrimitiveKind::Char8,
-        b'S' => PrimitiveKind::Char16,
-        b'U' => PrimitiveKind::Char32,
-        b'J' => PrimitiveKind::Int64,
-        b'K' => PrimitiveKind::Uint64,
-        b'L' => PrimitiveKind::Int128,
-        b'M' => PrimitiveKind::Uint128,
-        _ => return None,
-    };
+    let base = base_types!(base_type_of_letter (after_underscore letter));
     Some(base)
 }
 
@@ -315,4 +319,40 @@ pub fn function_class(letter: u8) -> Option<FuncClass>
         _ => return None,
     };
     Some(class)
+}
+
+impl<'a, 'b, L: NodeBudget, A: Allocator> Parser<'a, 'b, L, A> {
+    /// Returns the type of a letter that needs no other: a base type with the given qualifiers, or the type that a
+    /// digit refers to, as it was memorized. Fails at any other letter.
+    #[tactic(auto, unfolding(msvc_nodes::specs::NodeView::type_of))]
+    pub fn type_of_letter(
+        &mut self,
+        letter: u8,
+        qualifiers: StorageClass,
+    ) -> Result<&'b Type<'a, 'b>, Failed>
+        ensures value { ReadsAs type_at self.old self.new result (type_of_letter qualifiers.0 letter) }
+        ensures stays { Stays self.old self.new result }
+    {
+        if let Some(base) = base_type(letter) {
+            return self.new_type(Type::Base(base, qualifiers));
+        }
+        let Some(digit) = digit(letter) else {
+            return Err(self.reject(Message::UnknownPrimitiveType));
+        };
+        self.type_of_digit(digit)
+    }
+
+    /// Reads a base type by its second letter.
+    #[tactic(auto, using(crate::proofs::TypeSteps::extended_is), unfolding(msvc_nodes::specs::NodeView::type_of))]
+    pub fn extended_type(&mut self, qualifiers: StorageClass) -> Result<&'b Type<'a, 'b>, Failed>
+        ensures value { ReadsAs type_at self.old self.new result (read_name (type_after qualifiers.0 extended)) }
+        ensures consumes { Consumes self.old self.new result }
+    {
+        self.count_node()?;
+        let letter = self.byte()?;
+        match extended_type(letter) {
+            Some(base) => self.put_type(Type::Base(base, qualifiers)),
+            None => Err(self.reject(Message::UnknownPrimitiveType)),
+        }
+    }
 }

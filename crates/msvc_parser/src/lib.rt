@@ -1,5 +1,7 @@
-//! The parser's state and the leaf readers: letters, numbers, strings, memorized names and types, lists, the limit on
-//! nodes, and rejections. A reader of a production that calls other productions belongs in `msvc_readers`.
+//! The parser's state, and what is read without recursion: letters, texts of tables, numbers, strings, memorized names
+//! and types. Lists, the limit on nodes and rejections are here too. A reader that calls one of the cycle in
+//! `msvc_readers` belongs there; small readers that only that cycle calls, and functions that store nodes, stand beside
+//! it.
 #![tactic(auto)]
 
 pub mod back_references;

@@ -7,6 +7,13 @@ use std::alloc::Allocator;
 
 mod steps;
 
+/// The place in a `NestedList` at which a part begins that is left while a later part is in use.
+#[derive(Clone, Copy)]
+pub struct Checkpoint {
+    /// The index of the first item of that part.
+    pub from: usize,
+}
+
 /// A list of which the items from `from` on are in use.
 #[derive(Drop)]
 pub struct NestedList<'b, T: Copy, A: Allocator> {

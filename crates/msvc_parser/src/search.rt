@@ -10,7 +10,7 @@ use std::simd::prelude::*;
 /// How many bytes are tested at once.
 const BLOCK: usize = 16;
 
-/// Returns the index of the first `byte`. Tests the first 16 bytes at once, and calls `memchr` for the bytes after them.
+/// Returns the index of the first `byte`. Tests the first 16 bytes at once, and calls `memchr` for those after them.
 #[inline(always)]
 pub fn find_byte(byte: u8, bytes: &[u8]) -> Option<usize>
     ensures first { IsFirstByte (λ b. b == byte) bytes.now result }

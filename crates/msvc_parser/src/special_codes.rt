@@ -13,7 +13,7 @@ use msvc_grammar::forms::SpecialForm;
 use msvc_nodes::kinds::{Guard, PlainOperator};
 use msvc_nodes::plain_operators;
 
-/// What the code stands for that the bytes begin with, and what follows it.
+/// Returns what the code stands for that the bytes begin with, and the bytes after it.
 #[tactic(auto, unfolding(crate::specs::Parser::special_at))]
 pub fn special_form<'a>(left: &'a [u8]) -> Option<(SpecialForm, &'a [u8])>
     ensures value { option_map (λ x. (x.0, x.1.now)) result ≡ special_at left.now }
@@ -26,7 +26,7 @@ pub fn special_form<'a>(left: &'a [u8]) -> Option<(SpecialForm, &'a [u8])>
     }
 }
 
-/// Likewise after a `_`.
+/// Returns the same after a `_`.
 #[tactic(auto, unfolding(crate::specs::Parser::special_at_after_under))]
 fn special_form_after_under<'a>(left: &'a [u8]) -> Option<(SpecialForm, &'a [u8])>
     ensures value { option_map (λ x. (x.0, x.1.now)) result ≡ special_at_after_under left.now }
@@ -40,7 +40,7 @@ fn special_form_after_under<'a>(left: &'a [u8]) -> Option<(SpecialForm, &'a [u8]
     }
 }
 
-/// What a code stands for, if it is one, and what follows it.
+/// Returns what a code stands for, if it is one, and the bytes after it.
 fn with_rest<'a>(form: Option<SpecialForm>, rest: &'a [u8]) -> Option<(SpecialForm, &'a [u8])>
     ensures value { option_map (λ x. (x.0, x.1.now)) result ≡ at_rest form rest.now }
     ensures still { IfSome result (λ x. length x.1.now ≡ length rest.now) }
@@ -78,7 +78,7 @@ macro_rules! operator_in {
     };
 }
 
-/// What a code of one letter stands for.
+/// Returns what a code of one letter stands for.
 fn basic_form(letter: u8) -> Option<SpecialForm>
     ensures { result ≡ lookup letter basic_special_letters }
 {
@@ -86,7 +86,7 @@ fn basic_form(letter: u8) -> Option<SpecialForm>
     Some(SpecialForm::Plain(operator))
 }
 
-/// What a letter stands for after `_`.
+/// Returns what a letter stands for after `_`.
 fn under_form(letter: u8) -> Option<SpecialForm>
     ensures { result ≡ lookup letter under_special_letters }
 {
@@ -96,7 +96,7 @@ fn under_form(letter: u8) -> Option<SpecialForm>
     Some(SpecialForm::Plain(operator))
 }
 
-/// What a letter stands for after `_R`, of run-time type information.
+/// Returns what a letter stands for after `_R`, of run-time type information.
 fn type_information_form(letter: u8) -> Option<SpecialForm>
     ensures { result ≡ lookup letter type_information_letters }
 {
@@ -107,7 +107,7 @@ fn type_information_form(letter: u8) -> Option<SpecialForm>
     Some(SpecialForm::Plain(operator))
 }
 
-/// What a letter stands for after `__`.
+/// Returns what a letter stands for after `__`.
 fn double_under_form(letter: u8) -> Option<SpecialForm>
     ensures { result ≡ lookup letter double_under_special_letters }
 {
@@ -117,7 +117,7 @@ fn double_under_form(letter: u8) -> Option<SpecialForm>
     Some(SpecialForm::Plain(operator))
 }
 
-/// Why the bytes begin with no code of a special name, and how many are left where that is seen.
+/// Returns why the bytes begin with no code of a special name, and how many are left where that is seen.
 pub fn unknown_code(left: &[u8]) -> (Message, usize) {
     match left {
         [] | [b'_'] | [b'_', b'R'] => (Message::EndOfInput, 0),

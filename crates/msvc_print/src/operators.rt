@@ -32,6 +32,7 @@ pub enum NameKind {
     Literal,
 }
 
+/// Returns how the name of a plain operator prints where it is the name of a symbol itself.
 #[tactic(auto, unfolding(crate::specs::Operators::name_kind))]
 fn operator_kind(plain: PlainOperator) -> NameKind
     ensures { result ≡ name_kind (operator plain) }
@@ -46,7 +47,7 @@ fn operator_kind(plain: PlainOperator) -> NameKind
     }
 }
 
-/// How a name prints where it is the name of a symbol itself.
+/// Returns how a name prints where it is the name of a symbol itself.
 #[tactic(auto, unfolding(crate::specs::Operators::name_kind, msvc_nodes::specs::NodeView::name_of))]
 pub fn name_kind<'a, 'b>(name: &'b Name<'a, 'b>) -> NameKind
     ensures { result ≡ name_kind (name_of name.now) }
@@ -84,6 +85,7 @@ fn write_guard_number<A: Allocator>(
     }
 }
 
+/// Returns the word of a guard.
 fn guard_word<'t>(guard: Guard) -> &'t [u8]
     ensures { result.now ≡ guard_word guard }
 {
@@ -148,7 +150,7 @@ macro_rules! word_of_operator {
     };
 }
 
-/// The words of an operator.
+/// Returns the words of an operator.
 #[tactic(auto, unfolding(crate::specs::Operators::operator_word))]
 pub fn operator_word<'t>(operator: PlainOperator) -> &'t [u8]
     ensures { result.now ≡ operator_word operator }

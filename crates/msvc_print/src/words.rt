@@ -4,38 +4,35 @@ ghost use Rattle.std.specs.Prelude.{◌≡◌, cond};
 ghost use Rattle.msvc_print.specs.Words as spec;
 
 use bitflags::Flags;
+use msvc_nodes::base_types;
 use msvc_nodes::flags::DemangleFlags;
 use msvc_nodes::kinds::{PointerAffinity, PrimitiveKind, TagKind, VarStorageKind};
+
+/// Matches a base type with its word.
+macro_rules! word_of_base_type {
+    (($base:ident $microsoft:ident) $({ $($code:literal $name:ident $word:literal $($other:literal)?,)* })*) => {
+        match $base {
+            $($(PrimitiveKind::$name => word_in_row!($microsoft $word $($other)?),)*)*
+        }
+    };
+}
+
+/// Chooses between the words of a row, if it has two.
+macro_rules! word_in_row {
+    ($microsoft:ident $word:literal) => {
+        $word
+    };
+    ($microsoft:ident $word:literal $other:literal) => {
+        either($microsoft, $other, $word)
+    };
+}
 
 /// Returns the word of a base type. MS_TYPENAMES chooses those of 64 and 128 bits.
 pub fn base_word<'t>(base: PrimitiveKind, flags: DemangleFlags) -> &'t [u8]
     ensures { result.now ≡ spec.base_word base flags.0 }
 {
-    let ms = flags.contains(DemangleFlags::MS_TYPENAMES);
-    match base {
-        PrimitiveKind::Void => b"void",
-        PrimitiveKind::Char => b"char",
-        PrimitiveKind::Schar => b"signed char",
-        PrimitiveKind::Uchar => b"unsigned char",
-        PrimitiveKind::Short => b"short",
-        PrimitiveKind::Ushort => b"unsigned short",
-        PrimitiveKind::Int => b"int",
-        PrimitiveKind::Uint => b"unsigned int",
-        PrimitiveKind::Long => b"long",
-        PrimitiveKind::Ulong => b"unsigned long",
-        PrimitiveKind::Float => b"float",
-        PrimitiveKind::Double => b"double",
-        PrimitiveKind::Ldouble => b"long double",
-        PrimitiveKind::Bool => b"bool",
-        PrimitiveKind::Wchar => b"wchar_t",
-        PrimitiveKind::Char8 => b"char8_t",
-        PrimitiveKind::Char16 => b"char16_t",
-        PrimitiveKind::Char32 => b"char32_t",
-        PrimitiveKind::Int64 => either(ms, b"__int64", b"int64_t"),
-        PrimitiveKind::Uint64 => either(ms, b"unsigned __int64", b"uint64_t"),
-        PrimitiveKind::Int128 => either(ms, b"__int128", b"int128_t"),
-        PrimitiveKind::Uint128 => either(ms, b"unsigned __int128", b"uint128_t"),
-    }
+    let microsoft = flags.contains(DemangleFlags::MS_TYPENAMES);
+    base_types!(word_of_base_type (base microsoft))
 }
 
 /// Returns `first` if `choice` is true, and else `second`.

@@ -25,6 +25,7 @@ use msvc_nodes::nodes::{Function, Symbol, Type};
 use msvc_parser::forms::{FunctionKind, MemberPointerForm, ObjectQualifiers, TemplateNames};
 use msvc_parser::letters::{self, OptionalLetters};
 use msvc_parser::limit::NodeBudget;
+use msvc_parser::nested_list::Checkpoint;
 use msvc_parser::parser::Parser;
 use msvc_parser::refusal::{Failed, Message};
 use std::alloc::Allocator;
@@ -133,9 +134,9 @@ pub fn put_function_type<'a, 'b, L: NodeBudget, A: Allocator>(
     convention: CallingConv,
     this_qualifiers: StorageClass,
     returned: &'b Type<'a, 'b>,
-    checkpoint: usize,
+    checkpoint: Checkpoint,
 ) -> Result<&'b Type<'a, 'b>, Failed>
-    requires { checkpoint ≤ length (enclosing parser.old.listed_types) }
+    requires { checkpoint.from ≤ length (enclosing parser.old.listed_types) }
     ensures value { ReadsAs type_at parser.old parser.new result
         (with_value (Some (tree.function convention (type_trees (map type_at (current parser.old.listed_types)))
         this_qualifiers.0 (type_of returned.now)))) }
@@ -192,9 +193,9 @@ pub fn put_parts<'a, 'b, L: NodeBudget, A: Allocator>(
     class: FuncClass,
     this_qualifiers: StorageClass,
     returned: &'b Type<'a, 'b>,
-    checkpoint: usize,
+    checkpoint: Checkpoint,
 ) -> Result<&'b Function<'a, 'b>, Failed>
-    requires { checkpoint ≤ length (enclosing parser.old.listed_types) }
+    requires { checkpoint.from ≤ length (enclosing parser.old.listed_types) }
     ensures value { ReadsAs parts_at parser.old parser.new result
         (with_value (Some (convention, (type_of returned.now, map type_at (current parser.old.listed_types))))) }
     ensures given { IfOk result (λ f. (f.now.class.0 ≡ class.0) × (f.now.qualifiers.0 ≡ this_qualifiers.0)) }

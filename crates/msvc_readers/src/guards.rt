@@ -18,6 +18,7 @@ use crate::symbols::put_typed_symbol;
 use msvc_nodes::kinds::{Guard, NumberedType};
 use msvc_nodes::nodes::{Name, Symbol, Type, TypedSymbol};
 use msvc_parser::limit::NodeBudget;
+use msvc_parser::nested_list::Checkpoint;
 use msvc_parser::parser::Parser;
 use msvc_parser::refusal::{Failed, Message};
 use std::alloc::Allocator;
@@ -104,9 +105,9 @@ pub fn guard_of_number<'a, 'b, L: NodeBudget, A: Allocator>(
     parser: &mut Parser<'a, 'b, L, A>,
     number: i32,
     name: &'b Name<'a, 'b>,
-    checkpoint: usize,
+    checkpoint: Checkpoint,
 ) -> Result<&'b TypedSymbol<'a, 'b>, Failed>
-    requires { checkpoint ≤ length (enclosing parser.old.listed_names) }
+    requires { checkpoint.from ≤ length (enclosing parser.old.listed_names) }
     ensures value { ReadsAs typed_symbol_at parser.old parser.new result
         (λ left s. and_then (read (rules.literal (codes "4HA")) left s)
         (λ _ left s. in_node left s (λ left s. Some (
@@ -132,9 +133,9 @@ pub fn put_guard<'a, 'b, L: NodeBudget, A: Allocator>(
     parser: &mut Parser<'a, 'b, L, A>,
     number: i32,
     name: &'b Name<'a, 'b>,
-    checkpoint: usize,
+    checkpoint: Checkpoint,
 ) -> Result<&'b TypedSymbol<'a, 'b>, Failed>
-    requires { checkpoint ≤ length (enclosing parser.old.listed_names) }
+    requires { checkpoint.from ≤ length (enclosing parser.old.listed_names) }
     ensures value { ReadsAs typed_symbol_at parser.old parser.new result
         (with_value (Some (record {
           name = name_of name.now;

@@ -1,5 +1,7 @@
-//! The readers of the grammar: one production a function, all in one cycle of calls. Leaf readers and the parser's
-//! state are in `msvc_parser`; whole texts are read in `msvc_read`. Nothing here prints.
+//! The productions that call each other, a reader each, all in one cycle of calls, `readers`; `symbol` begins it. Every
+//! other function here serves that cycle alone and calls none of it: it reads a part without recursion, or stores a
+//! node. Letters, numbers, strings, back references and the parser's state are in `msvc_parser`; whole texts are read in
+//! `msvc_read`. Nothing here prints.
 #![tactic(auto)]
 
 mod function_types;

@@ -22,6 +22,7 @@ use msvc_nodes::nodes::Type;
 use msvc_parser::back_references::enters_table;
 use msvc_parser::forms::Ellipsis;
 use msvc_parser::limit::NodeBudget;
+use msvc_parser::nested_list::Checkpoint;
 use msvc_parser::parser::Parser;
 use msvc_parser::refusal::{Failed, Message, Refusal};
 use std::alloc::Allocator;
@@ -31,7 +32,7 @@ use std::alloc::Allocator;
 #[tactic(auto, using(msvc_parser::proofs::FunctionSteps::function_parameters_step))]
 pub fn function_parameters<'a, 'b, L: NodeBudget, A: Allocator>(
     parser: &mut Parser<'a, 'b, L, A>,
-) -> Result<usize, Failed>
+) -> Result<Checkpoint, Failed>
     ensures value { ReadsAs (λ _. map type_at (current parser.new.listed_types)) parser.old parser.new result
         (read_name rules.function_parameters) }
     ensures shorter { IfOk result (λ _. length parser.new.rest.now < length parser.old.rest.now) }
@@ -52,7 +53,7 @@ pub fn function_parameters<'a, 'b, L: NodeBudget, A: Allocator>(
 #[inline(never)]
 pub fn no_parameters<'a, 'b, L: NodeBudget, A: Allocator>(
     parser: &mut Parser<'a, 'b, L, A>,
-) -> Result<usize, Failed>
+) -> Result<Checkpoint, Failed>
     ensures value { ReadsAs (λ _. map type_at (current parser.new.listed_types)) parser.old parser.new result
         (with_value (Some (base base_kind.Void 0 ∷ []))) }
     ensures rest { IfOk result (λ _. parser.new.rest.now ≡ parser.old.rest.now) }
@@ -70,7 +71,7 @@ pub fn no_parameters<'a, 'b, L: NodeBudget, A: Allocator>(
 #[tactic(auto, using(msvc_parser::proofs::RowSteps::parameters_go_on))]
 pub fn parameters<'a, 'b, L: NodeBudget, A: Allocator>(
     parser: &mut Parser<'a, 'b, L, A>,
-) -> Result<usize, Failed>
+) -> Result<Checkpoint, Failed>
     ensures value { ReadsAs (λ _. map type_at (current parser.new.listed_types)) parser.old parser.new result
         (read_name rules.parameters) }
     ensures shorter { IfOk result (λ _. length parser.new.rest.now ≤ length parser.old.rest.now) }
@@ -131,9 +132,9 @@ pub fn list_type<'a, 'b, L: NodeBudget, A: Allocator>(
 #[inline(always)]
 pub fn finish_types<'a, 'b, L: NodeBudget, A: Allocator>(
     parser: &mut Parser<'a, 'b, L, A>,
-    checkpoint: usize,
+    checkpoint: Checkpoint,
 ) -> Result<List<'b, &'b Type<'a, 'b>>, Failed>
-    requires { checkpoint ≤ length (enclosing parser.old.listed_types) }
+    requires { checkpoint.from ≤ length (enclosing parser.old.listed_types) }
     ensures value { ReadsAs types_at parser.old parser.new result
         (λ left s. with_value (Some (map type_at (current parser.old.listed_types))) left s) }
     ensures rest { IfOk result (λ _. parser.new.rest.now ≡ parser.old.rest.now) }

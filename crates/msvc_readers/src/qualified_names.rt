@@ -25,6 +25,7 @@ use msvc_nodes::nodes::{Name, Symbol, Template, TypedSymbol};
 use msvc_parser::forms::TemplateNames;
 use msvc_parser::letters;
 use msvc_parser::limit::NodeBudget;
+use msvc_parser::nested_list::Checkpoint;
 use msvc_parser::parser::Parser;
 use msvc_parser::refusal::{Failed, Message, Refusal};
 use msvc_parser::source_names::name_length;
@@ -112,9 +113,9 @@ pub fn list_name<'a, 'b, L: NodeBudget, A: Allocator>(
 #[inline(always)]
 pub fn finish_names<'a, 'b, L: NodeBudget, A: Allocator>(
     parser: &mut Parser<'a, 'b, L, A>,
-    checkpoint: usize,
+    checkpoint: Checkpoint,
 ) -> Result<List<'b, &'b Name<'a, 'b>>, Failed>
-    requires { checkpoint ≤ length (enclosing parser.old.listed_names) }
+    requires { checkpoint.from ≤ length (enclosing parser.old.listed_names) }
     ensures value { ReadsAs names_at parser.old parser.new result
         (λ left s. with_value (Some (map name_at (current parser.old.listed_names))) left s) }
     ensures rest { IfOk result (λ _. parser.new.rest.now ≡ parser.old.rest.now) }
@@ -189,9 +190,9 @@ pub fn template<'a, 'b, L: NodeBudget, A: Allocator>(
 pub fn put_template<'a, 'b, L: NodeBudget, A: Allocator>(
     parser: &mut Parser<'a, 'b, L, A>,
     name: &'b Name<'a, 'b>,
-    checkpoint: usize,
+    checkpoint: Checkpoint,
 ) -> Result<&'b Name<'a, 'b>, Failed>
-    requires { checkpoint ≤ length (enclosing parser.old.listed_types) }
+    requires { checkpoint.from ≤ length (enclosing parser.old.listed_types) }
     ensures value { ReadsAs name_at parser.old parser.new result
         (with_value (Some (template (name_of name.now) (type_trees (map type_at (current parser.old.listed_types)))))) }
     ensures rest { IfOk result (λ _. parser.new.rest.now ≡ parser.old.rest.now) }
@@ -378,7 +379,7 @@ pub fn hexadecimal_digit<'a, 'b, L: NodeBudget, A: Allocator>(
 #[tactic(auto, using(msvc_parser::proofs::RowSteps::scope_goes_on))]
 pub fn scope<'a, 'b, L: NodeBudget, A: Allocator>(
     parser: &mut Parser<'a, 'b, L, A>,
-) -> Result<usize, Failed>
+) -> Result<Checkpoint, Failed>
     ensures value { ReadsAs (λ _. map name_at (current parser.new.listed_names)) parser.old parser.new result
         (read_name rules.scope) }
     ensures shorter { IfOk result (λ _. length parser.new.rest.now < length parser.old.rest.now) }
@@ -414,9 +415,9 @@ pub fn qualified_name<'a, 'b, L: NodeBudget, A: Allocator>(
 pub fn put_symbol<'a, 'b, L: NodeBudget, A: Allocator>(
     parser: &mut Parser<'a, 'b, L, A>,
     name: &'b Name<'a, 'b>,
-    checkpoint: usize,
+    checkpoint: Checkpoint,
 ) -> Result<&'b Symbol<'a, 'b>, Failed>
-    requires { checkpoint ≤ length (enclosing parser.old.listed_names) }
+    requires { checkpoint.from ≤ length (enclosing parser.old.listed_names) }
     ensures value { ReadsAs named_at parser.old parser.new result
         (with_value (Some (name_of name.now, map name_at (current parser.old.listed_names)))) }
     ensures rest { IfOk result (λ _. parser.new.rest.now ≡ parser.old.rest.now) }

@@ -24,6 +24,7 @@ use msvc_nodes::nodes::{Name, Scope, Symbol, Type, TypedSymbol};
 use msvc_parser::forms::TemplateNames;
 use msvc_parser::letters::{self, OptionalLetters};
 use msvc_parser::limit::NodeBudget;
+use msvc_parser::nested_list::Checkpoint;
 use msvc_parser::parser::Parser;
 use msvc_parser::refusal::{Failed, Message, Refusal};
 use std::alloc::Allocator;
@@ -213,9 +214,9 @@ pub fn put_table<'a, 'b, L: NodeBudget, A: Allocator>(
     parser: &mut Parser<'a, 'b, L, A>,
     kind: SpecialTableKind,
     class: StorageClass,
-    checkpoint: usize,
+    checkpoint: Checkpoint,
 ) -> Result<&'b Type<'a, 'b>, Failed>
-    requires { checkpoint ≤ length (enclosing parser.old.listed_names) }
+    requires { checkpoint.from ≤ length (enclosing parser.old.listed_names) }
     ensures value { ReadsAs type_at parser.old parser.new result
         (with_value (Some (table kind (name_trees (map name_at (current parser.old.listed_names))) class.0))) }
     ensures rest { IfOk result (λ _. parser.new.rest.now ≡ parser.old.rest.now) }

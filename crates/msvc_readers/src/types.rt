@@ -9,7 +9,6 @@ ghost use Rattle.msvc_grammar.specs.Grammar.{array_class, arrays};
 ghost use Rattle.msvc_grammar.specs.Letters.{qualifiers};
 ghost use Rattle.msvc_grammar.specs.Reads.{and_then, in_node, read, read_name, with_value};
 ghost use Rattle.msvc_grammar.specs.Rules as rules;
-ghost use Rattle.msvc_grammar.specs.Sorts.{extended};
 ghost use Rattle.msvc_parser.specs.Parser.{Consumes, is_of_symbol, MayConsume, ReadsAs, Stays};
 
 use crate::function_types::{function_type, member_pointer};
@@ -261,7 +260,7 @@ pub fn plain_type<'a, 'b, L: NodeBudget, A: Allocator>(
         b'R' => pointing_type(parser, PointerAffinity::Pointer, StorageClass::VOLATILE),
         b'S' => pointing_type(parser, PointerAffinity::Pointer, both),
         b'Y' => array(parser),
-        b'_' => extended_type(parser, qualifiers),
+        b'_' => parser.extended_type(qualifiers),
         b'?' => template_parameter(parser),
         _ => parser.type_of_letter(letter, qualifiers),
     }
@@ -376,23 +375,6 @@ pub fn nested_arrays<'a, 'b, L: NodeBudget, A: Allocator>(
     };
     let inner = nested_arrays(parser, inner, element, class)?;
     parser.put_type(Type::Array(*length, class, inner))
-}
-
-/// Reads a base type by its second letter.
-#[tactic(auto, using(msvc_parser::proofs::TypeSteps::extended_is), unfolding(msvc_nodes::specs::NodeView::type_of))]
-pub fn extended_type<'a, 'b, L: NodeBudget, A: Allocator>(
-    parser: &mut Parser<'a, 'b, L, A>,
-    qualifiers: StorageClass,
-) -> Result<&'b Type<'a, 'b>, Failed>
-    ensures value { ReadsAs type_at parser.old parser.new result (read_name (rules.type_after qualifiers.0 extended)) }
-    ensures consumes { Consumes parser.old parser.new result }
-{
-    parser.count_node()?;
-    let letter = parser.byte()?;
-    match letters::extended_type(letter) {
-        Some(base) => parser.put_type(Type::Base(base, qualifiers)),
-        None => Err(parser.reject(Message::UnknownPrimitiveType)),
-    }
 }
 
 /// Reads the negated number of a template parameter.

@@ -12,7 +12,7 @@ use msvc_nodes::kinds::{
     Guard, NumberedType, PlainOperator, PlainType, PointerAffinity, PrimitiveKind,
     SpecialTableKind, TagKind,
 };
-use msvc_nodes::plain_operators;
+use msvc_nodes::{base_types, plain_operators};
 
 /// Matches a plain operator with the variant of an owned tree.
 macro_rules! operator_of_kind {
@@ -53,34 +53,20 @@ pub fn plain_type<'a>(kind: PlainType) -> Type<'a>
     }
 }
 
+/// Matches a base type with the variant of an owned tree.
+macro_rules! base_of_kind {
+    (($kind:ident $qualifiers:ident) $({ $($code:literal $name:ident $word:literal $($other:literal)?,)* })*) => {
+        match $kind {
+            $($(PrimitiveKind::$name => Type::$name($qualifiers),)*)*
+        }
+    };
+}
+
 /// Makes a base type with its qualifiers.
 pub fn base_type<'a>(kind: PrimitiveKind, qualifiers: StorageClass) -> Type<'a>
     ensures { type_of result ≡ base kind qualifiers.0 }
 {
-    match kind {
-        PrimitiveKind::Void => Type::Void(qualifiers),
-        PrimitiveKind::Char => Type::Char(qualifiers),
-        PrimitiveKind::Schar => Type::Schar(qualifiers),
-        PrimitiveKind::Uchar => Type::Uchar(qualifiers),
-        PrimitiveKind::Short => Type::Short(qualifiers),
-        PrimitiveKind::Ushort => Type::Ushort(qualifiers),
-        PrimitiveKind::Int => Type::Int(qualifiers),
-        PrimitiveKind::Uint => Type::Uint(qualifiers),
-        PrimitiveKind::Long => Type::Long(qualifiers),
-        PrimitiveKind::Ulong => Type::Ulong(qualifiers),
-        PrimitiveKind::Float => Type::Float(qualifiers),
-        PrimitiveKind::Double => Type::Double(qualifiers),
-        PrimitiveKind::Ldouble => Type::Ldouble(qualifiers),
-        PrimitiveKind::Bool => Type::Bool(qualifiers),
-        PrimitiveKind::Wchar => Type::Wchar(qualifiers),
-        PrimitiveKind::Char8 => Type::Char8(qualifiers),
-        PrimitiveKind::Char16 => Type::Char16(qualifiers),
-        PrimitiveKind::Char32 => Type::Char32(qualifiers),
-        PrimitiveKind::Int64 => Type::Int64(qualifiers),
-        PrimitiveKind::Uint64 => Type::Uint64(qualifiers),
-        PrimitiveKind::Int128 => Type::Int128(qualifiers),
-        PrimitiveKind::Uint128 => Type::Uint128(qualifiers),
-    }
+    base_types!(base_of_kind (kind qualifiers))
 }
 
 /// Makes a class, struct, union, enumeration or alias of its name in its scope, with its qualifiers.

@@ -15,7 +15,7 @@ use msvc_nodes::kinds::{
     Guard, NumberedType, PlainOperator, PlainType, PointerAffinity, PrimitiveKind,
     SpecialTableKind, Spelling, TagKind,
 };
-use msvc_nodes::plain_operators;
+use msvc_nodes::{base_types, plain_operators};
 
 /// The variant of a borrowed name, with its parts.
 #[derive(Clone, Copy)]
@@ -109,11 +109,21 @@ pub fn operator_ref<'t, 'a>(tree: &'t Operator<'a>) -> OperatorRef<'t, 'a>
     OperatorRef::Plain(plain)
 }
 
+/// Matches the type of an owned tree with the arms that are given and with the base types.
+macro_rules! base_of_type {
+    (($tree:ident { $($arms:tt)* }) $({ $($code:literal $name:ident $word:literal $($other:literal)?,)* })*) => {
+        match $tree {
+            $($arms)*
+            $($(Type::$name(qualifiers) => (PrimitiveKind::$name, *qualifiers),)*)*
+        }
+    };
+}
+
 /// Returns which variant a type is.
 pub fn type_ref<'t, 'a>(tree: &'t Type<'a>) -> TypeRef<'t, 'a>
     ensures { type_in result ≡ without_class (type_of tree.now) }
 {
-    let (base, qualifiers) = match tree {
+    let (base, qualifiers) = base_types!(base_of_type (tree {
         Type::None => return TypeRef::Plain(PlainType::None),
         Type::ConstantString(text) => return TypeRef::ConstantString(text),
         Type::EmptyParameterPack => return TypeRef::Plain(PlainType::EmptyPack),
@@ -193,64 +203,31 @@ pub fn type_ref<'t, 'a>(tree: &'t Type<'a>) -> TypeRef<'t, 'a>
             *qualifiers,
         ),
         Type::VCallThunk(number, convention) => return TypeRef::VcallThunk(*number, *convention),
-        Type::Void(qualifiers) => (PrimitiveKind::Void, *qualifiers),
-        Type::Char(qualifiers) => (PrimitiveKind::Char, *qualifiers),
-        Type::Schar(qualifiers) => (PrimitiveKind::Schar, *qualifiers),
-        Type::Uchar(qualifiers) => (PrimitiveKind::Uchar, *qualifiers),
-        Type::Short(qualifiers) => (PrimitiveKind::Short, *qualifiers),
-        Type::Ushort(qualifiers) => (PrimitiveKind::Ushort, *qualifiers),
-        Type::Int(qualifiers) => (PrimitiveKind::Int, *qualifiers),
-        Type::Uint(qualifiers) => (PrimitiveKind::Uint, *qualifiers),
-        Type::Long(qualifiers) => (PrimitiveKind::Long, *qualifiers),
-        Type::Ulong(qualifiers) => (PrimitiveKind::Ulong, *qualifiers),
-        Type::Float(qualifiers) => (PrimitiveKind::Float, *qualifiers),
-        Type::Double(qualifiers) => (PrimitiveKind::Double, *qualifiers),
-        Type::Ldouble(qualifiers) => (PrimitiveKind::Ldouble, *qualifiers),
-        Type::Bool(qualifiers) => (PrimitiveKind::Bool, *qualifiers),
-        Type::Wchar(qualifiers) => (PrimitiveKind::Wchar, *qualifiers),
-        Type::Char8(qualifiers) => (PrimitiveKind::Char8, *qualifiers),
-        Type::Char16(qualifiers) => (PrimitiveKind::Char16, *qualifiers),
-        Type::Char32(qualifiers) => (PrimitiveKind::Char32, *qualifiers),
-        Type::Int64(qualifiers) => (PrimitiveKind::Int64, *qualifiers),
-        Type::Uint64(qualifiers) => (PrimitiveKind::Uint64, *qualifiers),
-        Type::Int128(qualifiers) => (PrimitiveKind::Int128, *qualifiers),
-        Type::Uint128(qualifiers) => (PrimitiveKind::Uint128, *qualifiers),
-    };
+    }));
     TypeRef::Base(base, qualifiers)
+}
+
+/// Matches the type of an owned tree with the arms that are given. The base types join the last of them, which gives
+/// `None`.
+macro_rules! class_of_type {
+    (($tree:ident { $($arms:tt)* }) $({ $($code:literal $name:ident $word:literal $($other:literal)?,)* })*) => {
+        match $tree {
+            $($arms)*
+            $($(| Type::$name(_))*)* => None,
+        }
+    };
 }
 
 /// Returns the class of a pointer to a member function, or `None` for any other type.
 pub fn pointed_class<'t, 'a>(tree: &'t Type<'a>) -> Option<&'t Symbol<'a>>
     ensures { option_map (λ s. (name_of s.now.name, scope_of s.now.scope)) result ≡ pointed_class (type_of tree.now) }
 {
-    match tree {
+    base_types!(class_of_type (tree {
         Type::MemberFunctionPointer(class, _, _, _, _, _) => Some(class),
         Type::None
         | Type::ConstantString(_)
         | Type::EmptyParameterPack
         | Type::RTTIType
-        | Type::Void(_)
-        | Type::Char(_)
-        | Type::Schar(_)
-        | Type::Uchar(_)
-        | Type::Short(_)
-        | Type::Ushort(_)
-        | Type::Int(_)
-        | Type::Uint(_)
-        | Type::Long(_)
-        | Type::Ulong(_)
-        | Type::Float(_)
-        | Type::Double(_)
-        | Type::Ldouble(_)
-        | Type::Bool(_)
-        | Type::Wchar(_)
-        | Type::Char8(_)
-        | Type::Char16(_)
-        | Type::Char32(_)
-        | Type::Int64(_)
-        | Type::Uint64(_)
-        | Type::Int128(_)
-        | Type::Uint128(_)
         | Type::Class(_, _)
         | Type::Struct(_, _)
         | Type::Union(_, _)
@@ -270,6 +247,6 @@ pub fn pointed_class<'t, 'a>(tree: &'t Type<'a>) -> Option<&'t Symbol<'a>>
         | Type::Var(_, _, _)
         | Type::CXXVFTable(_, _)
         | Type::CXXVBTable(_, _)
-        | Type::VCallThunk(_, _) => None,
-    }
+        | Type::VCallThunk(_, _)
+    }))
 }

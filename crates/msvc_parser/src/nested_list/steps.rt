@@ -5,7 +5,7 @@ ghost use Rattle.std.specs.Prelude.{◌≡◌, ◌≤◌, ◌<◌, ◌++◌, ◌
 ghost use Rattle.std.specs.Prelude.{vec_capacity, vec_len};
 ghost use Rattle.msvc_parser.specs.NestedList.{current, enclosing};
 
-use crate::nested_list::NestedList;
+use crate::nested_list::{Checkpoint, NestedList};
 use bumpalo::Bump;
 use msvc_nodes::list::List;
 use std::alloc::{AllocError, Allocator};
@@ -63,36 +63,36 @@ impl<'b, T: Copy, A: Allocator> NestedList<'b, T, A> {
     }
 
     /// Begins a new, empty part. The result ends it.
-    pub fn begin(&mut self) -> usize
-        ensures place { result ≡ length (enclosing self.old) }
+    pub fn begin(&mut self) -> Checkpoint
+        ensures place { result.from ≡ length (enclosing self.old) }
         ensures current { current self.new ≡ [] }
         ensures enclosing { enclosing self.new ≡ enclosing self.old ++ current self.old }
     {
-        let from = self.from;
+        let checkpoint = Checkpoint { from: self.from };
         self.from = self.items.len();
-        from
+        checkpoint
     }
 
-    /// Drops the part in use. The items before it, from index `from` on, are in use again.
-    pub fn end(&mut self, from: usize)
-        requires { from ≤ length (enclosing self.old) }
-        ensures current { current self.new ≡ drop from (enclosing self.old) }
-        ensures enclosing { enclosing self.new ≡ take from (enclosing self.old) }
+    /// Drops the part in use. The items before it, from the checkpoint on, are in use again.
+    pub fn end(&mut self, checkpoint: Checkpoint)
+        requires { checkpoint.from ≤ length (enclosing self.old) }
+        ensures current { current self.new ≡ drop checkpoint.from (enclosing self.old) }
+        ensures enclosing { enclosing self.new ≡ take checkpoint.from (enclosing self.old) }
     {
         self.items.truncate(self.from);
-        self.from = from;
+        self.from = checkpoint.from;
     }
 
     /// Copies the part in use into the arena and drops it, or returns nothing if memory runs out.
     #[inline(always)]
-    pub fn end_in(&mut self, arena: &'b Bump<A>, from: usize) -> Option<List<'b, T>>
-        requires { from ≤ length (enclosing self.old) }
+    pub fn end_in(&mut self, arena: &'b Bump<A>, checkpoint: Checkpoint) -> Option<List<'b, T>>
+        requires { checkpoint.from ≤ length (enclosing self.old) }
         ensures items { IfSome result (λ list. list.items.now ≡ current self.old) }
-        ensures current { IfSome result (λ _. current self.new ≡ drop from (enclosing self.old)) }
-        ensures enclosing { IfSome result (λ _. enclosing self.new ≡ take from (enclosing self.old)) }
+        ensures current { IfSome result (λ _. current self.new ≡ drop checkpoint.from (enclosing self.old)) }
+        ensures enclosing { IfSome result (λ _. enclosing self.new ≡ take checkpoint.from (enclosing self.old)) }
     {
         let list = copied(arena, self.items())?;
-        self.end(from);
+        self.end(checkpoint);
         Some(list)
     }
 }

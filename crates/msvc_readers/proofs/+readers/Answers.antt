@@ -206,17 +206,17 @@ qualified_names::template_name-returns-clause-value g t c =
     ap (read template_inside c.args.parser.now.rest.now) (sym entered) ∙ c.in_ok-template.ensures.value in
     let names : current c.close_template.new.self.names ≡ current c.args.parser.now.backrefs.names =
     c.close_template.ensures.current.0
-    ∙ ap (drop c.open_template-saved.result.names)
+    ∙ ap (drop c.open_template-saved.result.names.from)
     (ap (λ (f : Frame _ _). f.names) c.in_ok-template.ensures.consumes.1 ∙ around.0)
     ∙ drop_at (enclosing c.args.parser.now.backrefs.names) (current c.args.parser.now.backrefs.names)
-    c.open_template-saved.result.names
+    c.open_template-saved.result.names.from
     (sym c.open_template-saved.ensures.place.0) in
     let types : current c.close_template.new.self.types ≡ current c.args.parser.now.backrefs.types =
     c.close_template.ensures.current.1
-    ∙ ap (drop c.open_template-saved.result.types)
+    ∙ ap (drop c.open_template-saved.result.types.from)
     (ap (λ (f : Frame _ _). f.types) c.in_ok-template.ensures.consumes.1 ∙ around.1)
     ∙ drop_at (enclosing c.args.parser.now.backrefs.types) (current c.args.parser.now.backrefs.types)
-    c.open_template-saved.result.types
+    c.open_template-saved.result.types.from
     (sym c.open_template-saved.ensures.place.1) in
     let left : record inner {
       names = map known_name_of (current c.close_template.new.self.names);

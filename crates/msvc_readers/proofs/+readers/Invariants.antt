@@ -127,7 +127,7 @@ invariant-qualified_names::scope-names g l =
     (with_front (map name_at (current l.parser.listed_names)) (read_name scope l.parser.rest.now (state_of l.parser))
     ≡ read_name scope l.fn.parser.rest.now (state_of l.fn.parser))
     × (length l.parser.rest.now ≤ length l.fn.parser.rest.now)
-    × (l.checkpoint ≡ length (enclosing l.fn.parser.listed_names))
+    × (l.checkpoint.from ≡ length (enclosing l.fn.parser.listed_names))
     × (frame_of l.parser
     ≡ record (frame_of l.fn.parser) {
       listed_names = current l.parser.listed_names;
@@ -144,7 +144,7 @@ invariant-parameters::parameters-parameters g l =
     l.parser))
     ≡ read_name parameters l.fn.parser.rest.now (state_of l.fn.parser))
     × (length l.parser.rest.now ≤ length l.fn.parser.rest.now)
-    × (l.checkpoint ≡ length (enclosing l.fn.parser.listed_types))
+    × (l.checkpoint.from ≡ length (enclosing l.fn.parser.listed_types))
     × (frame_of l.parser
     ≡ record (frame_of l.fn.parser) {
       listed_types = current l.parser.listed_types;
