@@ -3,7 +3,8 @@
 #![tactic(auto, using(crate::proofs::Views::rows), unfolding(crate::specs::View::name_of, crate::specs::View::operator_of, crate::specs::View::type_of))]
 
 ghost use Rattle.std.specs.Prelude.{◌≡◌};
-ghost use Rattle.msvc_nodes.specs.Trees.{base, guard, numbered, operator, plain, pointing, table, tagged};
+ghost use Rattle.msvc_nodes.specs.Trees.{base, base_class_descriptor, guard, numbered, operator, plain, pointing};
+ghost use Rattle.msvc_nodes.specs.Trees.{table, tagged};
 ghost use Rattle.msvc_tree.specs.View.{name_of, operator_of, scope_of, type_of};
 
 use crate::tree::{NameSequence, Operator, Symbol, Type};
@@ -12,6 +13,7 @@ use msvc_nodes::kinds::{
     Guard, NumberedType, PlainOperator, PlainType, PointerAffinity, PrimitiveKind,
     SpecialTableKind, TagKind,
 };
+use msvc_nodes::nodes::BaseClass;
 use msvc_nodes::plain_operators;
 
 /// Matches a plain operator with the variant of an owned tree.
@@ -40,6 +42,14 @@ pub fn guard_operator<'a>(kind: Guard, number: Option<u32>) -> Operator<'a>
     }
 }
 
+/// Makes the descriptor of a base class of its place.
+pub fn base_class_operator<'a>(place: &BaseClass) -> Operator<'a>
+    ensures { operator_of result
+        ≡ base_class_descriptor place.now.member place.now.pointer place.now.entry place.now.attributes }
+{
+    Operator::RTTIBaseClassDescriptor(place.member, place.pointer, place.entry, place.attributes)
+}
+
 /// Makes a type that has nothing in it.
 pub fn plain_type<'a>(kind: PlainType) -> Type<'a>
     ensures { type_of result ≡ plain kind }
@@ -53,34 +63,53 @@ pub fn plain_type<'a>(kind: PlainType) -> Type<'a>
     }
 }
 
+/// Calls the macro `rows` with `arguments` and the types that are one word of the language, or a few.
+macro_rules! base_types {
+    ($rows:ident $arguments:tt) => {
+        $rows! {
+            $arguments
+            Void
+            Char
+            Schar
+            Uchar
+            Short
+            Ushort
+            Int
+            Uint
+            Long
+            Ulong
+            Float
+            Double
+            Ldouble
+            Bool
+            Wchar
+            Char8
+            Char16
+            Char32
+            Int64
+            Uint64
+            Int128
+            Uint128
+        }
+    };
+}
+
+pub(crate) use base_types;
+
+/// Matches a base type with the variant of an owned tree.
+macro_rules! type_of_kind {
+    (($kind:ident $qualifiers:ident) $($name:ident)*) => {
+        match $kind {
+            $(PrimitiveKind::$name => Type::$name($qualifiers),)*
+        }
+    };
+}
+
 /// Makes a base type with its qualifiers.
 pub fn base_type<'a>(kind: PrimitiveKind, qualifiers: StorageClass) -> Type<'a>
     ensures { type_of result ≡ base kind qualifiers.0 }
 {
-    match kind {
-        PrimitiveKind::Void => Type::Void(qualifiers),
-        PrimitiveKind::Char => Type::Char(qualifiers),
-        PrimitiveKind::Schar => Type::Schar(qualifiers),
-        PrimitiveKind::Uchar => Type::Uchar(qualifiers),
-        PrimitiveKind::Short => Type::Short(qualifiers),
-        PrimitiveKind::Ushort => Type::Ushort(qualifiers),
-        PrimitiveKind::Int => Type::Int(qualifiers),
-        PrimitiveKind::Uint => Type::Uint(qualifiers),
-        PrimitiveKind::Long => Type::Long(qualifiers),
-        PrimitiveKind::Ulong => Type::Ulong(qualifiers),
-        PrimitiveKind::Float => Type::Float(qualifiers),
-        PrimitiveKind::Double => Type::Double(qualifiers),
-        PrimitiveKind::Ldouble => Type::Ldouble(qualifiers),
-        PrimitiveKind::Bool => Type::Bool(qualifiers),
-        PrimitiveKind::Wchar => Type::Wchar(qualifiers),
-        PrimitiveKind::Char8 => Type::Char8(qualifiers),
-        PrimitiveKind::Char16 => Type::Char16(qualifiers),
-        PrimitiveKind::Char32 => Type::Char32(qualifiers),
-        PrimitiveKind::Int64 => Type::Int64(qualifiers),
-        PrimitiveKind::Uint64 => Type::Uint64(qualifiers),
-        PrimitiveKind::Int128 => Type::Int128(qualifiers),
-        PrimitiveKind::Uint128 => Type::Uint128(qualifiers),
-    }
+    base_types!(type_of_kind(kind qualifiers))
 }
 
 /// Makes a class, struct, union, enumeration or alias of its name in its scope, with its qualifiers.

@@ -3,10 +3,11 @@
 
 #![tactic(auto, using(crate::proofs::Views::rows), unfolding(crate::specs::View::name_of, crate::specs::View::operator_of, crate::specs::View::type_of))]
 
-ghost use Rattle.std.specs.Prelude.{◌≡◌, option_map};
-ghost use Rattle.msvc_tree.specs.View.{name_of, operator_of, scope_of, type_of};
-ghost use Rattle.msvc_tree.specs.Variants.{name_in, operator_in, pointed_class, type_in, without_class};
+ghost use Rattle.std.specs.Prelude.{◌≡◌};
+ghost use Rattle.msvc_tree.specs.View.{name_of, operator_of, type_of};
+ghost use Rattle.msvc_tree.specs.Variants.{name_in, operator_in, type_in};
 
+use crate::kinds::base_types;
 use crate::tree::{
     CallingConv, Name, NameSequence, Operator, Params, ParseResult, Symbol, Type, VarStorageKind,
 };
@@ -15,6 +16,7 @@ use msvc_nodes::kinds::{
     Guard, NumberedType, PlainOperator, PlainType, PointerAffinity, PrimitiveKind,
     SpecialTableKind, Spelling, TagKind,
 };
+use msvc_nodes::nodes::BaseClass;
 use msvc_nodes::plain_operators;
 
 /// The variant of a borrowed name, with its parts.
@@ -37,11 +39,20 @@ pub enum OperatorRef<'t, 'a> {
     Guard(Guard, Option<u32>),
     /// The qualifiers that were read for the type, and the type.
     TypeDescriptor(StorageClass, &'t Type<'a>),
-    BaseClassDescriptor(i32, i32, i32, i32),
+    BaseClassDescriptor(BaseClass),
 }
 
-/// The variant of a borrowed type, with its parts. The class of a pointer to a member function is not among them:
-/// `pointed_class` returns it.
+/// The parts of a borrowed function type, whatever its class.
+#[derive(Clone, Copy)]
+pub struct FunctionRef<'t, 'a> {
+    pub convention: CallingConv,
+    pub parameters: &'t Params<'a>,
+    pub qualifiers: StorageClass,
+    /// The type that the function returns.
+    pub returned: &'t Type<'a>,
+}
+
+/// The variant of a borrowed type, with its parts.
 #[derive(Clone, Copy)]
 pub enum TypeRef<'t, 'a> {
     Plain(PlainType),
@@ -52,12 +63,10 @@ pub enum TypeRef<'t, 'a> {
     Pointing(PointerAffinity, &'t Type<'a>, StorageClass),
     /// The length of the outermost level, the elements, the qualifiers.
     Array(i32, &'t Type<'a>, StorageClass),
-    /// The convention, the parameters, the function's qualifiers, the type that it returns.
-    Function(CallingConv, &'t Params<'a>, StorageClass, &'t Type<'a>),
-    /// The function class, and the fields of `Function`.
-    MemberFunction(FuncClass, CallingConv, &'t Params<'a>, StorageClass, &'t Type<'a>),
-    /// The same of the member function that is pointed to.
-    MemberPointer(FuncClass, CallingConv, &'t Params<'a>, StorageClass, &'t Type<'a>),
+    Function(FunctionRef<'t, 'a>),
+    MemberFunction(FuncClass, FunctionRef<'t, 'a>),
+    /// The class whose member function is pointed to, and the function.
+    MemberPointer(&'t Symbol<'a>, FuncClass, FunctionRef<'t, 'a>),
     Variable(&'t Type<'a>, VarStorageKind, StorageClass),
     Table(SpecialTableKind, &'t NameSequence<'a>, StorageClass),
     VcallThunk(i32, CallingConv),
@@ -104,19 +113,34 @@ pub fn operator_ref<'t, 'a>(tree: &'t Operator<'a>) -> OperatorRef<'t, 'a>
         Operator::RTTITypeDescriptor(qualifiers, described) => {
             return OperatorRef::TypeDescriptor(*qualifiers, described);
         }
-        Operator::RTTIBaseClassDescriptor(a, b, c, d) => {
-            return OperatorRef::BaseClassDescriptor(*a, *b, *c, *d);
+        Operator::RTTIBaseClassDescriptor(member, pointer, entry, attributes) => {
+            return OperatorRef::BaseClassDescriptor(BaseClass {
+                member: *member,
+                pointer: *pointer,
+                entry: *entry,
+                attributes: *attributes,
+            });
         }
     }));
     OperatorRef::Plain(plain)
 }
 
+/// Matches a type of an owned tree with the arms that are given and with the base types.
+macro_rules! kind_of_type {
+    (($tree:ident { $($arms:tt)* }) $($name:ident)*) => {
+        match $tree {
+            $($arms)*
+            $(Type::$name(qualifiers) => (PrimitiveKind::$name, *qualifiers),)*
+        }
+    };
+}
+
 /// Returns which variant a type is.
 #[inline(always)]
 pub fn type_ref<'t, 'a>(tree: &'t Type<'a>) -> TypeRef<'t, 'a>
-    ensures { type_in result ≡ without_class (type_of tree.now) }
+    ensures { type_in result ≡ type_of tree.now }
 {
-    let (base, qualifiers) = match tree {
+    let (base, qualifiers) = base_types!(kind_of_type (tree {
         Type::None => return TypeRef::Plain(PlainType::None),
         Type::ConstantString(text) => return TypeRef::ConstantString(text),
         Type::EmptyParameterPack => return TypeRef::Plain(PlainType::EmptyPack),
@@ -176,13 +200,30 @@ pub fn type_ref<'t, 'a>(tree: &'t Type<'a>) -> TypeRef<'t, 'a>
             *qualifiers,
         ),
         Type::NonMemberFunction(convention, parameters, qualifiers, returned) => {
-            return TypeRef::Function(*convention, parameters, *qualifiers, returned);
+            return TypeRef::Function(FunctionRef {
+                convention: *convention,
+                parameters,
+                qualifiers: *qualifiers,
+                returned,
+            });
         }
         Type::MemberFunction(class, convention, parameters, qualifiers, returned) => {
-            return TypeRef::MemberFunction(*class, *convention, parameters, *qualifiers, returned);
+            let function = FunctionRef {
+                convention: *convention,
+                parameters,
+                qualifiers: *qualifiers,
+                returned,
+            };
+            return TypeRef::MemberFunction(*class, function);
         }
-        Type::MemberFunctionPointer(_, class, convention, parameters, qualifiers, returned) => {
-            return TypeRef::MemberPointer(*class, *convention, parameters, *qualifiers, returned);
+        Type::MemberFunctionPointer(symbol, class, convention, parameters, qualifiers, returned) => {
+            let function = FunctionRef {
+                convention: *convention,
+                parameters,
+                qualifiers: *qualifiers,
+                returned,
+            };
+            return TypeRef::MemberPointer(symbol, *class, function);
         }
         Type::Var(inner, kind, qualifiers) => return TypeRef::Variable(inner, *kind, *qualifiers),
         Type::CXXVFTable(scope, qualifiers) => return TypeRef::Table(
@@ -196,83 +237,6 @@ pub fn type_ref<'t, 'a>(tree: &'t Type<'a>) -> TypeRef<'t, 'a>
             *qualifiers,
         ),
         Type::VCallThunk(number, convention) => return TypeRef::VcallThunk(*number, *convention),
-        Type::Void(qualifiers) => (PrimitiveKind::Void, *qualifiers),
-        Type::Char(qualifiers) => (PrimitiveKind::Char, *qualifiers),
-        Type::Schar(qualifiers) => (PrimitiveKind::Schar, *qualifiers),
-        Type::Uchar(qualifiers) => (PrimitiveKind::Uchar, *qualifiers),
-        Type::Short(qualifiers) => (PrimitiveKind::Short, *qualifiers),
-        Type::Ushort(qualifiers) => (PrimitiveKind::Ushort, *qualifiers),
-        Type::Int(qualifiers) => (PrimitiveKind::Int, *qualifiers),
-        Type::Uint(qualifiers) => (PrimitiveKind::Uint, *qualifiers),
-        Type::Long(qualifiers) => (PrimitiveKind::Long, *qualifiers),
-        Type::Ulong(qualifiers) => (PrimitiveKind::Ulong, *qualifiers),
-        Type::Float(qualifiers) => (PrimitiveKind::Float, *qualifiers),
-        Type::Double(qualifiers) => (PrimitiveKind::Double, *qualifiers),
-        Type::Ldouble(qualifiers) => (PrimitiveKind::Ldouble, *qualifiers),
-        Type::Bool(qualifiers) => (PrimitiveKind::Bool, *qualifiers),
-        Type::Wchar(qualifiers) => (PrimitiveKind::Wchar, *qualifiers),
-        Type::Char8(qualifiers) => (PrimitiveKind::Char8, *qualifiers),
-        Type::Char16(qualifiers) => (PrimitiveKind::Char16, *qualifiers),
-        Type::Char32(qualifiers) => (PrimitiveKind::Char32, *qualifiers),
-        Type::Int64(qualifiers) => (PrimitiveKind::Int64, *qualifiers),
-        Type::Uint64(qualifiers) => (PrimitiveKind::Uint64, *qualifiers),
-        Type::Int128(qualifiers) => (PrimitiveKind::Int128, *qualifiers),
-        Type::Uint128(qualifiers) => (PrimitiveKind::Uint128, *qualifiers),
-    };
+    }));
     TypeRef::Base(base, qualifiers)
-}
-
-/// Returns the class of a pointer to a member function, or `None` for any other type.
-pub fn pointed_class<'t, 'a>(tree: &'t Type<'a>) -> Option<&'t Symbol<'a>>
-    ensures { option_map (λ s. (name_of s.now.name, scope_of s.now.scope)) result ≡ pointed_class (type_of tree.now) }
-{
-    match tree {
-        Type::MemberFunctionPointer(class, _, _, _, _, _) => Some(class),
-        Type::None
-        | Type::ConstantString(_)
-        | Type::EmptyParameterPack
-        | Type::RTTIType
-        | Type::Void(_)
-        | Type::Char(_)
-        | Type::Schar(_)
-        | Type::Uchar(_)
-        | Type::Short(_)
-        | Type::Ushort(_)
-        | Type::Int(_)
-        | Type::Uint(_)
-        | Type::Long(_)
-        | Type::Ulong(_)
-        | Type::Float(_)
-        | Type::Double(_)
-        | Type::Ldouble(_)
-        | Type::Bool(_)
-        | Type::Wchar(_)
-        | Type::Char8(_)
-        | Type::Char16(_)
-        | Type::Char32(_)
-        | Type::Int64(_)
-        | Type::Uint64(_)
-        | Type::Int128(_)
-        | Type::Uint128(_)
-        | Type::Class(_, _)
-        | Type::Struct(_, _)
-        | Type::Union(_, _)
-        | Type::Enum(_, _)
-        | Type::Alias(_, _)
-        | Type::Constant(_)
-        | Type::TemplateParameterWithIndex(_)
-        | Type::ThreadSafeStaticGuard(_)
-        | Type::VarArgs
-        | Type::Nullptr
-        | Type::Ptr(_, _)
-        | Type::Ref(_, _)
-        | Type::RValueRef(_, _)
-        | Type::Array(_, _, _)
-        | Type::NonMemberFunction(_, _, _, _)
-        | Type::MemberFunction(_, _, _, _, _)
-        | Type::Var(_, _, _)
-        | Type::CXXVFTable(_, _)
-        | Type::CXXVBTable(_, _)
-        | Type::VCallThunk(_, _) => None,
-    }
 }
