@@ -3,5 +3,4 @@ pub mod Lists
 pub mod NodeLaws
 pub mod NodeLists
 pub mod Seen
-pub mod Tests
 pub mod Views

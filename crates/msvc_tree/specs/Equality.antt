@@ -1,7 +1,7 @@
 -- Equality as a test: whether two trees are the same, and whether two values of the program are seen as the
 -- same tree, with the laws that `PartialEq` and `Eq` ask for.
 use Rattle.std.specs.Prelude.{◌≡◌, ◌↔◌, IsTrue, Bool}
-use Rattle.std.specs.Cmp.{IsEquivalence, IsPartialEquivalence, partial_equiv_from_equiv}
+use Rattle.std.specs.Cmp.{IsEquivalence}
 use Rattle.msvc_nodes.specs.Decided.{names_discrete, types_discrete, symbol_discrete}
 use Rattle.msvc_nodes.specs.Decided.{typed_symbol_discrete, is_yes, is_yes-is, equivalence}
 use Rattle.msvc_nodes.specs.Equality.{same_name, same_name-is, same_type, same_type-is}
@@ -30,9 +30,6 @@ name_eq-is s t = same_name-is (name_of s) (name_of t)
 pub name_eq-laws : IsEquivalence name_eq
 name_eq-laws = equivalence name_of name_eq name_eq-is
 
-pub name_eq-partial_laws : IsPartialEquivalence name_eq
-name_eq-partial_laws = partial_equiv_from_equiv name_eq-laws
-
 -- likewise two operators
 pub operator_eq : Operator → Operator → Bool
 operator_eq s t = same_name (operator_of s) (operator_of t)
@@ -43,9 +40,6 @@ operator_eq-is s t = same_name-is (operator_of s) (operator_of t)
 
 pub operator_eq-laws : IsEquivalence operator_eq
 operator_eq-laws = equivalence operator_of operator_eq operator_eq-is
-
-pub operator_eq-partial_laws : IsPartialEquivalence operator_eq
-operator_eq-partial_laws = partial_equiv_from_equiv operator_eq-laws
 
 -- two types
 pub type_eq : «Type» → «Type» → Bool
@@ -58,9 +52,6 @@ type_eq-is s t = same_type-is (type_of s) (type_of t)
 pub type_eq-laws : IsEquivalence type_eq
 type_eq-laws = equivalence type_of type_eq type_eq-is
 
-pub type_eq-partial_laws : IsPartialEquivalence type_eq
-type_eq-partial_laws = partial_equiv_from_equiv type_eq-laws
-
 -- two scopes
 pub scope_eq : NameSequence → NameSequence → Bool
 scope_eq s t = is_yes (names_discrete (scope_of s) (scope_of t))
@@ -71,9 +62,6 @@ scope_eq-is s t = is_yes-is (names_discrete (scope_of s) (scope_of t))
 
 pub scope_eq-laws : IsEquivalence scope_eq
 scope_eq-laws = equivalence scope_of scope_eq scope_eq-is
-
-pub scope_eq-partial_laws : IsPartialEquivalence scope_eq
-scope_eq-partial_laws = partial_equiv_from_equiv scope_eq-laws
 
 -- two lists of types
 pub params_eq : Params → Params → Bool
@@ -86,9 +74,6 @@ params_eq-is s t = is_yes-is (types_discrete (params_of s) (params_of t))
 pub params_eq-laws : IsEquivalence params_eq
 params_eq-laws = equivalence params_of params_eq params_eq-is
 
-pub params_eq-partial_laws : IsPartialEquivalence params_eq
-params_eq-partial_laws = partial_equiv_from_equiv params_eq-laws
-
 -- two symbols without types
 pub symbol_eq : Symbol → Symbol → Bool
 symbol_eq s t = is_yes (symbol_discrete (symbol_of s) (symbol_of t))
@@ -100,9 +85,6 @@ symbol_eq-is s t = is_yes-is (symbol_discrete (symbol_of s) (symbol_of t))
 pub symbol_eq-laws : IsEquivalence symbol_eq
 symbol_eq-laws = equivalence symbol_of symbol_eq symbol_eq-is
 
-pub symbol_eq-partial_laws : IsPartialEquivalence symbol_eq
-symbol_eq-partial_laws = partial_equiv_from_equiv symbol_eq-laws
-
 -- two symbols with their types
 pub result_eq : ParseResult → ParseResult → Bool
 result_eq s t = is_yes (typed_symbol_discrete (tree_of s) (tree_of t))
@@ -113,6 +95,3 @@ result_eq-is s t = is_yes-is (typed_symbol_discrete (tree_of s) (tree_of t))
 
 pub result_eq-laws : IsEquivalence result_eq
 result_eq-laws = equivalence tree_of result_eq result_eq-is
-
-pub result_eq-partial_laws : IsPartialEquivalence result_eq
-result_eq-partial_laws = partial_equiv_from_equiv result_eq-laws

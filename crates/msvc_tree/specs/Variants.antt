@@ -1,7 +1,7 @@
 -- Variants of borrowed names, operators and types, seen as trees.
-use Rattle.std.specs.Prelude.{Option, Some, None, option_map, string_bytes}
-use Rattle.msvc_nodes.specs.Trees.{NameTree, NameTrees, TypeTree, spelled, operator, guard, type_descriptor}
-use Rattle.msvc_nodes.specs.Trees.{base_class_descriptor, template, discriminator, nested, anonymous, no_names, plain}
+use Rattle.std.specs.Prelude.{option_map, string_bytes}
+use Rattle.msvc_nodes.specs.Trees.{NameTree, TypeTree, spelled, operator, guard, type_descriptor}
+use Rattle.msvc_nodes.specs.Trees.{base_class_descriptor, template, discriminator, nested, anonymous, plain}
 use Rattle.msvc_nodes.specs.Trees.{base, tagged, numbered, constant_string, pointing, array, function, member_function}
 use Rattle.msvc_nodes.specs.Trees.{member_pointer, variable, table, vcall_thunk}
 use Rattle.msvc_tree.specs.View.{name_of, operator_of, type_of, scope_of, params_of}
@@ -27,20 +27,9 @@ abbrev pub operator_in : OperatorRef → NameTree
 operator_in (operator_ref.Plain o) = operator o
 operator_in (operator_ref.Guard g n) = guard g n
 operator_in (operator_ref.TypeDescriptor q t) = type_descriptor q.0 (type_of t.now)
-operator_in (operator_ref.BaseClassDescriptor a b c d) = base_class_descriptor a b c d
+operator_in (operator_ref.BaseClassDescriptor p) = base_class_descriptor p.member p.pointer p.entry p.attributes
 
--- the class whose member function is pointed to, a name in its scope
-abbrev pub pointed_class : TypeTree → Option (NameTree × NameTrees)
-pointed_class (member_pointer n ns class convention ts q t) = Some (n, ns)
-pointed_class _ = None
-
--- a type without that class
-abbrev pub without_class : TypeTree → TypeTree
-without_class (member_pointer n ns class convention ts q t) =
-    member_pointer (anonymous None) no_names class convention ts q t
-without_class t = t
-
--- the type of a variant, without that class
+-- the type of a variant
 abbrev pub type_in : TypeRef → TypeTree
 type_in (node.Plain p) = plain p
 type_in (node.Base b q) = base b q.0
@@ -49,10 +38,12 @@ type_in (node.Numbered k n) = numbered k n
 type_in (node.ConstantString x) = constant_string x.now
 type_in (node.Pointing m i q) = pointing m (type_of i.now) q.0
 type_in (node.Array n i q) = array n (type_of i.now) q.0
-type_in (node.Function c p q i) = function c (params_of p.now) q.0 (type_of i.now)
-type_in (node.MemberFunction f c p q i) = member_function f.0 c (params_of p.now) q.0 (type_of i.now)
-type_in (node.MemberPointer f c p q i) =
-    member_pointer (anonymous None) no_names f.0 c (params_of p.now) q.0 (type_of i.now)
+type_in (node.Function f) = function f.convention (params_of f.parameters.now) f.qualifiers.0 (type_of f.returned.now)
+type_in (node.MemberFunction c f) =
+    member_function c.0 f.convention (params_of f.parameters.now) f.qualifiers.0 (type_of f.returned.now)
+type_in (node.MemberPointer s c f) =
+    member_pointer (name_of s.now.name) (scope_of s.now.scope) c.0 f.convention (params_of f.parameters.now)
+    f.qualifiers.0 (type_of f.returned.now)
 type_in (node.Variable i k q) = variable (type_of i.now) k q.0
 type_in (node.Table k s q) = table k (scope_of s.now) q.0
 type_in (node.VcallThunk n c) = vcall_thunk n c

@@ -3,7 +3,8 @@
 #![tactic(auto, using(crate::proofs::Views::rows), unfolding(crate::specs::View::name_of, crate::specs::View::operator_of, crate::specs::View::type_of))]
 
 ghost use Rattle.std.specs.Prelude.{◌≡◌};
-ghost use Rattle.msvc_nodes.specs.Trees.{base, guard, numbered, operator, plain, pointing, table, tagged};
+ghost use Rattle.msvc_nodes.specs.Trees.{base, base_class_descriptor, guard, numbered, operator, plain, pointing};
+ghost use Rattle.msvc_nodes.specs.Trees.{table, tagged};
 ghost use Rattle.msvc_tree.specs.View.{name_of, operator_of, scope_of, type_of};
 
 use crate::tree::{NameSequence, Operator, Symbol, Type};
@@ -12,6 +13,7 @@ use msvc_nodes::kinds::{
     Guard, NumberedType, PlainOperator, PlainType, PointerAffinity, PrimitiveKind,
     SpecialTableKind, TagKind,
 };
+use msvc_nodes::nodes::BaseClass;
 use msvc_nodes::{base_types, plain_operators};
 
 /// Matches a plain operator with the variant of an owned tree.
@@ -38,6 +40,14 @@ pub fn guard_operator<'a>(kind: Guard, number: Option<u32>) -> Operator<'a>
         Guard::Static => Operator::LocalStaticGuard(number),
         Guard::Thread => Operator::LocalStaticThreadGuard(number),
     }
+}
+
+/// Makes the descriptor of a base class of its place.
+pub fn base_class_operator<'a>(place: &BaseClass) -> Operator<'a>
+    ensures { operator_of result
+        ≡ base_class_descriptor place.now.member place.now.pointer place.now.entry place.now.attributes }
+{
+    Operator::RTTIBaseClassDescriptor(place.member, place.pointer, place.entry, place.attributes)
 }
 
 /// Makes a type that has nothing in it.

@@ -6,22 +6,21 @@
 ghost use Rattle.std.specs.Prelude.{◌≡◌, IfOk, option_map, string_bytes};
 ghost use Rattle.msvc_nodes.specs.NodeView.{name_of as node_name, type_of as node_type, names_in as node_names};
 ghost use Rattle.msvc_nodes.specs.NodeView.{types_in as node_types, typed_symbol_of};
-ghost use Rattle.msvc_nodes.specs.Trees.{anonymous, function, member_function, member_pointer, nested};
-ghost use Rattle.msvc_nodes.specs.Trees.{spelled, table, tagged, template};
+ghost use Rattle.msvc_nodes.specs.Trees.{anonymous, spelled};
 ghost use Rattle.msvc_tree.specs.View.{name_of, operator_of, type_of, scope_of, params_of, tree_of};
 
-use crate::tree::{CallingConv, Name, NameSequence, Operator, Params, ParseResult, Symbol, Type};
+use crate::tree::{Name, NameSequence, Operator, Params, ParseResult, Symbol, Type};
 use crate::variants::{
-    NameRef, OperatorRef, TypeRef, name_ref, operator_ref, pointed_class, type_ref,
+    FunctionRef, NameRef, OperatorRef, TypeRef, name_ref, operator_ref, type_ref,
 };
 use alloc_fuse::Fuse;
 use bitflags::Flags;
 use bumpalo::Bump;
 use bumpalo::collections::into_bump_slice;
-use msvc_nodes::flags::{FuncClass, StorageClass};
-use msvc_nodes::kinds::{SpecialTableKind, Spelling, TagKind};
+use msvc_nodes::flags::FuncClass;
+use msvc_nodes::kinds::Spelling;
 use msvc_nodes::list::List;
-use msvc_nodes::nodes::{self, BaseClass, Function, Scope, Template, TypedSymbol};
+use msvc_nodes::nodes::{self, Function, Scope, Template, TypedSymbol};
 use std::alloc::{AllocError, Global};
 
 /// The size in bytes of an arena's first block: more than the nodes of most trees and the text printed of them take.
@@ -96,13 +95,14 @@ fn any_name_to_nodes<'a, 'b>(
         NameRef::Operator(operator) => operator_to_nodes(arena, operator),
         NameRef::Template(name, arguments) => {
             let name = name_to_nodes(arena, name)?;
-            let arguments = types_to_nodes(arena, arguments)?;
-            put_template(arena, name, arguments)
+            let arguments = types_to_nodes(arena, arguments)?.items;
+            let template = put(arena, Template { name, arguments })?;
+            put_name(arena, nodes::Name::Template(template))
         }
         NameRef::Discriminator(number) => put_name(arena, nodes::Name::Discriminator(number)),
         NameRef::Nested(symbol) => {
-            let symbol = tree_to_nodes(arena, symbol)?;
-            put_nested(arena, symbol)
+            let symbol = put(arena, tree_to_nodes(arena, symbol)?)?;
+            put_name(arena, nodes::Name::Nested(symbol))
         }
         NameRef::Anonymous(digits) => put_name(arena, anonymous_node(digits)),
     }
@@ -123,8 +123,8 @@ fn operator_to_nodes<'a, 'b>(
             let described = type_to_nodes(arena, described)?;
             put_name(arena, nodes::Name::TypeDescriptor(qualifiers, described))
         }
-        OperatorRef::BaseClassDescriptor(a, b, c, d) => {
-            let place = put_base_class(arena, a, b, c, d)?;
+        OperatorRef::BaseClassDescriptor(place) => {
+            let place = put(arena, place)?;
             put_name(arena, nodes::Name::BaseClassDescriptor(place))
         }
     }
@@ -142,8 +142,8 @@ pub(crate) fn type_to_nodes<'a, 'b>(
         TypeRef::Plain(plain) => put_type(arena, nodes::Type::Plain(plain)),
         TypeRef::Base(base, qualifiers) => put_type(arena, nodes::Type::Base(base, qualifiers)),
         TypeRef::Tagged(tag, symbol, qualifiers) => {
-            let symbol = symbol_to_nodes(arena, symbol)?;
-            put_tagged(arena, tag, symbol, qualifiers)
+            let symbol = put(arena, symbol_to_nodes(arena, symbol)?)?;
+            put_type(arena, nodes::Type::Tagged(tag, qualifiers, symbol))
         }
         TypeRef::Numbered(kind, number) => put_type(arena, nodes::Type::Numbered(kind, number)),
         TypeRef::ConstantString(text) => put_type(arena, nodes::Type::ConstantString(text)),
@@ -155,39 +155,60 @@ pub(crate) fn type_to_nodes<'a, 'b>(
             let inner = type_to_nodes(arena, inner)?;
             put_type(arena, nodes::Type::Array(length, qualifiers, inner))
         }
-        TypeRef::Function(convention, parameters, qualifiers, returned) => {
-            let parameters = types_to_nodes(arena, parameters)?;
-            let returned = type_to_nodes(arena, returned)?;
-            put_function(arena, convention, parameters, qualifiers, returned)
+        TypeRef::Function(function) => {
+            let function = function_to_nodes(arena, FuncClass::empty(), function)?;
+            put_type(arena, nodes::Type::Function(function))
         }
-        TypeRef::MemberFunction(class, convention, parameters, qualifiers, returned) => {
-            let parameters = types_to_nodes(arena, parameters)?;
-            let returned = type_to_nodes(arena, returned)?;
-            put_member_function(arena, class, convention, parameters, qualifiers, returned)
+        TypeRef::MemberFunction(class, function) => {
+            let function = function_to_nodes(arena, class, function)?;
+            put_type(arena, nodes::Type::MemberFunction(function))
         }
-        TypeRef::MemberPointer(class, convention, parameters, qualifiers, returned) => {
-            let Some(pointed) = pointed_class(tree) else {
-                unreachable!();
-            };
-            let symbol = symbol_to_nodes(arena, pointed)?;
-            let parameters = types_to_nodes(arena, parameters)?;
-            let returned = type_to_nodes(arena, returned)?;
-            put_member_pointer(
-                arena, symbol, class, convention, parameters, qualifiers, returned,
-            )
+        TypeRef::MemberPointer(symbol, class, function) => {
+            let symbol = put(arena, symbol_to_nodes(arena, symbol)?)?;
+            let function = function_to_nodes(arena, class, function)?;
+            put_type(arena, nodes::Type::MemberPointer(symbol, function))
         }
         TypeRef::Variable(inner, kind, qualifiers) => {
             let inner = type_to_nodes(arena, inner)?;
             put_type(arena, nodes::Type::Variable(kind, qualifiers, inner))
         }
         TypeRef::Table(table, scope, qualifiers) => {
-            let names = names_to_nodes(arena, scope)?;
-            put_table(arena, table, names, qualifiers)
+            let names = names_to_nodes(arena, scope)?.items;
+            let scope = put(arena, Scope { names })?;
+            put_type(arena, nodes::Type::Table(table, qualifiers, scope))
         }
         TypeRef::VcallThunk(number, convention) => {
             put_type(arena, nodes::Type::VcallThunk(number, convention))
         }
     }
+}
+
+/// Converts a function to a node, with its class.
+#[cycle(to_nodes)]
+#[inline(always)]
+fn function_to_nodes<'a, 'b>(
+    arena: &'b Bump<Fuse>,
+    class: FuncClass,
+    tree: FunctionRef<'b, 'a>,
+) -> Result<&'b Function<'a, 'b>, AllocError>
+    ensures class { IfOk result (λ f. f.now.class.0 ≡ class.0) }
+    ensures convention { IfOk result (λ f. f.now.convention ≡ tree.entry.convention) }
+    ensures parameters { IfOk result (λ f. node_types f.now.parameters.now ≡ params_of tree.entry.parameters.now) }
+    ensures qualifiers { IfOk result (λ f. f.now.qualifiers.0 ≡ tree.entry.qualifiers.0) }
+    ensures returned { IfOk result (λ f. node_type f.now.returned.now ≡ type_of tree.entry.returned.now) }
+{
+    let parameters = types_to_nodes(arena, tree.parameters)?.items;
+    let returned = type_to_nodes(arena, tree.returned)?;
+    put(
+        arena,
+        Function {
+            convention: tree.convention,
+            class,
+            qualifiers: tree.qualifiers,
+            parameters,
+            returned,
+        },
+    )
 }
 
 /// Converts the names of a scope to a list of nodes.
@@ -230,10 +251,7 @@ pub(crate) fn types_to_nodes<'a, 'b>(
 fn put<'b, T: Copy>(arena: &'b Bump<Fuse>, node: T) -> Result<&'b T, AllocError>
     ensures { IfOk result (λ t. t.now ≡ node) }
 {
-    match arena.try_alloc(node) {
-        Ok(node) => Ok(node),
-        Err(_) => Err(AllocError),
-    }
+    Ok(arena.try_alloc(node)?)
 }
 
 /// Moves the node of a name into the arena.
@@ -254,164 +272,6 @@ fn put_type<'a, 'b>(
     ensures { IfOk result (λ t. node_type t.now ≡ node_type node.entry) }
 {
     put(arena, node)
-}
-
-/// Makes the node of a template with its arguments.
-fn put_template<'a, 'b>(
-    arena: &'b Bump<Fuse>,
-    name: &'b nodes::Name<'a, 'b>,
-    arguments: List<'b, &'b nodes::Type<'a, 'b>>,
-) -> Result<&'b nodes::Name<'a, 'b>, AllocError>
-    ensures { IfOk result (λ n. node_name n.now
-        ≡ template (node_name name.now) (node_types arguments.entry.items.now)) }
-{
-    let template = put(
-        arena,
-        Template {
-            name,
-            arguments: arguments.items,
-        },
-    )?;
-    put_name(arena, nodes::Name::Template(template))
-}
-
-/// Makes the node of a scope that is a symbol with its type.
-fn put_nested<'a, 'b>(
-    arena: &'b Bump<Fuse>,
-    symbol: TypedSymbol<'a, 'b>,
-) -> Result<&'b nodes::Name<'a, 'b>, AllocError>
-    ensures { IfOk result (λ n. node_name n.now
-        ≡ nested (typed_symbol_of symbol.entry).name (typed_symbol_of symbol.entry).scope (typed_symbol_of symbol.entry).symbol_type) }
-{
-    let symbol = put(arena, symbol)?;
-    put_name(arena, nodes::Name::Nested(symbol))
-}
-
-/// Moves the place of a base class into the arena.
-fn put_base_class<'b>(
-    arena: &'b Bump<Fuse>,
-    member: i32,
-    pointer: i32,
-    entry: i32,
-    attributes: i32,
-) -> Result<&'b BaseClass, AllocError>
-    ensures { IfOk result (λ p. (p.now.member ≡ member) × (p.now.pointer ≡ pointer) × (p.now.entry ≡ entry)
-        × (p.now.attributes ≡ attributes)) }
-{
-    put(
-        arena,
-        BaseClass {
-            member,
-            pointer,
-            entry,
-            attributes,
-        },
-    )
-}
-
-/// Makes the node of a class, struct, union, enumeration or alias.
-fn put_tagged<'a, 'b>(
-    arena: &'b Bump<Fuse>,
-    tag: TagKind,
-    symbol: nodes::Symbol<'a, 'b>,
-    qualifiers: StorageClass,
-) -> Result<&'b nodes::Type<'a, 'b>, AllocError>
-    ensures { IfOk result (λ t. node_type t.now
-        ≡ tagged tag (node_name symbol.entry.name.now) (node_names symbol.entry.scope.now) qualifiers.0) }
-{
-    let symbol = put(arena, symbol)?;
-    put_type(arena, nodes::Type::Tagged(tag, qualifiers, symbol))
-}
-
-/// Makes the node of a plain function.
-fn put_function<'a, 'b>(
-    arena: &'b Bump<Fuse>,
-    convention: CallingConv,
-    parameters: List<'b, &'b nodes::Type<'a, 'b>>,
-    qualifiers: StorageClass,
-    returned: &'b nodes::Type<'a, 'b>,
-) -> Result<&'b nodes::Type<'a, 'b>, AllocError>
-    ensures { IfOk result (λ t. node_type t.now
-        ≡ function convention (node_types parameters.entry.items.now) qualifiers.0 (node_type returned.now)) }
-{
-    let function = put(
-        arena,
-        Function {
-            convention,
-            class: FuncClass::empty(),
-            qualifiers,
-            parameters: parameters.items,
-            returned,
-        },
-    )?;
-    put_type(arena, nodes::Type::Function(function))
-}
-
-/// Makes the node of a member function.
-fn put_member_function<'a, 'b>(
-    arena: &'b Bump<Fuse>,
-    class: FuncClass,
-    convention: CallingConv,
-    parameters: List<'b, &'b nodes::Type<'a, 'b>>,
-    qualifiers: StorageClass,
-    returned: &'b nodes::Type<'a, 'b>,
-) -> Result<&'b nodes::Type<'a, 'b>, AllocError>
-    ensures { IfOk result (λ t. node_type t.now
-        ≡ member_function class.0 convention (node_types parameters.entry.items.now) qualifiers.0
-        (node_type returned.now)) }
-{
-    let function = put(
-        arena,
-        Function {
-            convention,
-            class,
-            qualifiers,
-            parameters: parameters.items,
-            returned,
-        },
-    )?;
-    put_type(arena, nodes::Type::MemberFunction(function))
-}
-
-/// Makes the node of a pointer to a member function.
-fn put_member_pointer<'a, 'b>(
-    arena: &'b Bump<Fuse>,
-    symbol: nodes::Symbol<'a, 'b>,
-    class: FuncClass,
-    convention: CallingConv,
-    parameters: List<'b, &'b nodes::Type<'a, 'b>>,
-    qualifiers: StorageClass,
-    returned: &'b nodes::Type<'a, 'b>,
-) -> Result<&'b nodes::Type<'a, 'b>, AllocError>
-    ensures { IfOk result (λ t. node_type t.now
-        ≡ member_pointer (node_name symbol.entry.name.now) (node_names symbol.entry.scope.now) class.0 convention
-        (node_types parameters.entry.items.now) qualifiers.0 (node_type returned.now)) }
-{
-    let symbol = put(arena, symbol)?;
-    let function = put(
-        arena,
-        Function {
-            convention,
-            class,
-            qualifiers,
-            parameters: parameters.items,
-            returned,
-        },
-    )?;
-    put_type(arena, nodes::Type::MemberPointer(symbol, function))
-}
-
-/// Makes the node of a table of virtual functions or bases.
-fn put_table<'a, 'b>(
-    arena: &'b Bump<Fuse>,
-    which: SpecialTableKind,
-    names: List<'b, &'b nodes::Name<'a, 'b>>,
-    qualifiers: StorageClass,
-) -> Result<&'b nodes::Type<'a, 'b>, AllocError>
-    ensures { IfOk result (λ t. node_type t.now ≡ table which (node_names names.entry.items.now) qualifiers.0) }
-{
-    let scope = put(arena, Scope { names: names.items })?;
-    put_type(arena, nodes::Type::Table(which, qualifiers, scope))
 }
 
 /// Makes the node of a name that is a text, by how it is spelled.

@@ -3,9 +3,9 @@
 
 #![tactic(auto, using(crate::proofs::Views::rows), unfolding(crate::specs::View::name_of, crate::specs::View::operator_of, crate::specs::View::type_of))]
 
-ghost use Rattle.std.specs.Prelude.{◌≡◌, option_map};
-ghost use Rattle.msvc_tree.specs.View.{name_of, operator_of, scope_of, type_of};
-ghost use Rattle.msvc_tree.specs.Variants.{name_in, operator_in, pointed_class, type_in, without_class};
+ghost use Rattle.std.specs.Prelude.{◌≡◌};
+ghost use Rattle.msvc_tree.specs.View.{name_of, operator_of, type_of};
+ghost use Rattle.msvc_tree.specs.Variants.{name_in, operator_in, type_in};
 
 use crate::tree::{
     CallingConv, Name, NameSequence, Operator, Params, ParseResult, Symbol, Type, VarStorageKind,
@@ -15,6 +15,7 @@ use msvc_nodes::kinds::{
     Guard, NumberedType, PlainOperator, PlainType, PointerAffinity, PrimitiveKind,
     SpecialTableKind, Spelling, TagKind,
 };
+use msvc_nodes::nodes::BaseClass;
 use msvc_nodes::{base_types, plain_operators};
 
 /// The variant of a borrowed name, with its parts.
@@ -37,11 +38,20 @@ pub enum OperatorRef<'t, 'a> {
     Guard(Guard, Option<u32>),
     /// The qualifiers that were read for the type, and the type.
     TypeDescriptor(StorageClass, &'t Type<'a>),
-    BaseClassDescriptor(i32, i32, i32, i32),
+    BaseClassDescriptor(BaseClass),
 }
 
-/// The variant of a borrowed type, with its parts. The class of a pointer to a member function is not among them:
-/// `pointed_class` returns it.
+/// The parts of a borrowed function type, whatever its class.
+#[derive(Clone, Copy)]
+pub struct FunctionRef<'t, 'a> {
+    pub convention: CallingConv,
+    pub parameters: &'t Params<'a>,
+    pub qualifiers: StorageClass,
+    /// The type that the function returns.
+    pub returned: &'t Type<'a>,
+}
+
+/// The variant of a borrowed type, with its parts.
 #[derive(Clone, Copy)]
 pub enum TypeRef<'t, 'a> {
     Plain(PlainType),
@@ -52,12 +62,10 @@ pub enum TypeRef<'t, 'a> {
     Pointing(PointerAffinity, &'t Type<'a>, StorageClass),
     /// The length of the outermost level, the elements, the qualifiers.
     Array(i32, &'t Type<'a>, StorageClass),
-    /// The convention, the parameters, the function's qualifiers, the type that it returns.
-    Function(CallingConv, &'t Params<'a>, StorageClass, &'t Type<'a>),
-    /// The function class, and the fields of `Function`.
-    MemberFunction(FuncClass, CallingConv, &'t Params<'a>, StorageClass, &'t Type<'a>),
-    /// The same of the member function that is pointed to.
-    MemberPointer(FuncClass, CallingConv, &'t Params<'a>, StorageClass, &'t Type<'a>),
+    Function(FunctionRef<'t, 'a>),
+    MemberFunction(FuncClass, FunctionRef<'t, 'a>),
+    /// The class whose member function is pointed to, and the function.
+    MemberPointer(&'t Symbol<'a>, FuncClass, FunctionRef<'t, 'a>),
     Variable(&'t Type<'a>, VarStorageKind, StorageClass),
     Table(SpecialTableKind, &'t NameSequence<'a>, StorageClass),
     VcallThunk(i32, CallingConv),
@@ -102,8 +110,13 @@ pub fn operator_ref<'t, 'a>(tree: &'t Operator<'a>) -> OperatorRef<'t, 'a>
         Operator::RTTITypeDescriptor(qualifiers, described) => {
             return OperatorRef::TypeDescriptor(*qualifiers, described);
         }
-        Operator::RTTIBaseClassDescriptor(a, b, c, d) => {
-            return OperatorRef::BaseClassDescriptor(*a, *b, *c, *d);
+        Operator::RTTIBaseClassDescriptor(member, pointer, entry, attributes) => {
+            return OperatorRef::BaseClassDescriptor(BaseClass {
+                member: *member,
+                pointer: *pointer,
+                entry: *entry,
+                attributes: *attributes,
+            });
         }
     }));
     OperatorRef::Plain(plain)
@@ -121,7 +134,7 @@ macro_rules! base_of_type {
 
 /// Returns which variant a type is.
 pub fn type_ref<'t, 'a>(tree: &'t Type<'a>) -> TypeRef<'t, 'a>
-    ensures { type_in result ≡ without_class (type_of tree.now) }
+    ensures { type_in result ≡ type_of tree.now }
 {
     let (base, qualifiers) = base_types!(base_of_type (tree {
         Type::None => return TypeRef::Plain(PlainType::None),
@@ -183,13 +196,30 @@ pub fn type_ref<'t, 'a>(tree: &'t Type<'a>) -> TypeRef<'t, 'a>
             *qualifiers,
         ),
         Type::NonMemberFunction(convention, parameters, qualifiers, returned) => {
-            return TypeRef::Function(*convention, parameters, *qualifiers, returned);
+            return TypeRef::Function(FunctionRef {
+                convention: *convention,
+                parameters,
+                qualifiers: *qualifiers,
+                returned,
+            });
         }
         Type::MemberFunction(class, convention, parameters, qualifiers, returned) => {
-            return TypeRef::MemberFunction(*class, *convention, parameters, *qualifiers, returned);
+            let function = FunctionRef {
+                convention: *convention,
+                parameters,
+                qualifiers: *qualifiers,
+                returned,
+            };
+            return TypeRef::MemberFunction(*class, function);
         }
-        Type::MemberFunctionPointer(_, class, convention, parameters, qualifiers, returned) => {
-            return TypeRef::MemberPointer(*class, *convention, parameters, *qualifiers, returned);
+        Type::MemberFunctionPointer(symbol, class, convention, parameters, qualifiers, returned) => {
+            let function = FunctionRef {
+                convention: *convention,
+                parameters,
+                qualifiers: *qualifiers,
+                returned,
+            };
+            return TypeRef::MemberPointer(symbol, *class, function);
         }
         Type::Var(inner, kind, qualifiers) => return TypeRef::Variable(inner, *kind, *qualifiers),
         Type::CXXVFTable(scope, qualifiers) => return TypeRef::Table(
@@ -205,48 +235,4 @@ pub fn type_ref<'t, 'a>(tree: &'t Type<'a>) -> TypeRef<'t, 'a>
         Type::VCallThunk(number, convention) => return TypeRef::VcallThunk(*number, *convention),
     }));
     TypeRef::Base(base, qualifiers)
-}
-
-/// Matches the type of an owned tree with the arms that are given. The base types join the last of them, which gives
-/// `None`.
-macro_rules! class_of_type {
-    (($tree:ident { $($arms:tt)* }) $({ $($code:literal $name:ident $word:literal $($other:literal)?,)* })*) => {
-        match $tree {
-            $($arms)*
-            $($(| Type::$name(_))*)* => None,
-        }
-    };
-}
-
-/// Returns the class of a pointer to a member function, or `None` for any other type.
-pub fn pointed_class<'t, 'a>(tree: &'t Type<'a>) -> Option<&'t Symbol<'a>>
-    ensures { option_map (λ s. (name_of s.now.name, scope_of s.now.scope)) result ≡ pointed_class (type_of tree.now) }
-{
-    base_types!(class_of_type (tree {
-        Type::MemberFunctionPointer(class, _, _, _, _, _) => Some(class),
-        Type::None
-        | Type::ConstantString(_)
-        | Type::EmptyParameterPack
-        | Type::RTTIType
-        | Type::Class(_, _)
-        | Type::Struct(_, _)
-        | Type::Union(_, _)
-        | Type::Enum(_, _)
-        | Type::Alias(_, _)
-        | Type::Constant(_)
-        | Type::TemplateParameterWithIndex(_)
-        | Type::ThreadSafeStaticGuard(_)
-        | Type::VarArgs
-        | Type::Nullptr
-        | Type::Ptr(_, _)
-        | Type::Ref(_, _)
-        | Type::RValueRef(_, _)
-        | Type::Array(_, _, _)
-        | Type::NonMemberFunction(_, _, _, _)
-        | Type::MemberFunction(_, _, _, _, _)
-        | Type::Var(_, _, _)
-        | Type::CXXVFTable(_, _)
-        | Type::CXXVBTable(_, _)
-        | Type::VCallThunk(_, _)
-    }))
 }

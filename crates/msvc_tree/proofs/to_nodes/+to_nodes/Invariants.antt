@@ -16,6 +16,10 @@ decreases-operator_to_nodes l = 3 * name_size (operator_of l.tree.now)
 abbrev pub decreases-type_to_nodes : goal.decreases-type_to_nodes
 decreases-type_to_nodes l = 3 * type_size (type_of l.tree.now) + 1
 
+abbrev pub decreases-function_to_nodes : goal.decreases-function_to_nodes
+decreases-function_to_nodes l =
+    3 * (types_size (params_of l.tree.parameters.now) + type_size (type_of l.tree.returned.now)) + 2
+
 abbrev pub decreases-names_to_nodes : goal.decreases-names_to_nodes
 decreases-names_to_nodes l = 3 * names_size (scope_of l.tree.now)
 

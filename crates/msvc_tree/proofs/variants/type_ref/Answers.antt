@@ -1,7 +1,6 @@
-use Rattle.std.proofs.Common.{None, sym, ap, ◌∙◌}
-use Rattle.msvc_tree.specs.Variants.{without_class}
-use Rattle.msvc_nodes.specs.Trees.{function, member_function, member_pointer, anonymous, no_names}
-use Rattle.msvc_tree.specs.View.{type_of, params_of}
+use Rattle.std.proofs.Common.{sym, ap, ◌∙◌}
+use Rattle.msvc_nodes.specs.Trees.{function, member_function, member_pointer}
+use Rattle.msvc_tree.specs.View.{name_of, type_of, scope_of, params_of}
 use Rattle.msvc_tree.proofs.Views.{type_of-NonMemberFunction, type_of-MemberFunction, type_of-MemberFunctionPointer}
 use Rattle.msvc_tree.proofs.variants.type_ref.Goals as goal
 
@@ -10,22 +9,20 @@ returns-in-NonMemberFunction c =
     let w = c.in-NonMemberFunction in
     ap (λ t. function w.convention (params_of w.parameters) w.qualifiers.0 (type_of t))
     c.deref-in-NonMemberFunction.ensures
-    ∙ sym (ap without_class (ap type_of w.is
-    ∙ type_of-NonMemberFunction w.convention w.parameters w.qualifiers w.returned))
+    ∙ sym (ap type_of w.is ∙ type_of-NonMemberFunction w.convention w.parameters w.qualifiers w.returned)
 
 pub returns-in-MemberFunction : goal.returns-in-MemberFunction
 returns-in-MemberFunction c =
     let w = c.in-MemberFunction in
     ap (λ t. member_function w.class.0 w.convention (params_of w.parameters) w.qualifiers.0 (type_of t))
     c.deref-in-MemberFunction.ensures
-    ∙ sym (ap without_class (ap type_of w.is
-    ∙ type_of-MemberFunction w.class w.convention w.parameters w.qualifiers w.returned))
+    ∙ sym (ap type_of w.is ∙ type_of-MemberFunction w.class w.convention w.parameters w.qualifiers w.returned)
 
 pub returns-in-MemberFunctionPointer : goal.returns-in-MemberFunctionPointer
 returns-in-MemberFunctionPointer c =
     let w = c.in-MemberFunctionPointer in
-    ap (λ t. member_pointer (anonymous None) no_names w.class.0 w.convention (params_of w.parameters) w.qualifiers.0
-    (type_of t))
+    ap (λ t. member_pointer (name_of w.symbol.name) (scope_of w.symbol.scope) w.class.0 w.convention
+    (params_of w.parameters) w.qualifiers.0 (type_of t))
     c.deref-in-MemberFunctionPointer.ensures
-    ∙ sym (ap without_class (ap type_of w.is
-    ∙ type_of-MemberFunctionPointer w.field-0 w.class w.convention w.parameters w.qualifiers w.returned))
+    ∙ sym (ap type_of w.is
+    ∙ type_of-MemberFunctionPointer w.symbol w.class w.convention w.parameters w.qualifiers w.returned)

@@ -1,13 +1,14 @@
-use Rattle.std.proofs.Common.{◌≡◌, ℕ, ◌<◌, ◌+◌, ◌*◌, get_or, option_map}
+use Rattle.std.proofs.Common.{◌≡◌, ℕ, ◌<◌, ◌+◌, ◌*◌, get_or}
 use Rattle.msvc_tree.specs.Variants.{name_in, operator_in, type_in}
-use Rattle.msvc_nodes.specs.Sizes.{name_size, names_size, type_size, types_size, class_size}
+use Rattle.msvc_nodes.specs.Sizes.{name_size, names_size, type_size, types_size}
 use Rattle.msvc_tree.specs.View.{name_of, operator_of, type_of, scope_of, params_of}
 use Rattle.msvc_tree.specs.declared.tree.Name.{Name}
 use Rattle.msvc_tree.specs.declared.tree.Type.{«Type»}
 use Rattle.msvc_tree.proofs.tree.equality.+equality.Given as goal
 
-abbrev pub decreases-same_class : goal.decreases-same_class
-decreases-same_class l = 4 * class_size (option_map (λ s. (name_of s.now.name, scope_of s.now.scope)) l.left) + 2
+abbrev pub decreases-same_function : goal.decreases-same_function
+decreases-same_function l =
+    4 * (types_size (params_of l.left.parameters.now) + type_size (type_of l.left.returned.now)) + 2
 
 abbrev pub decreases-same_name : goal.decreases-same_name
 decreases-same_name l = 4 * name_size (name_of l.left.now) + 3

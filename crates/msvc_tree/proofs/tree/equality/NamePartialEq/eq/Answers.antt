@@ -1,5 +1,6 @@
-use Rattle.msvc_tree.proofs.Tests.{name_eq-from}
+use Rattle.std.proofs.lemmas.Bool.Decides.{same_from_decides}
+use Rattle.msvc_tree.specs.Equality.{name_eq-is}
 use Rattle.msvc_tree.proofs.tree.equality.NamePartialEq.eq.Goals as goal
 
 pub returns-clause-value : goal.returns-clause-value
-returns-clause-value c = name_eq-from _ _ _ c.same_name.ensures.0 c.same_name.ensures.1
+returns-clause-value c = same_from_decides _ _ c.same_name.ensures (name_eq-is _ _)

@@ -1,5 +1,6 @@
-use Rattle.msvc_tree.proofs.Tests.{scope_eq-from}
+use Rattle.std.proofs.lemmas.Bool.Decides.{same_from_decides}
+use Rattle.msvc_tree.specs.Equality.{scope_eq-is}
 use Rattle.msvc_tree.proofs.tree.equality.NameSequencePartialEq.eq.Goals as goal
 
 pub returns-clause-value : goal.returns-clause-value
-returns-clause-value c = scope_eq-from _ _ _ c.same_scope.ensures.0 c.same_scope.ensures.1
+returns-clause-value c = same_from_decides _ _ c.same_scope.ensures (scope_eq-is _ _)

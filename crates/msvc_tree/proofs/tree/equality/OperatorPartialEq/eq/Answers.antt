@@ -1,5 +1,6 @@
-use Rattle.msvc_tree.proofs.Tests.{operator_eq-from}
+use Rattle.std.proofs.lemmas.Bool.Decides.{same_from_decides}
+use Rattle.msvc_tree.specs.Equality.{operator_eq-is}
 use Rattle.msvc_tree.proofs.tree.equality.OperatorPartialEq.eq.Goals as goal
 
 pub returns-clause-value : goal.returns-clause-value
-returns-clause-value c = operator_eq-from _ _ _ c.same_operator.ensures.0 c.same_operator.ensures.1
+returns-clause-value c = same_from_decides _ _ c.same_operator.ensures (operator_eq-is _ _)

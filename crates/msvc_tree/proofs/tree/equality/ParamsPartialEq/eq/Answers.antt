@@ -1,5 +1,6 @@
-use Rattle.msvc_tree.proofs.Tests.{params_eq-from}
+use Rattle.std.proofs.lemmas.Bool.Decides.{same_from_decides}
+use Rattle.msvc_tree.specs.Equality.{params_eq-is}
 use Rattle.msvc_tree.proofs.tree.equality.ParamsPartialEq.eq.Goals as goal
 
 pub returns-clause-value : goal.returns-clause-value
-returns-clause-value c = params_eq-from _ _ _ c.same_params.ensures.0 c.same_params.ensures.1
+returns-clause-value c = same_from_decides _ _ c.same_params.ensures (params_eq-is _ _)

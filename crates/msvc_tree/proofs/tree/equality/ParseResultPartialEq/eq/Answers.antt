@@ -1,5 +1,6 @@
-use Rattle.msvc_tree.proofs.Tests.{result_eq-from}
+use Rattle.std.proofs.lemmas.Bool.Decides.{same_from_decides}
+use Rattle.msvc_tree.specs.Equality.{result_eq-is}
 use Rattle.msvc_tree.proofs.tree.equality.ParseResultPartialEq.eq.Goals as goal
 
 pub returns-clause-value : goal.returns-clause-value
-returns-clause-value c = result_eq-from _ _ _ c.same_result.ensures.0 c.same_result.ensures.1
+returns-clause-value c = same_from_decides _ _ c.same_result.ensures (result_eq-is _ _)

@@ -1,8 +1,11 @@
 use Rattle.std.proofs.Common.{ap}
-use Rattle.msvc_tree.proofs.Tests.{symbol_eq-from}
+use Rattle.std.proofs.lemmas.Bool.Decides.{same_from_decides}
+use Rattle.msvc_tree.specs.Equality.{symbol_eq-is}
 use Rattle.msvc_tree.proofs.tree.equality.SymbolPartialEq.eq.Goals as goal
 
 pub returns-clause-value : goal.returns-clause-value
 returns-clause-value c =
-    symbol_eq-from _ _ _ (λ h. let p = c.same_symbol.ensures.0 h in λ i. (p.0 i, p.1 i))
-    (λ e. c.same_symbol.ensures.1 (ap (λ x. x.0) e, ap (λ x. x.1) e))
+    let same = c.same_symbol.ensures in
+    same_from_decides _ _
+    (λ h. let p = same.0 h in λ i. (p.0 i, p.1 i), λ e. same.1 (ap (λ x. x.0) e, ap (λ x. x.1) e))
+    (symbol_eq-is _ _)

@@ -1,5 +1,6 @@
-use Rattle.msvc_tree.proofs.Tests.{type_eq-from}
+use Rattle.std.proofs.lemmas.Bool.Decides.{same_from_decides}
+use Rattle.msvc_tree.specs.Equality.{type_eq-is}
 use Rattle.msvc_tree.proofs.tree.equality.TypePartialEq.eq.Goals as goal
 
 pub returns-clause-value : goal.returns-clause-value
-returns-clause-value c = type_eq-from _ _ _ c.same_type.ensures.0 c.same_type.ensures.1
+returns-clause-value c = same_from_decides _ _ c.same_type.ensures (type_eq-is _ _)
