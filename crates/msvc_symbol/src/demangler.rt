@@ -285,7 +285,8 @@ pub fn print_symbol<A: Allocator + Copy>(
 ///
 /// # Errors
 ///
-/// Fails if `input` begins with no symbol, or if an allocation fails.
+/// Fails if `input` begins with no symbol, or if an allocation fails. After a failed allocation the demangler
+/// cannot be used again.
 pub fn print_with_tree(
     demangler: &mut Demangler,
     input: &str,
