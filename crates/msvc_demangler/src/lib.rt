@@ -9,8 +9,6 @@ ghost use Rattle.msvc_grammar.specs.Parsed.{GrammarLaws, IsRejected};
 ghost use Rattle.msvc_demangler.specs.Demangled.{HashesAreShown, IsDeclared, IsDeclaredWithin, IsErrorUnder};
 ghost use Rattle.msvc_demangler.specs.Limits.{limits_of};
 
-mod debug;
-mod debug_words;
 mod demangler;
 mod failure;
 mod filter;

@@ -10,10 +10,10 @@ ghost use Rattle.msvc_demangler.specs.Lines.{line_of};
 ghost use Rattle.msvc_demangler.specs.Faults.{SetsFailureFlag, failure_flag, no_stream};
 ghost use Rattle.msvc_demangler.specs.Runs.{Writes, WritesLines};
 
-use crate::debug::write_tree;
 use crate::demangler::{Demangler, print_in, read};
 use crate::output::{write_all, write_line};
 use crate::watched::{Fault, Taken, Watched};
+use msvc_debug::write_tree;
 use msvc_nodes::error::Error;
 use msvc_nodes::flags::DemangleFlags;
 use std::alloc::{AllocError, Global};
@@ -90,6 +90,7 @@ fn answer(
         Ok((read, _)) => {
             if verbose {
                 write_tree(demangler.alloc, &read, tree)?;
+                tree.push('\n')?;
             }
             let flags = DemangleFlags::llvm();
             print_in(

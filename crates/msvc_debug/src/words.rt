@@ -3,10 +3,14 @@
 use bitflags::Flags;
 use msvc_nodes::kinds::{Guard, NumberedType, PlainType, PointerAffinity, SpecialTableKind};
 use msvc_nodes::nodes::BaseClass;
-use std::alloc::{AllocError, Global};
+use std::alloc::{AllocError, Allocator};
+use std::str::from_utf8;
 
 /// Appends the names of a set's bits, each with a space after it.
-pub(crate) fn push_set<F: Flags>(text: &mut String, set: F) -> Result<(), AllocError> {
+pub(crate) fn push_set<F: Flags, A: Allocator>(
+    text: &mut String<A>,
+    set: F,
+) -> Result<(), AllocError> {
     for (name, _) in set.iter_names() {
         text.push_str(name)?;
         text.push(' ')?;
@@ -15,22 +19,25 @@ pub(crate) fn push_set<F: Flags>(text: &mut String, set: F) -> Result<(), AllocE
 }
 
 /// Appends bytes of the symbol, between two words.
-pub(crate) fn push_spelled(
-    alloc: Global,
-    text: &mut String,
+pub(crate) fn push_spelled<A: Allocator>(
+    alloc: A,
+    text: &mut String<A>,
     before: &str,
     bytes: &[u8],
     after: &str,
 ) -> Result<(), AllocError> {
     text.push_str(before)?;
-    text.push_str(String::from_utf8_lossy(alloc, bytes)?.as_str())?;
+    match from_utf8(bytes) {
+        Ok(spelled) => text.push_str(spelled)?,
+        Err(_) => text.push_str(String::from_utf8_lossy(alloc, bytes)?.as_str())?,
+    }
     text.push_str(after)
 }
 
 /// Appends the bytes of a string literal, in quotes.
-pub(crate) fn push_literal(
-    alloc: Global,
-    text: &mut String,
+pub(crate) fn push_literal<A: Allocator>(
+    alloc: A,
+    text: &mut String<A>,
     bytes: &[u8],
 ) -> Result<(), AllocError> {
     let spelled = String::from_utf8_lossy(alloc, bytes)?;
@@ -38,8 +45,8 @@ pub(crate) fn push_literal(
 }
 
 /// Appends a guard and its number.
-pub(crate) fn push_guard(
-    text: &mut String,
+pub(crate) fn push_guard<A: Allocator>(
+    text: &mut String<A>,
     guard: Guard,
     number: Option<u32>,
 ) -> Result<(), AllocError> {
@@ -51,7 +58,10 @@ pub(crate) fn push_guard(
 }
 
 /// Appends the numbers of a base class.
-pub(crate) fn push_place(text: &mut String, place: &BaseClass) -> Result<(), AllocError> {
+pub(crate) fn push_place<A: Allocator>(
+    text: &mut String<A>,
+    place: &BaseClass,
+) -> Result<(), AllocError> {
     let BaseClass {
         member,
         pointer,

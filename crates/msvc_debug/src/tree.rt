@@ -1,15 +1,13 @@
-//! The tree of a symbol for a person to read, on one line, by the names that [`crate::Type`] and its parts have: of
-//! `?f@A@@QBEHPBD@Z`, `A::f: MemberFunction(PUBLIC Thiscall CONST [Ptr(CONST Char)] Int)`. Nothing is promised of it.
-//!
-//! No function here calls itself: what stands inside a tree goes onto a stack, so a deep tree takes memory alone.
+//! The writer. No function here calls itself: what stands inside a tree goes onto a stack, so a deep tree takes memory
+//! alone.
 
-use crate::debug_words::{
+use crate::words::{
     mark_word, numbered_word, plain_word, push_guard, push_literal, push_place, push_set,
     push_spelled, table_word,
 };
 use msvc_nodes::flags::StorageClass;
 use msvc_nodes::nodes::{Function, Name, Scope, Symbol, Type, TypedSymbol};
-use std::alloc::{AllocError, Global};
+use std::alloc::{AllocError, Allocator};
 
 /// Types of a list.
 #[derive(Clone, Copy)]
@@ -30,15 +28,17 @@ enum Item<'a, 'b> {
     Function(&'b Function<'a, 'b>),
 }
 
-/// Replaces the contents of `text` by a symbol's tree and a line feed.
-pub(crate) fn write_tree<'a, 'b>(
-    alloc: Global,
+/// Appends a symbol's tree to `text`. Takes memory for a stack beside that of the text.
+///
+/// # Errors
+///
+/// Fails if an allocation fails; then `text` has a part of the tree.
+pub fn write_tree<'a, 'b, A: Allocator + Copy>(
+    alloc: A,
     symbol: &'b TypedSymbol<'a, 'b>,
-    text: &mut String,
+    text: &mut String<A>,
 ) -> Result<(), AllocError> {
-    text.clear();
     let mut stack = Vec::new(alloc);
-    push(&mut stack, Item::Text("\n"))?;
     push_typed_symbol(&mut stack, symbol)?;
     // A bound that no tree meets, so that the loop ends for sure.
     'items: for _ in 0..u64::MAX {
@@ -51,10 +51,10 @@ pub(crate) fn write_tree<'a, 'b>(
 }
 
 /// Shows what an item begins with, and pushes the rest of it, the last part first.
-fn show<'a, 'b>(
-    alloc: Global,
-    stack: &mut Vec<Item<'a, 'b>>,
-    text: &mut String,
+fn show<'a, 'b, A: Allocator + Copy>(
+    alloc: A,
+    stack: &mut Vec<Item<'a, 'b>, A>,
+    text: &mut String<A>,
     item: Item<'a, 'b>,
 ) -> Result<(), AllocError> {
     match item {
@@ -67,8 +67,8 @@ fn show<'a, 'b>(
     }
 }
 
-fn show_scope<'a, 'b>(
-    stack: &mut Vec<Item<'a, 'b>>,
+fn show_scope<'a, 'b, A: Allocator>(
+    stack: &mut Vec<Item<'a, 'b>, A>,
     names: &'b [&'b Name<'a, 'b>],
 ) -> Result<(), AllocError> {
     let Some((innermost, outer)) = names.split_first() else {
@@ -79,8 +79,8 @@ fn show_scope<'a, 'b>(
     push_scope(stack, outer)
 }
 
-fn show_types<'a, 'b>(
-    stack: &mut Vec<Item<'a, 'b>>,
+fn show_types<'a, 'b, A: Allocator>(
+    stack: &mut Vec<Item<'a, 'b>, A>,
     types: &'b [&'b Type<'a, 'b>],
 ) -> Result<(), AllocError> {
     let Some((first, rest)) = types.split_first() else {
@@ -94,28 +94,31 @@ fn show_types<'a, 'b>(
 }
 
 /// Pushes an item.
-fn push<'a, 'b>(stack: &mut Vec<Item<'a, 'b>>, item: Item<'a, 'b>) -> Result<(), AllocError> {
+fn push<'a, 'b, A: Allocator>(
+    stack: &mut Vec<Item<'a, 'b>, A>,
+    item: Item<'a, 'b>,
+) -> Result<(), AllocError> {
     stack.push(item)?;
     Ok(())
 }
 
-fn push_scope<'a, 'b>(
-    stack: &mut Vec<Item<'a, 'b>>,
+fn push_scope<'a, 'b, A: Allocator>(
+    stack: &mut Vec<Item<'a, 'b>, A>,
     names: &'b [&'b Name<'a, 'b>],
 ) -> Result<(), AllocError> {
     push(stack, Item::Scope(Scope { names }))
 }
 
-fn push_types<'a, 'b>(
-    stack: &mut Vec<Item<'a, 'b>>,
+fn push_types<'a, 'b, A: Allocator>(
+    stack: &mut Vec<Item<'a, 'b>, A>,
     types: &'b [&'b Type<'a, 'b>],
 ) -> Result<(), AllocError> {
     push(stack, Item::Types(Types { types }))
 }
 
 /// Pushes a name in its scope, and its type.
-fn push_typed_symbol<'a, 'b>(
-    stack: &mut Vec<Item<'a, 'b>>,
+fn push_typed_symbol<'a, 'b, A: Allocator>(
+    stack: &mut Vec<Item<'a, 'b>, A>,
     symbol: &TypedSymbol<'a, 'b>,
 ) -> Result<(), AllocError> {
     push(stack, Item::Type(symbol.symbol_type))?;
@@ -124,18 +127,18 @@ fn push_typed_symbol<'a, 'b>(
 }
 
 /// Pushes a name in its scope.
-fn push_symbol<'a, 'b>(
-    stack: &mut Vec<Item<'a, 'b>>,
+fn push_symbol<'a, 'b, A: Allocator>(
+    stack: &mut Vec<Item<'a, 'b>, A>,
     symbol: &Symbol<'a, 'b>,
 ) -> Result<(), AllocError> {
     push(stack, Item::Name(symbol.name))?;
     push_scope(stack, symbol.scope)
 }
 
-fn show_name<'a, 'b>(
-    alloc: Global,
-    stack: &mut Vec<Item<'a, 'b>>,
-    text: &mut String,
+fn show_name<'a, 'b, A: Allocator + Copy>(
+    alloc: A,
+    stack: &mut Vec<Item<'a, 'b>, A>,
+    text: &mut String<A>,
     name: &Name<'a, 'b>,
 ) -> Result<(), AllocError> {
     match name {
@@ -170,10 +173,10 @@ fn show_name<'a, 'b>(
     }
 }
 
-fn show_type<'a, 'b>(
-    alloc: Global,
-    stack: &mut Vec<Item<'a, 'b>>,
-    text: &mut String,
+fn show_type<'a, 'b, A: Allocator + Copy>(
+    alloc: A,
+    stack: &mut Vec<Item<'a, 'b>, A>,
+    text: &mut String<A>,
     shown: &Type<'a, 'b>,
 ) -> Result<(), AllocError> {
     match shown {
@@ -232,9 +235,9 @@ fn show_type<'a, 'b>(
 }
 
 /// Shows the qualifiers of a type, and pushes the type inside and the bracket that closes it.
-fn push_inside<'a, 'b>(
-    stack: &mut Vec<Item<'a, 'b>>,
-    text: &mut String,
+fn push_inside<'a, 'b, A: Allocator>(
+    stack: &mut Vec<Item<'a, 'b>, A>,
+    text: &mut String<A>,
     set: StorageClass,
     inner: &'b Type<'a, 'b>,
 ) -> Result<(), AllocError> {
@@ -245,9 +248,9 @@ fn push_inside<'a, 'b>(
 
 /// Shows what a function has after its opening bracket: its class, convention and qualifiers, its parameters in square
 /// brackets, and the type that it returns.
-fn show_function<'a, 'b>(
-    stack: &mut Vec<Item<'a, 'b>>,
-    text: &mut String,
+fn show_function<'a, 'b, A: Allocator>(
+    stack: &mut Vec<Item<'a, 'b>, A>,
+    text: &mut String<A>,
     function: &Function<'a, 'b>,
 ) -> Result<(), AllocError> {
     let convention = function.convention;
