@@ -1,4 +1,5 @@
-// Uses the page in a headless Chromium: types, checks flags, drops a file, opens links.
+// Uses the page in a headless Chromium: types, checks flags, shows trees and back references, drops a file, opens
+// links.
 //
 //     node .ci/web-page.mjs PAGE MAP WANTED [FOLDER]
 //
@@ -45,6 +46,7 @@ const all = (selector, property) => page.value(
 const resize = (width, height, scale) => page.send('Emulation.setDeviceMetricsOverride',
   { width, height, deviceScaleFactor: scale, mobile: width < 500 });
 const output = "document.getElementById('output')";
+const details = "document.getElementById('details-list')";
 const settled = () => page.until(`${output}.ariaBusy === 'false'`);
 const shows = async (what) => {
   await page.until(`${output}.ariaBusy === 'false' && ${output}.textContent === ${JSON.stringify(what)}`);
@@ -55,15 +57,29 @@ const press = async (key, code) => {
   }
 };
 
+/** Returns the middle of an element, once it is visible. */
+const middle = (selector) => page.value(`(async () => {
+  const element = document.querySelector(${JSON.stringify(selector)});
+  element.scrollIntoView({ block: 'center' });
+  for (let frame = 0; frame < 2; frame++) await new Promise(requestAnimationFrame);
+  const { x, y, width, height } = element.getClientRects()[0];
+  return { x: x + width / 2, y: y + height / 2 };
+})()`);
+
+/** Moves the mouse over an element. */
+const over = async (selector) => page.send('Input.dispatchMouseEvent',
+  { type: 'mouseMoved', ...await middle(selector) });
+
+/** Touches an element. */
+async function tap(selector) {
+  const place = await middle(selector);
+  await page.send('Input.dispatchTouchEvent', { type: 'touchStart', touchPoints: [place] });
+  await page.send('Input.dispatchTouchEvent', { type: 'touchEnd', touchPoints: [] });
+}
+
 /** Clicks on the middle of an element, once it is visible. */
 async function click(selector) {
-  const place = await page.value(`(async () => {
-    const element = document.querySelector(${JSON.stringify(selector)});
-    element.scrollIntoView({ block: 'center' });
-    for (let frame = 0; frame < 2; frame++) await new Promise(requestAnimationFrame);
-    const { x, y, width, height } = element.getClientRects()[0];
-    return { x: x + width / 2, y: y + height / 2 };
-  })()`);
+  const place = await middle(selector);
   for (const type of ['mousePressed', 'mouseReleased']) {
     await page.send('Input.dispatchMouseEvent', { type, ...place, button: 'left', clickCount: 1 });
   }
@@ -161,11 +177,75 @@ async function run() {
     await press('ArrowRight', 39);
     await press('Enter', 13);
     await page.until("document.getElementById('details').open");
-    await page.until("document.getElementById('details-list').childElementCount === 6");
-    const details = await text('details-list');
-    for (const part of ['?x@ns@@3HA', 'int ns::x', 'ns::x']) assert.ok(details.includes(part), details);
+    await page.until(`${details}.childElementCount === 8`);
+    const shown = await text('details-list');
+    for (const part of ['?x@ns@@3HA', 'int ns::x', 'ns::x', 'ns::x: Var(Global Int)']) {
+      assert.ok(shown.includes(part), shown);
+    }
     assert.equal(await text('details-title'), 'Symbol of 10 characters');
     await press('Escape', 27);
+    await page.until("!document.getElementById('details').open");
+  });
+
+  await see('a tree', async () => {
+    await type('?f@A@@QBEHPBDV?$vector@HV?$allocator@H@std@@@std@@@Z');
+    await settled();
+    await click('#output .symbol');
+    await page.until(`${details}.childElementCount === 8`);
+    assert.equal(await page.value(`${details}.lastChild.textContent`), [
+      'A::f: MemberFunction(', '  PUBLIC Thiscall CONST', '  [', '    Ptr(CONST Char),',
+      '    Class(std::vector<Int, Class(std::allocator<Int>)>)', '  ]', '  Int', ')'].join('\n'));
+    await press('Escape', 27);
+    await page.until("!document.getElementById('details').open");
+  });
+
+  await see('back references', async () => {
+    await type('?g@@YAXPAHPAVx1@@010@Z');
+    await settled();
+    await click('#output .symbol');
+    await page.until(`${details}.querySelectorAll('.reference').length === 3`);
+    assert.ok((await text('details-list')).startsWith('SymbolCopy?g@@YAXPAHPAVx1@@010@Z'));
+    const told = () => page.value(`(() => {
+      const tip = document.getElementById('tip');
+      const meant = [...document.querySelectorAll('.meant')].map((piece) => piece.textContent);
+      return [tip.hidden ? '' : tip.textContent, meant.join('')];
+    })()`);
+    assert.deepEqual(await told(), ['', '']);
+    // By the mouse.
+    await over('.reference');
+    await page.until("!document.getElementById('tip').hidden");
+    assert.deepEqual(await told(), ['stands for PAH, int *', 'PAH']);
+    await over('#details-title');
+    await page.until("document.getElementById('tip').hidden");
+    assert.deepEqual(await told(), ['', '']);
+    // By the keyboard: Escape closes what is told first, and then the panel.
+    await page.value("document.querySelectorAll('.reference')[0].focus()");
+    await press('Tab', 9);
+    assert.deepEqual(await told(), ['stands for PAVx1@@', 'PAVx1@@']);
+    assert.equal(await page.value("document.activeElement.getAttribute('aria-describedby')"), 'tip');
+    await press('Escape', 27);
+    assert.deepEqual(await told(), ['', '']);
+    assert.equal(await page.value("document.getElementById('details').open"), true);
+    // By a finger.
+    await tap('.reference:last-of-type');
+    assert.deepEqual(await told(), ['stands for PAH, int *', 'PAH']);
+    await press('Escape', 27);
+    await press('Escape', 27);
+    await page.until("!document.getElementById('details').open");
+  });
+
+  await see('details of a hostile symbol', async () => {
+    await type('?f@@YAXPAV<img/src=x/onerror=hurt=1>@@0@Z');
+    await settled();
+    await click('#output .symbol');
+    await page.until("document.querySelector('.reference') !== null");
+    await over('.reference');
+    await page.until("!document.getElementById('tip').hidden");
+    assert.equal(await text('tip'), 'stands for PAV<img/src=x/onerror=hurt=1>@@');
+    assert.ok((await text('details-list')).includes('Ptr(Class(<img/src=x/onerror=hurt=1>))'));
+    assert.deepEqual((await all('#details-list *, #tip *', 'localName')).filter((name) =>
+      !['dt', 'dd', 'code', 'span', 'button', 'small'].includes(name)), []);
+    await click('#details-close');
     await page.until("!document.getElementById('details').open");
   });
 

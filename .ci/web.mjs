@@ -3,6 +3,7 @@
 //     node .ci/web.mjs FOLDER rows < ROWS             rows of crates/msvc_bench/stdin
 //     node .ci/web.mjs FOLDER prefix < ROWS           rows of crates/msvc_bench/prefix.tsv
 //     node .ci/web.mjs FOLDER lines TEXT ERRORS < IN  symbols, and undname's output for them
+//     node .ci/web.mjs FOLDER trees ERRORS < IN       symbols, and the standard error of undname -v for them
 //     node .ci/web.mjs FOLDER filter FLAGS < IN       writes what the filter returns for bytes, and compares a string's
 //     node .ci/web.mjs FOLDER calls                   the edge cases of each call
 //
@@ -15,7 +16,7 @@ import { resolve } from 'node:path';
 
 const [folder, command, ...words] = process.argv.slice(2);
 const module = await import(pathToFileURL(resolve(folder, 'index.mjs')));
-const { demangle, filter, symbolLength, Flags, DemangleError, version } = module;
+const { demangle, filter, references, symbolLength, tree, Flags, DemangleError, version } = module;
 const NO_LIMITS = { maxNodes: Infinity, maxBytes: Infinity };
 const top = new URL('../', import.meta.url);
 
@@ -52,6 +53,18 @@ function isWanted(found, symbol, kind, wanted) {
     ['INVALID', 'NOT_UTF8'].includes(found.code);
 }
 
+/** Whether a symbol with what a digit stands for in the digit's place has the same declaration, for each of them. */
+function areReferences(symbol, listed) {
+  const declaration = demangle(symbol, Flags.LLVM, NO_LIMITS);
+  const rest = symbol.length - symbolLength(symbol, NO_LIMITS);
+  return listed.every(({ at, start, end }, index) => {
+    const written = Buffer.concat([symbol.subarray(0, at), symbol.subarray(start, end), symbol.subarray(at + 1)]);
+    return /[0-9]/.test(String.fromCharCode(symbol[at])) && start < end && end <= at &&
+      (index === 0 || listed[index - 1].at < at) && demangle(written, Flags.LLVM, NO_LIMITS) === declaration &&
+      written.length - symbolLength(written, NO_LIMITS) === rest;
+  });
+}
+
 const commands = {
   rows() {
     const rows = lines(input()).filter((line) => !line.toString().startsWith('# '));
@@ -83,6 +96,20 @@ const commands = {
       return next instanceof DemangleError ? messages[at++] === `error: ${next.message}` : next === line.toString();
     });
     assert.equal(at, messages.length);
+  },
+
+  trees(errors) {
+    const messages = lines(readFileSync(errors)).map(String);
+    compared(lines(input()), 'lines', (line) => {
+      const found = outcome(tree, line, NO_LIMITS);
+      const listed = outcome(references, line, NO_LIMITS);
+      if (found instanceof DemangleError) {
+        const same = listed.code === found.code && listed.offset === found.offset;
+        return messages.shift() === `error: ${found.message}` && same;
+      }
+      return messages.shift() === found && areReferences(line, listed);
+    });
+    assert.equal(messages.length, 0);
   },
 
   filter(flags) {
@@ -129,6 +156,21 @@ const commands = {
     for (const limit of [-1, NaN]) assert.throws(() => demangle('?x@@3HA', 0, { maxNodes: limit }), RangeError);
     assert.equal(symbolLength('?äö😀@@3HA and more'), 10);
     assert.equal(symbolLength(Buffer.from('?äö😀@@3HA and more')), 14);
+
+    assert.equal(tree('?x@ns@@3HA and more'), 'ns::x: Var(Global Int)');
+    rejected(() => tree('?äx@@3L'), 'INVALID', 7);
+    assert.equal(outcome(tree, '?x@@3L').message, outcome(demangle, '?x@@3L').message);
+    assert.equal(outcome(tree, '?x@ns@@3HA', { maxNodes: 1 }).code, 'TOO_MANY_NODES');
+    assert.deepEqual(references('?ä😀@@YAXPAH0@Z'), [{ at: 12, start: 9, end: 12 }]);
+    assert.deepEqual(references(Buffer.from('?ä😀@@YAXPAH0@Z')), [{ at: 15, start: 12, end: 15 }]);
+    assert.deepEqual(references('?x@@3HA'), []);
+    rejected(() => references('?äx@@3L'), 'INVALID', 7);
+    rejected(() => references(Uint8Array.of(0x3F, 0x78, 0xFF)), 'NOT_UTF8', 2);
+    assert.equal(outcome(references, '?f@@YAXPAH0@Z', { maxNodes: 3 }).code, 'TOO_MANY_NODES');
+    // More of them than a first output has places for, and a tree that needs a larger output.
+    const many = references(`?f@@YAXPAH${'0'.repeat(1000)}@Z`);
+    assert.deepEqual([many.length, many[999]], [1000, { at: 1009, start: 7, end: 10 }]);
+    assert.equal(tree(`?${'x'.repeat(200_000)}@@3HA`), `${'x'.repeat(200_000)}: Var(Global Int)`);
 
     assert.equal(filter(''), '');
     assert.deepEqual(filter(new Uint8Array()), new Uint8Array());

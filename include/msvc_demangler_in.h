@@ -80,6 +80,16 @@ struct msvc_demangler_part {
     size_t size;  /**< its size in bytes, a multiple of 16 */
 };
 
+/** A back reference: a digit that stands for a parameter before it. All are offsets in the symbol, in bytes. */
+struct msvc_demangler_reference {
+    /** The offset of the digit. */
+    size_t at;
+    /** Where the parameter starts. */
+    size_t start;
+    /** Where it ends. */
+    size_t end;
+};
+
 #ifdef __cplusplus
 extern "C" {
 #endif
@@ -136,6 +146,15 @@ struct msvc_demangler_result msvc_demangler_filter_in_parts(const char *input, s
                                                             struct msvc_demangler_part *arena,
                                                             struct msvc_demangler_part *text, char *out,
                                                             size_t size) MSVC_DEMANGLER_NOEXCEPT;
+/** Writes the tree of a symbol, as msvc_demangler_tree_in does, in a part for its nodes and its text. */
+struct msvc_demangler_result msvc_demangler_tree_in_parts(const char *symbol, size_t length, size_t max_nodes,
+                                                          struct msvc_demangler_part *arena, char *out,
+                                                          size_t size) MSVC_DEMANGLER_NOEXCEPT;
+/** Lists the back references of a symbol, as msvc_demangler_references_in does, in a part for its nodes. */
+struct msvc_demangler_result msvc_demangler_references_in_parts(const char *symbol, size_t length, size_t max_nodes,
+                                                                struct msvc_demangler_part *arena,
+                                                                struct msvc_demangler_reference *out,
+                                                                size_t count) MSVC_DEMANGLER_NOEXCEPT;
 /** @} */
 
 /**
@@ -237,6 +256,36 @@ static inline struct msvc_demangler_result msvc_demangler_filter_in(const char *
     struct msvc_demangler_part arena = msvc_demangler_aligned(work, work_size);
     struct msvc_demangler_part declaration = msvc_demangler_cut(&arena, MSVC_DEMANGLER_DEFAULT_BYTES);
     return msvc_demangler_filter_in_parts(text, length, flags, &arena, &declaration, out, size);
+}
+
+/**
+ * Writes the tree of a symbol on one line, for a person to read, as `undname -v` prints it without the line feed; if
+ * there is none, the text of the error. Nothing is promised of the tree's form. Statuses, offsets and the rules of the
+ * buffer are those of msvc_demangler_demangle without a limit on bytes. The text is made in the workspace, so a tree
+ * with long names may need a larger one than the sizes above.
+ */
+static inline struct msvc_demangler_result msvc_demangler_tree_in(const char *symbol, size_t length, size_t max_nodes,
+                                                                  void *work, size_t work_size, char *out,
+                                                                  size_t size) MSVC_DEMANGLER_NOEXCEPT
+{
+    struct msvc_demangler_part arena = msvc_demangler_aligned(work, work_size);
+    return msvc_demangler_tree_in_parts(symbol, length, max_nodes, &arena, out, size);
+}
+
+/**
+ * Lists the digits of a symbol that stand for whole parameters before them, in rising order. The result's length is
+ * how many there are. Those for which `out` has places, of which it has `count`, are written. Statuses and offsets are
+ * those of msvc_demangler_prefix. With another status than OK nothing is written; with OUT_OF_MEMORY `out` is
+ * unspecified.
+ */
+static inline struct msvc_demangler_result msvc_demangler_references_in(const char *symbol, size_t length,
+                                                                        size_t max_nodes, void *work,
+                                                                        size_t work_size,
+                                                                        struct msvc_demangler_reference *out,
+                                                                        size_t count) MSVC_DEMANGLER_NOEXCEPT
+{
+    struct msvc_demangler_part arena = msvc_demangler_aligned(work, work_size);
+    return msvc_demangler_references_in_parts(symbol, length, max_nodes, &arena, out, count);
 }
 
 #ifdef __cplusplus

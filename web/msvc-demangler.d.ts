@@ -78,3 +78,30 @@ export declare function filter(text: Uint8Array, flags?: number): Uint8Array;
  * @throws {RangeError} if memory or the engine's stack runs out
  */
 export declare function symbolLength(symbol: string | Uint8Array, limits?: Pick<Limits, 'maxNodes'>): number;
+
+/**
+ * Returns the tree of the symbol that the text begins with, on one line, for a person to read. Its form may change.
+ *
+ * @throws {DemangleError} if it begins with none
+ * @throws {RangeError} if memory or the engine's stack runs out
+ */
+export declare function tree(symbol: string | Uint8Array, limits?: Pick<Limits, 'maxNodes'>): string;
+
+/** A digit that stands for a parameter before it. All are offsets, in code units of a string, or in bytes. */
+export interface Reference {
+  /** Where the digit is. */
+  at: number;
+  /** Where the parameter starts. */
+  start: number;
+  /** Where it ends. */
+  end: number;
+}
+
+/**
+ * Returns the back references of the symbol that the text begins with, in their order: the digits that stand for whole
+ * parameters.
+ *
+ * @throws {DemangleError} if it begins with none
+ * @throws {RangeError} if memory or the engine's stack runs out
+ */
+export declare function references(symbol: string | Uint8Array, limits?: Pick<Limits, 'maxNodes'>): Reference[];

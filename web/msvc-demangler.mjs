@@ -50,6 +50,7 @@ const DEFAULT_NODES = 10_000;
 const DEFAULT_BYTES = 65_536;
 
 const DEFAULT_WORKSPACE = 1_228_800;
+const REFERENCE = 24;
 const PAGE = 65_536;
 const MOST_MEMORY = 2 ** 31;
 
@@ -104,11 +105,11 @@ function describe(part, begin, size) {
 }
 
 /**
- * Makes one call of the library over an input. The last three arguments are the bytes of the arena, the text and the
- * output, each a multiple of 16. A call that exhausts the engine's stack leaves its instance unusable, and another
- * replaces it.
+ * Makes one call of the library over an input. The last four arguments are the bytes of the arena, the text and the
+ * output, each a multiple of 16, and those of an item of the output. A call that exhausts the engine's stack leaves its
+ * instance unusable, and another replaces it.
  */
-function call(make, input, arena, text, size) {
+function call(make, input, arena, text, size, item) {
   const end = FREE + arena + text + size + input.length;
   if (end > MOST_MEMORY) throw new RangeError('out of memory');
   if (end > memory.length) {
@@ -119,7 +120,7 @@ function call(make, input, arena, text, size) {
   const from = out + size;
   memory.set(input, from);
   try {
-    make(...[RESULT, from, input.length, ARENA, TEXT, out, size].map(BigInt));
+    make(...[RESULT, from, input.length, ARENA, TEXT, out, Math.floor(size / item)].map(BigInt));
   } catch {
     use(new WebAssembly.Instance(compiled).exports);
     throw new OutOfStack('out of stack');
@@ -129,21 +130,21 @@ function call(make, input, arena, text, size) {
     code: CODES[view.getUint32(RESULT, true)],
     offset: Number(view.getBigUint64(RESULT + 8, true)),
     length,
-    written: memory.subarray(out, out + Math.min(length, size)),
+    written: memory.subarray(out, out + Math.min(length * item, size)),
   };
 }
 
 /** Makes a call again with a larger output or workspace, as long as it needs that and there is memory. */
-function completed(make, input, size) {
+function completed(make, input, size, item = 1) {
   let arena = DEFAULT_WORKSPACE - DEFAULT_BYTES;
   let text = size ? DEFAULT_BYTES : 0;
   for (;;) {
-    const found = call(make, input, arena, text, size);
+    const found = call(make, input, arena, text, size, item);
     if (found.code === 'OUT_OF_MEMORY') {
       arena *= 2;
       text *= 2;
-    } else if (size && found.length >= size) {
-      size = 16 * Math.ceil((found.length + 1) / 16);
+    } else if (size && found.length * item >= size) {
+      size = 16 * Math.ceil((found.length + 1) * item / 16);
     } else {
       return found;
     }
@@ -167,6 +168,13 @@ export function demangle(symbol, flags = Flags.LLVM, { maxNodes = DEFAULT_NODES,
   return text;
 }
 
+/** Throws the error of a call that writes no text, unless it succeeded. */
+function succeed(found, symbol, input) {
+  if (found.code === 'OK') return;
+  const message = `no symbol within the limit (offset: ${found.offset})`;
+  throw new DemangleError(message, found.code, place(symbol, input, found.offset));
+}
+
 /**
  * Returns how much of the text the symbol takes that it begins with, in code units of a string, or in bytes. Throws as
  * demangle does.
@@ -177,11 +185,39 @@ export function symbolLength(symbol, { maxNodes = DEFAULT_NODES } = {}) {
   const found = completed((result, from, length, arena) => {
     library.msvc_demangler_prefix_in_parts(result, from, length, nodes, arena);
   }, input, 0);
-  if (found.code !== 'OK') {
-    const message = `no symbol within the limit (offset: ${found.offset})`;
-    throw new DemangleError(message, found.code, place(symbol, input, found.offset));
-  }
+  succeed(found, symbol, input);
   return place(symbol, input, found.length);
+}
+
+/** Returns the tree of the symbol that the text begins with, for a person to read. Throws as demangle does. */
+export function tree(symbol, { maxNodes = DEFAULT_NODES } = {}) {
+  const input = bytesOf(symbol);
+  const nodes = limit(maxNodes);
+  const found = completed((result, from, length, arena, text, out, size) => {
+    library.msvc_demangler_tree_in_parts(result, from, length, nodes, arena, out, size);
+  }, input, DEFAULT_BYTES + 16);
+  const text = decoder.decode(found.written);
+  if (found.code !== 'OK') throw new DemangleError(text, found.code, place(symbol, input, found.offset));
+  return text;
+}
+
+/**
+ * Returns the digits of the symbol that stand for parameters before them, in their order: where each digit is, and
+ * where what it stands for starts and ends, in code units of a string, or in bytes. Throws as demangle does.
+ */
+export function references(symbol, { maxNodes = DEFAULT_NODES } = {}) {
+  const input = bytesOf(symbol);
+  const nodes = limit(maxNodes);
+  const found = completed((result, from, length, arena, text, out, places) => {
+    library.msvc_demangler_references_in_parts(result, from, length, nodes, arena, out, places);
+  }, input, 64 * REFERENCE, REFERENCE);
+  succeed(found, symbol, input);
+  const numbers = new DataView(found.written.slice().buffer);
+  const offset = (at) => place(symbol, input, Number(numbers.getBigUint64(at, true)));
+  return Array.from({ length: found.length }, (_, index) => {
+    const [at, start, end] = [0, 8, 16].map((field) => offset(REFERENCE * index + field));
+    return { at, start, end };
+  });
 }
 
 /** Returns where the piece of a text ends that begins there: behind a space or a control character, or at the end. */

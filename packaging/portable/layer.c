@@ -104,11 +104,14 @@ static int is_made(Z_module_instance_t **machine, u64 memory)
     return 1;
 }
 
-/* Runs the call of the module. It is no part of its caller, which a compiler must optimise less. */
+/* Runs the call of the module. It is no part of its caller, which a compiler must optimise less. The header has no calls
+   for trees and back references; a compiler drops what the module has for them. */
 NO_INLINE static void run(Z_module_instance_t *machine, const struct call *call, const struct places *places)
 {
     u64 arena = places->result + result_size;
     u64 text = arena + part_size;
+    (void)w2c_msvc_demangler_references_in_parts;
+    (void)w2c_msvc_demangler_tree_in_parts;
     switch (call->kind) {
     case demangles:
         w2c_msvc_demangler_demangle_in_parts(machine, places->result, places->input, call->length, call->flags,

@@ -248,6 +248,8 @@ function choose(chosen) {
 
 // Details of one symbol
 
+let explaining = ''; // the symbol of which more is asked for
+
 function row(title, text, ...content) {
   const copy = make('button', { type: 'button', textContent: 'Copy', onclick: () => copied(text, copy) });
   return [make('dt', {}, title, copy), make('dd', {}, make('code', {}, ...(content.length ? content : [text])))];
@@ -255,6 +257,7 @@ function row(title, text, ...content) {
 
 function open(part) {
   const list = $('details-list');
+  explaining = part.symbol ?? '';
   if (part.message !== undefined) {
     $('details-title').textContent = 'Not demangled';
     list.replaceChildren(...row('Text', part.text, ...markedAt(part.text, part.offset)), ...row('Error', part.message));
@@ -266,9 +269,115 @@ function open(part) {
   $('details').showModal();
 }
 
-function explained({ name, length }) {
-  $('details-list').append(...row('Name', name));
+function explained({ symbol, name, length, references, tree }) {
+  if (symbol !== explaining) return;
+  explaining = '';
   $('details-title').textContent = `Symbol of ${counted(length, 'character')}`;
+  $('details-list').append(...row('Name', name));
+  if (tree) $('details-list').append(...row('Tree', tree, indented(tree)));
+  if (references.length) {
+    const [, shown] = $('details-list').children;
+    shown.replaceChildren(make('code', {}, ...pieces(symbol, references)),
+      make('small', {}, 'A marked digit stands for a parameter before it.'));
+  }
+}
+
+// Trees
+
+const CLOSING = { '(': ')', '[': ']', '<': '>' };
+const CLOSERS = new Set(Object.values(CLOSING));
+// What is longer is shown on several lines.
+const LINE_OF_A_TREE = 60;
+const DEEPEST_INDENTATION = 20;
+
+/** Returns where each bracket is closed, or undefined if some names have brackets of their own. */
+function closings(tree) {
+  const ends = new Map();
+  const opened = [];
+  for (let at = 0; at < tree.length; at++) {
+    if (tree[at] in CLOSING) {
+      opened.push(at);
+    } else if (CLOSERS.has(tree[at])) {
+      const start = opened.pop();
+      if (CLOSING[tree[start]] !== tree[at]) return undefined;
+      ends.set(start, at);
+    }
+  }
+  return opened.length ? undefined : ends;
+}
+
+/** Returns a tree with a line for each part of what is too long for one. Nothing but white space is added. */
+function indented(tree) {
+  const ends = closings(tree);
+  if (!ends) return tree;
+  const broken = [];
+  const line = () => `\n${'  '.repeat(Math.min(broken.length, DEEPEST_INDENTATION))}`;
+  let text = '';
+  for (let at = 0; at < tree.length; at++) {
+    const end = ends.get(at);
+    if (end !== undefined && end - at <= LINE_OF_A_TREE) {
+      text += tree.slice(at, end + 1);
+      at = end;
+    } else if (end !== undefined) {
+      broken.push(end);
+      text += tree[at] + line();
+    } else if (at === broken.at(-1)) {
+      broken.pop();
+      text += line() + tree[at];
+    } else if (broken.length && tree[at] === ' ' && (/[,\])]/.test(tree[at - 1]) || tree[at + 1] === '[')) {
+      text += line();
+    } else {
+      text += tree[at];
+    }
+  }
+  return text;
+}
+
+// Back references
+
+/** Returns the pieces of a symbol: its marked digits, and what stands between their places and those they refer to. */
+function pieces(symbol, references) {
+  const places = references.flatMap(({ at, start, end }) => [at, at + 1, start, end]);
+  const cuts = [...new Set([0, ...places, symbol.length])].sort((one, other) => one - other);
+  const digits = new Map(references.map((reference) => [reference.at, reference]));
+  const shown = cuts.slice(0, -1).map((at, index) => {
+    const text = symbol.slice(at, cuts[index + 1]);
+    return digits.has(at) ? make('button', { type: 'button', className: 'reference', textContent: text }) :
+      make('span', {}, text);
+  });
+  for (const [index, piece] of shown.entries()) {
+    const reference = digits.get(cuts[index]);
+    if (!reference) continue;
+    const meant = shown.filter((_, other) => cuts[other] >= reference.start && cuts[other] < reference.end);
+    const show = () => showReference(piece, meant, symbol.slice(reference.start, reference.end), reference.declaration);
+    piece.setAttribute('aria-label', `${piece.textContent}, a back reference`);
+    for (const kind of ['pointerenter', 'focus', 'click']) piece.addEventListener(kind, show);
+    piece.addEventListener('pointerleave', () => { if (document.activeElement !== piece) hideReference(); });
+    piece.addEventListener('blur', hideReference);
+  }
+  return shown;
+}
+
+/** Marks what a digit stands for, and says it below the digit. */
+function showReference(digit, meant, text, declaration) {
+  hideReference();
+  for (const piece of meant) piece.classList.add('meant');
+  const tip = $('tip');
+  tip.replaceChildren('stands for ', make('code', {}, text));
+  if (declaration) tip.append(', ', make('code', {}, declaration));
+  tip.hidden = false;
+  digit.setAttribute('aria-describedby', 'tip');
+  const around = $('details').getBoundingClientRect();
+  const { left, bottom } = digit.getBoundingClientRect();
+  const most = Math.max(0, around.width - tip.offsetWidth - 12);
+  tip.style.left = `${Math.min(Math.max(0, left - around.left - 12), most)}px`;
+  tip.style.top = `${bottom - around.top + $('details').scrollTop + 6}px`;
+}
+
+function hideReference() {
+  for (const piece of document.querySelectorAll('.meant')) piece.classList.remove('meant');
+  for (const digit of document.querySelectorAll('[aria-describedby=tip]')) digit.removeAttribute('aria-describedby');
+  $('tip').hidden = true;
 }
 
 // Links: text and flags follow the #.
@@ -378,8 +487,16 @@ $('version').addEventListener('click', () => {
   $('proved').scrollIntoView({ behavior: 'smooth' });
 });
 $('details-close').addEventListener('click', () => $('details').close());
+$('details').addEventListener('close', hideReference);
+$('details').addEventListener('keydown', (event) => {
+  if (event.key === 'Escape' && !$('tip').hidden) {
+    event.preventDefault();
+    hideReference();
+  }
+});
 $('details').addEventListener('click', (event) => {
   if (event.target === $('details')) $('details').close();
+  if (!event.target.closest('.reference')) hideReference();
 });
 
 makeFlags();

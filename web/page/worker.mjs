@@ -5,6 +5,8 @@ Error.stackTraceLimit = 0;
 // A file is read in slices of so many bytes, and so much of its beginning is shown.
 const SLICE = 1 << 20;
 const SHOWN = 20_000;
+// So much of a tree is shown.
+const MOST_OF_A_TREE = 50_000;
 
 // What a name consists of, and after what no symbol starts: docs/msvcfilt.md.
 const WORD = /[A-Za-z0-9_$@?\x80-\uFFFF]*/y;
@@ -88,10 +90,34 @@ function showText({ id, text, flags }) {
   postMessage({ kind: 'text', id, parts: list, time: performance.now() - began });
 }
 
+/** Returns what a call returns, or what stands for nothing if it throws. */
+function attempt(make, nothing) {
+  try {
+    return make();
+  } catch {
+    return nothing;
+  }
+}
+
+/** Returns as much of a tree as is shown. */
+const beginning = (text) => (text.length > MOST_OF_A_TREE ? `${text.slice(0, MOST_OF_A_TREE)}…` : text);
+
+/** Returns the declaration of a parameter that stands in a symbol, or '' if a digit in it may refer to others. */
+function parameter(text) {
+  const [before, after] = ['void __cdecl f(', ')'];
+  const whole = `?f@@YAX${text}@Z`;
+  const { length, declaration = '' } = /[0-9]/.test(text) ? {} : read(whole, 0, Flags.LLVM);
+  if (length !== whole.length || !declaration.startsWith(before)) return '';
+  return declaration.slice(before.length, -after.length);
+}
+
 function explain({ id, symbol, flags }) {
   const found = read(symbol, 0, flags);
   const name = read(symbol, 0, flags | Flags.NAME_ONLY);
-  postMessage({ kind: 'symbol', id, name: name.declaration ?? '', length: found.length ?? 0 });
+  const list = attempt(() => references(symbol), []).map((reference) => (
+    { ...reference, declaration: parameter(symbol.slice(reference.start, reference.end)) }));
+  postMessage({ kind: 'symbol', id, symbol, name: name.declaration ?? '', length: found.length ?? 0, references: list,
+    tree: attempt(() => beginning(tree(symbol)), '') });
 }
 
 /** Shows the first lines of a file. */

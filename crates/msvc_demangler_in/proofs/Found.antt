@@ -20,6 +20,7 @@ use Rattle.msvc_c_calls.proofs.Rejected.{rejected}
 use Rattle.msvc_c_calls.specs.Calls.{IsFound, IsMeasured, IsNoSymbolUnder, IsNotRead, IsRejection, IsStatus, Says}
 use Rattle.msvc_c_calls.specs.Calls.{not_measured, not_read, out_of_memory, out_of_memory_text, too_long}
 use Rattle.msvc_c_calls.specs.Buffers.{IsWritten}
+use Rattle.msvc_demangler_in.specs.Shown.{IsReason, said, unsaid}
 
 none-not-bytes : (limit : Option Limit) → limit ≡ None → limit ≢ Some Bytes
 none-not-bytes limit none e = let no : None ≡ Some Bytes = sym none ∙ e in absurd (cc)
@@ -83,21 +84,46 @@ unread limits symbol status message left words context text u fails is about sho
     rejected limits symbol status (length symbol - left) words text (limit_of_message message) u
     (no-symbol limits.nodes symbol message left fails) rejection about (not-bytes message) is
 
--- what is found of a symbol that has no declaration, for a reason other than memory
-pub found : (limits : Limits) (symbol : List ℕ) (flags status offset : ℕ) (failure : Failure) (text : List ℕ)
-    → IsUtf8 symbol → IsFailure limits symbol flags failure → failure ≢ Unread refusal.Memory
-    → IsStatus limits (limit_of_failure failure) status → offset ≡ offset_of_failure symbol failure
-    → IsFailureText symbol failure text → IsFound limits symbol flags status offset text
-found limits symbol flags status offset (Unread (refusal.Unread message left)) text u fails other is at said =
-    let At : ℕ → Type 0 = λ n. IsFound limits symbol flags status n text in
+-- the same of a refusal that is no lack of memory
+refused : (limits : Limits) (symbol : List ℕ) (status offset : ℕ) (reason : Refusal) (text : List ℕ) → IsUtf8 symbol
+    → FailsUnder limits.nodes symbol reason → Unread reason ≢ Unread refusal.Memory
+    → IsStatus limits (limit_of_failure (Unread reason)) status → offset ≡ offset_of_failure symbol (Unread reason)
+    → IsFailureText symbol (Unread reason) text → IsNotRead limits symbol status offset text
+refused limits symbol status offset (refusal.Unread message left) text u fails other is at told =
+    let At : ℕ → Type 0 = λ n. IsNotRead limits symbol status n text in
     subst At (sym at)
-    (not_read (unread limits symbol status message left said.words said.context text u fails is said.limit said.shows
-    said.says))
-found limits symbol flags status offset (Unread refusal.Memory) text u fails other is at said = absurd (other refl)
-found limits symbol flags status offset (TooLong read) text u longer other is at said =
+    (unread limits symbol status message left told.words told.context text u fails is told.limit told.shows told.says)
+refused limits symbol status offset refusal.Memory text u fails other is at told = absurd (other refl)
+
+pub no_memory : (limits : Limits) (symbol : List ℕ) (status offset : ℕ) (text : List ℕ) → IsUtf8 symbol → status ≡ 3
+    → offset ≡ 0 → text ≡ out_of_memory_text → IsNotRead limits symbol status offset text
+no_memory limits symbol status offset text u is at same =
+    let Status : ℕ → Type 0 = λ n. IsNotRead limits symbol n offset text in
+    let At : ℕ → Type 0 = λ n. IsNotRead limits symbol 3 n text in
+    let Text : List ℕ → Type 0 = λ t. IsNotRead limits symbol 3 0 t in
+    subst Status (sym is) (subst At (sym at) (subst Text (sym same) (out_of_memory u)))
+
+-- a symbol that is not read, from why
+pub not_read_for : (limits : Limits) (symbol : List ℕ) (status offset : ℕ) (reason : Refusal) (text : List ℕ)
+    → IsUtf8 symbol → FailsUnder limits.nodes symbol reason
+    → IsReason limits symbol (Unread reason) status offset text → IsNotRead limits symbol status offset text
+not_read_for limits symbol status offset reason text u fails (said other is at told) =
+    refused limits symbol status offset reason text u fails other is at told
+not_read_for limits symbol status offset reason text u fails (unsaid is at same) =
+    no_memory limits symbol status offset text u is at same
+
+-- what is found of a symbol that has no declaration, from why
+pub found_for : (limits : Limits) (symbol : List ℕ) (flags status offset : ℕ) (failure : Failure) (text : List ℕ)
+    → IsUtf8 symbol → IsFailure limits symbol flags failure → IsReason limits symbol failure status offset text
+    → IsFound limits symbol flags status offset text
+found_for limits symbol flags status offset (Unread reason) text u fails why =
+    not_read (not_read_for limits symbol status offset reason text u fails why)
+found_for limits symbol flags status offset (TooLong read) text u longer (said other is at told) =
     let At : ℕ → Type 0 = λ n. IsFound limits symbol flags status n text in
     let Status : ℕ → Type 0 = λ n. IsFound limits symbol flags n read text in
-    subst At (sym at) (subst Status (sym is.0) (too_long u longer said))
+    subst At (sym at) (subst Status (sym is.0) (too_long u longer told))
+found_for limits symbol flags status offset (TooLong read) text u longer (unsaid is at same) =
+    not_read (no_memory limits symbol status offset text u is at same)
 
 -- a message about a limit
 abbrev words_about : Option Limit → List ℕ
@@ -111,28 +137,46 @@ about-words (Some Nodes) = refl
 about-words (Some Bytes) = refl
 
 -- a text, if one is known
-abbrev said : Option (List ℕ) → List ℕ
-said None = []
-said (Some text) = text
+abbrev said_of : Option (List ℕ) → List ℕ
+said_of None = []
+said_of (Some text) = text
 
-is-said : (text : Option (List ℕ)) → IfSome text (λ t. said text ≡ t)
+is-said : (text : Option (List ℕ)) → IfSome text (λ t. said_of text ≡ t)
 is-said None = tt
 is-said (Some text) = refl
 
--- the same of the length of a symbol
-pub measured : (limits : Limits) (symbol : List ℕ) (status offset : ℕ) (reason : Refusal) → IsUtf8 symbol
+-- a symbol that is not read, where no text is written
+pub not_told : (limits : Limits) (symbol : List ℕ) (status offset : ℕ) (reason : Refusal) → IsUtf8 symbol
     → FailsUnder limits.nodes symbol reason → Unread reason ≢ Unread refusal.Memory
     → IsStatus limits (limit_of_failure (Unread reason)) status → offset ≡ offset_of_failure symbol (Unread reason)
-    → IsMeasured limits symbol status offset 0
-measured limits symbol status offset (refusal.Unread message left) u fails other is at =
+    → (text : List ℕ) × IsNotRead limits symbol status offset text
+not_told limits symbol status offset (refusal.Unread message left) u fails other is at =
     let words = words_about (limit_of_message message) in
     let context = context_of symbol (length symbol - left) in
     let text = rejection_text words context (length symbol - left) in
-    let At : ℕ → Type 0 = λ n. IsMeasured limits symbol status n 0 in
-    subst At (sym at)
-    (not_measured (unread limits symbol status message left words context (said text) u fails is
-    (about-words (limit_of_message message)) (λ ascii. refl) (is-said text)))
-measured limits symbol status offset refusal.Memory u fails other is at = absurd (other refl)
+    let At : ℕ → Type 0 = λ n. IsNotRead limits symbol status n (said_of text) in (
+      said_of text,
+      subst At (sym at)
+          (unread limits symbol status message left words context (said_of text) u fails is
+          (about-words (limit_of_message message)) (λ ascii. refl) (is-said text)),
+    )
+not_told limits symbol status offset refusal.Memory u fails other is at = absurd (other refl)
+
+-- the same of what a call returns
+pub as_not_told : (limits : Limits) (symbol : List ℕ) (status offset count is at : ℕ)
+    → (status ≡ is) × (offset ≡ at) × (count ≡ 0) → (text : List ℕ) × IsNotRead limits symbol is at text
+    → (text : List ℕ) × IsNotRead limits symbol status offset text × (count ≡ 0)
+as_not_told limits symbol status offset count is at same not =
+    let Status : ℕ → Type 0 = λ n. IsNotRead limits symbol n offset not.0 in
+    let At : ℕ → Type 0 = λ n. IsNotRead limits symbol is n not.0 in
+    (not.0, subst Status (sym same.0) (subst At (sym same.1) not.1), same.2)
+
+-- and if memory ran out
+pub not_told_memory : (limits : Limits) (symbol : List ℕ) (status offset count : ℕ) → IsUtf8 symbol
+    → (status ≡ 3) × (offset ≡ 0) × (count ≡ 0)
+    → (text : List ℕ) × IsNotRead limits symbol status offset text × (count ≡ 0)
+not_told_memory limits symbol status offset count u is =
+    (out_of_memory_text, no_memory limits symbol status offset out_of_memory_text u is.0 is.1 refl, is.2)
 
 -- what is written of a symbol for which memory ran out
 pub lost : (limits : Limits) (symbol : List ℕ) (flags status offset count : ℕ) (old new : List ℕ) → IsUtf8 symbol
@@ -159,3 +203,11 @@ pub unknown : (limits : Limits) (symbol : List ℕ) (status offset count : ℕ) 
     → (status ≡ 3) × (offset ≡ 0) × (count ≡ 0) → IsMeasured limits symbol status offset count
 unknown limits symbol status offset count u same =
     as_measured limits symbol status offset count 3 0 same (not_measured (out_of_memory u))
+
+-- and if a symbol is not read
+pub unmeasured : (limits : Limits) (symbol : List ℕ) (status offset count : ℕ)
+    → (text : List ℕ) × IsNotRead limits symbol status offset text × (count ≡ 0)
+    → IsMeasured limits symbol status offset count
+unmeasured limits symbol status offset count not =
+    let Count : ℕ → Type 0 = λ n. IsMeasured limits symbol status offset n in
+    subst Count (sym not.2) (not_measured not.1)

@@ -1,21 +1,32 @@
 //! The calls in lent memory.
 
-ghost use Rattle.std.specs.Prelude.{◌≡◌, ◌≢◌, ◌++◌, ℕ, IfNone, IfOk, IfSome, List, drop, length};
+ghost use Rattle.std.specs.Prelude.{◌≡◌, ◌≢◌, ◌++◌, ℕ, IfErr, IfNone, IfOk, IfSome, List, drop, length, map};
+ghost use Rattle.msvc_nodes.specs.NodeView.{typed_symbol_of};
+ghost use Rattle.msvc_parser.specs.Parser.{note_of};
 ghost use Rattle.msvc_parser.specs.declared.refusal.Refusal.TheVariants as refusal;
+ghost use Rattle.msvc_demangler.specs.Counts.{node_count};
+ghost use Rattle.msvc_demangler.specs.Parsed.{AreReferences, IsParsed};
 ghost use Rattle.msvc_demangler.specs.Failure.TheVariants.{Unread};
-ghost use Rattle.msvc_demangler.specs.Failures.{IsFailure, IsFailureText, IsInside, limit_of_failure, offset_of_failure};
+ghost use Rattle.msvc_demangler.specs.Failures.{FailsUnder, IsFailureText, IsInside};
+ghost use Rattle.msvc_demangler.specs.Failures.{limit_of_failure, offset_of_failure};
 ghost use Rattle.msvc_demangler.specs.Filtered.{AreOnlyParts, Part, fitting, text_of_parts};
-ghost use Rattle.msvc_demangler.specs.Limits.{limits_of};
+ghost use Rattle.msvc_demangler.specs.Limits.{IsWithin, limit_of_number, limits_of};
 ghost use Rattle.msvc_c_calls.specs.Buffers.{IsWritten};
-ghost use Rattle.msvc_c_calls.specs.Calls.{IsFilteredInto, IsFound, IsMeasured, IsStatus, out_of_memory_text};
+ghost use Rattle.msvc_c_calls.specs.Calls.{IsFilteredInto, IsFound, IsMeasured, IsNotRead, IsStatus};
+ghost use Rattle.msvc_c_calls.specs.Calls.{out_of_memory_text};
+ghost use Rattle.msvc_demangler_in.specs.Shown.{IsListed, IsReason, IsShown, IsTreeText};
 
 use crate::memory::{arena_in, demangler_in, measurer_in};
+use crate::references::{Reference, write_references};
 use bumpalo::Bump;
 use lent_memory::Lent;
 use msvc_c_calls::{
     CallResult, OK, OUT_OF_MEMORY, OUT_OF_MEMORY_TEXT, end_filtered, status_of, write,
 };
-use msvc_demangler::{DemangleFlags, Failure, Filtered, filter_slice_in};
+use msvc_debug::write_tree;
+use msvc_demangler::{BackReference, DemangleFlags, Failure, Filtered, Refusal, filter_slice_in};
+use msvc_nodes::nodes::TypedSymbol;
+use msvc_read::{read_references, read_references_within, read_symbol, read_symbol_within};
 use std::alloc::{AllocError, Allocator};
 
 /// Writes that memory ran out, and returns that.
@@ -69,23 +80,131 @@ pub(crate) fn declare(
         Err(failure) => failure,
     };
     drop(demangler);
-    tell(arena, failure, symbol, flags, max_nodes, max_bytes, out)
+    tell(arena, failure, symbol, max_nodes, max_bytes, out)
 }
 
-/// Writes why a symbol has no declaration.
+/// Writes the tree of a symbol, or why it has none, into `out`.
+pub(crate) fn show(memory: &Lent, symbol: &str, max_nodes: usize, out: &mut [u8]) -> CallResult
+    ensures { (shown : List ℕ)
+        × IsShown (limits_of max_nodes usize.MAX) symbol.now result.status result.offset shown
+        × (result.length ≡ length shown) × IsWritten shown out.old out.new }
+{
+    let Some(arena) = arena_in(memory) else {
+        return out_of_memory(out);
+    };
+    let refusal = match read(&arena, symbol, max_nodes) {
+        Ok((symbol, _)) => return write_tree_of(&arena, &symbol, out),
+        Err(refusal) => refusal,
+    };
+    drop(arena);
+    let failure = Failure::Unread(refusal);
+    tell(memory, failure, symbol, max_nodes, usize::MAX, out)
+}
+
+/// Reads a symbol as nodes in the arena, if it has at most `max_nodes` nodes; `usize::MAX` is no limit.
+fn read<'a, 'b, A: Allocator>(
+    arena: &'b Bump<A>,
+    symbol: &'a str,
+    max_nodes: usize,
+) -> Result<(TypedSymbol<'a, 'b>, usize), Refusal>
+    ensures parsed { IfOk result (λ r. IsParsed symbol.now (typed_symbol_of r.0)) }
+    ensures within { IfOk result (λ r. IsWithin (limit_of_number max_nodes) (node_count (typed_symbol_of r.0))) }
+    ensures fails { IfErr result (λ reason. FailsUnder (limit_of_number max_nodes) symbol.now reason) }
+{
+    if max_nodes == usize::MAX {
+        read_symbol(arena, symbol)
+    } else {
+        read_symbol_within(arena, symbol, max_nodes)
+    }
+}
+
+/// Writes the tree of a symbol, of which the text is made in the arena, or that memory ran out.
+fn write_tree_of<'a, 'b, A: Allocator>(
+    arena: &'b Bump<A>,
+    symbol: &'b TypedSymbol<'a, 'b>,
+    out: &mut [u8],
+) -> CallResult
+    ensures { (shown : List ℕ) × IsTreeText result.status result.offset shown
+        × (result.length ≡ length shown) × IsWritten shown out.old out.new }
+{
+    let mut text = String::new(arena);
+    match write_tree(arena, symbol, &mut text) {
+        Ok(()) => CallResult {
+            status: OK,
+            offset: 0,
+            length: write(&text, out),
+        },
+        Err(_) => out_of_memory(out),
+    }
+}
+
+/// Lists the back references of a symbol, and writes those for which `out` has places.
+pub(crate) fn list(
+    memory: &Lent,
+    symbol: &str,
+    max_nodes: usize,
+    out: &mut [Reference],
+) -> CallResult
+    ensures { IsListed (limits_of max_nodes usize.MAX) symbol.now out.old out.new
+        result.status result.offset result.length }
+{
+    let Some(arena) = arena_in(memory) else {
+        return unmeasured(OUT_OF_MEMORY, 0);
+    };
+    match references(&arena, symbol, max_nodes) {
+        Ok(found) => CallResult {
+            status: OK,
+            offset: 0,
+            length: write_references(&found, out),
+        },
+        Err(refusal) => unread(refusal, symbol, max_nodes),
+    }
+}
+
+/// Reads the back references of a symbol, if it has at most `max_nodes` nodes; `usize::MAX` is no limit.
+fn references<'b, A: Allocator>(
+    arena: &'b Bump<A>,
+    symbol: &'b str,
+    max_nodes: usize,
+) -> Result<Vec<BackReference, &'b Bump<A>>, Refusal>
+    ensures listed { IfOk result (λ found. (are : AreReferences symbol.now (map note_of found.items))
+        × IsWithin (limit_of_number max_nodes) (node_count are.tree)) }
+    ensures fails { IfErr result (λ reason. FailsUnder (limit_of_number max_nodes) symbol.now reason) }
+{
+    if max_nodes == usize::MAX {
+        read_references(arena, symbol)
+    } else {
+        match read_references_within(arena, symbol, max_nodes) {
+            Ok(found) => Ok(found),
+            Err(refusal) => Err(refusal),
+        }
+    }
+}
+
+/// Returns why a symbol is not read.
+fn unread(refusal: Refusal, symbol: &str, max_nodes: usize) -> CallResult
+    requires { FailsUnder (limit_of_number max_nodes) symbol.now refusal }
+    ensures { (text : List ℕ) × IsNotRead (limits_of max_nodes usize.MAX) symbol.now result.status result.offset text
+        × (result.length ≡ 0) }
+{
+    match rejection(Failure::Unread(refusal), symbol, max_nodes, usize::MAX) {
+        Some((status, offset)) => unmeasured(status, offset),
+        None => unmeasured(OUT_OF_MEMORY, 0),
+    }
+}
+
+/// Writes why a call fails.
 fn tell(
     memory: &Lent,
     failure: Failure,
     symbol: &str,
-    flags: DemangleFlags,
     max_nodes: usize,
     max_bytes: usize,
     out: &mut [u8],
 ) -> CallResult
-    requires failed { IsFailure (limits_of max_nodes max_bytes) symbol.now flags.0 failure }
-    requires inside { IsInside symbol.now failure }
+    requires { IsInside symbol.now failure }
     ensures { (shown : List ℕ)
-        × IsFound (limits_of max_nodes max_bytes) symbol.now flags.0 result.status result.offset shown
+        × IsReason (limits_of max_nodes max_bytes) symbol.now failure result.status result.offset shown
         × (result.length ≡ length shown) × IsWritten shown out.old out.new }
 {
     let (Some((status, offset)), Some(arena)) = (
@@ -135,10 +254,7 @@ pub(crate) fn measure(memory: &Lent, symbol: &str, max_nodes: usize) -> CallResu
             offset: 0,
             length,
         },
-        Err(refusal) => match rejection(Failure::Unread(refusal), symbol, max_nodes, usize::MAX) {
-            Some((status, offset)) => unmeasured(status, offset),
-            None => unmeasured(OUT_OF_MEMORY, 0),
-        },
+        Err(refusal) => unread(refusal, symbol, max_nodes),
     }
 }
 

@@ -5,16 +5,19 @@
 ghost use Rattle.std.specs.Prelude.{◌≡◌, ℕ, List, length};
 ghost use Rattle.msvc_demangler.specs.Limits.{limits_of};
 ghost use Rattle.msvc_c_calls.specs.Calls.{IsFilteredInto, IsFound, IsMeasured};
+ghost use Rattle.msvc_demangler_in.specs.Shown.{IsListed, IsShown};
 ghost use Rattle.msvc_demangler_in.specs.Workspaces.{IsBack, IsWrittenUnless};
 
 mod calls;
 mod memory;
+mod references;
 
-use calls::{declare, filter, measure, out_of_memory, unmeasured};
+use calls::{declare, filter, list, measure, out_of_memory, show, unmeasured};
 use lent_memory::Workspace;
 use memory::{give_back, lend};
 use msvc_c_calls::{CallResult, NOT_UTF8, NOT_UTF8_TEXT, OUT_OF_MEMORY, write};
 use msvc_demangler::{DemangleFlags, Flags};
+use references::Reference;
 use std::str::from_utf8;
 
 /// Does what `msvc_demangler_demangle` does in the memory of `arena` and `text`, which have it again after the call.
@@ -88,6 +91,47 @@ pub extern "C" fn msvc_demangler_filter_in_parts(
     }
 }
 
+/// Writes the tree of a symbol, in the memory of `arena`, which has it again after the call.
+#[unsafe(no_mangle)]
+pub extern "C" fn msvc_demangler_tree_in_parts(
+    symbol: &[u8],
+    max_nodes: usize,
+    arena: &mut Workspace,
+    out: &mut [u8],
+) -> CallResult
+    ensures shown { (shown : List ℕ)
+        × IsShown (limits_of max_nodes usize.MAX) symbol.now result.status result.offset shown
+        × (result.length ≡ length shown) × IsWrittenUnless result.status shown out.old out.new }
+    ensures arena { IsBack result.status arena.old.ptr arena.old.size arena.new.ptr arena.new.size }
+{
+    match from_utf8(symbol) {
+        Ok(symbol) => show_in(symbol, max_nodes, arena, out),
+        Err(fault) => CallResult {
+            status: NOT_UTF8,
+            offset: fault.valid_up_to(),
+            length: write(NOT_UTF8_TEXT, out),
+        },
+    }
+}
+
+/// Lists the back references of a symbol, in the memory of `arena`, which has it again after the call.
+#[unsafe(no_mangle)]
+pub extern "C" fn msvc_demangler_references_in_parts(
+    symbol: &[u8],
+    max_nodes: usize,
+    arena: &mut Workspace,
+    out: &mut [Reference],
+) -> CallResult
+    ensures listed { IsListed (limits_of max_nodes usize.MAX) symbol.now out.old out.new
+        result.status result.offset result.length }
+    ensures arena { IsBack result.status arena.old.ptr arena.old.size arena.new.ptr arena.new.size }
+{
+    match from_utf8(symbol) {
+        Ok(symbol) => list_in(symbol, max_nodes, arena, out),
+        Err(fault) => unmeasured(NOT_UTF8, fault.valid_up_to()),
+    }
+}
+
 /// Writes the declaration of a symbol that is UTF-8, or why it has none.
 fn demangle_in(
     symbol: &str,
@@ -134,6 +178,40 @@ fn measure_in(symbol: &str, max_nodes: usize, arena: &mut Workspace) -> CallResu
     let memory = lend(arena);
     let found = measure(&memory, symbol, max_nodes);
     if give_back(memory, arena) {
+        found
+    } else {
+        unmeasured(OUT_OF_MEMORY, 0)
+    }
+}
+
+/// Writes the tree of a symbol that is UTF-8, or why it has none.
+fn show_in(symbol: &str, max_nodes: usize, arena: &mut Workspace, out: &mut [u8]) -> CallResult
+    ensures shown { (shown : List ℕ)
+        × IsShown (limits_of max_nodes usize.MAX) symbol.now result.status result.offset shown
+        × (result.length ≡ length shown) × IsWrittenUnless result.status shown out.old out.new }
+    ensures arena { IsBack result.status arena.old.ptr arena.old.size arena.new.ptr arena.new.size }
+{
+    let memory = lend(arena);
+    let found = show(&memory, symbol, max_nodes, out);
+    let has_arena = give_back(memory, arena);
+    if has_arena { found } else { out_of_memory(out) }
+}
+
+/// Lists the back references of a symbol that is UTF-8.
+fn list_in(
+    symbol: &str,
+    max_nodes: usize,
+    arena: &mut Workspace,
+    out: &mut [Reference],
+) -> CallResult
+    ensures listed { IsListed (limits_of max_nodes usize.MAX) symbol.now out.old out.new
+        result.status result.offset result.length }
+    ensures arena { IsBack result.status arena.old.ptr arena.old.size arena.new.ptr arena.new.size }
+{
+    let memory = lend(arena);
+    let found = list(&memory, symbol, max_nodes, out);
+    let has_arena = give_back(memory, arena);
+    if has_arena {
         found
     } else {
         unmeasured(OUT_OF_MEMORY, 0)

@@ -1,49 +1,66 @@
 -- The notes that are read of a whole text are those of the one tree that is derived, rise, and can be written out.
-use Rattle.std.proofs.Common.{ℕ, List, Option, Some, None, ◌≡◌, refl, subst}
+use Rattle.std.proofs.Common.{ℕ, List, Option, Some, None, ◌≡◌, ◌≤◌, refl, subst}
 use Rattle.std.specs.Option.{option_map}
 use Rattle.msvc_nodes.specs.Trees.{SymbolTree}
 use Rattle.msvc_grammar.proofs.Laws.{derived-only, symbol-derived}
+use Rattle.msvc_grammar.proofs.NodeLimits.{within_derived}
 use Rattle.msvc_grammar.proofs.NotesIncreasing.{derived_rising}
 use Rattle.msvc_grammar.proofs.WrittenOut.{all_written_out}
+use Rattle.msvc_grammar.specs.Counts.{node_count}
 use Rattle.msvc_grammar.specs.Parsed.{AreReferences}
 use Rattle.msvc_grammar.specs.Reads.{Derives, Found, read_name}
 use Rattle.msvc_grammar.specs.Rules.{symbol}
-use Rattle.msvc_grammar.specs.State.{State, Note, beginning}
+use Rattle.msvc_grammar.specs.State.{State, Note, at_most, beginning, beginning_with}
 use Rattle.msvc_parser.specs.Parser.{Rejects, with_length}
 use Rattle.msvc_parser.specs.declared.refusal.Refusal.{Refusal}
 use Rattle.msvc_parser.specs.declared.refusal.Refusal.TheVariants as refusal
-use Rattle.msvc_read.proofs.WholeTexts.{begun, symbol_read}
+use Rattle.msvc_read.proofs.WholeTexts.{begun}
 
 -- the notes that are taken of a text
 abbrev pub notes_read : List ℕ → Option (List Note)
 notes_read text = option_map (λ r. r.2.notes) (read_name symbol text (beginning text))
+
+-- the same of a text that has at most so many nodes
+abbrev pub notes_within : ℕ → List ℕ → Option (List Note)
+notes_within max text = option_map (λ r. r.2.notes) (read_name symbol text (beginning_with (at_most max) text))
 
 noted : (r : Found SymbolTree) (notes : List Note) → option_map (λ x. x.2.notes) r ≡ Some notes
     → (tree : SymbolTree) × (rest : List ℕ) × (s : State) × (r ≡ Some (tree, rest, s)) × (s.notes ≡ notes)
 noted None notes e = absurd (cc)
 noted (Some x) notes e = let same : x.2.notes ≡ notes = cc in (x.0, x.1, x.2, refl, same)
 
+derived_references : (text : List ℕ) (tree : SymbolTree) (rest : List ℕ) (notes : List Note)
+    → Derives text tree rest notes → AreReferences text notes
+derived_references text tree rest notes derived =
+    record {
+      tree = tree;
+      rest = rest;
+      derived = derived;
+      only = λ other remaining others d. derived-only text other tree remaining rest others notes d derived;
+      begins = begun text tree rest notes derived;
+      rising = derived_rising text tree rest notes derived;
+      written_out = all_written_out text tree rest notes derived;
+    }
+
 pub references : (text : List ℕ) (notes : List Note) → notes_read text ≡ Some notes → AreReferences text notes
 references text notes e =
     let found = noted (read_name symbol text (beginning text)) notes e in
     let derived : Derives text found.0 found.1 notes =
     subst (Derives text found.0 found.1) found.4 (symbol-derived text found.0 found.1 found.2 found.3) in
-    record {
-      tree = found.0;
-      rest = found.1;
-      derived = derived;
-      only = λ other remaining others d. derived-only text other found.0 remaining found.1 others notes d derived;
-      begins = begun text found.0 found.1 notes derived;
-      rising = derived_rising text found.0 found.1 notes derived;
-      written_out = all_written_out text found.0 found.1 notes derived;
-    }
+    derived_references text found.0 found.1 notes derived
+
+pub references-within : (max : ℕ) (text : List ℕ) (notes : List Note) → notes_within max text ≡ Some notes
+    → (are : AreReferences text notes) × (node_count are.tree ≤ max)
+unfolding derived_references
+references-within max text notes e =
+    let found = noted (read_name symbol text (beginning_with (at_most max) text)) notes e in
+    let within = within_derived text max found.0 found.1 found.2 found.3 in
+    let derived : Derives text found.0 found.1 notes = subst (Derives text found.0 found.1) found.4 within.0 in
+    (derived_references text found.0 found.1 notes derived, within.1)
 
 -- where a refusal says that no notes are read, it says that no symbol is
-pub notes-rejected : (text : List ℕ) (r : Refusal) → Rejects r (notes_read text) → Rejects r (symbol_read text)
-notes-rejected text r h = no_tree r (read_name symbol text (beginning text)) h
-  where
-    no_tree : (r : Refusal) (found : Found SymbolTree) → Rejects r (option_map (λ x. x.2.notes) found)
-        → Rejects r (with_length text found)
-    no_tree refusal.Memory found h = tt
-    no_tree (refusal.Unread message left) None h = refl
-    no_tree (refusal.Unread message left) (Some x) h = absurd (cc)
+pub notes-rejected : (text : List ℕ) (r : Refusal) (found : Found SymbolTree)
+    → Rejects r (option_map (λ x. x.2.notes) found) → Rejects r (with_length text found)
+notes-rejected text refusal.Memory found h = tt
+notes-rejected text (refusal.Unread message left) None h = refl
+notes-rejected text (refusal.Unread message left) (Some x) h = absurd (cc)

@@ -223,9 +223,54 @@ pub fn back_references(alloc: Global, input: &str) -> Result<Vec<BackReference>,
     ensures rejected { IfErr result (λ e. spec.IsRejected input.now e) }
     ensures laws { spec.GrammarLaws input.now }
 {
-    match read_references(alloc, input) {
+    match copy_references(alloc, input) {
         Ok(references) => Ok(references),
         Err(refusal) => Err(refusal.error(alloc, input.as_bytes())),
+    }
+}
+
+/// Lists the digits that were read as whole parameters, as [`back_references`] does. The list is in `arena`, which has
+/// all memory.
+///
+/// # Errors
+///
+/// Fails where [`parse`] does. The error of [`parse`] is the one that is made of the reason.
+pub fn read_references<'b, A: Allocator>(
+    arena: &'b Bump<A>,
+    input: &'b str,
+) -> Result<Vec<BackReference, &'b Bump<A>>, Refusal>
+    ensures listed { IfOk result (λ found. spec.AreReferences input.now (map note_of found.items)) }
+    ensures fails { IfErr result (λ reason. Fails input.now reason) }
+    ensures laws { spec.GrammarLaws input.now }
+{
+    match read_notes(arena, input, Unlimited) {
+        Ok(found) => Ok(found),
+        Err(refusal) => Err(refusal),
+    }
+}
+
+/// Lists the digits that were read as whole parameters, as [`read_references`] does, if the symbol's tree has at most
+/// `nodes` nodes.
+///
+/// # Errors
+///
+/// Fails where [`parse_within`] does. The error of [`parse_within`] is the one that is made of the reason.
+pub fn read_references_within<'b, A: Allocator>(
+    arena: &'b Bump<A>,
+    input: &'b str,
+    nodes: usize,
+) -> Result<Vec<BackReference, &'b Bump<A>>, Refusal>
+    ensures listed { IfOk result (λ found. (are : spec.AreReferences input.now (map note_of found.items))
+        × (node_count are.tree ≤ nodes)) }
+    ensures fails { IfErr result (λ reason. FailsWithin nodes input.now reason) }
+{
+    let limit = NodeLimit {
+        used: 0,
+        max: nodes,
+    };
+    match read_notes(arena, input, limit) {
+        Ok(listed) => Ok(listed),
+        Err(refusal) => Err(refusal),
     }
 }
 
@@ -340,20 +385,41 @@ fn read_nodes<'a, 'b, L: NodeBudget, A: Allocator>(
     }
 }
 
-/// Lists the digits that were read as whole parameters in the symbol that `input` begins with.
-fn read_references(alloc: Global, input: &str) -> Result<Vec<BackReference>, Refusal>
+/// Lists the digits that were read as whole parameters in the symbol that `input` begins with, in an arena that is made
+/// for it, and copies the list.
+fn copy_references(alloc: Global, input: &str) -> Result<Vec<BackReference>, Refusal>
     ensures value { IsRead (λ found. map note_of found.items) result
         (option_map (λ r. r.2.notes) (read_name symbol input.now (beginning input.now))) }
     ensures start { after (codes "?") input.now ≡ None
         → result ≡ Err (Refusal.Unread Message.NoQuestionMark (length input.now)) }
 {
     let arena = arena_for(alloc, input, parse_arena_bytes(input))?;
-    let mut parser = Parser::new(&arena, input.as_bytes(), Unlimited);
-    if symbol(&mut parser).is_err() {
-        return Err(parser.last_error);
-    }
-    match Vec::from_slice(alloc, &parser.back_references) {
-        Ok(notes) => Ok(notes),
+    let references = read_notes(&arena, input, Unlimited)?;
+    match Vec::from_slice(alloc, &references) {
+        Ok(copied) => Ok(copied),
         Err(_) => Err(Refusal::Memory),
+    }
+}
+
+/// Lists the digits that were read as whole parameters in the symbol that `input` begins with, in `arena`.
+#[inline(always)]
+fn read_notes<'b, L: NodeBudget, A: Allocator>(
+    arena: &'b Bump<A>,
+    input: &'b str,
+    limit: L,
+) -> Result<Vec<BackReference, &'b Bump<A>>, Refusal>
+    ensures value { IsRead (λ found. map note_of found.items) result
+        (option_map (λ r. r.2.notes) (read_name symbol input.now (beginning_with (record {
+          weight = L.weight;
+          used = L.used limit;
+          max = L.max limit;
+        }) input.now))) }
+    ensures start { after (codes "?") input.now ≡ None
+        → result ≡ Err (Refusal.Unread Message.NoQuestionMark (length input.now)) }
+{
+    let mut parser = Parser::new(arena, input.as_bytes(), limit);
+    match symbol(&mut parser) {
+        Ok(_) => Ok(parser.back_references),
+        Err(_) => Err(parser.last_error),
     }
 }

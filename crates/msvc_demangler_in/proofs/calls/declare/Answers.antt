@@ -1,6 +1,6 @@
 use Rattle.msvc_demangler.specs.Limits.{limits_of}
 use Rattle.msvc_c_calls.specs.Calls.{declared}
-use Rattle.msvc_demangler_in.proofs.Found.{lost}
+use Rattle.msvc_demangler_in.proofs.Found.{found_for, lost}
 use Rattle.msvc_demangler_in.proofs.calls.declare.Goals as goal
 
 pub returns-in_default : goal.returns-in_default
@@ -15,3 +15,13 @@ returns-in-Ok c = (
   c.write.ensures.length,
   c.write.ensures.written,
 )
+
+pub returns : goal.returns
+returns c =
+    let told = c.tell.ensures in (
+      told.0,
+      found_for (limits_of c.args.max_nodes c.args.max_bytes) c.args.symbol.now c.args.flags.0 _ _ c.in-Err.failure
+          told.0 c.utf8.symbol c.in-Err.ensures.fails told.1,
+      told.2,
+      told.3,
+    )

@@ -13,7 +13,7 @@ returns-in-Ok-clause-laws c = laws c.args.input.now
 pub returns-in-Err-clause-rejected : goal.returns-in-Err-clause-rejected
 returns-in-Err-clause-rejected c =
     rejected c.args.input.now c.in-Err.refusal c.error.result
-    (notes-rejected c.args.input.now c.in-Err.refusal c.in-Err.ensures.value) c.in-Err.ensures.start
+    (notes-rejected c.args.input.now c.in-Err.refusal _ c.in-Err.ensures.value) c.in-Err.ensures.start
     (rw c.as_bytes.ensures.value at c.error.ensures)
 
 pub returns-in-Err-clause-laws : goal.returns-in-Err-clause-laws

@@ -1,0 +1,28 @@
+use Rattle.msvc_demangler_in.proofs.Found.{not_read_for}
+use Rattle.msvc_demangler_in.proofs.Listed.{lost_tree, tree_shown}
+use Rattle.msvc_demangler_in.specs.Shown.{not_shown}
+use Rattle.msvc_demangler_in.proofs.calls.show.Goals as goal
+
+pub returns-in_default : goal.returns-in_default
+returns-in_default c =
+    lost_tree _ c.args.symbol.now _ _ _ _ _ c.utf8.symbol c.out_of_memory.ensures.result
+    c.out_of_memory.ensures.written
+
+pub returns-in-Ok : goal.returns-in-Ok
+returns-in-Ok c =
+    let told = c.write_tree_of.ensures in (
+      told.0,
+      tree_shown _ c.args.symbol.now _ _ _ told.0 c.utf8.symbol c.in-Ok.ensures.parsed c.in-Ok.ensures.within told.1,
+      told.2,
+      told.3,
+    )
+
+pub returns : goal.returns
+returns c =
+    let told = c.tell.ensures in (
+      told.0,
+      not_shown
+          (not_read_for _ c.args.symbol.now _ _ c.in-Err.refusal told.0 c.utf8.symbol c.in-Err.ensures.fails told.1),
+      told.2,
+      told.3,
+    )
