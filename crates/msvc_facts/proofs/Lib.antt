@@ -1,6 +1,9 @@
+pub mod BackReferences
 pub mod Declarations
 pub mod Letters
 pub mod OnLiterals
+pub mod Reading
+pub mod Same
 pub mod Symbols
 pub mod Texts
 pub mod Trees

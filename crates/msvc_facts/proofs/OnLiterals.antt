@@ -2,7 +2,7 @@
 use Rattle.std.specs.Prelude.{⊤}
 use Rattle.std.specs.Fmt.{digits}
 use Rattle.msvc_grammar.specs.Grammar.{arrays, grammar}
-use Rattle.msvc_grammar.specs.Reads.{counting, part_here, read_by, read_name, read_within}
+use Rattle.msvc_grammar.specs.Reads.{counting, part_here}
 use Rattle.msvc_print.specs.Declaration.{conversion, declaration, grown, is_empty_pack, name_pieces, parameters}
 use Rattle.msvc_print.specs.Declaration.{quoted_unless, scope_pieces, table_end}
 use Rattle.msvc_print.specs.Functions.{access_words, calling, convention_pieces, each_function_qualifier}
@@ -12,9 +12,11 @@ use Rattle.msvc_print.specs.Operators.{base_class_pieces, guard_number, guard_pi
 use Rattle.msvc_print.specs.Pieces.{settle_all}
 use Rattle.msvc_print.specs.Sides.{kept_left, kept_right}
 use Rattle.msvc_print.specs.Words.{closing, marked, opening, qualifiers}
+use Rattle.msvc_facts.proofs.Reading.{reading_by, reading_name, reading_within}
+use Rattle.msvc_facts.proofs.Same.{is_same_name, is_same_type}
 
 unfoldable pub reading : ⊤
-unfolding arrays counting grammar part_here read_by read_name read_within
+unfolding arrays counting grammar is_same_name is_same_type part_here reading_by reading_name reading_within
 reading = tt
 
 unfoldable pub printing : ⊤

@@ -1,3 +1,4 @@
+pub mod BackReferences
 pub mod Declarations
 pub mod Letters
 pub mod Symbols

@@ -3,6 +3,7 @@
 //! crate uses this one, so a new fact proves nothing else anew.
 #![tactic(auto)]
 
+ghost use Rattle.msvc_facts.specs.BackReferences.{AreNameReferences, AreTypeReferences};
 ghost use Rattle.msvc_facts.specs.Declarations.{
   AreDeclarations,
   AreFlags,
@@ -21,6 +22,8 @@ pub fn facts()
     ensures trees { AreTrees }
     ensures counts { AreCounted }
     ensures refusals { AreRefused }
+    ensures name_references { AreNameReferences }
+    ensures type_references { AreTypeReferences }
     ensures spaces { AreSpaces }
     ensures declarations { AreDeclarations }
     ensures names { AreNames }

@@ -1,3 +1,4 @@
+use Rattle.msvc_facts.proofs.BackReferences.{name_references, type_references}
 use Rattle.msvc_facts.proofs.Declarations.{declarations, flags, names, spaces, types}
 use Rattle.msvc_facts.proofs.Letters.{tables}
 use Rattle.msvc_facts.proofs.Texts.{lines, words}
@@ -15,6 +16,12 @@ returns-clause-counts c = counts
 
 pub returns-clause-refusals : goal.returns-clause-refusals
 returns-clause-refusals c = refusals
+
+pub returns-clause-name_references : goal.returns-clause-name_references
+returns-clause-name_references c = name_references
+
+pub returns-clause-type_references : goal.returns-clause-type_references
+returns-clause-type_references c = type_references
 
 pub returns-clause-spaces : goal.returns-clause-spaces
 returns-clause-spaces c = spaces
