@@ -1,5 +1,8 @@
+pub mod Answering
 pub mod BackReferences
 pub mod Declarations
+pub mod Filtered
+pub mod Filtering
 pub mod Letters
 pub mod OnLiterals
 pub mod Reading

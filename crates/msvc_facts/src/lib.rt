@@ -11,8 +11,9 @@ ghost use Rattle.msvc_facts.specs.Declarations.{
   AreSpaces,
   AreTypes,
 };
+ghost use Rattle.msvc_facts.specs.Filtered.{AreCandidates, AreFiltered, AreFitting};
 ghost use Rattle.msvc_facts.specs.Letters.{AreTables};
-ghost use Rattle.msvc_facts.specs.Texts.{AreLines, AreWords};
+ghost use Rattle.msvc_facts.specs.Texts.{AreAnswered, AreLines, AreWords};
 ghost use Rattle.msvc_facts.specs.Trees.{AreCounted, AreRefused, AreTrees};
 
 /// Does nothing. Each clause is a record of facts, which hold of the definitions alone; a fact that no clause names would
@@ -30,5 +31,9 @@ pub fn facts()
     ensures types { AreTypes }
     ensures flags { AreFlags }
     ensures lines { AreLines }
+    ensures answers { AreAnswered }
     ensures words { AreWords }
+    ensures candidates { AreCandidates }
+    ensures filtered { AreFiltered }
+    ensures fitted { AreFitting }
 {}
