@@ -1,6 +1,12 @@
+pub mod Answering
+pub mod BackReferences
 pub mod Declarations
+pub mod Filtered
+pub mod Filtering
 pub mod Letters
 pub mod OnLiterals
+pub mod Reading
+pub mod Same
 pub mod Symbols
 pub mod Texts
 pub mod Trees

@@ -1,8 +1,12 @@
--- What a fact unfolds to compute what is read of a text, and what is printed of a tree.
+-- What a fact unfolds to compute what is read of a text, what is printed of a tree, and what is filtered or
+-- answered.
 use Rattle.std.specs.Prelude.{⊤}
 use Rattle.std.specs.Fmt.{digits}
+use Rattle.std.specs.Str.{chars, is_utf8}
+use Rattle.std.specs.Str.Lossy.{utf8_valid_len}
+use lib.Utf8.{encode}
 use Rattle.msvc_grammar.specs.Grammar.{arrays, grammar}
-use Rattle.msvc_grammar.specs.Reads.{counting, part_here, read_by, read_name, read_within}
+use Rattle.msvc_grammar.specs.Reads.{counting, part_here}
 use Rattle.msvc_print.specs.Declaration.{conversion, declaration, grown, is_empty_pack, name_pieces, parameters}
 use Rattle.msvc_print.specs.Declaration.{quoted_unless, scope_pieces, table_end}
 use Rattle.msvc_print.specs.Functions.{access_words, calling, convention_pieces, each_function_qualifier}
@@ -12,9 +16,12 @@ use Rattle.msvc_print.specs.Operators.{base_class_pieces, guard_number, guard_pi
 use Rattle.msvc_print.specs.Pieces.{settle_all}
 use Rattle.msvc_print.specs.Sides.{kept_left, kept_right}
 use Rattle.msvc_print.specs.Words.{closing, marked, opening, qualifiers}
+use Rattle.msvc_facts.proofs.Filtering.{parts_from}
+use Rattle.msvc_facts.proofs.Reading.{reading_by, reading_name, reading_within}
+use Rattle.msvc_facts.proofs.Same.{is_same_name, is_same_type}
 
 unfoldable pub reading : ⊤
-unfolding arrays counting grammar part_here read_by read_name read_within
+unfolding arrays counting grammar is_same_name is_same_type part_here reading_by reading_name reading_within
 reading = tt
 
 unfoldable pub printing : ⊤
@@ -23,3 +30,7 @@ unfolding access_words base_class_pieces calling closing conversion convention_p
     kind_words marked member_start member_words name_kind name_pieces opening operator_word parameters qualifiers
     quoted_unless scope_pieces scoped separator settle_all table_end wide_qualifier
 printing = tt
+
+unfoldable pub filtering : ⊤
+unfolding chars encode is_utf8 parts_from printing reading utf8_valid_len
+filtering = tt

@@ -1,7 +1,9 @@
--- Each fact about lines and words is computed.
+-- Each fact about lines, their text and words is computed.
 use Rattle.std.proofs.Common.{refl}
 use Rattle.msvc_demangler.specs.Lines.{pieces}
-use Rattle.msvc_facts.specs.Texts.{AreLines, AreWords}
+use Rattle.msvc_facts.proofs.Answering.{is_answered, text_of}
+use Rattle.msvc_facts.proofs.OnLiterals.{filtering}
+use Rattle.msvc_facts.specs.Texts.{AreAnswered, AreLines, AreWords}
 
 pub lines : AreLines
 unfolding pieces
@@ -12,6 +14,21 @@ lines = record {
   no_other = refl;
   returns = refl;
   last_return = refl;
+}
+
+pub answers : AreAnswered
+unfolding filtering pieces text_of
+answers = record {
+  none = is_answered refl;
+  symbol = is_answered refl;
+  no_symbol = is_answered refl;
+  not_at_the_start = is_answered refl;
+  not_at_the_end = is_answered refl;
+  last = is_answered refl;
+  returns = is_answered refl;
+  flags = is_answered refl;
+  not_utf8 = is_answered refl;
+  not_ascii = is_answered refl;
 }
 
 pub words : AreWords

@@ -9,6 +9,7 @@ unfolding reading
 trees = record {
   pointer = is_tree refl;
   parameters = is_tree refl;
+  again = is_tree refl;
   arrays = is_tree refl;
   thunk = is_tree refl;
   descriptor = is_tree refl;

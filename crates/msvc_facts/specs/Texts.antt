@@ -1,6 +1,7 @@
--- How bytes are cut into lines, and where a symbol may stand in a text.
-use Rattle.std.specs.Prelude.{List, [], ◌∷◌, ◌≡◌, codes, false, map, reverse, true}
+-- How bytes are cut into lines, what is written for lines, and where a symbol may stand in a text.
+use Rattle.std.specs.Prelude.{ℕ, List, [], ◌∷◌, ◌≡◌, codes, false, map, reverse, true}
 use Prim.Native.String.{String}
+use Rattle.msvc_demangler.specs.Answers.{IsFilterText}
 use Rattle.msvc_demangler.specs.Lines.{lines_of}
 use Rattle.msvc_demangler.specs.SymbolBounds.{continues, is_start, is_visible, max_bytes, symbol_extent}
 
@@ -17,6 +18,27 @@ pub record AreLines : Type 0 where
   -- one carriage return goes with a line feed, and no other
   pub returns : AreLinesOf "a\r\r\nb\rc\r\n" ("a\r" ∷ "b\rc" ∷ [])
   pub last_return : AreLinesOf "a\r" ("a\r" ∷ [])
+
+-- `undname` writes a text for the lines of some bytes, and no other
+pub record IsAnswered (bytes text : List ℕ) : Type 0 where
+  pub answered : IsFilterText bytes text
+
+abbrev Gives : String → String → Type 0
+Gives bytes text = IsAnswered (codes bytes) (codes text)
+
+pub record AreAnswered : Type 0 where
+  pub none : Gives "" ""
+  pub symbol : Gives "?x@@3HA\n" "int x\n"
+  pub no_symbol : Gives "main\n\n?x\n" "main\n\n?x\n"
+  pub not_at_the_start : Gives " ?x@@3HA\n" " ?x@@3HA\n"
+  -- what follows a symbol is left out
+  pub not_at_the_end : Gives "?x@@3HA b\n" "int x\n"
+  -- each line is ended, and by a line feed alone
+  pub last : Gives "main\n?x@@3HA" "main\nint x\n"
+  pub returns : Gives "main\r\n?x@@3HA\r\n" "main\nint x\n"
+  pub flags : Gives "?f@@YAXHPAPAH@Z\n" "void __cdecl f(int, int **)\n"
+  pub not_utf8 : IsAnswered (0xE9 ∷ codes "\n?x@@3HA\n") (codes "int x\n")
+  pub not_ascii : IsAnswered (0xC3 ∷ 0xA9 ∷ codes "\n") (0xC3 ∷ 0xA9 ∷ codes "\n")
 
 -- a ? may begin a symbol after these bytes, which stand after a line feed
 abbrev Begins : String → Type 0

@@ -42,6 +42,11 @@ pub record AreTrees : Type 0 where
       (symbol_of (named "f") []
       (function Cdecl (type_trees (pointer_to (base Int 0) ∷ pointer_to (base Int 0) ∷ [])) 0 (base Void 0)))
       "" (note_of 10 7 10 ∷ [])
+  -- the bytes are those of the first of two equal types
+  pub again : IsTree "?f@@YAXPAHPAH0@Z"
+      (symbol_of (named "f") [] (function Cdecl (type_trees (pointer_to (base Int 0) ∷ pointer_to (base Int 0)
+      ∷ pointer_to (base Int 0) ∷ [])) 0 (base Void 0)))
+      "" (note_of 13 7 10 ∷ [])
   -- each level of an array has the qualifiers of the array
   pub arrays : IsTree "?x@@3PAY01$$CCHA"
       (symbol_of (named "x") [] (variable (pointer_to (array (pos 2) (base Int 0) 3)) Global 0)) "" []

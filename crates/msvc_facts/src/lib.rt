@@ -3,6 +3,7 @@
 //! crate uses this one, so a new fact proves nothing else anew.
 #![tactic(auto)]
 
+ghost use Rattle.msvc_facts.specs.BackReferences.{AreNameReferences, AreTypeReferences};
 ghost use Rattle.msvc_facts.specs.Declarations.{
   AreDeclarations,
   AreFlags,
@@ -10,8 +11,9 @@ ghost use Rattle.msvc_facts.specs.Declarations.{
   AreSpaces,
   AreTypes,
 };
+ghost use Rattle.msvc_facts.specs.Filtered.{AreCandidates, AreFiltered, AreFitting};
 ghost use Rattle.msvc_facts.specs.Letters.{AreTables};
-ghost use Rattle.msvc_facts.specs.Texts.{AreLines, AreWords};
+ghost use Rattle.msvc_facts.specs.Texts.{AreAnswered, AreLines, AreWords};
 ghost use Rattle.msvc_facts.specs.Trees.{AreCounted, AreRefused, AreTrees};
 
 /// Does nothing. Each clause is a record of facts, which hold of the definitions alone; a fact that no clause names would
@@ -21,11 +23,17 @@ pub fn facts()
     ensures trees { AreTrees }
     ensures counts { AreCounted }
     ensures refusals { AreRefused }
+    ensures name_references { AreNameReferences }
+    ensures type_references { AreTypeReferences }
     ensures spaces { AreSpaces }
     ensures declarations { AreDeclarations }
     ensures names { AreNames }
     ensures types { AreTypes }
     ensures flags { AreFlags }
     ensures lines { AreLines }
+    ensures answers { AreAnswered }
     ensures words { AreWords }
+    ensures candidates { AreCandidates }
+    ensures filtered { AreFiltered }
+    ensures fitted { AreFitting }
 {}

@@ -1,6 +1,8 @@
+use Rattle.msvc_facts.proofs.BackReferences.{name_references, type_references}
 use Rattle.msvc_facts.proofs.Declarations.{declarations, flags, names, spaces, types}
+use Rattle.msvc_facts.proofs.Filtered.{candidates, filtered, fitted}
 use Rattle.msvc_facts.proofs.Letters.{tables}
-use Rattle.msvc_facts.proofs.Texts.{lines, words}
+use Rattle.msvc_facts.proofs.Texts.{answers, lines, words}
 use Rattle.msvc_facts.proofs.Trees.{counts, refusals, trees}
 use Rattle.msvc_facts.proofs.facts.Goals as goal
 
@@ -15,6 +17,12 @@ returns-clause-counts c = counts
 
 pub returns-clause-refusals : goal.returns-clause-refusals
 returns-clause-refusals c = refusals
+
+pub returns-clause-name_references : goal.returns-clause-name_references
+returns-clause-name_references c = name_references
+
+pub returns-clause-type_references : goal.returns-clause-type_references
+returns-clause-type_references c = type_references
 
 pub returns-clause-spaces : goal.returns-clause-spaces
 returns-clause-spaces c = spaces
@@ -34,5 +42,17 @@ returns-clause-flags c = flags
 pub returns-clause-lines : goal.returns-clause-lines
 returns-clause-lines c = lines
 
+pub returns-clause-answers : goal.returns-clause-answers
+returns-clause-answers c = answers
+
 pub returns-clause-words : goal.returns-clause-words
 returns-clause-words c = words
+
+pub returns-clause-candidates : goal.returns-clause-candidates
+returns-clause-candidates c = candidates
+
+pub returns-clause-filtered : goal.returns-clause-filtered
+returns-clause-filtered c = filtered
+
+pub returns-clause-fitted : goal.returns-clause-fitted
+returns-clause-fitted c = fitted
