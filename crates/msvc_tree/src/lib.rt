@@ -6,7 +6,6 @@
 #![tactic(auto)]
 
 mod kinds;
-mod parts;
 mod results;
 pub mod to_nodes;
 pub mod to_tree;

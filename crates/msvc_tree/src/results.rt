@@ -14,10 +14,7 @@ pub fn box_ok<T: Drop, E: From<AllocFailed<T>>>(
 ) -> Result<Box<T>, E>
     ensures { IsBoxed E.from_gives (λ b. b.value) made result }
 {
-    match Box::new(alloc, made?) {
-        Ok(boxed) => Ok(boxed),
-        Err(error) => Err(E::from(error)),
-    }
+    Ok(Box::new(alloc, made?)?)
 }
 
 /// Pushes the value that was made to a list with spare capacity. Returns its error if it failed.

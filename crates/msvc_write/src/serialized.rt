@@ -45,6 +45,5 @@ pub fn serialize(
     ensures memory { IfErr result (λ e. e ≡ Memory) }
 {
     let out = declared(alloc, input, flags)?;
-    let text = into_string_lossy(alloc, out)?;
-    Ok(text)
+    Ok(into_string_lossy(alloc, out)?)
 }
