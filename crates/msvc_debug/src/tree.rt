@@ -1,5 +1,4 @@
-//! The writer. No function here calls itself: what stands inside a tree goes onto a stack, so a deep tree takes memory
-//! alone.
+//! Writes a tree. No function here calls itself: the parts of a tree go onto a stack, so a deep tree takes only memory.
 
 use crate::words::{
     mark_word, numbered_word, plain_word, push_guard, push_literal, push_place, push_set,
@@ -15,7 +14,7 @@ struct Types<'a, 'b> {
     types: &'b [&'b Type<'a, 'b>],
 }
 
-/// What is still to be shown.
+/// A part that is shown later.
 #[derive(Clone, Copy)]
 enum Item<'a, 'b> {
     Text(&'b str),
@@ -50,7 +49,7 @@ pub fn write_tree<'a, 'b, A: Allocator + Copy>(
     Ok(())
 }
 
-/// Shows what an item begins with, and pushes the rest of it, the last part first.
+/// Shows the beginning of an item, and pushes the rest of it, the last part first.
 fn show<'a, 'b, A: Allocator + Copy>(
     alloc: A,
     stack: &mut Vec<Item<'a, 'b>, A>,
@@ -246,8 +245,8 @@ fn push_inside<'a, 'b, A: Allocator>(
     push(stack, Item::Type(inner))
 }
 
-/// Shows what a function has after its opening bracket: its class, convention and qualifiers, its parameters in square
-/// brackets, and the type that it returns.
+/// Shows the parts of a function after its opening bracket: its class, convention and qualifiers, its parameters in
+/// square brackets, and its return type.
 fn show_function<'a, 'b, A: Allocator>(
     stack: &mut Vec<Item<'a, 'b>, A>,
     text: &mut String<A>,

@@ -1,4 +1,4 @@
-//! The words and numbers that stand in the text of a tree: what a node without parts is shown as.
+//! Words and numbers in the text of a tree, for nodes without parts.
 
 use bitflags::Flags;
 use msvc_nodes::kinds::{Guard, NumberedType, PlainType, PointerAffinity, SpecialTableKind};

@@ -32,9 +32,11 @@ use std::alloc::Global;
 
 /// Returns the declaration of the symbol that `input` begins with, under `flags`.
 ///
-/// It is the text that [`serialize`] prints of the tree that [`parse`] reads. Bytes after a complete symbol are ignored.
+/// It is the text that [`serialize`] prints for the tree of [`parse`]. Bytes after a complete symbol are ignored.
 ///
-/// A tree, and a declaration, can be far larger than its symbol: for symbols that are not trusted call
+/// # Limits
+///
+/// None: a tree, and a declaration, can be far larger than its symbol. For symbols that are not trusted call
 /// [`demangle_within`].
 ///
 /// # Errors

@@ -274,7 +274,7 @@ pub(crate) fn filter(
     end_filtered(found, out)
 }
 
-/// Does what `filter_slice` does.
+/// Does what `filter_slice` does, in the memory of `arena` and `text`.
 fn filter_into(
     arena: &Lent,
     text: &Lent,

@@ -20,7 +20,7 @@ use msvc_demangler::{DemangleFlags, Flags};
 use references::Reference;
 use std::str::from_utf8;
 
-/// Does what `msvc_demangler_demangle` does in the memory of `arena` and `text`, which have it again after the call.
+/// Does what `msvc_demangler_demangle` does, in the memory of `arena` and `text`, and returns that memory to them.
 #[unsafe(no_mangle)]
 pub extern "C" fn msvc_demangler_demangle_in_parts(
     symbol: &[u8],
@@ -47,7 +47,7 @@ pub extern "C" fn msvc_demangler_demangle_in_parts(
     }
 }
 
-/// Does what `msvc_demangler_prefix` does in the memory of `arena`, which has it again after the call.
+/// Does what `msvc_demangler_prefix` does, in the memory of `arena`, and returns that memory to it.
 #[unsafe(no_mangle)]
 pub extern "C" fn msvc_demangler_prefix_in_parts(
     symbol: &[u8],
@@ -64,7 +64,7 @@ pub extern "C" fn msvc_demangler_prefix_in_parts(
     }
 }
 
-/// Does what `msvc_demangler_filter` does in the memory of `arena` and `text`, which have it again after the call.
+/// Does what `msvc_demangler_filter` does, in the memory of `arena` and `text`, and returns that memory to them.
 #[unsafe(no_mangle)]
 pub extern "C" fn msvc_demangler_filter_in_parts(
     input: &[u8],

@@ -31,20 +31,31 @@ use std::io::{BufRead, Write};
 /// The most bytes of a line that are held before a piece of the line is written.
 const MAX_HELD: usize = 65_536;
 
-/// Copies `input` to `out`, with each symbol in it replaced by its declaration under `flags`. All other bytes stay as
-/// they are.
+/// Copies `input` to `out`, with each symbol in it replaced by its declaration under `flags`. All other bytes stay.
 ///
 /// A line of at most 65,536 bytes is read whole, then filtered, then written, so that a fault leaves no part of it
 /// behind, unless a write fails. A line that the reader shows whole is written from the reader's buffer, and consumed
 /// then, also if the write failed; so reader and writer must not share a borrow that lasts from `fill_buf` to
-/// `consume`, as of a `RefCell`. Of a longer line pieces are written as they come, so that a line of any length takes
-/// no more memory. At each start at most 4,096 bytes are read as a symbol, of at most 10,000 nodes, and at most 65,536
-/// bytes are printed; so the time is linear in the bytes.
+/// `consume`, as of a `RefCell`. A longer line is written in pieces, so that a line of any length takes no more memory.
+///
+/// # Limits
+///
+/// At each start at most 4,096 bytes are read as a symbol, of at most 10,000 nodes, and at most 65,536 bytes are
+/// printed; so the time is linear in the bytes.
 ///
 /// # Errors
 ///
-/// The first fault: [`Fault::Read`] if the reader fails, [`Fault::Write`] if the writer fails, [`Fault::Memory`] if an
-/// allocation fails. The lines before it are written.
+/// Returns the first fault: [`Fault::Read`] if the reader fails, [`Fault::Write`] if the writer fails,
+/// [`Fault::Memory`] if an allocation fails. The lines before it are written.
+///
+/// # Examples
+///
+/// ```
+/// let mut input = Watched::new(b"at ?x@@3HA+1\n".as_slice());
+/// let mut out = Watched::new(Vec::new(alloc));
+/// assert!(rt; filter_text(alloc, &mut input, &mut out, DemangleFlags::llvm()).is_ok());
+/// assert_eq!(rt; out.into_inner().as_slice(), b"at int x+1\n".as_slice());
+/// ```
 pub fn filter_text<R: BufRead, W: Write>(
     alloc: Global,
     input: &mut Watched<R>,
@@ -97,8 +108,8 @@ pub fn filter_text<R: BufRead, W: Write>(
     Err(fail(input))
 }
 
-/// Writes what is settled of a line whose end has not come, if more bytes of it are held than [`MAX_HELD`], and leaves
-/// the other bytes in `piece`.
+/// Writes the decided bytes of a line whose end was not read, if more bytes of it are held than [`MAX_HELD`], and
+/// leaves the other bytes in `piece`.
 fn write_decided<W: Write>(
     demangler: &mut Demangler,
     text: &mut Vec<u8>,
@@ -136,7 +147,7 @@ fn drop_front(bytes: &mut Vec<u8>, count: usize)
     bytes.truncate(rest);
 }
 
-/// Writes the filtered text of the rest of a line, for which `text` has room.
+/// Writes the filtered text of the rest of a line. `text` has the capacity for it.
 fn write_rest<W: Write>(
     demangler: &mut Demangler,
     text: &mut Vec<u8>,
@@ -159,7 +170,7 @@ fn write_rest<W: Write>(
     }
 }
 
-/// The result of [`filter_slice`].
+/// Result of [`filter_slice`].
 #[derive(Clone, Copy)]
 pub struct Filtered {
     /// Bytes of the whole filtered text, whether they fitted or not.
@@ -172,6 +183,10 @@ pub struct Filtered {
 ///
 /// Writes as much as fits, in whole characters of declarations. Bytes of `out` after these are unchanged. Requests
 /// memory for symbols, and none for the text.
+///
+/// # Limits
+///
+/// Those of [`filter_text`] on a symbol and its declaration.
 ///
 /// # Errors
 ///
@@ -202,7 +217,7 @@ pub fn filter_slice(
 ///
 /// # Errors
 ///
-/// Those of [`filter_slice`].
+/// Fails where [`filter_slice`] does.
 pub fn filter_slice_in<A: Allocator + Copy>(
     demangler: &mut Demangler<A>,
     text: &[u8],
@@ -239,14 +254,14 @@ pub fn filter_slice_in<A: Allocator + Copy>(
     })
 }
 
-/// How far a slice is filled.
+/// A slice and the number of its bytes that are filled.
 #[derive(Clone, Copy)]
 struct SliceWriter {
     /// Bytes of the filtered text, whether they fitted or not.
     length: usize,
     /// Bytes written.
     written: usize,
-    /// Bytes that later parts may take: none after a declaration that was cut.
+    /// Bytes that later parts may take: none after a declaration that was truncated.
     space: usize,
 }
 
@@ -371,8 +386,8 @@ struct Found {
     bytes: usize,
 }
 
-/// Finds the first symbol of `left` that begins before `until`, and prints its declaration as the demangler's text. Moves
-/// the scan to the end of the symbol, or to `until` if there is none.
+/// Finds the first symbol of `left` that begins before `until`, and prints its declaration as the demangler's text.
+/// Moves the scan to the end of the symbol, or to `until` if there is none.
 fn next_symbol<A: Allocator + Copy>(
     demangler: &mut Demangler<A>,
     left: &[u8],
@@ -409,7 +424,8 @@ fn next_symbol<A: Allocator + Copy>(
     Ok(None)
 }
 
-/// Returns how many bytes the symbol takes that begins here, if one does, with its declaration as the demangler's text.
+/// Returns the length in bytes of the symbol that begins here, if one does, with its declaration as the demangler's
+/// text.
 fn symbol_at<A: Allocator + Copy>(
     demangler: &mut Demangler<A>,
     left: &[u8],
@@ -428,8 +444,8 @@ fn symbol_at<A: Allocator + Copy>(
     }
 }
 
-/// Returns how many bytes the symbol takes that begins at a start, if one does, with its declaration as the demangler's
-/// text.
+/// Returns the length in bytes of the symbol that begins at a start, if one does, with its declaration as the
+/// demangler's text.
 fn match_symbol<A: Allocator + Copy>(
     demangler: &mut Demangler<A>,
     left: &[u8],
@@ -451,8 +467,9 @@ fn match_symbol<A: Allocator + Copy>(
     }
 }
 
-/// Prints the declaration of the symbol that `input` begins with as the demangler's text, and returns how many bytes
-/// were read for it. Returns none if there is no symbol, or one that exceeds a limit; the text is no declaration then.
+/// Prints the declaration of the symbol that `input` begins with as the demangler's text, and returns the number of
+/// bytes that were read for it. Returns `None` if there is no symbol, or one that exceeds a limit; the text is no
+/// declaration then.
 fn demangle_candidate<A: Allocator + Copy>(
     demangler: &mut Demangler<A>,
     input: &str,

@@ -1,4 +1,4 @@
-//! Where a symbol may stand in a text: words, their starts, and the candidates that begin there.
+//! Places where a symbol may be in a text: words, their starts, and the candidates that begin there.
 
 ghost use Rattle.std.specs.Prelude.{◌&&◌, ◌∷◌, ◌==◌, ◌||◌, ◌≡◌, ◌≤◌, ◌<◌, ℕ, List, [], drop, length, take};
 ghost use Rattle.std.specs.Prelude.{slice_index};
@@ -31,10 +31,10 @@ fn blocks_start(byte: u8) -> bool
     byte.is_ascii_alphanumeric() || byte == b'.'
 }
 
-/// What a start depends on of the bytes before it.
+/// The state of the bytes before a place on which a start depends.
 #[derive(Clone, Copy)]
 pub(crate) struct WordState {
-    /// Whether the word that ends before this place has had a `?`.
+    /// True if the word that ends before this place has a `?`.
     seen_question_mark: bool,
     /// The byte before this place.
     last: u8,

@@ -28,7 +28,8 @@ const ERROR_TEXT: usize = 256;
 ///
 /// # Errors
 ///
-/// [`Fault::Write`] if a writer fails; [`Fault::Memory`] if an allocation fails, with nothing written to `out`.
+/// Fails with [`Fault::Write`] if a writer fails, and with [`Fault::Memory`] if an allocation fails, with nothing
+/// written to `out`.
 pub fn undname_one<W: Write, E: Write>(
     alloc: Global,
     symbol: &str,
@@ -44,7 +45,7 @@ pub fn undname_one<W: Write, E: Write>(
     undname_in(alloc, &mut demangler, symbol, out, err, verbose)
 }
 
-/// Demangles one symbol, as [`undname_one`] does, by a demangler that is kept for the next.
+/// Demangles one symbol, as [`undname_one`] does, with a demangler that is kept for the next.
 pub(crate) fn undname_in<W: Write, E: Write>(
     alloc: Global,
     demangler: &mut Demangler,
@@ -92,7 +93,7 @@ fn answer(
     }
 }
 
-/// Writes why a symbol was rejected.
+/// Writes the error of a rejected symbol.
 fn report<E: Write>(alloc: Global, error: &Error, err: &mut Watched<E>) -> Result<(), Fault>
     ensures sets_failed { SetsFailureFlag result no_stream no_stream (failure_flag err.old err.new) }
 {
@@ -112,12 +113,25 @@ fn error_line(alloc: Global, error: &Error) -> Result<String, AllocError>
     Ok(line)
 }
 
-/// Demangles each line of `input`, to its end, as [`undname_one`] does. Lines that are not UTF-8 are skipped.
+/// Demangles each line of `input`, to its end, as [`undname_one`] does. Skips lines that are not UTF-8.
+///
+/// # Limits
+///
+/// None: a symbol of some 40,000 levels overflows a stack of 8 MB.
 ///
 /// # Errors
 ///
-/// The first fault: [`Fault::Read`] if the reader fails, [`Fault::Write`] if a writer fails, [`Fault::Memory`] if an
-/// allocation fails. The lines before it are written.
+/// Returns the first fault: [`Fault::Read`] if the reader fails, [`Fault::Write`] if a writer fails, [`Fault::Memory`]
+/// if an allocation fails. The lines before it are written.
+///
+/// # Examples
+///
+/// ```
+/// let mut input = Watched::new(b"?x@@3HA\nmain\n".as_slice());
+/// let (mut out, mut err) = (Watched::new(Vec::new(alloc)), Watched::new(Vec::new(alloc)));
+/// assert!(rt; undname_lines(alloc, &mut input, &mut out, &mut err, false).is_ok());
+/// assert_eq!(rt; out.into_inner().as_slice(), b"int x\nmain\n".as_slice());
+/// ```
 pub fn undname_lines<R: BufRead, W: Write, E: Write>(
     alloc: Global,
     input: &mut Watched<R>,
@@ -173,7 +187,7 @@ fn undname_line<W: Write, E: Write>(
     }
 }
 
-/// A piece without the line feed that ends it, and without one carriage return before that.
+/// Returns a piece without the line feed that ends it, and without one carriage return before that.
 fn without_end(piece: &[u8]) -> &[u8]
     ensures { result.now ≡ line_of piece.now }
 {

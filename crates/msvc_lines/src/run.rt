@@ -14,7 +14,7 @@ use std::io::{BufRead, Write};
 ///
 /// # Errors
 ///
-/// The first fault, at which the run ends. The caller flushes the writers and reports the fault.
+/// Returns the first fault, at which the run ends. The caller flushes the writers and reports the fault.
 pub fn undname_run<R: BufRead, W: Write, E: Write>(
     alloc: Global,
     words: &[String],
@@ -32,7 +32,7 @@ pub fn undname_run<R: BufRead, W: Write, E: Write>(
     undname_all(alloc, symbols, out, err, verbose)
 }
 
-/// Parts the arguments into the symbols and whether the first argument asks for trees.
+/// Splits the arguments into the symbols and whether the first argument is `-v`.
 fn options(words: &[String]) -> (&[String], bool) {
     match words.split_first() {
         Some((first, symbols)) if first.as_str() == "-v" => (symbols, true),

@@ -40,8 +40,11 @@ const BYTES_AT_FIRST: usize = 1024;
 /// The most bytes that an arena begins with.
 const MAX_ARENA_BYTES: usize = 1 << 20;
 
-/// Reads the symbol that `input` begins with, and returns its tree. The names in the tree borrow from `input`. Bytes
-/// after a complete symbol are ignored.
+/// Returns the tree of the symbol that `input` begins with.
+///
+/// The names in the tree borrow from `input`. Bytes after a complete symbol are ignored.
+///
+/// A tree can be far larger than its symbol: for symbols that are not trusted call [`parse_within`].
 ///
 /// # Errors
 ///
@@ -66,12 +69,20 @@ pub fn parse<'a>(alloc: Global, input: &'a str) -> Result<ParseResult<'a>, Error
     }
 }
 
-/// Reads the symbol that `input` begins with, and returns its tree, as [`parse`] does, and its length in bytes. These
-/// bytes alone have the same tree, with no bytes left.
+/// Returns the tree of the symbol that `input` begins with, as [`parse`] does, and its length in bytes.
+///
+/// These bytes alone have the same tree, with no bytes left.
 ///
 /// # Errors
 ///
 /// Fails where [`parse`] does, with the same error.
+///
+/// # Examples
+///
+/// ```
+/// let prefix = parse_prefix(alloc, "?x@@3HA+0x10")?;
+/// assert_eq!(rt; prefix.1, 7);
+/// ```
 pub fn parse_prefix<'a>(alloc: Global, input: &'a str) -> Result<(ParseResult<'a>, usize), Error>
     ensures parsed { IfOk result (λ r. spec.IsParsed input.now (tree_of r.0)) }
     ensures length { IfOk result (λ r. spec.IsSymbolLength r.1 input.now) }
@@ -84,13 +95,24 @@ pub fn parse_prefix<'a>(alloc: Global, input: &'a str) -> Result<(ParseResult<'a
     }
 }
 
-/// Reads the symbol that `input` begins with, and returns its tree, as [`parse`] does, if the tree has at most `nodes`
-/// nodes. Each name and each type in a tree is a node, at every depth.
+/// Returns the tree of the symbol that `input` begins with, as [`parse`] does, within a limit on its nodes.
+///
+/// # Limits
+///
+/// The tree has at most `nodes` nodes: each name and each type in a tree is a node, at every depth. `usize::MAX` is no
+/// limit.
 ///
 /// # Errors
 ///
 /// Fails where [`parse`] does. Fails with "more nodes than allowed", and an offset into `input`, if the tree has more
 /// nodes: reading stops at the first node beyond the limit. Where both apply, either error may be returned.
+///
+/// # Examples
+///
+/// ```
+/// let limited = parse_within(alloc, "?x@ns@@3HA", 3);
+/// assert!(rt; limited.err().is_some_and(|error| error.is_over_limit()));
+/// ```
 pub fn parse_within<'a>(
     alloc: Global,
     input: &'a str,
@@ -110,13 +132,13 @@ pub fn parse_within<'a>(
     }
 }
 
-/// Reads the symbol that `input` begins with. Returns it as nodes in `arena`, and its length in bytes. [`parse`] makes
-/// its tree of these nodes. The names borrow from `input`. A part that stands twice in the symbol is shared. All memory
-/// is the arena's.
+/// Returns the symbol that `input` begins with, as nodes in `arena`, and its length in bytes. [`parse`] makes its tree
+/// of these nodes. The names borrow from `input`. A part that occurs twice in the symbol is shared. All memory is the
+/// arena's.
 ///
 /// # Errors
 ///
-/// Fails where [`parse`] does. The error of [`parse`] is the one that is made of the reason.
+/// Fails where [`parse`] does, with the reason for its error.
 pub fn read_symbol<'a, 'b, A: Allocator>(
     arena: &'b Bump<A>,
     input: &'a str,
@@ -132,11 +154,11 @@ pub fn read_symbol<'a, 'b, A: Allocator>(
     }
 }
 
-/// Reads the symbol that `input` begins with, as [`read_symbol`] does, if its tree has at most `nodes` nodes.
+/// Returns the symbol that `input` begins with, as [`read_symbol`] does, if its tree has at most `nodes` nodes.
 ///
 /// # Errors
 ///
-/// Fails where [`parse_within`] does. The error of [`parse_within`] is the one that is made of the reason.
+/// Fails where [`parse_within`] does, with the reason for its error.
 pub fn read_symbol_within<'a, 'b, A: Allocator>(
     arena: &'b Bump<A>,
     input: &'a str,
@@ -180,8 +202,12 @@ pub fn symbol_length(alloc: Global, input: &str) -> Result<usize, Error>
     }
 }
 
-/// Returns the length in bytes of the symbol that `input` begins with, as [`symbol_length`] does, if its tree has at
-/// most `nodes` nodes.
+/// Returns the length in bytes of the symbol that `input` begins with, as [`symbol_length`] does, within a limit on its
+/// nodes.
+///
+/// # Limits
+///
+/// The tree has at most `nodes` nodes, as for [`parse_within`].
 ///
 /// # Errors
 ///
@@ -202,9 +228,9 @@ pub fn symbol_length_within(alloc: Global, input: &str, nodes: usize) -> Result<
     }
 }
 
-/// Lists the digits that were read as whole parameters in the symbol that `input` begins with.
+/// Returns the digits that were read as whole parameters in the symbol that `input` begins with.
 ///
-/// They stand in rising order of their offsets. With the bytes of an earlier parameter in place of its digit, the text
+/// They are in rising order of their offsets. With the bytes of an earlier parameter in place of its digit, the text
 /// has the same tree and the same bytes after the symbol.
 ///
 /// # Errors
@@ -274,9 +300,9 @@ pub fn read_references_within<'b, A: Allocator>(
     }
 }
 
-/// Returns how many bytes an arena needs to read `input`: for the nodes of its symbol and for the parser's lists and
-/// tables. An arena of this size makes one request for memory. At most a megabyte: a longer text requests more as it is
-/// read.
+/// Returns the bytes that an arena needs to read `input`: for the nodes of its symbol and for the parser's lists and
+/// tables. An arena of this size makes one request for memory. The result is at most a megabyte: a longer text requests
+/// more as it is read.
 pub fn parse_arena_bytes(input: &str) -> usize
     ensures max { result ≤ 2 ^ 20 }
 {
@@ -287,7 +313,7 @@ pub fn parse_arena_bytes(input: &str) -> usize
         .min(MAX_ARENA_BYTES)
 }
 
-/// Returns how many bytes of [`parse_arena_bytes`] an arena needs to read at most `nodes` nodes of `input`.
+/// Returns the bytes of [`parse_arena_bytes`] that an arena needs to read at most `nodes` nodes of `input`.
 pub fn parse_arena_bytes_within(input: &str, nodes: usize) -> usize
     ensures max { result ≤ 2 ^ 20 }
 {
@@ -297,8 +323,11 @@ pub fn parse_arena_bytes_within(input: &str, nodes: usize) -> usize
         .min(parse_arena_bytes(input))
 }
 
-/// Makes an arena whose first chunk has `arena_bytes` bytes, for the nodes of a symbol. Fails before it requests memory
-/// if `input` doesn't begin with a question mark.
+/// Makes an arena whose first chunk has `arena_bytes` bytes, for the nodes of a symbol.
+///
+/// # Errors
+///
+/// Fails if an allocation fails, and, before it requests memory, if `input` doesn't begin with a question mark.
 #[tactic(auto, using(msvc_parser::proofs::SymbolSteps::symbol_step))]
 fn arena_for(alloc: Global, input: &str, arena_bytes: usize) -> Result<Bump<Fuse>, Refusal>
     ensures value { IfErr result (λ e. (count : Count)

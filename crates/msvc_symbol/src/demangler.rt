@@ -1,5 +1,5 @@
 //! Reads a symbol and prints its declaration, in memory that is kept from one symbol to the next or made for one. The
-//! sizes of this memory stand here.
+//! sizes of this memory are here.
 
 ghost use Rattle.std.specs.Prelude.{◌≡◌, ℕ, List, IfErr, IfOk, Some, true};
 ghost use Rattle.msvc_nodes.specs.NodeView.{typed_symbol_of};
@@ -86,8 +86,8 @@ impl<A: Allocator + Copy> Demangler<A> {
         }
     }
 
-    /// Makes a demangler of an arena and a text that have all the memory that there is: neither is made anew, and for
-    /// no symbol is more reserved than it takes.
+    /// Makes a demangler of an arena and a text that have all the available memory. Neither is replaced, and no call
+    /// reserves more memory than its symbol needs.
     pub fn over(alloc: A, arena: Bump<Fuse<A>>, text: Text<A>) -> Demangler<A> {
         Demangler {
             alloc,
@@ -145,12 +145,12 @@ impl<A: Allocator + Copy> Demangler<A> {
         measured
     }
 
-    /// Gives all memory back. The next symbol requests it again.
+    /// Frees all memory. The next symbol requests it again.
     pub fn clear(&mut self) {
         *self = Demangler::new(self.alloc);
     }
 
-    /// Has the next symbol make a new arena, unless this one is fixed: an arena that has failed once fails for good.
+    /// Makes the next symbol use a new arena, unless this one is fixed: an arena that has failed once fails for good.
     #[cold]
     fn drop_arena_next(&mut self)
         ensures { self.new ≡ self.old }
@@ -160,7 +160,7 @@ impl<A: Allocator + Copy> Demangler<A> {
         }
     }
 
-    /// Returns how many bytes to reserve for the declaration of the symbol that `input` begins with.
+    /// Returns the bytes to reserve for the declaration of the symbol that `input` begins with.
     #[inline(always)]
     fn text_bytes(&self, input: &str) -> usize {
         if self.began == FIXED {
@@ -245,8 +245,8 @@ impl Demangler<Global> {
 }
 
 /// Reads the symbol that `input` begins with, if its tree has at most `nodes` nodes, and prints its declaration as the
-/// demangler's text, if that has at most `bytes` bytes. `usize::MAX` is no limit. Returns how many bytes the symbol
-/// takes.
+/// demangler's text, if that has at most `bytes` bytes. `usize::MAX` is no limit. Returns the length of the symbol in
+/// bytes.
 ///
 /// # Errors
 ///
@@ -330,7 +330,7 @@ pub fn printed_bytes<A: Allocator + Copy>(demangler: &Demangler<A>) -> &[u8]
     demangler.text.as_bytes()
 }
 
-/// Does what [`print_symbol`] does, in an arena that is made for this symbol, and prints the declaration to `text`.
+/// Does what [`print_symbol`] does, in a new arena for this symbol, and prints the declaration to `text`.
 #[inline(always)]
 pub fn demangle_once<A: Allocator + Copy>(
     alloc: A,
@@ -349,8 +349,8 @@ pub fn demangle_once<A: Allocator + Copy>(
     demangle_in(&arena, text, text_bytes(input), input, flags, nodes, bytes)
 }
 
-/// Reads a symbol and prints its declaration to `text`, as [`print_symbol`] says, in an arena that is empty and large
-/// enough. Reserves so many bytes of text before it prints.
+/// Reads a symbol and prints its declaration to `text`, as [`print_symbol`] does, in an arena that is empty and large
+/// enough. Reserves the given bytes of text before it prints.
 #[inline(always)]
 fn demangle_in<B: Allocator, A: Allocator>(
     arena: &Bump<B>,
@@ -379,7 +379,7 @@ fn demangle_in<B: Allocator, A: Allocator>(
 }
 
 /// Prints the declaration of a symbol as the text, if it has at most `bytes` bytes, and returns whether it has.
-/// `usize::MAX` is no limit. Reserves so many bytes of text first.
+/// `usize::MAX` is no limit. Reserves the given bytes of text first.
 #[inline(always)]
 fn print_in<'a, 'b, B: Allocator, A: Allocator>(
     arena: &'b Bump<B>,
@@ -397,13 +397,13 @@ fn print_in<'a, 'b, B: Allocator, A: Allocator>(
     text.try_reserve(reserved)?;
     let within = print_within(arena, symbol, flags, bytes, text)?;
     if !within && bytes == usize::MAX {
-        // No allocation has so many bytes.
+        // An allocation has fewer bytes.
         return Err(AllocError);
     }
     Ok(within)
 }
 
-/// Returns how many bytes the declarations take of most symbols that are as long as `input`.
+/// Returns the bytes of the declarations of most symbols that are as long as `input`.
 #[inline(always)]
 fn text_bytes(input: &str) -> usize {
     input
@@ -413,7 +413,7 @@ fn text_bytes(input: &str) -> usize {
         .min(MAX_TEXT)
 }
 
-/// Returns how many bytes of an arena it takes to read and to print a symbol of at most `nodes` nodes: none if `input`
+/// Returns the bytes of an arena that reading and printing a symbol of at most `nodes` nodes needs: 0 if `input`
 /// doesn't begin with `?`.
 #[inline(always)]
 fn arena_bytes(input: &str, nodes: usize) -> usize {

@@ -1,4 +1,4 @@
-//! Why a symbol has no declaration, where memory is taken from any allocator. An error for callers is made of it only
+//! Reasons why a symbol has no declaration, for memory from any allocator. An error for callers is made of it only
 //! where it leaves a public call.
 
 ghost use Rattle.std.specs.Prelude.{◌≡◌, ◌↔◌, IfOk, IsTrue, length, string_bytes};
@@ -11,10 +11,10 @@ use msvc_parser::refusal::{Refusal, format_message};
 use std::alloc::{AllocError, Allocator, Global};
 use std::borrow::CowStr;
 
-/// The text of a call that is out of memory.
+/// The text of the error for a failed allocation.
 const OUT_OF_MEMORY: &str = "out of memory";
 
-/// Why a symbol has no declaration. It borrows nothing and holds no memory.
+/// The reason why a symbol has no declaration. It borrows nothing and holds no memory.
 #[derive(Clone, Copy, Debug)]
 pub enum Failure {
     /// The input begins with no symbol, the symbol has more nodes than allowed, or an allocation failed.
@@ -24,7 +24,7 @@ pub enum Failure {
 }
 
 impl Failure {
-    /// Tests whether memory ran out.
+    /// Returns whether memory ran out.
     pub fn is_out_of_memory(self) -> bool
         ensures { IsTrue result ↔ (self ≡ Unread refusal.Memory) }
     {
@@ -53,7 +53,11 @@ impl Failure {
         }
     }
 
-    /// Returns what the error of a call prints that fails for this reason.
+    /// Returns the text of the error of a call that fails for this reason.
+    ///
+    /// # Errors
+    ///
+    /// Fails if an allocation fails.
     pub fn text<A: Allocator + Copy>(self, alloc: A, input: &str) -> Result<String<A>, AllocError>
         requires { IsInside input.now self }
         ensures { IfOk result (λ text. IsFailureText input.now self (string_bytes text)) }

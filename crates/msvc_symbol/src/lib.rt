@@ -7,9 +7,9 @@ mod failure;
 pub use demangler::{Demangler, demangle_once, print_symbol, print_with_tree, printed_bytes};
 pub use failure::{Failure, error_of};
 
-/// The most nodes to allow for a symbol that is not trusted. A call takes stack by the nodes that are allowed
-/// (`docs/limits.md` has the figures), so a thread with a small stack needs a lower limit.
+/// Default limit on the nodes of a symbol that is not trusted. A call needs stack in proportion to the limit
+/// (`docs/limits.md` has the figures), so a thread with a small stack needs a lower one.
 pub const DEFAULT_NODE_LIMIT: usize = 10_000;
 
-/// The most bytes to allow for the declaration of a symbol that is not trusted.
+/// Default limit on the bytes of the declaration of a symbol that is not trusted.
 pub const DEFAULT_BYTE_LIMIT: usize = 65_536;

@@ -1,4 +1,4 @@
-//! Makes the operator or the type of a tree that a value of an enumeration of `msvc_nodes::kinds` stands for.
+//! Converts values of the enumerations of `msvc_nodes::kinds` to operators and types of a tree.
 
 #![tactic(auto, using(crate::proofs::Views::rows), unfolding(crate::specs::View::name_of, crate::specs::View::operator_of, crate::specs::View::type_of))]
 
@@ -25,7 +25,7 @@ macro_rules! operator_of_kind {
     };
 }
 
-/// The operator.
+/// Returns the operator.
 pub fn plain_operator<'a>(kind: PlainOperator) -> Operator<'a>
     ensures { operator_of result ≡ operator kind }
 {

@@ -1,5 +1,5 @@
-//! Boxes, pushes and pairs what steps returned, without opening it in the caller. A value that is not kept is dropped
-//! here, in code that is proved once for every type, and not in each function that calls the step.
+//! Boxes, pushes and pairs the results of steps, without opening them in the caller. A value that is not kept is
+//! dropped here, in code that is proved once for every type, not in each function that calls the step.
 
 ghost use Rattle.std.specs.Prelude.{◌≡◌, ◌<◌, ◌+◌, ◌∷◌, ◌++◌, [], Err, IfErr, IfOk, Ok, vec_capacity, vec_len};
 ghost use Rattle.std.specs.Result.{IsOkAnd};

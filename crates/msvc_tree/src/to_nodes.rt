@@ -1,5 +1,5 @@
-//! Converts trees to nodes in an arena, in one pass. Texts are not copied: nodes borrow them from the tree. Contracts say
-//! that a node and its tree are seen as the same tree of the definitions.
+//! Converts trees to nodes in an arena, in one pass. Texts are not copied: nodes borrow them from the tree. Contracts
+//! state that the definitions view a node and its tree as the same tree.
 
 #![tactic(auto, using(msvc_nodes::proofs::NodeViews::views), unfolding(msvc_nodes::specs::NodeView::name_of, msvc_nodes::specs::NodeView::type_of))]
 

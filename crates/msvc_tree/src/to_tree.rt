@@ -1,6 +1,6 @@
 //! Converts nodes to trees, in one pass. A tree borrows nothing from the arena: names are parts of the text that was
-//! read, digits and string literals are copied. Contracts say that a tree and its node are seen as the same tree of the
-//! definitions.
+//! read, digits and string literals are copied. Contracts state that the definitions view a tree and its node as the
+//! same tree.
 
 #![tactic(auto, using(crate::proofs::Views::rows, msvc_nodes::proofs::NodeViews::views), unfolding(crate::specs::View::name_of, crate::specs::View::operator_of, crate::specs::View::type_of, msvc_nodes::specs::NodeView::name_of, msvc_nodes::specs::NodeView::type_of))]
 
@@ -18,7 +18,11 @@ use crate::tree::{Name, NameSequence, Operator, Params, ParseResult, Symbol, Typ
 use msvc_nodes::nodes;
 use std::alloc::{AllocError, Global};
 
-/// Converts the nodes of a symbol to a tree, which does not borrow from their arena. Fails only when it is out of memory.
+/// Converts the nodes of a symbol to a tree, which does not borrow from their arena.
+///
+/// # Errors
+///
+/// Fails only if an allocation fails.
 #[cycle(to_tree)]
 pub fn nodes_to_tree<'a, 'b>(
     alloc: Global,

@@ -13,11 +13,11 @@ pub use msvc_nodes::kinds::{CallingConv, VarStorageKind};
 pub enum Name<'a> {
     /// The name of an operator, a constructor or something that the compiler made.
     Operator(Operator<'a>),
-    /// A name as it stands in the source, borrowed from the text, without the `@` after it; possibly empty.
+    /// A name as the source spells it, borrowed from the text, without the `@` after it; possibly empty.
     NonTemplate(&'a [u8]),
     /// A template's name, and its arguments in their order.
     Template(Box<Name<'a>>, Params<'a>),
-    /// The number of a scope inside a function, which tells scopes of one function apart.
+    /// The number of a scope inside a function, which distinguishes scopes of one function.
     Discriminator(i32),
     /// A whole symbol as a scope, as that of the function around a local variable.
     ParsedName(Box<ParseResult<'a>>),
@@ -26,12 +26,12 @@ pub enum Name<'a> {
     /// The name of the interface that a member function comes from, borrowed from the text, without the brackets that
     /// it is printed in.
     AsInterface(&'a [u8]),
-    /// The 32 hexadecimal digits that stand for a name that was too long, of either case, borrowed from the text,
+    /// The 32 hexadecimal digits, of either case, of the hash of a name that was too long, borrowed from the text,
     /// without the `??@` before and the `@` after them.
     Md5(&'a [u8]),
 }
 
-/// The names that the compiler gives, each with what it is printed as.
+/// The names that the compiler gives, each with its printed text.
 #[derive(Debug, Drop)]
 #[cycle(ast)]
 pub enum Operator<'a> {
@@ -129,8 +129,7 @@ pub enum Operator<'a> {
     VCall,
     /// `` `typeof' ``.
     Typeof,
-    /// The guard of a static variable in a function, with the number that stands after it, at least 0, if there is
-    /// one.
+    /// The guard of a static variable in a function, with the number after it, at least 0, if there is one.
     LocalStaticGuard(Option<u32>),
     /// `` `string' ``.
     String,
@@ -172,9 +171,9 @@ pub enum Operator<'a> {
     PlacementArrayDeleteClosure,
     /// The descriptor of a type: the qualifiers that were read for it, and the type, which has them too.
     RTTITypeDescriptor(StorageClass, Box<Type<'a>>),
-    /// The place of a base class in an object, in the order in which the four numbers are read and printed: the
-    /// offset of the member, that of the pointer to the table of virtual bases, that in the table, and a set of
-    /// attributes. Offsets are in bytes; -1 stands for none.
+    /// The place of a base class in an object, in the order in which the four numbers are read and printed: the offset
+    /// of the member, that of the pointer to the table of virtual bases, that in the table, and a set of attributes.
+    /// Offsets are in bytes; -1 means none.
     RTTIBaseClassDescriptor(i32, i32, i32, i32),
     /// `` `RTTI Base Class Array' ``.
     RTTIBaseClassArray,
@@ -186,8 +185,7 @@ pub enum Operator<'a> {
     DynamicInitializer,
     /// `` `dynamic atexit destructor' ``.
     DynamicAtexitDtor,
-    /// The guard of a thread-safe static variable in a function, with the number that stands after it, at least 0,
-    /// if there is one.
+    /// The guard of a thread-safe static variable in a function, with the number after it, at least 0, if there is one.
     LocalStaticThreadGuard(Option<u32>),
     /// `operator ""`, whose suffix is the innermost name of the scope.
     LiteralOperatorName,
@@ -215,13 +213,13 @@ pub struct Params<'a> {
 #[derive(Debug, Drop)]
 #[cycle(ast)]
 pub struct Symbol<'a> {
-    /// What is named, without its scope.
+    /// The name, without its scope.
     pub name: Name<'a>,
     /// The names around it, the innermost first; empty outside all scopes.
     pub scope: NameSequence<'a>,
 }
 
-/// A whole symbol: what it names, and its type.
+/// A whole symbol: its name and its type.
 #[derive(Debug, Drop)]
 #[cycle(ast)]
 pub struct ParseResult<'a> {
@@ -231,9 +229,9 @@ pub struct ParseResult<'a> {
     pub symbol_type: Type<'a>,
 }
 
-/// A type, or what stands in the place of one. A `StorageClass` is the last field but where a comment says otherwise,
-/// and holds the qualifiers of the type itself: those of a pointer are the pointer's, not those of what it points to.
-/// Trees inside are owned; of the text only names are borrowed.
+/// A type, or a placeholder for one. A `StorageClass` is the last field except where a comment states otherwise, and
+/// holds the qualifiers of the type itself: those of a pointer are the pointer's, not those of its target. Trees inside
+/// are owned; only names are borrowed, from the text.
 #[derive(Debug, Drop)]
 #[cycle(ast)]
 pub enum Type<'a> {
@@ -244,7 +242,7 @@ pub enum Type<'a> {
     ConstantString(Vec<u8>),
     /// A parameter pack with nothing in it; lists are printed without it.
     EmptyParameterPack,
-    /// What stands in the place of a type after the names of run-time type information.
+    /// The placeholder for a type after the names of run-time type information.
     RTTIType,
     /// The types that are one word of the language, or a few, each with its qualifiers.
     Void(StorageClass),
@@ -280,7 +278,7 @@ pub enum Type<'a> {
     Enum(Symbol<'a>, StorageClass),
     /// A type alias, printed as its name alone.
     Alias(Symbol<'a>, StorageClass),
-    /// A number as a template argument: 32 bits, signed; what passes them was dropped.
+    /// A number as a template argument: 32 bits, signed; higher bits were dropped.
     Constant(i32),
     /// A parameter of a template by its number, which is negated where it was read after `?`.
     TemplateParameterWithIndex(i32),
@@ -290,23 +288,23 @@ pub enum Type<'a> {
     VarArgs,
     /// `std::nullptr_t`.
     Nullptr,
-    /// What is pointed to, and the pointer's qualifiers.
+    /// The target of a pointer, and the pointer's qualifiers.
     Ptr(Box<Type<'a>>, StorageClass),
-    /// What `&` refers to, and the reference's qualifiers.
+    /// The target of a reference `&`, and the reference's qualifiers.
     Ref(Box<Type<'a>>, StorageClass),
-    /// What `&&` refers to, and the reference's qualifiers.
+    /// The target of a reference `&&`, and the reference's qualifiers.
     RValueRef(Box<Type<'a>>, StorageClass),
     /// The length of the outermost level, in elements, as it was read, so 0 or below too; the elements, which are an
     /// array again where there are more levels; and the qualifiers, which each level has.
     Array(i32, Box<Type<'a>>, StorageClass),
-    /// The convention, the parameters, the function's qualifiers, which are empty for a plain function, and what
-    /// it returns.
+    /// The convention, the parameters, the function's qualifiers, which are empty for a plain function, and the return
+    /// type.
     NonMemberFunction(CallingConv, Params<'a>, StorageClass, Box<Type<'a>>),
-    /// The class, the convention, the parameters, the function's qualifiers (empty for a static one), and what it
-    /// returns.
+    /// The class, the convention, the parameters, the function's qualifiers (empty for a static one), and the return
+    /// type.
     MemberFunction(FuncClass, CallingConv, Params<'a>, StorageClass, Box<Type<'a>>),
-    /// The class whose member is pointed to, its function class, the convention, the parameters, the function's
-    /// qualifiers, and what it returns.
+    /// The class of the member, its function class, the convention, the parameters, the function's qualifiers, and the
+    /// return type.
     MemberFunctionPointer(
         Symbol<'a>,
         FuncClass,

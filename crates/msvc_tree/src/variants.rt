@@ -1,5 +1,5 @@
-//! Which variant a name, an operator or a type of a tree is, with its parts borrowed. Variants with the same fields are
-//! one, with an enumeration of `msvc_nodes::kinds` to tell them apart. Equality and the conversion to nodes match on it.
+//! Variants of names, operators and types of a tree, with their parts borrowed. Variants with the same fields are one,
+//! and an enumeration of `msvc_nodes::kinds` distinguishes them. Equality and the conversion to nodes match on it.
 
 #![tactic(auto, using(crate::proofs::Views::rows), unfolding(crate::specs::View::name_of, crate::specs::View::operator_of, crate::specs::View::type_of))]
 

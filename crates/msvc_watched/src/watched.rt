@@ -15,7 +15,7 @@ use msvc_parser::search::find_byte;
 use std::io::{self, BufRead, Write};
 use std::marker::Model;
 
-/// Why a run ended before its work was done.
+/// Reason why a run ended early.
 #[derive(Clone, Copy, Debug, PartialEq, Eq)]
 pub enum Fault {
     /// The reader failed.
@@ -26,21 +26,21 @@ pub enum Fault {
     Memory,
 }
 
-/// A reader or a writer, and whether a call on it has failed. Contracts see both fields.
+/// A reader or a writer, and whether a call on it has failed. Contracts refer to both fields.
 #[derive(Drop)]
 pub struct Watched<T> {
     stream: T,
     failed: bool,
 }
 
-/// What was taken from a reader.
+/// Bytes that were taken from a reader.
 #[derive(Clone, Copy)]
 pub enum Taken {
     /// Some bytes, none of them a line feed.
     Part,
     /// The bytes up to a line feed, and it.
     Line,
-    /// Nothing, since there is nothing left.
+    /// Nothing, at the end of the reader.
     End,
 }
 
@@ -102,7 +102,7 @@ pub fn fail<R: BufRead>(input: &mut Watched<R>) -> Fault
     Fault::Read
 }
 
-/// Takes so many of the bytes that the reader shows.
+/// Takes `count` of the bytes that the reader shows.
 #[inline(always)]
 pub fn consume<R: BufRead>(input: &mut Watched<R>, count: usize)
     ensures bytes { DropsConsumable (R.remaining input.old.stream) (R.remaining input.new.stream)
@@ -115,8 +115,8 @@ pub fn consume<R: BufRead>(input: &mut Watched<R>, count: usize)
 /// Polls the reader once, and appends the bytes that it takes to `bytes`: up to a line feed, or all that the reader
 /// shows. The reader was polled `polls` times before; 2^64 - 1 times are too many, and count as a failure.
 ///
-/// Returns the fault of a failed call at once, also of an interrupted one, and takes nothing then. No clause says
-/// that the reader is polled no second time, since a reader's contract tells its bytes and counts no calls.
+/// Returns the fault of a failed call at once, also of an interrupted one, and takes nothing then. No clause states
+/// that the reader is polled no second time, since a reader's contract describes its bytes and counts no calls.
 pub fn read_piece<R: BufRead>(
     input: &mut Watched<R>,
     polls: u64,
@@ -146,7 +146,7 @@ pub fn read_piece<R: BufRead>(
     Ok(taken)
 }
 
-/// Finds how many of the bytes shown are taken at once, and what they are.
+/// Returns the number of the shown bytes that are taken at once, and their kind.
 #[inline(always)]
 pub fn line_end(shown: &[u8]) -> (usize, Taken)
     ensures bound { result.0 ≤ length shown.now }
@@ -161,10 +161,10 @@ pub fn line_end(shown: &[u8]) -> (usize, Taken)
 }
 
 impl<W: Write> Watched<W> {
-    /// Writes some bytes once, and returns how many of them the writer took. A writer that takes none has failed.
+    /// Writes some bytes once, and returns the number that the writer took. A writer that takes none has failed.
     ///
-    /// Returns the fault of a failed call at once, also of an interrupted one. No clause says that nothing is written
-    /// after it, for the reason given at `read_piece`.
+    /// Returns the fault of a failed call at once, also of an interrupted one. No clause states that nothing is written
+    /// after it, for the reason at `read_piece`.
     pub(crate) fn write_some(&mut self, bytes: &[u8]) -> Result<usize, Fault>
         ensures bound { IfOk result (λ n. n ≤ length bytes.now) }
         ensures moves { IfOk result (λ n. 0 < n) }

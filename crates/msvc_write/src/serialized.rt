@@ -32,10 +32,21 @@ fn declared(
     Ok(out)
 }
 
-/// Prints the declaration of the symbol `input` under `flags`. Bits that are no flag change nothing. If a name of the
-/// symbol is not UTF-8, each piece that is not becomes U+FFFD.
+/// Returns the declaration of the tree `input` under `flags`.
+///
+/// Bits that are no flag change nothing. If a name of the symbol is not UTF-8, each piece that is not becomes U+FFFD.
+///
+/// # Errors
 ///
 /// Fails only if an allocation fails.
+///
+/// # Examples
+///
+/// ```
+/// let tree = parse(alloc, "?f@ns@@YAHPEBD@Z")?;
+/// let text = serialize(alloc, &tree, DemangleFlags::NO_MS_KEYWORDS)?;
+/// assert_eq!(rt; text.as_str(), "int ns::f(char const *)");
+/// ```
 pub fn serialize(
     alloc: Global,
     input: &ParseResult<'_>,
