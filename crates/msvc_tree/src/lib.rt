@@ -6,6 +6,7 @@
 #![tactic(auto)]
 
 mod kinds;
+mod parts;
 mod results;
 pub mod to_nodes;
 pub mod to_tree;

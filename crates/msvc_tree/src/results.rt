@@ -14,7 +14,10 @@ pub fn box_ok<T: Drop, E: From<AllocFailed<T>>>(
 ) -> Result<Box<T>, E>
     ensures { IsBoxed E.from_gives (λ b. b.value) made result }
 {
-    Ok(Box::new(alloc, made?)?)
+    match Box::new(alloc, made?) {
+        Ok(boxed) => Ok(boxed),
+        Err(error) => Err(E::from(error)),
+    }
 }
 
 /// Pushes the value that was made to a list with spare capacity. Returns its error if it failed.

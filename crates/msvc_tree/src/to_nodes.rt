@@ -255,7 +255,6 @@ fn put<'b, T: Copy>(arena: &'b Bump<Fuse>, node: T) -> Result<&'b T, AllocError>
 }
 
 /// Moves the node of a name into the arena.
-#[inline(always)]
 fn put_name<'a, 'b>(
     arena: &'b Bump<Fuse>,
     node: nodes::Name<'a, 'b>,

@@ -4,16 +4,19 @@
 
 #![tactic(auto, using(crate::proofs::Views::rows, msvc_nodes::proofs::NodeViews::views), unfolding(crate::specs::View::name_of, crate::specs::View::operator_of, crate::specs::View::type_of, msvc_nodes::specs::NodeView::name_of, msvc_nodes::specs::NodeView::type_of))]
 
-ghost use Rattle.std.specs.Prelude.{◌≡◌, IfOk};
+ghost use Rattle.std.specs.Prelude.{◌≡◌, IfOk, Some};
 ghost use Rattle.msvc_nodes.specs.NodeView.{name_of as node_name, type_of as node_type, names_in as node_names};
 ghost use Rattle.msvc_nodes.specs.NodeView.{types_in as node_types, typed_symbol_of};
+ghost use Rattle.msvc_nodes.specs.Trees.{anonymous, base_class_descriptor};
 ghost use Rattle.msvc_tree.specs.View.{name_of, type_of, scope_of, params_of, tree_of};
 
-use crate::kinds::{
-    base_class_operator, base_type, guard_operator, numbered_type, plain_operator, plain_type,
-    pointing_type, table_type, tagged_type,
+use crate::kinds::{base_type, guard_operator, numbered_type, plain_operator, plain_type};
+use crate::parts::{
+    array_from, constant_string_from, function_from, member_function_from, member_pointer_from,
+    nested_from, pointing_from, symbol_from, table_from, tagged_from, template_from,
+    type_descriptor_from, typed_symbol_from, variable_from,
 };
-use crate::results::{box_ok, pair_ok, push_ok};
+use crate::results::{box_ok, push_ok};
 use crate::tree::{Name, NameSequence, Operator, Params, ParseResult, Symbol, Type};
 use msvc_nodes::nodes;
 use std::alloc::{AllocError, Global};
@@ -30,14 +33,10 @@ pub fn nodes_to_tree<'a, 'b>(
 ) -> Result<ParseResult<'a>, AllocError>
     ensures { IfOk result (λ r. tree_of r ≡ typed_symbol_of whole.now) }
 {
-    let (symbol, symbol_type) = pair_ok(
+    typed_symbol_from(
         symbol_to_tree(alloc, &whole.symbol),
         type_to_tree(alloc, whole.symbol_type),
-    )?;
-    Ok(ParseResult {
-        symbol,
-        symbol_type,
-    })
+    )
 }
 
 /// Converts a name in its scope.
@@ -50,11 +49,10 @@ pub(crate) fn symbol_to_tree<'a, 'b>(
     ensures name { IfOk result (λ s. name_of s.name ≡ node_name symbol.now.name.now) }
     ensures scope { IfOk result (λ s. scope_of s.scope ≡ node_names symbol.now.scope.now) }
 {
-    let (name, scope) = pair_ok(
+    symbol_from(
         name_to_tree(alloc, symbol.name),
         names_to_tree(alloc, symbol.scope),
-    )?;
-    Ok(Symbol { name, scope })
+    )
 }
 
 /// Converts a name: one of the source where this is called, any other by a call.
@@ -84,27 +82,19 @@ fn any_name_to_tree<'a, 'b>(
         nodes::Name::Interface(text) => Ok(Name::AsInterface(*text)),
         nodes::Name::Md5(digits) => Ok(Name::Md5(*digits)),
         nodes::Name::Anonymous => Ok(Name::AnonymousNamespace(None)),
-        nodes::Name::AnonymousDigits(digits) => {
-            Ok(Name::AnonymousNamespace(Some(String::from_str(alloc, *digits)?)))
-        }
+        nodes::Name::AnonymousDigits(digits) => digits_to_tree(alloc, *digits),
         nodes::Name::Plain(operator) => Ok(Name::Operator(plain_operator(*operator))),
         nodes::Name::Guard(guard, number) => Ok(Name::Operator(guard_operator(*guard, *number))),
         nodes::Name::TypeDescriptor(qualifiers, described) => {
-            let described = boxed_to_tree(alloc, *described)?;
-            Ok(Name::Operator(Operator::RTTITypeDescriptor(*qualifiers, described)))
+            type_descriptor_from(*qualifiers, boxed_to_tree(alloc, *described))
         }
-        nodes::Name::BaseClassDescriptor(place) => Ok(Name::Operator(base_class_operator(*place))),
-        nodes::Name::Template(template) => {
-            let (name, arguments) = pair_ok(
-                box_ok(alloc, name_to_tree(alloc, template.name)),
-                types_to_tree(alloc, template.arguments),
-            )?;
-            Ok(Name::Template(name, arguments))
-        }
+        nodes::Name::BaseClassDescriptor(place) => Ok(base_class(*place)),
+        nodes::Name::Template(template) => template_from(
+            box_ok(alloc, name_to_tree(alloc, template.name)),
+            types_to_tree(alloc, template.arguments),
+        ),
         nodes::Name::Discriminator(number) => Ok(Name::Discriminator(*number)),
-        nodes::Name::Nested(symbol) => {
-            Ok(Name::ParsedName(box_ok(alloc, nodes_to_tree(alloc, *symbol))?))
-        }
+        nodes::Name::Nested(symbol) => nested_from(box_ok(alloc, nodes_to_tree(alloc, *symbol))),
     }
 }
 
@@ -120,54 +110,42 @@ pub(crate) fn type_to_tree<'a, 'b>(
         nodes::Type::Plain(plain) => Ok(plain_type(*plain)),
         nodes::Type::Base(base, qualifiers) => Ok(base_type(*base, *qualifiers)),
         nodes::Type::Tagged(tag, qualifiers, symbol) => {
-            Ok(tagged_type(*tag, symbol_to_tree(alloc, *symbol)?, *qualifiers))
+            tagged_from(*tag, symbol_to_tree(alloc, *symbol), *qualifiers)
         }
         nodes::Type::Numbered(kind, number) => Ok(numbered_type(*kind, *number)),
-        nodes::Type::ConstantString(text) => Ok(Type::ConstantString(text.to_vec(alloc)?)),
+        nodes::Type::ConstantString(text) => constant_string_from(copied_bytes(alloc, *text)),
         nodes::Type::Pointing(affinity, qualifiers, inner) => {
-            Ok(pointing_type(*affinity, boxed_to_tree(alloc, *inner)?, *qualifiers))
+            pointing_from(*affinity, boxed_to_tree(alloc, *inner), *qualifiers)
         }
         nodes::Type::Array(length, qualifiers, inner) => {
-            Ok(Type::Array(*length, boxed_to_tree(alloc, *inner)?, *qualifiers))
+            array_from(*length, boxed_to_tree(alloc, *inner), *qualifiers)
         }
-        nodes::Type::Function(function) => {
-            let (parameters, returned) = function_to_tree(alloc, *function)?;
-            Ok(Type::NonMemberFunction(
-                function.convention,
-                parameters,
-                function.qualifiers,
-                returned,
-            ))
-        }
-        nodes::Type::MemberFunction(function) => {
-            let (parameters, returned) = function_to_tree(alloc, *function)?;
-            Ok(Type::MemberFunction(
-                function.class,
-                function.convention,
-                parameters,
-                function.qualifiers,
-                returned,
-            ))
-        }
-        nodes::Type::MemberPointer(symbol, function) => {
-            let (symbol, (parameters, returned)) = pair_ok(
-                symbol_to_tree(alloc, *symbol),
-                function_to_tree(alloc, *function),
-            )?;
-            Ok(Type::MemberFunctionPointer(
-                symbol,
-                function.class,
-                function.convention,
-                parameters,
-                function.qualifiers,
-                returned,
-            ))
-        }
+        nodes::Type::Function(function) => function_from(
+            function.convention,
+            types_to_tree(alloc, function.parameters),
+            function.qualifiers,
+            boxed_to_tree(alloc, function.returned),
+        ),
+        nodes::Type::MemberFunction(function) => member_function_from(
+            function.class,
+            function.convention,
+            types_to_tree(alloc, function.parameters),
+            function.qualifiers,
+            boxed_to_tree(alloc, function.returned),
+        ),
+        nodes::Type::MemberPointer(symbol, function) => member_pointer_from(
+            symbol_to_tree(alloc, *symbol),
+            function.class,
+            function.convention,
+            types_to_tree(alloc, function.parameters),
+            function.qualifiers,
+            boxed_to_tree(alloc, function.returned),
+        ),
         nodes::Type::Variable(kind, qualifiers, inner) => {
-            Ok(Type::Var(boxed_to_tree(alloc, *inner)?, *kind, *qualifiers))
+            variable_from(boxed_to_tree(alloc, *inner), *kind, *qualifiers)
         }
         nodes::Type::Table(table, qualifiers, scope) => {
-            Ok(table_type(*table, names_to_tree(alloc, scope.names)?, *qualifiers))
+            table_from(*table, names_to_tree(alloc, scope.names), *qualifiers)
         }
         nodes::Type::VcallThunk(number, convention) => Ok(Type::VCallThunk(*number, *convention)),
     }
@@ -182,22 +160,6 @@ fn boxed_to_tree<'a, 'b>(
     ensures { IfOk result (λ b. type_of b.value ≡ node_type node.now) }
 {
     box_ok(alloc, type_to_tree(alloc, node))
-}
-
-/// Converts the parameters of a function and the type that it returns.
-#[cycle(to_tree)]
-#[inline(always)]
-fn function_to_tree<'a, 'b>(
-    alloc: Global,
-    node: &'b nodes::Function<'a, 'b>,
-) -> Result<(Params<'a>, Box<Type<'a>>), AllocError>
-    ensures parameters { IfOk result (λ f. params_of f.0 ≡ node_types node.now.parameters.now) }
-    ensures returned { IfOk result (λ f. type_of f.1.value ≡ node_type node.now.returned.now) }
-{
-    pair_ok(
-        types_to_tree(alloc, node.parameters),
-        boxed_to_tree(alloc, node.returned),
-    )
 }
 
 /// Converts the names of a scope.
@@ -230,4 +192,31 @@ pub(crate) fn types_to_tree<'a, 'b>(
         push_ok(&mut made, type_to_tree(alloc, *item))?;
     }
     Ok(Params { types: made })
+}
+
+/// Makes the descriptor of a base class of its place.
+fn base_class<'a>(place: &nodes::BaseClass) -> Name<'a>
+    ensures { name_of result
+        ≡ base_class_descriptor place.now.member place.now.pointer place.now.entry place.now.attributes }
+{
+    Name::Operator(Operator::RTTIBaseClassDescriptor(
+        place.member,
+        place.pointer,
+        place.entry,
+        place.attributes,
+    ))
+}
+
+/// Makes an anonymous namespace of its digits, which are copied.
+fn digits_to_tree<'a>(alloc: Global, digits: &str) -> Result<Name<'a>, AllocError>
+    ensures { IfOk result (λ n. name_of n ≡ anonymous (Some digits.now)) }
+{
+    Ok(Name::AnonymousNamespace(Some(String::from_str(alloc, digits)?)))
+}
+
+/// Copies the bytes of a string literal.
+fn copied_bytes(alloc: Global, bytes: &[u8]) -> Result<Vec<u8>, AllocError>
+    ensures { IfOk result (λ v. v.items ≡ bytes.now) }
+{
+    bytes.to_vec(alloc)
 }

@@ -56,5 +56,6 @@ pub fn serialize(
     ensures memory { IfErr result (λ e. e ≡ Memory) }
 {
     let out = declared(alloc, input, flags)?;
-    Ok(into_string_lossy(alloc, out)?)
+    let text = into_string_lossy(alloc, out)?;
+    Ok(text)
 }

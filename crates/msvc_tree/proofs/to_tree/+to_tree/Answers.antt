@@ -1,9 +1,10 @@
-use Rattle.std.proofs.Common.{◌≡◌, ◌<◌, ◌+◌, [], ◌∷◌, ◌++◌, suc, rules, slice_index_or, sym, ap, ◌∙◌, map, subst, IfOk, arith}
+use Rattle.std.proofs.Common.{◌≡◌, ◌<◌, ◌+◌, [], ◌∷◌, ◌++◌, suc, rules, slice_index_or, sym, ap, ◌∙◌, map, arith}
 use Rattle.std.proofs.lemmas.List.{map_more, take_all}
 use Rattle.std.specs.Borrow.{Bor}
 use Rattle.msvc_nodes.specs.NodeView.{name_at, type_at, names_in as node_names, types_in as node_types}
 use Rattle.msvc_nodes.specs.NodeView.{name_of as node_name, type_of as node_type}
 use Rattle.msvc_nodes.specs.Sizes.{name_size, names_size, type_size, types_size}
+use Rattle.msvc_nodes.specs.Trees.{member_pointer, table, tagged}
 use Rattle.msvc_tree.specs.View.{name_of, type_of, scope_of, params_of}
 use Rattle.msvc_nodes.specs.declared.kinds.PlainType.TheVariants as plain_kind
 use Rattle.msvc_nodes.specs.declared.nodes.Name as node_code
@@ -13,10 +14,8 @@ use Rattle.msvc_nodes.specs.declared.nodes.Type.{«Type»}
 use Rattle.msvc_tree.proofs.Kept.{pushed-seen}
 use Rattle.msvc_nodes.proofs.NodeLists.{node_names-size, node_types-size}
 use Rattle.msvc_tree.proofs.NodeLists.{names-from_map, types-from_map}
-use Rattle.msvc_nodes.proofs.NodeViews.{name_of-Template as node_name-Template}
 use Rattle.msvc_nodes.proofs.NodeViews.{type_of-MemberPointer, type_of-Table, type_of-Tagged}
-use Rattle.msvc_tree.proofs.Seen.{boxed-seen, of-first, of-second}
-use Rattle.msvc_tree.proofs.Views.{name_of-Template, type_of-MemberFunctionPointer}
+use Rattle.msvc_tree.proofs.Seen.{both, seen-of, seen-of-three}
 use Rattle.msvc_tree.proofs.to_tree.+to_tree.Goals as goal
 
 -- what an item of a list is called outside of the list
@@ -78,8 +77,8 @@ type_to_tree-symbol_to_tree-requires t c =
     ap type_size (ap node_type w.is ∙ type_of-Tagged w.tag w.qualifiers w.symbol) in
     omega (arith, c.decreases)
 
-pub type_to_tree-function_to_tree-requires-in-MemberPointer : goal.type_to_tree-function_to_tree-requires-in-MemberPointer
-type_to_tree-function_to_tree-requires-in-MemberPointer t c =
+pub type_to_tree-types_to_tree-requires-in-MemberPointer : goal.type_to_tree-types_to_tree-requires-in-MemberPointer
+type_to_tree-types_to_tree-requires-in-MemberPointer t c =
     let w = c.in-MemberPointer in
     let size : type_size (node_type c.args.node.now)
     ≡ suc (name_size (node_name w.symbol.now.name.now) + names_size (node_names w.symbol.now.scope.now)
@@ -94,65 +93,42 @@ type_to_tree-names_to_tree-requires t c =
     ap type_size (ap node_type w.is ∙ type_of-Table w.table w.qualifiers w.scope) in
     omega (arith, c.decreases)
 
-pub function_to_tree-returns-clause-parameters : goal.function_to_tree-returns-clause-parameters
-function_to_tree-returns-clause-parameters t c =
-    of-first (λ p. params_of p ≡ node_types c.args.node.now.parameters.now) c.types_to_tree.result
-    c.boxed_to_tree.result c.pair_ok.result c.pair_ok.ensures c.types_to_tree.ensures
-
-pub function_to_tree-returns-clause-returned : goal.function_to_tree-returns-clause-returned
-function_to_tree-returns-clause-returned t c =
-    of-second (λ b. type_of b.value ≡ node_type c.args.node.now.returned.now) c.types_to_tree.result
-    c.boxed_to_tree.result c.pair_ok.result c.pair_ok.ensures c.boxed_to_tree.ensures
-
-pub any_name_to_tree-returns-in_ok-name-in-Template : goal.any_name_to_tree-returns-in_ok-name-in-Template
-any_name_to_tree-returns-in_ok-name-in-Template t c =
-    let w = c.in-Template in
-    let o = c.in_ok-name-in-Template in
-    let p = o.ensures in
-    let name : name_of o.name.value ≡ node_name w.template.now.name.now =
-    boxed-seen name_of _ _ _ _ _ p.0 c.box_ok.ensures c.name_to_tree.ensures in
-    let arguments : params_of o.arguments ≡ node_types w.template.now.arguments.now =
-    subst (λ r. IfOk r (λ a. params_of a ≡ node_types w.template.now.arguments.now)) p.1
-    c.types_to_tree.ensures in
-    let view = ap node_name w.is ∙ node_name-Template w.template in
-    let made = name_of-Template o.name o.arguments in
-    cc
-
-pub type_to_tree-returns-in_ok-symbol_to_tree-in-Tagged : goal.type_to_tree-returns-in_ok-symbol_to_tree-in-Tagged
-type_to_tree-returns-in_ok-symbol_to_tree-in-Tagged t c =
+pub type_to_tree-returns-in-Tagged : goal.type_to_tree-returns-in-Tagged
+type_to_tree-returns-in-Tagged t c =
     let w = c.in-Tagged in
-    let made = c.tagged_type.ensures in
-    let name = c.in_ok-symbol_to_tree-in-Tagged.ensures.name in
-    let scope = c.in_ok-symbol_to_tree-in-Tagged.ensures.scope in
-    let view = ap node_type w.is ∙ type_of-Tagged w.tag w.qualifiers w.symbol in
-    cc
+    seen-of c.tagged_from.result c.symbol_to_tree.result type_of
+    (λ s. tagged w.tag (name_of s.name) (scope_of s.scope) w.qualifiers.0) (node_type c.args.node.now)
+    c.tagged_from.ensures
+    (both _ _ c.symbol_to_tree.result c.symbol_to_tree.ensures.name c.symbol_to_tree.ensures.scope)
+    (λ s p. ap (λ n. tagged w.tag n (scope_of s.scope) w.qualifiers.0) p.0
+    ∙ ap (λ ns. tagged w.tag (node_name w.symbol.now.name.now) ns w.qualifiers.0) p.1
+    ∙ sym (ap node_type w.is ∙ type_of-Tagged w.tag w.qualifiers w.symbol))
 
-pub type_to_tree-returns-in_ok-symbol-in-MemberPointer : goal.type_to_tree-returns-in_ok-symbol-in-MemberPointer
-type_to_tree-returns-in_ok-symbol-in-MemberPointer t c =
+pub type_to_tree-returns-in-MemberPointer : goal.type_to_tree-returns-in-MemberPointer
+type_to_tree-returns-in-MemberPointer t c =
     let w = c.in-MemberPointer in
     let f = w.function.now in
-    let o = c.in_ok-symbol-in-MemberPointer in
-    let p = o.ensures in
-    let name : name_of o.symbol.name ≡ node_name w.symbol.now.name.now =
-    subst (λ r. IfOk r (λ s. name_of s.name ≡ node_name w.symbol.now.name.now)) p.0
-    c.symbol_to_tree-in-MemberPointer.ensures.name in
-    let scope : scope_of o.symbol.scope ≡ node_names w.symbol.now.scope.now =
-    subst (λ r. IfOk r (λ s. scope_of s.scope ≡ node_names w.symbol.now.scope.now)) p.0
-    c.symbol_to_tree-in-MemberPointer.ensures.scope in
-    let parameters : params_of o.parameters ≡ node_types f.parameters.now =
-    subst (λ r. IfOk r (λ x. params_of x.0 ≡ node_types f.parameters.now)) p.1
-    c.function_to_tree-in-MemberPointer.ensures.parameters in
-    let returned : type_of o.returned.value ≡ node_type f.returned.now =
-    subst (λ r. IfOk r (λ x. type_of x.1.value ≡ node_type f.returned.now)) p.1
-    c.function_to_tree-in-MemberPointer.ensures.returned in
-    let view = ap node_type w.is ∙ type_of-MemberPointer w.symbol w.function in
-    let made = type_of-MemberFunctionPointer o.symbol f.class f.convention o.parameters f.qualifiers o.returned in
-    cc
+    seen-of-three c.member_pointer_from.result c.symbol_to_tree-in-MemberPointer.result
+    c.types_to_tree-in-MemberPointer.result c.boxed_to_tree-in-MemberPointer.result type_of
+    (λ s p b. member_pointer (name_of s.name) (scope_of s.scope) f.class.0 f.convention (params_of p) f.qualifiers.0
+    (type_of b.value)) (node_type c.args.node.now) c.member_pointer_from.ensures
+    (both _ _ c.symbol_to_tree-in-MemberPointer.result c.symbol_to_tree-in-MemberPointer.ensures.name
+    c.symbol_to_tree-in-MemberPointer.ensures.scope) c.types_to_tree-in-MemberPointer.ensures
+    c.boxed_to_tree-in-MemberPointer.ensures
+    (λ s p b e q r. ap (λ n. member_pointer n (scope_of s.scope) f.class.0 f.convention (params_of p) f.qualifiers.0
+    (type_of b.value)) e.0
+    ∙ ap (λ ns. member_pointer (node_name w.symbol.now.name.now) ns f.class.0 f.convention (params_of p) f.qualifiers.0
+    (type_of b.value)) e.1
+    ∙ ap (λ ts. member_pointer (node_name w.symbol.now.name.now) (node_names w.symbol.now.scope.now) f.class.0
+    f.convention ts f.qualifiers.0 (type_of b.value)) q
+    ∙ ap (λ i. member_pointer (node_name w.symbol.now.name.now) (node_names w.symbol.now.scope.now) f.class.0
+    f.convention (node_types f.parameters.now) f.qualifiers.0 i) r
+    ∙ sym (ap node_type w.is ∙ type_of-MemberPointer w.symbol w.function))
 
-pub type_to_tree-returns-in_ok-names_to_tree-in-Table : goal.type_to_tree-returns-in_ok-names_to_tree-in-Table
-type_to_tree-returns-in_ok-names_to_tree-in-Table t c =
+pub type_to_tree-returns-in-Table : goal.type_to_tree-returns-in-Table
+type_to_tree-returns-in-Table t c =
     let w = c.in-Table in
-    let made = c.table_type.ensures in
-    let scope = c.in_ok-names_to_tree-in-Table.ensures in
-    let view = ap node_type w.is ∙ type_of-Table w.table w.qualifiers w.scope in
-    cc
+    seen-of c.table_from.result c.names_to_tree.result type_of (λ s. table w.table (scope_of s) w.qualifiers.0)
+    (node_type c.args.node.now) c.table_from.ensures c.names_to_tree.ensures
+    (λ s p. ap (λ ns. table w.table ns w.qualifiers.0) p ∙ sym (ap node_type w.is ∙ type_of-Table w.table w.qualifiers
+    w.scope))

@@ -16,10 +16,6 @@ decreases-type_to_tree l = 3 * type_size (type_of l.node.now)
 abbrev pub decreases-boxed_to_tree : goal.decreases-boxed_to_tree
 decreases-boxed_to_tree l = 3 * type_size (type_of l.node.now) + 1
 
-abbrev pub decreases-function_to_tree : goal.decreases-function_to_tree
-decreases-function_to_tree l =
-    3 * (types_size (types_in l.node.now.parameters.now) + type_size (type_of l.node.now.returned.now)) + 2
-
 abbrev pub decreases-names_to_tree : goal.decreases-names_to_tree
 decreases-names_to_tree l = 3 * names_size (names_in l.names.now)
 

@@ -10,9 +10,9 @@ returns-clause-text c =
     let s = tree_of c.args.input.now in
     let flags = c.args.flags.0 in
     let same = c.in_ok-out.ensures in
-    let lossy = c.in_ok-into_string_lossy.ensures.lossy _ same in
+    let lossy = c.in_ok-text.ensures.lossy _ same in
     record {
-      declared = λ utf8. c.in_ok-into_string_lossy.ensures.whole _ same (declaration-utf8 s flags utf8);
+      declared = λ utf8. c.in_ok-text.ensures.whole _ same (declaration-utf8 s flags utf8);
       lossy = lossy;
       other_bits = λ other agree. lossy ∙ ap utf8_lossy (other_bits-change-nothing s flags other agree);
       name_only = λ only no_conversion other. lossy
