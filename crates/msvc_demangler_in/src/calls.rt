@@ -118,7 +118,7 @@ fn read<'a, 'b, A: Allocator>(
     }
 }
 
-/// Writes the tree of a symbol, of which the text is made in the arena, or that memory ran out.
+/// Writes the tree of a symbol, as a text that is made in the arena, or the message that memory ran out.
 fn write_tree_of<'a, 'b, A: Allocator>(
     arena: &'b Bump<A>,
     symbol: &'b TypedSymbol<'a, 'b>,

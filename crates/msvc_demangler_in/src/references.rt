@@ -12,9 +12,9 @@ use msvc_demangler::BackReference;
 pub struct Reference {
     /// The offset of the digit, in bytes.
     pub at: usize,
-    /// Where the text of the type that it refers to starts.
+    /// The start of the text of the type that it refers to.
     pub start: usize,
-    /// Where that text ends.
+    /// The end of that text.
     pub end: usize,
 }
 

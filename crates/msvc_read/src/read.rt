@@ -99,8 +99,8 @@ pub fn parse_prefix<'a>(alloc: Global, input: &'a str) -> Result<(ParseResult<'a
 ///
 /// # Limits
 ///
-/// The tree has at most `nodes` nodes: each name and each type in a tree is a node, at every depth. `usize::MAX` is no
-/// limit.
+/// The tree has at most `nodes` nodes: each name and each type in a tree is a node, at every depth. `usize::MAX` is a
+/// limit too, which the tree of a short symbol can exceed.
 ///
 /// # Errors
 ///
