@@ -205,30 +205,30 @@ async function run() {
     await click('#output .symbol');
     await page.until(`${details}.querySelectorAll('.reference').length === 3`);
     assert.ok((await text('details-list')).startsWith('SymbolCopy?g@@YAXPAHPAVx1@@010@Z'));
-    const told = () => page.value(`(() => {
+    const tooltip = () => page.value(`(() => {
       const tip = document.getElementById('tip');
       const meant = [...document.querySelectorAll('.meant')].map((piece) => piece.textContent);
       return [tip.hidden ? '' : tip.textContent, meant.join('')];
     })()`);
-    assert.deepEqual(await told(), ['', '']);
+    assert.deepEqual(await tooltip(), ['', '']);
     // By the mouse.
     await over('.reference');
     await page.until("!document.getElementById('tip').hidden");
-    assert.deepEqual(await told(), ['stands for PAH, int *', 'PAH']);
+    assert.deepEqual(await tooltip(), ['stands for PAH, int *', 'PAH']);
     await over('#details-title');
     await page.until("document.getElementById('tip').hidden");
-    assert.deepEqual(await told(), ['', '']);
-    // By the keyboard: Escape closes what is told first, and then the panel.
+    assert.deepEqual(await tooltip(), ['', '']);
+    // By the keyboard: Escape closes the tooltip first, and then the panel.
     await page.value("document.querySelectorAll('.reference')[0].focus()");
     await press('Tab', 9);
-    assert.deepEqual(await told(), ['stands for PAVx1@@', 'PAVx1@@']);
+    assert.deepEqual(await tooltip(), ['stands for PAVx1@@', 'PAVx1@@']);
     assert.equal(await page.value("document.activeElement.getAttribute('aria-describedby')"), 'tip');
     await press('Escape', 27);
-    assert.deepEqual(await told(), ['', '']);
+    assert.deepEqual(await tooltip(), ['', '']);
     assert.equal(await page.value("document.getElementById('details').open"), true);
     // By a finger.
     await tap('.reference:last-of-type');
-    assert.deepEqual(await told(), ['stands for PAH, int *', 'PAH']);
+    assert.deepEqual(await tooltip(), ['stands for PAH, int *', 'PAH']);
     await press('Escape', 27);
     await press('Escape', 27);
     await page.until("!document.getElementById('details').open");

@@ -3,7 +3,7 @@
    returns another status or length the second time.
 
    The archive has no instrumentation, so the bytes of the result stand in for its branches: each three in a row take
-   one of 256 instrumented branches here. */
+   one of 256 instrumented branches here. The library as one C file has branches of its own beside these. */
 
 #include <msvc_demangler.h>
 #include <stdlib.h>

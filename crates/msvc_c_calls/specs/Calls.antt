@@ -30,6 +30,12 @@ IsStatus limits None status = status ≡ 1
 IsStatus limits (Some Nodes) status = (status ≡ 4) × (is_some limits.nodes ≡ true)
 IsStatus limits (Some Bytes) status = (status ≡ 5) × (is_some limits.bytes ≡ true)
 
+-- The error is about a limit that the caller has not set.
+abbrev pub IsUnset : Limits → Option Limit → Type 0
+IsUnset limits None = ⊥
+IsUnset limits (Some Nodes) = limits.nodes ≡ None
+IsUnset limits (Some Bytes) = limits.bytes ≡ None
+
 -- The grammar derives no tree from a beginning of the symbol, or none that is within the limit on nodes.
 abbrev pub IsNoSymbolUnder : Option ℕ → List ℕ → Type 0
 IsNoSymbolUnder nodes symbol = (tree : SymbolTree) (rest : List ℕ) (notes : List Note)

@@ -1,10 +1,10 @@
 //! Shared parts of the libraries for C: the result of a call, its statuses, and writing a text into a buffer.
 #![tactic(auto)]
 
-ghost use Rattle.std.specs.Prelude.{◌≡◌, IfErr, IfOk, IfSome, length, set};
+ghost use Rattle.std.specs.Prelude.{◌≡◌, IfErr, IfNone, IfOk, IfSome, length, set};
 ghost use Rattle.msvc_demangler.specs.Limits.{limits_of};
 ghost use Rattle.msvc_c_calls.specs.Buffers.{IsWritten};
-ghost use Rattle.msvc_c_calls.specs.Calls.{IsStatus, out_of_memory_text};
+ghost use Rattle.msvc_c_calls.specs.Calls.{IsStatus, IsUnset, out_of_memory_text};
 
 use msvc_demangler::{Filtered, Limit};
 use std::alloc::AllocError;
@@ -48,7 +48,8 @@ pub struct CallResult {
 /// Returns the status of a rejected symbol by the limit that it exceeds, or `None` if that limit was not set: no memory
 /// holds that many nodes or bytes.
 pub fn status_of(limit: Option<Limit>, max_nodes: usize, max_bytes: usize) -> Option<u32>
-    ensures { IfSome result (λ status. IsStatus (limits_of max_nodes max_bytes) limit status) }
+    ensures status { IfSome result (λ status. IsStatus (limits_of max_nodes max_bytes) limit status) }
+    ensures none { IfNone result (IsUnset (limits_of max_nodes max_bytes) limit) }
 {
     match limit {
         None => Some(INVALID),

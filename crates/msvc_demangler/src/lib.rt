@@ -22,7 +22,7 @@ pub use msvc_read::{
     symbol_length_within,
 };
 pub use msvc_symbol::{DEFAULT_BYTE_LIMIT, DEFAULT_NODE_LIMIT, Demangler, Failure};
-use msvc_symbol::{demangle_once, error_of};
+use msvc_symbol::{Limits, demangle_once, error_of};
 pub use msvc_tree::tree::{
     CallingConv, Name, NameSequence, Operator, Params, ParseResult, Symbol, Type, VarStorageKind,
 };
@@ -95,7 +95,7 @@ pub fn demangle_within(
     ensures hashes { IfOk result (λ text. HashesAreShown input.now (string_bytes text)) }
 {
     let mut text = Text::new(alloc);
-    match demangle_once(alloc, &mut text, input, flags, nodes, bytes) {
+    match demangle_once(alloc, &mut text, input, flags, Limits { nodes, bytes }) {
         Ok(_) => Ok(text.into_string()),
         Err(failure) => Err(error_of(failure, alloc, input)),
     }

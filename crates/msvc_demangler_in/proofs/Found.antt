@@ -85,15 +85,17 @@ unread limits symbol status message left words context text u fails is about sho
     (no-symbol limits.nodes symbol message left fails) rejection about (not-bytes message) is
 
 -- the same of a refusal that is no lack of memory
-refused : (limits : Limits) (symbol : List ℕ) (status offset : ℕ) (reason : Refusal) (text : List ℕ) → IsUtf8 symbol
+rejected_for : (limits : Limits) (symbol : List ℕ) (status offset : ℕ) (reason : Refusal) (text : List ℕ)
+    → IsUtf8 symbol
     → FailsUnder limits.nodes symbol reason → Unread reason ≢ Unread refusal.Memory
     → IsStatus limits (limit_of_failure (Unread reason)) status → offset ≡ offset_of_failure symbol (Unread reason)
     → IsFailureText symbol (Unread reason) text → IsNotRead limits symbol status offset text
-refused limits symbol status offset (refusal.Unread message left) text u fails other is at told =
+rejected_for limits symbol status offset (refusal.Unread message left) text u fails other is at found =
     let At : ℕ → Type 0 = λ n. IsNotRead limits symbol status n text in
     subst At (sym at)
-    (unread limits symbol status message left told.words told.context text u fails is told.limit told.shows told.says)
-refused limits symbol status offset refusal.Memory text u fails other is at told = absurd (other refl)
+    (unread limits symbol status message left found.words found.context text u fails is found.limit found.shows
+    found.says)
+rejected_for limits symbol status offset refusal.Memory text u fails other is at found = absurd (other refl)
 
 pub no_memory : (limits : Limits) (symbol : List ℕ) (status offset : ℕ) (text : List ℕ) → IsUtf8 symbol → status ≡ 3
     → offset ≡ 0 → text ≡ out_of_memory_text → IsNotRead limits symbol status offset text
@@ -107,8 +109,8 @@ no_memory limits symbol status offset text u is at same =
 pub not_read_for : (limits : Limits) (symbol : List ℕ) (status offset : ℕ) (reason : Refusal) (text : List ℕ)
     → IsUtf8 symbol → FailsUnder limits.nodes symbol reason
     → IsReason limits symbol (Unread reason) status offset text → IsNotRead limits symbol status offset text
-not_read_for limits symbol status offset reason text u fails (said other is at told) =
-    refused limits symbol status offset reason text u fails other is at told
+not_read_for limits symbol status offset reason text u fails (said other is at found) =
+    rejected_for limits symbol status offset reason text u fails other is at found
 not_read_for limits symbol status offset reason text u fails (unsaid is at same) =
     no_memory limits symbol status offset text u is at same
 
@@ -118,10 +120,10 @@ pub found_for : (limits : Limits) (symbol : List ℕ) (flags status offset : ℕ
     → IsFound limits symbol flags status offset text
 found_for limits symbol flags status offset (Unread reason) text u fails why =
     not_read (not_read_for limits symbol status offset reason text u fails why)
-found_for limits symbol flags status offset (TooLong read) text u longer (said other is at told) =
+found_for limits symbol flags status offset (TooLong read) text u longer (said other is at found) =
     let At : ℕ → Type 0 = λ n. IsFound limits symbol flags status n text in
     let Status : ℕ → Type 0 = λ n. IsFound limits symbol flags n read text in
-    subst At (sym at) (subst Status (sym is.0) (too_long u longer told))
+    subst At (sym at) (subst Status (sym is.0) (too_long u longer found))
 found_for limits symbol flags status offset (TooLong read) text u longer (unsaid is at same) =
     not_read (no_memory limits symbol status offset text u is at same)
 
@@ -146,11 +148,11 @@ is-said None = tt
 is-said (Some text) = refl
 
 -- a symbol that is not read, where no text is written
-pub not_told : (limits : Limits) (symbol : List ℕ) (status offset : ℕ) (reason : Refusal) → IsUtf8 symbol
+pub some_not_read : (limits : Limits) (symbol : List ℕ) (status offset : ℕ) (reason : Refusal) → IsUtf8 symbol
     → FailsUnder limits.nodes symbol reason → Unread reason ≢ Unread refusal.Memory
     → IsStatus limits (limit_of_failure (Unread reason)) status → offset ≡ offset_of_failure symbol (Unread reason)
     → (text : List ℕ) × IsNotRead limits symbol status offset text
-not_told limits symbol status offset (refusal.Unread message left) u fails other is at =
+some_not_read limits symbol status offset (refusal.Unread message left) u fails other is at =
     let words = words_about (limit_of_message message) in
     let context = context_of symbol (length symbol - left) in
     let text = rejection_text words context (length symbol - left) in
@@ -160,22 +162,22 @@ not_told limits symbol status offset (refusal.Unread message left) u fails other
           (unread limits symbol status message left words context (said_of text) u fails is
           (about-words (limit_of_message message)) (λ ascii. refl) (is-said text)),
     )
-not_told limits symbol status offset refusal.Memory u fails other is at = absurd (other refl)
+some_not_read limits symbol status offset refusal.Memory u fails other is at = absurd (other refl)
 
 -- the same of what a call returns
-pub as_not_told : (limits : Limits) (symbol : List ℕ) (status offset count is at : ℕ)
+pub as_some_not_read : (limits : Limits) (symbol : List ℕ) (status offset count is at : ℕ)
     → (status ≡ is) × (offset ≡ at) × (count ≡ 0) → (text : List ℕ) × IsNotRead limits symbol is at text
     → (text : List ℕ) × IsNotRead limits symbol status offset text × (count ≡ 0)
-as_not_told limits symbol status offset count is at same not =
+as_some_not_read limits symbol status offset count is at same not =
     let Status : ℕ → Type 0 = λ n. IsNotRead limits symbol n offset not.0 in
     let At : ℕ → Type 0 = λ n. IsNotRead limits symbol is n not.0 in
     (not.0, subst Status (sym same.0) (subst At (sym same.1) not.1), same.2)
 
 -- and if memory ran out
-pub not_told_memory : (limits : Limits) (symbol : List ℕ) (status offset count : ℕ) → IsUtf8 symbol
+pub some_no_memory : (limits : Limits) (symbol : List ℕ) (status offset count : ℕ) → IsUtf8 symbol
     → (status ≡ 3) × (offset ≡ 0) × (count ≡ 0)
     → (text : List ℕ) × IsNotRead limits symbol status offset text × (count ≡ 0)
-not_told_memory limits symbol status offset count u is =
+some_no_memory limits symbol status offset count u is =
     (out_of_memory_text, no_memory limits symbol status offset out_of_memory_text u is.0 is.1 refl, is.2)
 
 -- what is written of a symbol for which memory ran out

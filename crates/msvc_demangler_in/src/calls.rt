@@ -1,16 +1,12 @@
 //! The calls in lent memory.
 
-ghost use Rattle.std.specs.Prelude.{◌≡◌, ◌≢◌, ◌++◌, ℕ, IfErr, IfNone, IfOk, IfSome, List, drop, length, map};
-ghost use Rattle.msvc_nodes.specs.NodeView.{typed_symbol_of};
-ghost use Rattle.msvc_parser.specs.Parser.{note_of};
+ghost use Rattle.std.specs.Prelude.{◌≡◌, ◌≢◌, ◌++◌, ℕ, IfNone, IfOk, IfSome, List, drop, length};
 ghost use Rattle.msvc_parser.specs.declared.refusal.Refusal.TheVariants as refusal;
-ghost use Rattle.msvc_demangler.specs.Counts.{node_count};
-ghost use Rattle.msvc_demangler.specs.Parsed.{AreReferences, IsParsed};
 ghost use Rattle.msvc_demangler.specs.Failure.TheVariants.{Unread};
 ghost use Rattle.msvc_demangler.specs.Failures.{FailsUnder, IsFailureText, IsInside};
 ghost use Rattle.msvc_demangler.specs.Failures.{limit_of_failure, offset_of_failure};
 ghost use Rattle.msvc_demangler.specs.Filtered.{AreOnlyParts, Part, fitting, text_of_parts};
-ghost use Rattle.msvc_demangler.specs.Limits.{IsWithin, limit_of_number, limits_of};
+ghost use Rattle.msvc_demangler.specs.Limits.{limit_of_number, limits_of};
 ghost use Rattle.msvc_c_calls.specs.Buffers.{IsWritten};
 ghost use Rattle.msvc_c_calls.specs.Calls.{IsFilteredInto, IsFound, IsMeasured, IsNotRead, IsStatus};
 ghost use Rattle.msvc_c_calls.specs.Calls.{out_of_memory_text};
@@ -24,9 +20,9 @@ use msvc_c_calls::{
     CallResult, OK, OUT_OF_MEMORY, OUT_OF_MEMORY_TEXT, end_filtered, status_of, write,
 };
 use msvc_debug::write_tree;
-use msvc_demangler::{BackReference, DemangleFlags, Failure, Filtered, Refusal, filter_slice_in};
+use msvc_demangler::{DemangleFlags, Failure, Filtered, Refusal, filter_slice_in};
 use msvc_nodes::nodes::TypedSymbol;
-use msvc_read::{read_references, read_references_within, read_symbol, read_symbol_within};
+use msvc_read::{read_references, read_symbol};
 use std::alloc::{AllocError, Allocator};
 
 /// Writes that memory ran out, and returns that.
@@ -80,7 +76,7 @@ pub(crate) fn declare(
         Err(failure) => failure,
     };
     drop(demangler);
-    tell(arena, failure, symbol, max_nodes, max_bytes, out)
+    write_reason(arena, failure, symbol, max_nodes, max_bytes, out)
 }
 
 /// Writes the tree of a symbol, or why it has none, into `out`.
@@ -92,30 +88,13 @@ pub(crate) fn show(memory: &Lent, symbol: &str, max_nodes: usize, out: &mut [u8]
     let Some(arena) = arena_in(memory) else {
         return out_of_memory(out);
     };
-    let refusal = match read(&arena, symbol, max_nodes) {
+    let refusal = match read_symbol(&arena, symbol, max_nodes) {
         Ok((symbol, _)) => return write_tree_of(&arena, &symbol, out),
         Err(refusal) => refusal,
     };
     drop(arena);
     let failure = Failure::Unread(refusal);
-    tell(memory, failure, symbol, max_nodes, usize::MAX, out)
-}
-
-/// Reads a symbol as nodes in the arena, if it has at most `max_nodes` nodes; `usize::MAX` is no limit.
-fn read<'a, 'b, A: Allocator>(
-    arena: &'b Bump<A>,
-    symbol: &'a str,
-    max_nodes: usize,
-) -> Result<(TypedSymbol<'a, 'b>, usize), Refusal>
-    ensures parsed { IfOk result (λ r. IsParsed symbol.now (typed_symbol_of r.0)) }
-    ensures within { IfOk result (λ r. IsWithin (limit_of_number max_nodes) (node_count (typed_symbol_of r.0))) }
-    ensures fails { IfErr result (λ reason. FailsUnder (limit_of_number max_nodes) symbol.now reason) }
-{
-    if max_nodes == usize::MAX {
-        read_symbol(arena, symbol)
-    } else {
-        read_symbol_within(arena, symbol, max_nodes)
-    }
+    write_reason(memory, failure, symbol, max_nodes, usize::MAX, out)
 }
 
 /// Writes the tree of a symbol, as a text that is made in the arena, or the message that memory ran out.
@@ -151,33 +130,13 @@ pub(crate) fn list(
     let Some(arena) = arena_in(memory) else {
         return unmeasured(OUT_OF_MEMORY, 0);
     };
-    match references(&arena, symbol, max_nodes) {
+    match read_references(&arena, symbol, max_nodes) {
         Ok(found) => CallResult {
             status: OK,
             offset: 0,
             length: write_references(&found, out),
         },
         Err(refusal) => unread(refusal, symbol, max_nodes),
-    }
-}
-
-/// Reads the back references of a symbol, if it has at most `max_nodes` nodes; `usize::MAX` is no limit.
-fn references<'b, A: Allocator>(
-    arena: &'b Bump<A>,
-    symbol: &'b str,
-    max_nodes: usize,
-) -> Result<Vec<BackReference, &'b Bump<A>>, Refusal>
-    ensures listed { IfOk result (λ found. (are : AreReferences symbol.now (map note_of found.items))
-        × IsWithin (limit_of_number max_nodes) (node_count are.tree)) }
-    ensures fails { IfErr result (λ reason. FailsUnder (limit_of_number max_nodes) symbol.now reason) }
-{
-    if max_nodes == usize::MAX {
-        read_references(arena, symbol)
-    } else {
-        match read_references_within(arena, symbol, max_nodes) {
-            Ok(found) => Ok(found),
-            Err(refusal) => Err(refusal),
-        }
     }
 }
 
@@ -194,7 +153,7 @@ fn unread(refusal: Refusal, symbol: &str, max_nodes: usize) -> CallResult
 }
 
 /// Writes why a call fails.
-fn tell(
+fn write_reason(
     memory: &Lent,
     failure: Failure,
     symbol: &str,

@@ -23,7 +23,9 @@ use crate::symbol_bounds::{
     MAX_LOOKED_AT, WordState, candidate, continues, plain_len, symbol_extent, utf8_front,
 };
 use msvc_nodes::flags::DemangleFlags;
-use msvc_symbol::{DEFAULT_BYTE_LIMIT, DEFAULT_NODE_LIMIT, Demangler, print_symbol, printed_bytes};
+use msvc_symbol::{
+    DEFAULT_BYTE_LIMIT, DEFAULT_NODE_LIMIT, Demangler, Limits, print_symbol, printed_bytes,
+};
 use msvc_watched::{Fault, Taken, Watched, consume, fail, fill_buf, line_end, write_all};
 use std::alloc::{AllocError, Allocator, Global};
 use std::io::{BufRead, Write};
@@ -480,13 +482,11 @@ fn demangle_candidate<A: Allocator + Copy>(
         × IsSymbolLength bytes input.now × (length (declaration tree flags.0) ≤ max_declared))) }
     ensures none { IfOk result (λ found. IfNone found (IsNoneWithin flags.0 input.now)) }
 {
-    match print_symbol(
-        demangler,
-        input,
-        flags,
-        DEFAULT_NODE_LIMIT,
-        DEFAULT_BYTE_LIMIT,
-    ) {
+    let limits = Limits {
+        nodes: DEFAULT_NODE_LIMIT,
+        bytes: DEFAULT_BYTE_LIMIT,
+    };
+    match print_symbol(demangler, input, flags, limits) {
         Ok(read) => Ok(Some(read)),
         Err(failure) => {
             if failure.is_out_of_memory() {

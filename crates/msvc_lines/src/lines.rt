@@ -14,7 +14,7 @@ ghost use Rattle.msvc_lines.specs.LineRuns.{WritesLines};
 use msvc_nodes::error::Error;
 use msvc_nodes::flags::DemangleFlags;
 use msvc_symbol::{Demangler, print_with_tree, printed_bytes};
-use msvc_watched::{Fault, Taken, Watched, read_piece, write_all, write_line};
+use msvc_watched::{Fault, Taken, Watched, fail, read_piece, write_all, write_line};
 use std::alloc::{AllocError, Global};
 use std::io::{BufRead, Write};
 use std::str::from_utf8;
@@ -147,8 +147,8 @@ pub fn undname_lines<R: BufRead, W: Write, E: Write>(
 {
     let mut demangler = Demangler::new(alloc);
     let mut piece = Vec::new(alloc);
-    'pieces: for polls in 0..u64::MAX {
-        match read_piece(input, polls, &mut piece)? {
+    'pieces: for _ in 0..u64::MAX {
+        match read_piece(input, &mut piece)? {
             Taken::Part => {}
             Taken::Line => {
                 undname_line(alloc, &mut demangler, &piece, out, err, verbose)?;
@@ -162,10 +162,7 @@ pub fn undname_lines<R: BufRead, W: Write, E: Write>(
             }
         }
     }
-    match read_piece(input, u64::MAX, &mut piece) {
-        Ok(_) => Ok(()),
-        Err(fault) => Err(fault),
-    }
+    Err(fail(input))
 }
 
 /// Demangles one line, unless it is not UTF-8.

@@ -17,5 +17,5 @@ mod text;
 mod types;
 mod words;
 
-pub use printer::{print, print_arena_bytes, print_arena_bytes_within, print_within};
+pub use printer::{print, print_arena_bytes, print_within};
 pub use text::{Text, into_string_lossy};

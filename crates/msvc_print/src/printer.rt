@@ -1,6 +1,6 @@
 //! The printer's loop over its stack, one step for each item, and the bytes that the stack takes.
 
-ghost use Rattle.std.specs.Prelude.{◌≡◌, ◌≤◌, ◌^◌, OnOk, IfOk, Some};
+ghost use Rattle.std.specs.Prelude.{◌≡◌, ◌≤◌, ◌^◌, OnOk, IfOk, Some, true};
 ghost use Rattle.msvc_nodes.specs.NodeView.{typed_symbol_of};
 ghost use Rattle.msvc_print.specs.Declaration.{declaration};
 ghost use Rattle.msvc_print.specs.Within.{IsPrintedWithin};
@@ -35,26 +35,18 @@ const BYTES_PER_NODE: usize = 128;
 /// Most bytes that are asked for ahead of printing.
 const MAX_ARENA_BYTES: usize = 1 << 20;
 
-/// Returns how many bytes of an arena the stack takes while a symbol of `symbol_bytes` bytes is printed, at most a
-/// megabyte. An arena that has them makes no further request for memory. Of a longer symbol, the stack asks for the
-/// rest as it grows.
-pub fn print_arena_bytes(symbol_bytes: usize) -> usize
+/// Returns how many bytes of an arena the stack takes while a symbol of `symbol_bytes` bytes and at most `nodes` nodes
+/// is printed, at most a megabyte. `usize::MAX` nodes are no limit. An arena that has these bytes makes no further
+/// request for memory. Of a longer symbol, the stack asks for the rest as it grows.
+pub fn print_arena_bytes(symbol_bytes: usize, nodes: usize) -> usize
     ensures max { result ≤ 2 ^ 20 }
 {
-    symbol_bytes
-        .saturating_mul(BYTES_PER_SYMBOL_BYTE)
+    let by_text = symbol_bytes.saturating_mul(BYTES_PER_SYMBOL_BYTE);
+    let by_nodes = nodes.saturating_mul(BYTES_PER_NODE);
+    by_text
+        .min(by_nodes)
         .saturating_add(BYTES_AT_FIRST)
         .min(MAX_ARENA_BYTES)
-}
-
-/// Returns the same where the symbol also has at most `nodes` nodes.
-pub fn print_arena_bytes_within(symbol_bytes: usize, nodes: usize) -> usize
-    ensures max { result ≤ 2 ^ 20 }
-{
-    nodes
-        .saturating_mul(BYTES_PER_NODE)
-        .saturating_add(BYTES_AT_FIRST)
-        .min(print_arena_bytes(symbol_bytes))
 }
 
 /// Prints one item of the stack.
@@ -118,17 +110,13 @@ pub fn print<'a, 'b, B: Allocator, A: Allocator>(
 ) -> Result<(), AllocError>
     ensures { OnOk result (out.new.text ≡ Some (declaration (typed_symbol_of symbol.now) flags.0)) }
 {
-    if print_within(arena, symbol, flags, usize::MAX, out)? {
-        Ok(())
-    } else {
-        // No allocation has so many bytes.
-        Err(AllocError)
-    }
+    print_within(arena, symbol, flags, usize::MAX, out)?;
+    Ok(())
 }
 
 /// Prints as [`print`] does, if the declaration has at most `max` bytes, and returns whether it has. If it is longer,
 /// `out` is not whole: a piece that would exceed `max` bytes is not written, and printing ends after the step that it
-/// is a part of.
+/// is a part of. `usize::MAX` is no limit.
 ///
 /// Fails only if an allocation fails; `out` is then unspecified.
 pub fn print_within<'a, 'b, B: Allocator, A: Allocator>(
@@ -138,12 +126,18 @@ pub fn print_within<'a, 'b, B: Allocator, A: Allocator>(
     max: usize,
     out: &mut Text<A>,
 ) -> Result<bool, AllocError>
-    ensures { IfOk result (λ within.
+    ensures printed { IfOk result (λ within.
         IsPrintedWithin max (declaration (typed_symbol_of symbol.now) flags.0) within out.new.text) }
+    ensures unlimited { IfOk result (λ within. max ≡ usize.MAX → within ≡ true) }
 {
     out.clear(max);
     let mut stack = Vec::with_capacity(arena, FIRST_ITEMS)?;
     push_typed_symbol(&mut stack, symbol, flags)?;
     run(&mut stack, out, flags)?;
-    Ok(out.is_whole())
+    let within = out.is_whole();
+    if !within && max == usize::MAX {
+        // No allocation has so many bytes.
+        return Err(AllocError);
+    }
+    Ok(within)
 }

@@ -1,6 +1,7 @@
 -- The notes that are read of a whole text are those of the one tree that is derived, rise, and can be written out.
-use Rattle.std.proofs.Common.{ℕ, List, Option, Some, None, ◌≡◌, ◌≤◌, refl, subst}
+use Rattle.std.proofs.Common.{ℕ, List, Option, Some, None, Result, Ok, Err, ◌≡◌, ◌≤◌, length, refl, subst}
 use Rattle.std.specs.Option.{option_map}
+use Rattle.std.specs.Prelude.{codes, IfErr, IfOk}
 use Rattle.msvc_nodes.specs.Trees.{SymbolTree}
 use Rattle.msvc_grammar.proofs.Laws.{derived-only, symbol-derived}
 use Rattle.msvc_grammar.proofs.NodeLimits.{within_derived}
@@ -9,12 +10,15 @@ use Rattle.msvc_grammar.proofs.WrittenOut.{all_written_out}
 use Rattle.msvc_grammar.specs.Counts.{node_count}
 use Rattle.msvc_grammar.specs.Parsed.{AreReferences}
 use Rattle.msvc_grammar.specs.Reads.{Derives, Found, read_name}
-use Rattle.msvc_grammar.specs.Rules.{symbol}
+use Rattle.msvc_grammar.specs.Rules.{after, symbol}
 use Rattle.msvc_grammar.specs.State.{State, Note, at_most, beginning, beginning_with}
-use Rattle.msvc_parser.specs.Parser.{Rejects, with_length}
+use Rattle.msvc_parser.specs.Parser.{IsRead, Rejects, with_length}
+use Rattle.msvc_parser.specs.declared.refusal.Message.TheVariants as message
 use Rattle.msvc_parser.specs.declared.refusal.Refusal.{Refusal}
 use Rattle.msvc_parser.specs.declared.refusal.Refusal.TheVariants as refusal
-use Rattle.msvc_read.proofs.WholeTexts.{begun}
+use Rattle.msvc_read.proofs.WholeTexts.{begun, fails, fails-within}
+use Rattle.msvc_read.specs.Failures.{FailsUnder}
+use Rattle.msvc_read.specs.Limits.{IsWithin}
 
 -- the notes that are taken of a text
 abbrev pub notes_read : List ℕ → Option (List Note)
@@ -64,3 +68,24 @@ pub notes-rejected : (text : List ℕ) (r : Refusal) (found : Found SymbolTree)
 notes-rejected text refusal.Memory found h = tt
 notes-rejected text (refusal.Unread message left) None h = refl
 notes-rejected text (refusal.Unread message left) (Some x) h = absurd (cc)
+
+-- the notes that are read under a limit
+abbrev pub notes_under : Option ℕ → List ℕ → Option (List Note)
+notes_under None text = notes_read text
+notes_under (Some max) text = notes_within max text
+
+pub under-listed : {A : Type 0} (limit : Option ℕ) (text : List ℕ) (view : A → List Note) (result : Result A Refusal)
+    → IsRead view result (notes_under limit text)
+    → IfOk result (λ r. (are : AreReferences text (view r)) × IsWithin limit (node_count are.tree))
+under-listed limit text view (Err reason) is = tt
+under-listed None text view (Ok r) is = (references text (view r) is, tt)
+under-listed (Some max) text view (Ok r) is = references-within max text (view r) is
+
+pub unlisted : {A : Type 0} (limit : Option ℕ) (text : List ℕ) (view : A → List Note) (result : Result A Refusal)
+    → IsRead view result (notes_under limit text)
+    → (after (codes "?") text ≡ None → result ≡ Err (refusal.Unread message.NoQuestionMark (length text)))
+    → IfErr result (λ reason. FailsUnder limit text reason)
+unlisted limit text view (Ok r) is start = tt
+unlisted None text view (Err reason) is start = fails text reason (notes-rejected text reason _ is) start
+unlisted (Some max) text view (Err reason) is start =
+    fails-within max text reason (notes-rejected text reason _ is) start

@@ -1,9 +1,9 @@
 -- Reads a whole text: what is read is the one tree that the grammar derives, and where nothing is read it derives none.
-use Rattle.std.proofs.Common.{ℕ, List, [], ◌++◌, length, length-append, take, Option, Some, None, Result, Err, ◌≡◌, ◌≤◌}
-use Rattle.std.proofs.Common.{◌-◌, ◌≢◌, refl}
+use Rattle.std.proofs.Common.{ℕ, List, [], ◌++◌, length, length-append, take, Option, Some, None, Result, Ok, Err, ◌≡◌}
+use Rattle.std.proofs.Common.{◌≤◌, ◌-◌, ◌≢◌, ne_eqb, refl}
 use Rattle.std.proofs.Common.{sym, ap, ◌∙◌, subst, arith}
 use Rattle.std.specs.Option.{option_map}
-use Rattle.std.specs.Prelude.{codes}
+use Rattle.std.specs.Prelude.{◌^◌, codes, if◌then◌else◌, IfErr, IfOk}
 use Rattle.std.specs.Str.{IsCharBoundary, IsUtf8}
 use Rattle.msvc_nodes.specs.Errors.{context_of, limit_of}
 use Rattle.msvc_nodes.specs.Trees.{SymbolTree}
@@ -32,11 +32,12 @@ use Rattle.msvc_grammar.specs.State.{State, Note, at_most, beginning, beginning_
 use Rattle.msvc_parser.proofs.Choices.{chosen}
 use Rattle.msvc_parser.proofs.SymbolSteps.{symbol_step}
 use Rattle.msvc_parser.specs.Errors.{IsErrorOf}
-use Rattle.msvc_parser.specs.Parser.{Rejects, with_length}
+use Rattle.msvc_parser.specs.Parser.{IsRead, Rejects, with_length}
 use Rattle.msvc_parser.specs.declared.refusal.Message.TheVariants as message
 use Rattle.msvc_parser.specs.declared.refusal.Refusal.{Refusal}
 use Rattle.msvc_parser.specs.declared.refusal.Refusal.TheVariants as refusal
-use Rattle.msvc_read.specs.Failures.{Fails, FailsWithin, UnlessMemory}
+use Rattle.msvc_read.specs.Failures.{Fails, FailsUnder, FailsWithin, UnlessMemory}
+use Rattle.msvc_read.specs.Limits.{IsWithin, limit_of_number}
 
 -- The grammar
 
@@ -331,3 +332,47 @@ pub length-rejected : (r : Refusal) (read : Option (SymbolTree × ℕ)) → Reje
 length-rejected refusal.Memory read h = tt
 length-rejected (refusal.Unread message left) None h = refl
 length-rejected (refusal.Unread message left) (Some x) h = absurd (cc)
+
+-- With a limit or without one
+
+-- the largest number sets no limit
+pub no_limit : (number : ℕ) → number ≡ 2 ^ 64 - 1 → limit_of_number number ≡ None
+no_limit number is = subst (λ n. limit_of_number n ≡ None) (sym is) refl
+
+-- and any other number sets one
+pub a_limit : (number : ℕ) → number ≢ 2 ^ 64 - 1 → limit_of_number number ≡ Some number
+a_limit number not = ap (λ b. if b then None else Some number) (ne_eqb number (2 ^ 64 - 1) not)
+
+-- the symbol that is read of a text under a limit, and how many bytes of it were read
+abbrev pub symbol_under : Option ℕ → List ℕ → Option (SymbolTree × ℕ)
+symbol_under None text = symbol_read text
+symbol_under (Some max) text = symbol_within max text
+
+pub under-parsed : {A : Type 0} (limit : Option ℕ) (text : List ℕ) (view : A → SymbolTree × ℕ)
+    (result : Result A Refusal) → IsUtf8 text → IsRead view result (symbol_under limit text)
+    → IfOk result (λ r. IsParsed text (view r).0)
+under-parsed limit text view (Err reason) utf8 is = tt
+under-parsed None text view (Ok r) utf8 is = read-parsed text (view r).0 (view r).1 utf8 is
+under-parsed (Some max) text view (Ok r) utf8 is = within-parsed max text (view r).0 (view r).1 utf8 is
+
+pub under-nodes : {A : Type 0} (limit : Option ℕ) (text : List ℕ) (view : A → SymbolTree × ℕ)
+    (result : Result A Refusal) → IsRead view result (symbol_under limit text)
+    → IfOk result (λ r. IsWithin limit (node_count (view r).0))
+under-nodes limit text view (Err reason) is = tt
+under-nodes None text view (Ok r) is = tt
+under-nodes (Some max) text view (Ok r) is = within-nodes max text (view r).0 (view r).1 is
+
+pub under-length : {A : Type 0} (limit : Option ℕ) (text : List ℕ) (view : A → SymbolTree × ℕ)
+    (result : Result A Refusal) → IsUtf8 text → IsRead view result (symbol_under limit text)
+    → IfOk result (λ r. IsSymbolLength (view r).1 text)
+under-length limit text view (Err reason) utf8 is = tt
+under-length None text view (Ok r) utf8 is = read-length text (view r).0 (view r).1 utf8 is
+under-length (Some max) text view (Ok r) utf8 is = within-length max text (view r).0 (view r).1 utf8 is
+
+pub under-fails : {A : Type 0} (limit : Option ℕ) (text : List ℕ) (view : A → SymbolTree × ℕ)
+    (result : Result A Refusal) → IsRead view result (symbol_under limit text)
+    → (after (codes "?") text ≡ None → result ≡ Err (refusal.Unread message.NoQuestionMark (length text)))
+    → IfErr result (λ reason. FailsUnder limit text reason)
+under-fails limit text view (Ok r) is start = tt
+under-fails None text view (Err reason) is start = fails text reason is start
+under-fails (Some max) text view (Err reason) is start = fails-within max text reason is start

@@ -1,5 +1,5 @@
 -- Why reading a whole text fails, before an error is made of the reason.
-use Rattle.std.specs.Prelude.{ℕ, List, ◌-◌, ◌≡◌, codes, length}
+use Rattle.std.specs.Prelude.{ℕ, List, ◌-◌, ◌≡◌, Option, Some, None, codes, length}
 use Rattle.msvc_nodes.specs.declared.error.ErrorRepr.{ErrorRepr}
 use Rattle.msvc_grammar.specs.Parsed.{IsRejected, IsRejectedWithin}
 use Rattle.msvc_grammar.specs.Rejections.{IsNoSymbol, IsNoSymbolWithin, begins_with}
@@ -29,3 +29,8 @@ pub record FailsWithin (nodes : ℕ) (text : List ℕ) (reason : Refusal) : Type
   pub none : UnlessMemory text reason (λ offset. IsNoSymbolWithin nodes text)
   -- a text without a question mark at its beginning is rejected at offset 0
   pub begins : UnlessMemory text reason (λ offset. (begins_with (codes "?") text → ⊥) → offset ≡ 0)
+
+-- Reading the text fails for this reason, under a limit on nodes or without one.
+abbrev pub FailsUnder : Option ℕ → List ℕ → Refusal → Type 0
+FailsUnder None text reason = Fails text reason
+FailsUnder (Some nodes) text reason = FailsWithin nodes text reason

@@ -14,3 +14,4 @@ pub use Rattle.msvc_nodes.specs.Trees
 pub use Rattle.msvc_parser.specs.Parser
 pub use Rattle.msvc_tree.specs.View
 pub mod Failures
+pub mod Limits

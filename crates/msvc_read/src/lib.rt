@@ -5,7 +5,6 @@ mod read;
 
 pub use msvc_parser::back_references::BackReference;
 pub use read::{
-    back_references, parse, parse_arena_bytes, parse_arena_bytes_within, parse_prefix,
-    parse_within, read_references, read_references_within, read_symbol, read_symbol_within,
-    symbol_length, symbol_length_within,
+    back_references, parse, parse_arena_bytes, parse_prefix, parse_within, read_references,
+    read_symbol, symbol_length, symbol_length_within,
 };

@@ -11,7 +11,8 @@ ghost use Rattle.msvc_grammar.specs.Reads.{read_name};
 ghost use Rattle.msvc_grammar.specs.Rules.{after, symbol};
 ghost use Rattle.msvc_grammar.specs.State.{Count, beginning, beginning_with};
 ghost use Rattle.msvc_parser.specs.Parser.{IsRead, note_of, with_length, Rejects};
-ghost use Rattle.msvc_read.specs.Failures.{Fails, FailsWithin};
+ghost use Rattle.msvc_read.specs.Failures.{FailsUnder};
+ghost use Rattle.msvc_read.specs.Limits.{IsWithin, limit_of_number};
 
 use alloc_fuse::Fuse;
 use bumpalo::Bump;
@@ -89,8 +90,8 @@ pub fn parse_prefix<'a>(alloc: Global, input: &'a str) -> Result<(ParseResult<'a
     ensures rejected { IfErr result (λ e. spec.IsRejected input.now e) }
     ensures laws { spec.GrammarLaws input.now }
 {
-    match read_tree(alloc, input, Unlimited, parse_arena_bytes(input)) {
-        Ok((tree, bytes)) => Ok((tree, bytes)),
+    match read_tree(alloc, input, Unlimited, usize::MAX) {
+        Ok(read) => Ok(read),
         Err(refusal) => Err(refusal.error(alloc, input.as_bytes())),
     }
 }
@@ -126,56 +127,38 @@ pub fn parse_within<'a>(
         used: 0,
         max: nodes,
     };
-    match read_tree(alloc, input, limit, parse_arena_bytes_within(input, nodes)) {
+    match read_tree(alloc, input, limit, nodes) {
         Ok((tree, _)) => Ok(tree),
         Err(refusal) => Err(refusal.error(alloc, input.as_bytes())),
     }
 }
 
-/// Returns the symbol that `input` begins with, as nodes in `arena`, and its length in bytes. [`parse`] makes its tree
-/// of these nodes. The names borrow from `input`. A part that occurs twice in the symbol is shared. All memory is the
-/// arena's.
+/// Returns the symbol that `input` begins with, as nodes in `arena`, if its tree has at most `nodes` nodes, and its
+/// length in bytes. `usize::MAX` is no limit, and no node is counted then. The names borrow from `input`. A part that
+/// occurs twice in the symbol is shared. All memory is the arena's.
 ///
 /// # Errors
 ///
-/// Fails where [`parse`] does, with the reason for its error.
+/// Fails where [`parse_within`] does or, without a limit, where [`parse`] does, with the reason for its error.
 pub fn read_symbol<'a, 'b, A: Allocator>(
-    arena: &'b Bump<A>,
-    input: &'a str,
-) -> Result<(TypedSymbol<'a, 'b>, usize), Refusal>
-    ensures parsed { IfOk result (λ r. spec.IsParsed input.now (typed_symbol_of r.0)) }
-    ensures length { IfOk result (λ r. spec.IsSymbolLength r.1 input.now) }
-    ensures fails { IfErr result (λ reason. Fails input.now reason) }
-    ensures laws { spec.GrammarLaws input.now }
-{
-    match read_nodes(arena, input, Unlimited) {
-        Ok((symbol, length)) => Ok((symbol, length)),
-        Err(refusal) => Err(refusal),
-    }
-}
-
-/// Returns the symbol that `input` begins with, as [`read_symbol`] does, if its tree has at most `nodes` nodes.
-///
-/// # Errors
-///
-/// Fails where [`parse_within`] does, with the reason for its error.
-pub fn read_symbol_within<'a, 'b, A: Allocator>(
     arena: &'b Bump<A>,
     input: &'a str,
     nodes: usize,
 ) -> Result<(TypedSymbol<'a, 'b>, usize), Refusal>
     ensures parsed { IfOk result (λ r. spec.IsParsed input.now (typed_symbol_of r.0)) }
-    ensures within { IfOk result (λ r. node_count (typed_symbol_of r.0) ≤ nodes) }
+    ensures within { IfOk result (λ r. IsWithin (limit_of_number nodes) (node_count (typed_symbol_of r.0))) }
     ensures length { IfOk result (λ r. spec.IsSymbolLength r.1 input.now) }
-    ensures fails { IfErr result (λ reason. FailsWithin nodes input.now reason) }
+    ensures fails { IfErr result (λ reason. FailsUnder (limit_of_number nodes) input.now reason) }
+    ensures laws { spec.GrammarLaws input.now }
 {
-    let limit = NodeLimit {
-        used: 0,
-        max: nodes,
-    };
-    match read_nodes(arena, input, limit) {
-        Ok((symbol, bytes)) => Ok((symbol, bytes)),
-        Err(refusal) => Err(refusal),
+    if nodes == usize::MAX {
+        read_nodes(arena, input, Unlimited)
+    } else {
+        let limit = NodeLimit {
+            used: 0,
+            max: nodes,
+        };
+        read_nodes(arena, input, limit)
     }
 }
 
@@ -196,7 +179,7 @@ pub fn symbol_length(alloc: Global, input: &str) -> Result<usize, Error>
     ensures rejected { IfErr result (λ e. spec.IsRejected input.now e) }
     ensures laws { spec.GrammarLaws input.now }
 {
-    match read_length(alloc, input, Unlimited, parse_arena_bytes(input)) {
+    match read_length(alloc, input, Unlimited, usize::MAX) {
         Ok(bytes) => Ok(bytes),
         Err(refusal) => Err(refusal.error(alloc, input.as_bytes())),
     }
@@ -222,7 +205,7 @@ pub fn symbol_length_within(alloc: Global, input: &str, nodes: usize) -> Result<
         used: 0,
         max: nodes,
     };
-    match read_length(alloc, input, limit, parse_arena_bytes_within(input, nodes)) {
+    match read_length(alloc, input, limit, nodes) {
         Ok(bytes) => Ok(bytes),
         Err(refusal) => Err(refusal.error(alloc, input.as_bytes())),
     }
@@ -255,81 +238,54 @@ pub fn back_references(alloc: Global, input: &str) -> Result<Vec<BackReference>,
     }
 }
 
-/// Lists the digits that were read as whole parameters, as [`back_references`] does. The list is in `arena`, which has
-/// all memory.
+/// Lists the digits that were read as whole parameters, as [`back_references`] does, if the symbol's tree has at most
+/// `nodes` nodes. `usize::MAX` is no limit, and no node is counted then. The list is in `arena`, which has all memory.
 ///
 /// # Errors
 ///
-/// Fails where [`parse`] does. The error of [`parse`] is the one that is made of the reason.
+/// Fails where [`read_symbol`] does, with the same reason.
 pub fn read_references<'b, A: Allocator>(
-    arena: &'b Bump<A>,
-    input: &'b str,
-) -> Result<Vec<BackReference, &'b Bump<A>>, Refusal>
-    ensures listed { IfOk result (λ found. spec.AreReferences input.now (map note_of found.items)) }
-    ensures fails { IfErr result (λ reason. Fails input.now reason) }
-    ensures laws { spec.GrammarLaws input.now }
-{
-    match read_notes(arena, input, Unlimited) {
-        Ok(found) => Ok(found),
-        Err(refusal) => Err(refusal),
-    }
-}
-
-/// Lists the digits that were read as whole parameters, as [`read_references`] does, if the symbol's tree has at most
-/// `nodes` nodes.
-///
-/// # Errors
-///
-/// Fails where [`parse_within`] does. The error of [`parse_within`] is the one that is made of the reason.
-pub fn read_references_within<'b, A: Allocator>(
     arena: &'b Bump<A>,
     input: &'b str,
     nodes: usize,
 ) -> Result<Vec<BackReference, &'b Bump<A>>, Refusal>
     ensures listed { IfOk result (λ found. (are : spec.AreReferences input.now (map note_of found.items))
-        × (node_count are.tree ≤ nodes)) }
-    ensures fails { IfErr result (λ reason. FailsWithin nodes input.now reason) }
+        × IsWithin (limit_of_number nodes) (node_count are.tree)) }
+    ensures fails { IfErr result (λ reason. FailsUnder (limit_of_number nodes) input.now reason) }
+    ensures laws { spec.GrammarLaws input.now }
 {
-    let limit = NodeLimit {
-        used: 0,
-        max: nodes,
-    };
-    match read_notes(arena, input, limit) {
-        Ok(listed) => Ok(listed),
-        Err(refusal) => Err(refusal),
+    if nodes == usize::MAX {
+        read_notes(arena, input, Unlimited)
+    } else {
+        let limit = NodeLimit {
+            used: 0,
+            max: nodes,
+        };
+        read_notes(arena, input, limit)
     }
 }
 
-/// Returns the bytes that an arena needs to read `input`: for the nodes of its symbol and for the parser's lists and
-/// tables. An arena of this size makes one request for memory. The result is at most a megabyte: a longer text requests
-/// more as it is read.
-pub fn parse_arena_bytes(input: &str) -> usize
+/// Returns the bytes that an arena needs to read at most `nodes` nodes of `input`: for the nodes and for the parser's
+/// lists and tables. `usize::MAX` is no limit. An arena of this size makes one request for memory. The result is at
+/// most a megabyte: a longer text requests more as it is read.
+pub fn parse_arena_bytes(input: &str, nodes: usize) -> usize
     ensures max { result ≤ 2 ^ 20 }
 {
-    input
-        .len()
-        .saturating_mul(BYTES_PER_SYMBOL_BYTE)
+    let by_text = input.len().saturating_mul(BYTES_PER_SYMBOL_BYTE);
+    let by_nodes = nodes.saturating_mul(BYTES_PER_NODE);
+    by_text
+        .min(by_nodes)
         .saturating_add(BYTES_AT_FIRST)
         .min(MAX_ARENA_BYTES)
 }
 
-/// Returns the bytes of [`parse_arena_bytes`] that an arena needs to read at most `nodes` nodes of `input`.
-pub fn parse_arena_bytes_within(input: &str, nodes: usize) -> usize
-    ensures max { result ≤ 2 ^ 20 }
-{
-    nodes
-        .saturating_mul(BYTES_PER_NODE)
-        .saturating_add(BYTES_AT_FIRST)
-        .min(parse_arena_bytes(input))
-}
-
-/// Makes an arena whose first chunk has `arena_bytes` bytes, for the nodes of a symbol.
+/// Makes an arena that is large enough to read at most `nodes` nodes of `input`.
 ///
 /// # Errors
 ///
 /// Fails if an allocation fails, and, before it requests memory, if `input` doesn't begin with a question mark.
 #[tactic(auto, using(msvc_parser::proofs::SymbolSteps::symbol_step))]
-fn arena_for(alloc: Global, input: &str, arena_bytes: usize) -> Result<Bump<Fuse>, Refusal>
+fn arena_for(alloc: Global, input: &str, nodes: usize) -> Result<Bump<Fuse>, Refusal>
     ensures value { IfErr result (λ e. (count : Count)
         → Rejects e (read_name symbol input.now (beginning_with count input.now))) }
     ensures start { after (codes "?") input.now ≡ None
@@ -338,18 +294,19 @@ fn arena_for(alloc: Global, input: &str, arena_bytes: usize) -> Result<Bump<Fuse
     let [b'?', ..] = input.as_bytes() else {
         return Err(Refusal::Unread(Message::NoQuestionMark, input.len()));
     };
-    match Bump::try_with_capacity(Fuse::new(alloc), arena_bytes) {
+    match Bump::try_with_capacity(Fuse::new(alloc), parse_arena_bytes(input, nodes)) {
         Ok(arena) => Ok(arena),
         Err(_) => Err(Refusal::Memory),
     }
 }
 
-/// Reads the symbol that `input` begins with, and returns its tree and its length in bytes.
+/// Reads the symbol that `input` begins with, in an arena for at most `nodes` nodes, and returns its tree and its
+/// length in bytes.
 fn read_tree<'a, L: NodeBudget>(
     alloc: Global,
     input: &'a str,
     limit: L,
-    arena_bytes: usize,
+    nodes: usize,
 ) -> Result<(ParseResult<'a>, usize), Refusal>
     ensures value { IsRead (λ r. (tree_of r.0, r.1)) result
         (with_length input.now (read_name symbol input.now (beginning_with (record {
@@ -360,7 +317,7 @@ fn read_tree<'a, L: NodeBudget>(
     ensures start { after (codes "?") input.now ≡ None
         → result ≡ Err (Refusal.Unread Message.NoQuestionMark (length input.now)) }
 {
-    let arena = arena_for(alloc, input, arena_bytes)?;
+    let arena = arena_for(alloc, input, nodes)?;
     let (symbol, bytes) = read_nodes(&arena, input, limit)?;
     match nodes_to_tree(alloc, &symbol) {
         Ok(tree) => Ok((tree, bytes)),
@@ -368,12 +325,13 @@ fn read_tree<'a, L: NodeBudget>(
     }
 }
 
-/// Returns the length in bytes of the symbol that `input` begins with.
+/// Returns the length in bytes of the symbol that `input` begins with, which is read in an arena for at most `nodes`
+/// nodes.
 fn read_length<L: NodeBudget>(
     alloc: Global,
     input: &str,
     limit: L,
-    arena_bytes: usize,
+    nodes: usize,
 ) -> Result<usize, Refusal>
     ensures value { IsRead (λ bytes. bytes) result
         (option_map (λ r. r.1) (with_length input.now (read_name symbol input.now (beginning_with (record {
@@ -384,11 +342,9 @@ fn read_length<L: NodeBudget>(
     ensures start { after (codes "?") input.now ≡ None
         → result ≡ Err (Refusal.Unread Message.NoQuestionMark (length input.now)) }
 {
-    let arena = arena_for(alloc, input, arena_bytes)?;
-    match read_nodes(&arena, input, limit) {
-        Ok((_, bytes)) => Ok(bytes),
-        Err(refusal) => Err(refusal),
-    }
+    let arena = arena_for(alloc, input, nodes)?;
+    let (_, bytes) = read_nodes(&arena, input, limit)?;
+    Ok(bytes)
 }
 
 /// Reads the symbol that `input` begins with, and returns it as nodes in `arena`, and its length in bytes.
@@ -422,7 +378,7 @@ fn copy_references(alloc: Global, input: &str) -> Result<Vec<BackReference>, Ref
     ensures start { after (codes "?") input.now ≡ None
         → result ≡ Err (Refusal.Unread Message.NoQuestionMark (length input.now)) }
 {
-    let arena = arena_for(alloc, input, parse_arena_bytes(input))?;
+    let arena = arena_for(alloc, input, usize::MAX)?;
     let references = read_notes(&arena, input, Unlimited)?;
     match Vec::from_slice(alloc, &references) {
         Ok(copied) => Ok(copied),

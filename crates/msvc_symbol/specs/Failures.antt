@@ -11,15 +11,11 @@ use Rattle.msvc_parser.specs.Errors.{IsErrorOf, IsMessageAt, limit_of_message}
 use Rattle.msvc_parser.specs.declared.refusal.Refusal.{Refusal}
 use Rattle.msvc_parser.specs.declared.refusal.Refusal.TheVariants as refusal
 use Rattle.msvc_print.specs.Declaration.{declaration}
-use Rattle.msvc_read.specs.Failures.{Fails, FailsWithin}
-use Rattle.msvc_symbol.specs.Limits.{IsBeyond, IsWithin, Limits}
+pub use Rattle.msvc_read.specs.Failures.{FailsUnder}
+use Rattle.msvc_read.specs.Limits.{IsBeyond, IsWithin}
+use Rattle.msvc_symbol.specs.Limits.{Limits}
 use Rattle.msvc_symbol.specs.declared.failure.Failure.{Failure}
 use Rattle.msvc_symbol.specs.declared.failure.Failure.TheVariants.{Unread, TooLong}
-
--- Reading the text fails for this reason, under a limit on nodes or without one.
-abbrev pub FailsUnder : Option ℕ → List ℕ → Refusal → Type 0
-FailsUnder None text reason = Fails text reason
-FailsUnder (Some nodes) text reason = FailsWithin nodes text reason
 
 -- So many bytes were read for the symbol's tree, which is within the limit on nodes, and its declaration exceeds the
 -- limit on bytes.

@@ -1,24 +1,12 @@
 -- Limits on a call: how many nodes a tree may have, and how many bytes its declaration.
-use Rattle.std.specs.Prelude.{ℕ, List, ◌-◌, ◌^◌, ◌≡◌, ◌≤◌, ◌<◌, ◌==◌, length}
-use Rattle.std.specs.Prelude.{Option, Some, None, if◌then◌else◌}
+use Rattle.std.specs.Prelude.{ℕ, List, ◌≡◌, Option, Some, None, length}
 use Rattle.msvc_nodes.specs.Errors.{IsRejectionOrMemory, context_text_of, too_long}
 use Rattle.msvc_nodes.specs.Trees.{SymbolTree}
 use Rattle.msvc_nodes.specs.declared.error.ErrorRepr.{ErrorRepr}
 use Rattle.msvc_grammar.specs.Counts.{node_count}
 use Rattle.msvc_grammar.specs.Parsed.{IsParsed, IsRejected, IsRejectedWithin, IsSymbolLength}
 use Rattle.msvc_print.specs.Declaration.{declaration}
-
--- the limit that a caller's number sets: none if it is the largest number
-abbrev pub limit_of_number : ℕ → Option ℕ
-limit_of_number number = if number == 2 ^ 64 - 1 then None else Some number
-
-abbrev pub IsWithin : Option ℕ → ℕ → Type 0
-IsWithin None count = Unit {0}
-IsWithin (Some most) count = count ≤ most
-
-abbrev pub IsBeyond : Option ℕ → ℕ → Type 0
-IsBeyond None count = ⊥
-IsBeyond (Some most) count = most < count
+pub use Rattle.msvc_read.specs.Limits.{IsBeyond, IsWithin, limit_of_number}
 
 -- the limits of a call, on nodes and on bytes
 pub record Limits : Type 0 where

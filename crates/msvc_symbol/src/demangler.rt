@@ -8,12 +8,14 @@ ghost use Rattle.msvc_grammar.specs.Counts.{node_count};
 ghost use Rattle.msvc_grammar.specs.Parsed.{GrammarLaws, IsParsed, IsRejected, IsSymbolLength};
 ghost use Rattle.msvc_read.specs.Failures.{Fails};
 ghost use Rattle.msvc_print.specs.Declaration.{declaration};
+ghost use Rattle.msvc_print.specs.Limited.{empty_within};
 ghost use Rattle.msvc_print.specs.Within.{IsPrintedWithin};
 ghost use Rattle.msvc_symbol.specs.Demangled.{HashesAreShown, IsDeclared, IsDeclaredWithin, IsErrorUnder};
 ghost use Rattle.msvc_symbol.specs.Failures.{FailsUnder, IsFailure, IsInside};
 ghost use Rattle.msvc_symbol.specs.Limits.{IsPrinted, IsRejectedUnder, IsWithin, limit_of_number, limits_of};
 
 use crate::failure::{Failure, error_of};
+use crate::limits::Limits;
 use alloc_fuse::Fuse;
 use bumpalo::Bump;
 use msvc_debug::write_tree;
@@ -21,8 +23,8 @@ use msvc_nodes::error::Error;
 use msvc_nodes::flags::DemangleFlags;
 use msvc_nodes::nodes::TypedSymbol;
 use msvc_parser::refusal::Refusal;
-use msvc_print::{Text, print_arena_bytes, print_arena_bytes_within, print_within};
-use msvc_read::{parse_arena_bytes, parse_arena_bytes_within, read_symbol, read_symbol_within};
+use msvc_print::{Text, print_arena_bytes, print_within};
+use msvc_read::{parse_arena_bytes, read_symbol};
 use std::alloc::{AllocError, Allocator, Global};
 use std::marker::Model;
 
@@ -77,7 +79,9 @@ where
 
 impl<A: Allocator + Copy> Demangler<A> {
     /// Makes a demangler. Requests no memory.
-    pub fn new(alloc: A) -> Demangler<A> {
+    pub fn new(alloc: A) -> Demangler<A>
+        ensures { result ≡ empty_within usize.MAX }
+    {
         Demangler {
             alloc,
             arena: Bump::new(Fuse::new(alloc)),
@@ -88,7 +92,9 @@ impl<A: Allocator + Copy> Demangler<A> {
 
     /// Makes a demangler of an arena and a text that have all the available memory. Neither is replaced, and no call
     /// reserves more memory than its symbol needs.
-    pub fn over(alloc: A, arena: Bump<Fuse<A>>, text: Text<A>) -> Demangler<A> {
+    pub fn over(alloc: A, arena: Bump<Fuse<A>>, text: Text<A>) -> Demangler<A>
+        ensures { result ≡ text }
+    {
         Demangler {
             alloc,
             arena,
@@ -115,7 +121,7 @@ impl<A: Allocator + Copy> Demangler<A> {
         ensures fails { IfErr result (λ failure. IsFailure (limits_of nodes bytes) input.now flags.0 failure) }
         ensures inside { IfErr result (λ failure. IsInside input.now failure) }
     {
-        match print_symbol(self, input, flags, nodes, bytes) {
+        match print_symbol(self, input, flags, Limits { nodes, bytes }) {
             Ok(_) => Ok(self.text.as_str()),
             Err(failure) => Err(failure),
         }
@@ -135,7 +141,7 @@ impl<A: Allocator + Copy> Demangler<A> {
         if self.prepare(input, nodes).is_err() {
             return Err(Refusal::Memory);
         }
-        let measured = match read(&self.arena, input, nodes) {
+        let measured = match read_symbol(&self.arena, input, nodes) {
             Ok((_, bytes)) => Ok(bytes),
             Err(refusal) => Err(refusal),
         };
@@ -146,7 +152,9 @@ impl<A: Allocator + Copy> Demangler<A> {
     }
 
     /// Frees all memory. The next symbol requests it again.
-    pub fn clear(&mut self) {
+    pub fn clear(&mut self)
+        ensures { self.new ≡ empty_within usize.MAX }
+    {
         *self = Demangler::new(self.alloc);
     }
 
@@ -219,7 +227,7 @@ impl Demangler<Global> {
         ensures rejected { IfErr result (λ e. IsErrorUnder (limits_of nodes bytes) input.now flags.0 e) }
         ensures hashes { IfOk result (λ text. HashesAreShown input.now text.now) }
     {
-        match print_symbol(self, input, flags, nodes, bytes) {
+        match print_symbol(self, input, flags, Limits { nodes, bytes }) {
             Ok(_) => Ok(self.text.as_str()),
             Err(failure) => Err(error_of(failure, self.alloc, input)),
         }
@@ -244,9 +252,8 @@ impl Demangler<Global> {
     }
 }
 
-/// Reads the symbol that `input` begins with, if its tree has at most `nodes` nodes, and prints its declaration as the
-/// demangler's text, if that has at most `bytes` bytes. `usize::MAX` is no limit. Returns the length of the symbol in
-/// bytes.
+/// Reads the symbol that `input` begins with, and prints its declaration as the demangler's text, within limits.
+/// Returns the length of the symbol in bytes.
 ///
 /// # Errors
 ///
@@ -255,15 +262,15 @@ pub fn print_symbol<A: Allocator + Copy>(
     demangler: &mut Demangler<A>,
     input: &str,
     flags: DemangleFlags,
-    nodes: usize,
-    bytes: usize,
+    limits: Limits,
 ) -> Result<usize, Failure>
     ensures printed { IfOk result (λ read.
-        IsPrinted (limits_of nodes bytes) input.now flags.0 read demangler.new.text) }
-    ensures fails { IfErr result (λ failure. IsFailure (limits_of nodes bytes) input.now flags.0 failure) }
+        IsPrinted (limits_of limits.nodes limits.bytes) input.now flags.0 read demangler.new.text) }
+    ensures fails { IfErr result (λ failure.
+        IsFailure (limits_of limits.nodes limits.bytes) input.now flags.0 failure) }
     ensures inside { IfErr result (λ failure. IsInside input.now failure) }
 {
-    demangler.prepare(input, nodes)?;
+    demangler.prepare(input, limits.nodes)?;
     let reserved = demangler.text_bytes(input);
     let done = demangle_in(
         &demangler.arena,
@@ -271,8 +278,7 @@ pub fn print_symbol<A: Allocator + Copy>(
         reserved,
         input,
         flags,
-        nodes,
-        bytes,
+        limits,
     );
     if let Err(Failure::Unread(Refusal::Memory)) = done {
         demangler.drop_arena_next();
@@ -302,7 +308,7 @@ pub fn print_with_tree(
         return Err(Refusal::Memory);
     }
     let reserved = demangler.text_bytes(input);
-    let (symbol, _) = read(&demangler.arena, input, usize::MAX)?;
+    let (symbol, _) = read_symbol(&demangler.arena, input, usize::MAX)?;
     if verbose
         && (write_tree(demangler.alloc, &symbol, tree).is_err() || tree.push('\n').is_err())
     {
@@ -337,16 +343,16 @@ pub fn demangle_once<A: Allocator + Copy>(
     text: &mut Text<A>,
     input: &str,
     flags: DemangleFlags,
-    nodes: usize,
-    bytes: usize,
+    limits: Limits,
 ) -> Result<usize, Failure>
     ensures printed { IfOk result (λ read.
-        IsPrinted (limits_of nodes bytes) input.now flags.0 read text.new.text) }
-    ensures fails { IfErr result (λ failure. IsFailure (limits_of nodes bytes) input.now flags.0 failure) }
+        IsPrinted (limits_of limits.nodes limits.bytes) input.now flags.0 read text.new.text) }
+    ensures fails { IfErr result (λ failure.
+        IsFailure (limits_of limits.nodes limits.bytes) input.now flags.0 failure) }
     ensures inside { IfErr result (λ failure. IsInside input.now failure) }
 {
-    let arena = Bump::try_with_capacity(Fuse::new(alloc), arena_bytes(input, nodes))?;
-    demangle_in(&arena, text, text_bytes(input), input, flags, nodes, bytes)
+    let arena = Bump::try_with_capacity(Fuse::new(alloc), arena_bytes(input, limits.nodes))?;
+    demangle_in(&arena, text, text_bytes(input), input, flags, limits)
 }
 
 /// Reads a symbol and prints its declaration to `text`, as [`print_symbol`] does, in an arena that is empty and large
@@ -358,17 +364,17 @@ fn demangle_in<B: Allocator, A: Allocator>(
     reserved: usize,
     input: &str,
     flags: DemangleFlags,
-    nodes: usize,
-    bytes: usize,
+    limits: Limits,
 ) -> Result<usize, Failure>
     ensures printed { IfOk result (λ read.
-        IsPrinted (limits_of nodes bytes) input.now flags.0 read text.new.text) }
-    ensures fails { IfErr result (λ failure. IsFailure (limits_of nodes bytes) input.now flags.0 failure) }
+        IsPrinted (limits_of limits.nodes limits.bytes) input.now flags.0 read text.new.text) }
+    ensures fails { IfErr result (λ failure.
+        IsFailure (limits_of limits.nodes limits.bytes) input.now flags.0 failure) }
     ensures inside { IfErr result (λ failure. IsInside input.now failure) }
 {
-    match read(arena, input, nodes) {
+    match read_symbol(arena, input, limits.nodes) {
         Ok((symbol, read)) => {
-            if print_in(arena, text, reserved, &symbol, flags, bytes)? {
+            if print_in(arena, text, reserved, &symbol, flags, limits.bytes)? {
                 Ok(read)
             } else {
                 Err(Failure::TooLong(read))
@@ -395,12 +401,7 @@ fn print_in<'a, 'b, B: Allocator, A: Allocator>(
 {
     text.clear(bytes);
     text.try_reserve(reserved)?;
-    let within = print_within(arena, symbol, flags, bytes, text)?;
-    if !within && bytes == usize::MAX {
-        // An allocation has fewer bytes.
-        return Err(AllocError);
-    }
-    Ok(within)
+    print_within(arena, symbol, flags, bytes, text)
 }
 
 /// Returns the bytes of the declarations of most symbols that are as long as `input`.
@@ -420,31 +421,7 @@ fn arena_bytes(input: &str, nodes: usize) -> usize {
     let [b'?', ..] = input.as_bytes() else {
         return 0;
     };
-    let (tree, stack) = if nodes == usize::MAX {
-        (parse_arena_bytes(input), print_arena_bytes(input.len()))
-    } else {
-        let stack = print_arena_bytes_within(input.len(), nodes);
-        (parse_arena_bytes_within(input, nodes), stack)
-    };
-    tree.saturating_add(stack).min(MAX_ARENA_BYTES)
-}
-
-/// Reads the symbol that `input` begins with as nodes in `arena`, if it has at most `nodes` nodes, and returns it and
-/// its length in bytes. Counts no nodes if any number is allowed.
-#[inline(always)]
-fn read<'a, 'b, B: Allocator>(
-    arena: &'b Bump<B>,
-    input: &'a str,
-    nodes: usize,
-) -> Result<(TypedSymbol<'a, 'b>, usize), Refusal>
-    ensures parsed { IfOk result (λ r. IsParsed input.now (typed_symbol_of r.0)) }
-    ensures within { IfOk result (λ r. IsWithin (limit_of_number nodes) (node_count (typed_symbol_of r.0))) }
-    ensures length { IfOk result (λ r. IsSymbolLength r.1 input.now) }
-    ensures fails { IfErr result (λ reason. FailsUnder (limit_of_number nodes) input.now reason) }
-{
-    if nodes == usize::MAX {
-        read_symbol(arena, input)
-    } else {
-        read_symbol_within(arena, input, nodes)
-    }
+    parse_arena_bytes(input, nodes)
+        .saturating_add(print_arena_bytes(input.len(), nodes))
+        .min(MAX_ARENA_BYTES)
 }

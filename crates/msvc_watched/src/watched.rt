@@ -1,7 +1,7 @@
 //! Streams that are watched: whether a call on a reader or a writer has failed. Only `consume` and `write_some` move
 //! bytes, and only `fail` and `write_some` set the failure flag of a stream.
 
-ghost use Rattle.std.specs.Prelude.{◌≡◌, ◌+◌, ◌≤◌, ◌<◌, ◌^◌, ◌-◌, ◌++◌, ℕ, List, [], Err, IfErr, IfOk, IfSome};
+ghost use Rattle.std.specs.Prelude.{◌≡◌, ◌+◌, ◌≤◌, ◌<◌, ◌++◌, ℕ, List, [], IfErr, IfOk, IfSome};
 ghost use Rattle.std.specs.Prelude.{OnErr, OnSome, false, length, take, true};
 ghost use Rattle.std.specs.Borrow.{sem};
 ghost use Rattle.std.specs.Io.{StartsWith};
@@ -113,25 +113,17 @@ pub fn consume<R: BufRead>(input: &mut Watched<R>, count: usize)
 }
 
 /// Polls the reader once, and appends the bytes that it takes to `bytes`: up to a line feed, or all that the reader
-/// shows. The reader was polled `polls` times before; 2^64 - 1 times are too many, and count as a failure.
+/// shows.
 ///
 /// Returns the fault of a failed call at once, also of an interrupted one, and takes nothing then. No clause states
 /// that the reader is polled no second time, since a reader's contract describes its bytes and counts no calls.
-pub fn read_piece<R: BufRead>(
-    input: &mut Watched<R>,
-    polls: u64,
-    bytes: &mut Vec<u8>,
-) -> Result<Taken, Fault>
+pub fn read_piece<R: BufRead>(input: &mut Watched<R>, bytes: &mut Vec<u8>) -> Result<Taken, Fault>
     ensures taken { (taken : List ℕ) × (bytes.new.items ≡ bytes.old.items ++ taken)
         × Consumes (R.remaining input.old.stream) (R.remaining input.new.stream) taken × TakenAs result taken }
     ensures end { IfOk result (λ t. t ≡ Taken.End →
         OnSome (R.remaining input.old.stream) (IsAtEnd (R.remaining input.new.stream))) }
     ensures sets_failed { SetsFailureFlag result (failure_flag input.old input.new) no_stream no_stream }
-    ensures too_many { polls ≡ 2 ^ 64 - 1 → result ≡ Err Fault.Read }
 {
-    if polls == u64::MAX {
-        return Err(fail(input));
-    }
     let Ok(shown) = fill_buf(input) else {
         return Err(fail(input));
     };

@@ -18,10 +18,10 @@ returns-in-Ok c = (
 
 pub returns : goal.returns
 returns c =
-    let told = c.tell.ensures in (
-      told.0,
+    let found = c.write_reason.ensures in (
+      found.0,
       found_for (limits_of c.args.max_nodes c.args.max_bytes) c.args.symbol.now c.args.flags.0 _ _ c.in-Err.failure
-          told.0 c.utf8.symbol c.in-Err.ensures.fails told.1,
-      told.2,
-      told.3,
+          found.0 c.utf8.symbol c.in-Err.ensures.fails found.1,
+      found.2,
+      found.3,
     )

@@ -10,19 +10,19 @@ returns-in_default c =
 
 pub returns-in-Ok : goal.returns-in-Ok
 returns-in-Ok c =
-    let told = c.write_tree_of.ensures in (
-      told.0,
-      tree_shown _ c.args.symbol.now _ _ _ told.0 c.utf8.symbol c.in-Ok.ensures.parsed c.in-Ok.ensures.within told.1,
-      told.2,
-      told.3,
+    let found = c.write_tree_of.ensures in (
+      found.0,
+      tree_shown _ c.args.symbol.now _ _ _ found.0 c.utf8.symbol c.in-Ok.ensures.parsed c.in-Ok.ensures.within found.1,
+      found.2,
+      found.3,
     )
 
 pub returns : goal.returns
 returns c =
-    let told = c.tell.ensures in (
-      told.0,
+    let found = c.write_reason.ensures in (
+      found.0,
       not_shown
-          (not_read_for _ c.args.symbol.now _ _ c.in-Err.refusal told.0 c.utf8.symbol c.in-Err.ensures.fails told.1),
-      told.2,
-      told.3,
+          (not_read_for _ c.args.symbol.now _ _ c.in-Err.refusal found.0 c.utf8.symbol c.in-Err.ensures.fails found.1),
+      found.2,
+      found.3,
     )

@@ -2,10 +2,13 @@ use Rattle.std.proofs.Common.{rules, ◌≡◌, ◌≢◌, ◌++◌, ◌∷◌, 
 use Rattle.std.specs.Prelude.{vec_len}
 use Rattle.std.proofs.lemmas.Result.{err_from_is_err_and}
 use Rattle.std.specs.Io.KnownBytes.{Consumes}
+use Rattle.std.proofs.KnownBytes.{Consumes-nil}
 use Rattle.msvc_lines.specs.Answers.{IsText}
 use Rattle.msvc_lines.specs.Lines.{line_of}
+use Rattle.msvc_watched.specs.Faults.{failure_flag}
 use Rattle.msvc_watched.specs.Runs.{Writes, WritesPart}
 use Rattle.msvc_watched.specs.Taking.{IsCut, IsWithEnd}
+use Rattle.msvc_watched.specs.declared.watched.Fault.TheVariants.{Read}
 use Rattle.msvc_watched.specs.declared.watched.Taken.TheVariants.{Part}
 use Rattle.msvc_lines.proofs.LineRun.{empty-of_length, LineRun-polled, LineRun-end, LineRun-fault, LineRun-line}
 use Rattle.msvc_lines.proofs.LineRun.{LineRun-part, LineRun-rest, LineRun-start}
@@ -88,5 +91,9 @@ pieces-preserved g c =
 
 pub returns-clause-text : goal.returns-clause-text
 returns-clause-text g c =
-    let e = c.in-Err.ensures in
-    LineRun-polled answers-joined _ _ _ _ _ _ _ _ e.taken.0 c.pieces.invariant.0 e.taken.2 e.taken.3 e.sets_failed
+    let flag = failure_flag c.pieces.input c.fail.new.input in
+    let taken = subst (λ s. Consumes (g.R.Read.remaining c.pieces.input.stream) (g.R.Read.remaining s) [])
+    (sym c.fail.ensures.stream) (Consumes-nil _) in
+    rw c.fail.ensures.fault
+    (LineRun-polled answers-joined Read flag _ _ _ _ _ _ [] c.pieces.invariant.0 taken refl
+    (c.fail.ensures.failed, refl, refl))

@@ -4,11 +4,11 @@ use Rattle.msvc_read.proofs.read.parse_prefix.Goals as goal
 
 pub returns-in-Ok-clause-parsed : goal.returns-in-Ok-clause-parsed
 returns-in-Ok-clause-parsed c =
-    read-parsed c.args.input.now (tree_of c.in-Ok.tree) c.in-Ok.bytes c.utf8.input c.in-Ok.ensures.value
+    read-parsed c.args.input.now (tree_of c.in-Ok.read.0) c.in-Ok.read.1 c.utf8.input c.in-Ok.ensures.value
 
 pub returns-in-Ok-clause-length : goal.returns-in-Ok-clause-length
 returns-in-Ok-clause-length c =
-    read-length c.args.input.now (tree_of c.in-Ok.tree) c.in-Ok.bytes c.utf8.input c.in-Ok.ensures.value
+    read-length c.args.input.now (tree_of c.in-Ok.read.0) c.in-Ok.read.1 c.utf8.input c.in-Ok.ensures.value
 
 pub returns-in-Ok-clause-laws : goal.returns-in-Ok-clause-laws
 returns-in-Ok-clause-laws c = laws c.args.input.now

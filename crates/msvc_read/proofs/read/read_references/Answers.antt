@@ -1,20 +1,38 @@
+use Rattle.std.proofs.Common.{None, Some}
 use Rattle.std.specs.Prelude.{map}
 use Rattle.msvc_parser.specs.Parser.{note_of}
-use Rattle.msvc_read.proofs.Listed.{notes-rejected, references}
-use Rattle.msvc_read.proofs.WholeTexts.{fails, laws}
+use Rattle.msvc_read.proofs.Listed.{under-listed, unlisted}
+use Rattle.msvc_read.proofs.WholeTexts.{a_limit, laws, no_limit}
 use Rattle.msvc_read.proofs.read.read_references.Goals as goal
 
-pub returns-in-Ok-clause-listed : goal.returns-in-Ok-clause-listed
-returns-in-Ok-clause-listed g c =
-    references c.args.input.now (map note_of c.in-Ok.found.items) c.in-Ok.ensures.value
+pub returns-then-nodes-eq18446744073709551615-clause-listed :
+    goal.returns-then-nodes-eq18446744073709551615-clause-listed
+returns-then-nodes-eq18446744073709551615-clause-listed g c =
+    let read = c.read_notes in
+    rw (no_limit c.args.nodes c.if-nodes-eq18446744073709551615.true)
+    (under-listed None c.args.input.now (λ found. map note_of found.items) read.result read.ensures.value)
 
-pub returns-in-Ok-clause-laws : goal.returns-in-Ok-clause-laws
-returns-in-Ok-clause-laws g c = laws c.args.input.now
+pub returns-then-nodes-eq18446744073709551615-clause-fails : goal.returns-then-nodes-eq18446744073709551615-clause-fails
+returns-then-nodes-eq18446744073709551615-clause-fails g c =
+    let read = c.read_notes in
+    rw (no_limit c.args.nodes c.if-nodes-eq18446744073709551615.true)
+    (unlisted None c.args.input.now (λ found. map note_of found.items) read.result read.ensures.value read.ensures.start)
 
-pub returns-in-Err-clause-fails : goal.returns-in-Err-clause-fails
-returns-in-Err-clause-fails g c =
-    fails c.args.input.now c.in-Err.refusal
-    (notes-rejected c.args.input.now c.in-Err.refusal _ c.in-Err.ensures.value) c.in-Err.ensures.start
+pub returns-then-nodes-eq18446744073709551615-clause-laws : goal.returns-then-nodes-eq18446744073709551615-clause-laws
+returns-then-nodes-eq18446744073709551615-clause-laws g c = laws c.args.input.now
 
-pub returns-in-Err-clause-laws : goal.returns-in-Err-clause-laws
-returns-in-Err-clause-laws g c = laws c.args.input.now
+pub returns-else-nodes-eq18446744073709551615-clause-listed :
+    goal.returns-else-nodes-eq18446744073709551615-clause-listed
+returns-else-nodes-eq18446744073709551615-clause-listed g c =
+    let read = c.read_notes-else-nodes-eq18446744073709551615 in
+    rw (a_limit c.args.nodes c.if-nodes-eq18446744073709551615.false)
+    (under-listed (Some c.args.nodes) c.args.input.now (λ found. map note_of found.items) read.result read.ensures.value)
+
+pub returns-else-nodes-eq18446744073709551615-clause-fails : goal.returns-else-nodes-eq18446744073709551615-clause-fails
+returns-else-nodes-eq18446744073709551615-clause-fails g c =
+    let read = c.read_notes-else-nodes-eq18446744073709551615 in
+    rw (a_limit c.args.nodes c.if-nodes-eq18446744073709551615.false)
+    (unlisted (Some c.args.nodes) c.args.input.now (λ found. map note_of found.items) read.result read.ensures.value read.ensures.start)
+
+pub returns-else-nodes-eq18446744073709551615-clause-laws : goal.returns-else-nodes-eq18446744073709551615-clause-laws
+returns-else-nodes-eq18446744073709551615-clause-laws g c = laws c.args.input.now

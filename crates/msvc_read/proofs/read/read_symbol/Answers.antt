@@ -1,21 +1,62 @@
+use Rattle.std.proofs.Common.{None, Some}
 use Rattle.msvc_nodes.specs.NodeView.{typed_symbol_of}
-use Rattle.msvc_read.proofs.WholeTexts.{fails, laws, read-length, read-parsed}
+use Rattle.msvc_read.proofs.WholeTexts.{a_limit, laws, no_limit, under-fails, under-length, under-nodes, under-parsed}
 use Rattle.msvc_read.proofs.read.read_symbol.Goals as goal
 
-pub returns-in-Ok-clause-parsed : goal.returns-in-Ok-clause-parsed
-returns-in-Ok-clause-parsed g c =
-    read-parsed c.args.input.now (typed_symbol_of c.in-Ok.symbol) c.in-Ok.length c.utf8.input c.in-Ok.ensures.value
+pub returns-then-nodes-eq18446744073709551615-clause-parsed :
+    goal.returns-then-nodes-eq18446744073709551615-clause-parsed
+returns-then-nodes-eq18446744073709551615-clause-parsed g c =
+    let read = c.read_nodes in
+    under-parsed None c.args.input.now (λ r. (typed_symbol_of r.0, r.1)) read.result c.utf8.input read.ensures.value
 
-pub returns-in-Ok-clause-length : goal.returns-in-Ok-clause-length
-returns-in-Ok-clause-length g c =
-    read-length c.args.input.now (typed_symbol_of c.in-Ok.symbol) c.in-Ok.length c.utf8.input c.in-Ok.ensures.value
+pub returns-then-nodes-eq18446744073709551615-clause-within :
+    goal.returns-then-nodes-eq18446744073709551615-clause-within
+returns-then-nodes-eq18446744073709551615-clause-within g c =
+    let read = c.read_nodes in
+    rw (no_limit c.args.nodes c.if-nodes-eq18446744073709551615.true)
+    (under-nodes None c.args.input.now (λ r. (typed_symbol_of r.0, r.1)) read.result read.ensures.value)
 
-pub returns-in-Ok-clause-laws : goal.returns-in-Ok-clause-laws
-returns-in-Ok-clause-laws g c = laws c.args.input.now
+pub returns-then-nodes-eq18446744073709551615-clause-length :
+    goal.returns-then-nodes-eq18446744073709551615-clause-length
+returns-then-nodes-eq18446744073709551615-clause-length g c =
+    let read = c.read_nodes in
+    under-length None c.args.input.now (λ r. (typed_symbol_of r.0, r.1)) read.result c.utf8.input read.ensures.value
 
-pub returns-in-Err-clause-fails : goal.returns-in-Err-clause-fails
-returns-in-Err-clause-fails g c =
-    fails c.args.input.now c.in-Err.refusal c.in-Err.ensures.value c.in-Err.ensures.start
+pub returns-then-nodes-eq18446744073709551615-clause-fails : goal.returns-then-nodes-eq18446744073709551615-clause-fails
+returns-then-nodes-eq18446744073709551615-clause-fails g c =
+    let read = c.read_nodes in
+    rw (no_limit c.args.nodes c.if-nodes-eq18446744073709551615.true)
+    (under-fails None c.args.input.now (λ r. (typed_symbol_of r.0, r.1)) read.result read.ensures.value
+    read.ensures.start)
 
-pub returns-in-Err-clause-laws : goal.returns-in-Err-clause-laws
-returns-in-Err-clause-laws g c = laws c.args.input.now
+pub returns-then-nodes-eq18446744073709551615-clause-laws : goal.returns-then-nodes-eq18446744073709551615-clause-laws
+returns-then-nodes-eq18446744073709551615-clause-laws g c = laws c.args.input.now
+
+pub returns-else-nodes-eq18446744073709551615-clause-parsed :
+    goal.returns-else-nodes-eq18446744073709551615-clause-parsed
+returns-else-nodes-eq18446744073709551615-clause-parsed g c =
+    let read = c.read_nodes-else-nodes-eq18446744073709551615 in
+    under-parsed (Some c.args.nodes) c.args.input.now (λ r. (typed_symbol_of r.0, r.1)) read.result c.utf8.input read.ensures.value
+
+pub returns-else-nodes-eq18446744073709551615-clause-within :
+    goal.returns-else-nodes-eq18446744073709551615-clause-within
+returns-else-nodes-eq18446744073709551615-clause-within g c =
+    let read = c.read_nodes-else-nodes-eq18446744073709551615 in
+    rw (a_limit c.args.nodes c.if-nodes-eq18446744073709551615.false)
+    (under-nodes (Some c.args.nodes) c.args.input.now (λ r. (typed_symbol_of r.0, r.1)) read.result read.ensures.value)
+
+pub returns-else-nodes-eq18446744073709551615-clause-length :
+    goal.returns-else-nodes-eq18446744073709551615-clause-length
+returns-else-nodes-eq18446744073709551615-clause-length g c =
+    let read = c.read_nodes-else-nodes-eq18446744073709551615 in
+    under-length (Some c.args.nodes) c.args.input.now (λ r. (typed_symbol_of r.0, r.1)) read.result c.utf8.input read.ensures.value
+
+pub returns-else-nodes-eq18446744073709551615-clause-fails : goal.returns-else-nodes-eq18446744073709551615-clause-fails
+returns-else-nodes-eq18446744073709551615-clause-fails g c =
+    let read = c.read_nodes-else-nodes-eq18446744073709551615 in
+    rw (a_limit c.args.nodes c.if-nodes-eq18446744073709551615.false)
+    (under-fails (Some c.args.nodes) c.args.input.now (λ r. (typed_symbol_of r.0, r.1)) read.result read.ensures.value
+    read.ensures.start)
+
+pub returns-else-nodes-eq18446744073709551615-clause-laws : goal.returns-else-nodes-eq18446744073709551615-clause-laws
+returns-else-nodes-eq18446744073709551615-clause-laws g c = laws c.args.input.now

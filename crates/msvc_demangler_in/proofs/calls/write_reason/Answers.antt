@@ -2,7 +2,7 @@ use Rattle.std.proofs.Common.{refl, subst}
 use Rattle.msvc_c_calls.specs.Buffers.{IsWritten}
 use Rattle.msvc_c_calls.specs.Calls.{out_of_memory_text}
 use Rattle.msvc_demangler_in.specs.Shown.{said, unsaid}
-use Rattle.msvc_demangler_in.proofs.calls.tell.Goals as goal
+use Rattle.msvc_demangler_in.proofs.calls.write_reason.Goals as goal
 
 pub returns-in_default : goal.returns-in_default
 returns-in_default c =
@@ -11,9 +11,9 @@ returns-in_default c =
 
 pub returns-in-Some : goal.returns-in-Some
 returns-in-Some c =
-    let told = c.in-Some.ensures.some in
+    let found = c.in-Some.ensures.some in
     let rejected = c.in-Some-Some.ensures in
-    (told.0, said rejected.memory rejected.status rejected.offset told.1, told.2, told.3)
+    (found.0, said rejected.memory rejected.status rejected.offset found.1, found.2, found.3)
 
 pub returns : goal.returns
 returns c =
