@@ -10,9 +10,9 @@ use Rattle.std.specs.List.{position, position_or_len}
 use Rattle.std.specs.Option.{option_map}
 use Rattle.memchr.specs.Find.{IsFirstByte, Nowhere, Passes, is_byte}
 
-pub first-position : (byte : ℕ) (bytes : List ℕ) (r : Option ℕ) → IsFirstByte (is_byte byte) bytes r →
+pub first_position : (byte : ℕ) (bytes : List ℕ) (r : Option ℕ) → IsFirstByte (is_byte byte) bytes r →
     r ≡ position (is_byte byte) bytes
-first-position byte bytes r h = at r h (ltb n (length bytes)) refl
+first_position byte bytes r h = at r h (ltb n (length bytes)) refl
   where
     n : ℕ
     n = position_or_len (is_byte byte) bytes
@@ -133,5 +133,5 @@ pub first_after_block : (byte : ℕ) (bytes : List ℕ) (r : Option ℕ) → 16 
     → IsFirstByte (is_byte byte) bytes (option_map (λ n. 16 + n) r)
 first_after_block byte bytes r h none found =
     subst (IsFirstByte (is_byte byte) bytes)
-    (sym (ap (option_map (λ n. 16 + n)) (first-position byte _ r found) ∙ after_block (is_byte byte) bytes h none))
+    (sym (ap (option_map (λ n. 16 + n)) (first_position byte _ r found) ∙ after_block (is_byte byte) bytes h none))
     (position-first byte bytes)

@@ -7,7 +7,6 @@ use Rattle.msvc_nodes.specs.declared.kinds.Guard.{Guard}
 use Rattle.msvc_nodes.specs.Trees.{NameTree, SymbolTree, TypeTree, base, guard, plain}
 use Rattle.msvc_nodes.specs.NodeView.{name_at, type_at}
 use Rattle.std.specs.Borrow.{Bor}
-use Rattle.msvc_nodes.specs.declared.list.List.{List as NodeList}
 use Rattle.msvc_nodes.specs.declared.nodes.Name.{Name}
 use Rattle.msvc_nodes.specs.declared.nodes.Type.{«Type»}
 use Rattle.msvc_parser.specs.NestedList.{current, enclosing}
@@ -134,13 +133,6 @@ consumed false rest = None
 -- the symbol at the start of a text, and its length in bytes
 abbrev pub with_length : List ℕ → Found SymbolTree → Option (SymbolTree × ℕ)
 with_length text found = option_map (λ r. (r.0, length text - length r.1)) found
-
--- the names and the types of a list in the arena
-abbrev pub names_at : NodeList (Bor Name) → List NameTree
-names_at list = map name_at list.items.now
-
-abbrev pub types_at : NodeList (Bor «Type») → List TypeTree
-types_at list = map type_at list.items.now
 
 -- the letters of a table of qualifiers, and the bits of each
 abbrev pub optional_letters : OptionalLetters → List (ℕ × ℕ)

@@ -1,13 +1,13 @@
 //! Back references: the tables of memorized names and types, and the digits that refer to their entries.
 
 ghost use Rattle.std.specs.List.{list_any};
-ghost use Rattle.std.specs.Prelude.{◌≡◌, ◌≤◌, ◌+◌, ◌-◌, ◌++◌, [], drop, IfOk, length, map, nat_lt, slice_get, Some};
+ghost use Rattle.std.specs.Prelude.{◌≡◌, ◌≤◌, ◌+◌, ◌-◌, ◌++◌, [], drop, length, map, nat_lt, slice_get, Some};
 ghost use Rattle.std.specs.Prelude.{take};
 ghost use Rattle.msvc_nodes.specs.Equality.{same_name, same_type};
 ghost use Rattle.msvc_nodes.specs.NodeView.{name_at, name_of, type_at, type_of};
 ghost use Rattle.msvc_grammar.specs.Counts.{name_count, type_count};
 ghost use Rattle.msvc_grammar.specs.Reads.{name_known, type_known, type_noted, with_value};
-ghost use Rattle.msvc_grammar.specs.State.{remember_name, remember_type, span_of, with_name, with_type};
+ghost use Rattle.msvc_grammar.specs.State.{remember_name, remember_type, span_of};
 ghost use Rattle.msvc_parser.specs.Parser.{known_name_of, memorized_of, ReadsAs, Stays};
 ghost use Rattle.msvc_parser.specs.NestedList.{current, enclosing};
 
@@ -16,10 +16,9 @@ use crate::limit::NodeBudget;
 use crate::nested_list::{Checkpoint, NestedList};
 use crate::parser::Parser;
 use crate::refusal::{Failed, Message};
-use bumpalo::Bump;
 use msvc_nodes::nodes::{Name, Type};
 use msvc_nodes::same::{is_same_name, is_same_type};
-use std::alloc::{AllocError, Allocator};
+use std::alloc::Allocator;
 
 /// How many entries each of the two tables has at most.
 const MAX_MEMORIZED: usize = 10;
@@ -51,17 +50,6 @@ pub struct SavedTables {
 }
 
 impl<'a, 'b, L: NodeBudget, A: Allocator> BackrefTables<'a, 'b, L, A> {
-    /// Creates empty tables.
-    pub fn new(arena: &'b Bump<A>) -> BackrefTables<'a, 'b, L, A>
-        ensures names { (current result.names ≡ []) × (enclosing result.names ≡ []) }
-        ensures types { (current result.types ≡ []) × (enclosing result.types ≡ []) }
-    {
-        BackrefTables {
-            names: NestedList::new(arena),
-            types: NestedList::new(arena),
-        }
-    }
-
     /// Begins a template, whose tables are empty. The result ends it.
     pub fn open_template(&mut self) -> SavedTables
         ensures place { (result.names.from ≡ length (enclosing self.old.names))
@@ -88,34 +76,6 @@ impl<'a, 'b, L: NodeBudget, A: Allocator> BackrefTables<'a, 'b, L, A> {
         self.names.end(saved.names);
         self.types.end(saved.types);
     }
-
-    /// Adds a name to the table, unless the table is full or has an equal one.
-    #[inline(always)]
-    fn add_name(&mut self, new: MemorizedName<'a, 'b, L>) -> Result<(), AllocError>
-        ensures names { IfOk result (λ _. map known_name_of (current self.new.names)
-            ≡ with_name (known_name_of new.entry) (map known_name_of (current self.old.names))) }
-        ensures enclosing { IfOk result (λ _. enclosing self.new.names ≡ enclosing self.old.names) }
-        ensures types { self.new.types ≡ self.old.types }
-    {
-        if self.names.len() < MAX_MEMORIZED && !is_known_name(self.names.items(), new.memorized) {
-            self.names.push(new)?;
-        }
-        Ok(())
-    }
-
-    /// Adds a type to the table, unless the table is full or has an equal one.
-    #[inline(always)]
-    fn add_type(&mut self, new: MemorizedType<'a, 'b, L>) -> Result<(), AllocError>
-        ensures types { IfOk result (λ _. map memorized_of (current self.new.types)
-            ≡ with_type (memorized_of new.entry) (map memorized_of (current self.old.types))) }
-        ensures enclosing { IfOk result (λ _. enclosing self.new.types ≡ enclosing self.old.types) }
-        ensures names { self.new.names ≡ self.old.names }
-    {
-        if self.types.len() < MAX_MEMORIZED && !is_known_type(self.types.items(), new.memorized) {
-            self.types.push(new)?;
-        }
-        Ok(())
-    }
 }
 
 impl<'a, 'b, L: NodeBudget, A: Allocator> Parser<'a, 'b, L, A> {
@@ -130,23 +90,7 @@ impl<'a, 'b, L: NodeBudget, A: Allocator> Parser<'a, 'b, L, A> {
         self.add_name(name, L::one())
     }
 
-    /// Stores and memorizes a name as [`Parser::put_and_add_name`] does, inlined into its caller. Only functions
-    /// outside the cycle of readers call it, since it takes more stack.
-    #[inline(always)]
-    pub fn put_and_add_name_inline(
-        &mut self,
-        name: Name<'a, 'b>,
-    ) -> Result<&'b Name<'a, 'b>, Failed>
-        requires { name_count L.weight (name_of name) ≡ L.weight }
-        ensures value { ReadsAs name_at self.old self.new result
-            (λ left s. with_value (Some (name_of name.entry)) left (remember_name (name_of name.entry) s)) }
-        ensures stays { Stays self.old self.new result }
-    {
-        let name = self.put_name(name)?;
-        self.add_name_inline(name, L::one())
-    }
-
-    /// Memorizes a name that has `nodes` nodes, and returns it.
+    /// Memorizes a name that has `nodes` nodes, unless the table is full or has an equal one, and returns it.
     pub fn add_name(&mut self, name: &'b Name<'a, 'b>, nodes: L) -> Result<&'b Name<'a, 'b>, Failed>
         requires { L.used nodes ≡ name_count L.weight (name_of name.now) }
         ensures value { ReadsAs name_at self.old self.new result
@@ -156,9 +100,10 @@ impl<'a, 'b, L: NodeBudget, A: Allocator> Parser<'a, 'b, L, A> {
         self.add_name_inline(name, nodes)
     }
 
-    /// Memorizes a name as [`Parser::add_name`] does, inlined into its caller.
+    /// Memorizes a name as [`Parser::add_name`] does, inlined into its caller. Of the readers, only those outside the
+    /// cycle call it, since it takes more stack.
     #[inline(always)]
-    fn add_name_inline(
+    pub fn add_name_inline(
         &mut self,
         name: &'b Name<'a, 'b>,
         nodes: L,
@@ -168,11 +113,15 @@ impl<'a, 'b, L: NodeBudget, A: Allocator> Parser<'a, 'b, L, A> {
             (λ left s. with_value (Some (name_of name.now)) left (remember_name (name_of name.now) s)) }
         ensures stays { Stays self.old self.new result }
     {
-        let new = MemorizedName {
+        let names = self.backrefs.names.items();
+        if names.len() >= MAX_MEMORIZED || is_known_name(names, name) {
+            return Ok(name);
+        }
+        let entry = MemorizedName {
             memorized: name,
             nodes,
         };
-        if self.backrefs.add_name(new).is_err() {
+        if self.backrefs.names.push(entry).is_err() {
             return Err(self.no_memory());
         }
         Ok(name)
@@ -233,7 +182,8 @@ impl<'a, 'b, L: NodeBudget, A: Allocator> Parser<'a, 'b, L, A> {
         Ok(entry.memorized)
     }
 
-    /// Memorizes a type that has `nodes` nodes and whose text is `start` up to the bytes left, and returns it.
+    /// Memorizes a type that has `nodes` nodes and whose text is `start` up to the bytes left, unless the table is full
+    /// or has an equal one, and returns it.
     #[inline(never)]
     pub fn add_type(
         &mut self,
@@ -247,13 +197,17 @@ impl<'a, 'b, L: NodeBudget, A: Allocator> Parser<'a, 'b, L, A> {
             (remember_type (span_of (type_of memorized.now) start.now left s) s)) }
         ensures stays { Stays self.old self.new result }
     {
+        let types = self.backrefs.types.items();
+        if types.len() >= MAX_MEMORIZED || is_known_type(types, memorized) {
+            return Ok(memorized);
+        }
         let entry = MemorizedType {
             memorized,
             start: self.offset_of(start),
             end: self.offset_of(self.rest),
             nodes,
         };
-        if self.backrefs.add_type(entry).is_err() {
+        if self.backrefs.types.push(entry).is_err() {
             return Err(self.no_memory());
         }
         Ok(memorized)

@@ -11,7 +11,7 @@ ghost use Rattle.msvc_grammar.specs.Letters.{reference_qualifiers, storage_class
 ghost use Rattle.msvc_grammar.specs.Reads.{read_name};
 ghost use Rattle.msvc_grammar.specs.Rules.{lookup, type_after};
 ghost use Rattle.msvc_grammar.specs.Sorts.{extended};
-ghost use Rattle.msvc_parser.specs.Parser.{Consumes, optional_letters, ReadsAs, Stays, type_of_letter};
+ghost use Rattle.msvc_parser.specs.Parser.{Consumes, ReadsAs, Stays, type_of_letter};
 
 use crate::limit::NodeBudget;
 use crate::parser::Parser;
@@ -81,7 +81,7 @@ pub fn array_qualifier(letter: u8) -> Option<StorageClass>
 }
 
 /// Returns `const` and `volatile` of the object of a member function.
-fn qualifier(letter: u8) -> Option<StorageClass>
+pub fn qualifier(letter: u8) -> Option<StorageClass>
     ensures { option_map (λ (q : StorageClass). q.0) result ≡ lookup letter qualifiers }
 {
     let qualifier = match letter {
@@ -95,7 +95,7 @@ fn qualifier(letter: u8) -> Option<StorageClass>
 }
 
 /// Returns `&` and `&&` of a member function.
-fn reference_qualifier(letter: u8) -> Option<StorageClass>
+pub fn reference_qualifier(letter: u8) -> Option<StorageClass>
     ensures { option_map (λ (q : StorageClass). q.0) result ≡ lookup letter reference_qualifiers }
 {
     match letter {
@@ -106,7 +106,7 @@ fn reference_qualifier(letter: u8) -> Option<StorageClass>
 }
 
 /// Returns `const`, `volatile` and `far` of a variable or of a pointee.
-fn storage_class(letter: u8) -> Option<StorageClass>
+pub fn storage_class(letter: u8) -> Option<StorageClass>
     ensures { option_map (λ (q : StorageClass). q.0) result ≡ lookup letter storage_classes }
 {
     let class = match letter {
@@ -134,17 +134,6 @@ pub enum OptionalLetters {
     Qualifiers,
     /// `&` and `&&` after a member function.
     ReferenceQualifiers,
-}
-
-/// Returns the qualifiers of a letter in the given table.
-pub fn optional_letter(letters: OptionalLetters, letter: u8) -> Option<StorageClass>
-    ensures { option_map (λ (q : StorageClass). q.0) result ≡ lookup letter (optional_letters letters) }
-{
-    match letters {
-        OptionalLetters::StorageClasses => storage_class(letter),
-        OptionalLetters::Qualifiers => qualifier(letter),
-        OptionalLetters::ReferenceQualifiers => reference_qualifier(letter),
-    }
 }
 
 /// Matches a letter with one of the two lists of `base_types`.
@@ -334,7 +323,8 @@ impl<'a, 'b, L: NodeBudget, A: Allocator> Parser<'a, 'b, L, A> {
         ensures stays { Stays self.old self.new result }
     {
         if let Some(base) = base_type(letter) {
-            return self.new_type(Type::Base(base, qualifiers));
+            self.count_node()?;
+            return self.put_type(Type::Base(base, qualifiers));
         }
         let Some(digit) = digit(letter) else {
             return Err(self.reject(Message::UnknownPrimitiveType));

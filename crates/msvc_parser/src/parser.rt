@@ -4,14 +4,14 @@
 //! Each level of a nested symbol takes stack. So a reader returns a reference into the arena or a place in a list of
 //! the parser, never a value of many words, and functions that memorize a name or a type, record an error or store a
 //! node of several parts are never inlined. None of their variables is in a reader's frame while a nested part is read.
-//! Names of the source, which nest nothing, are memorized inline, by `put_and_add_name_inline`.
+//! Names of the source, which nest nothing, are memorized inline, by `add_name_inline`.
 
 ghost use Rattle.std.specs.Option.{option_map};
 ghost use Rattle.std.specs.Prelude.{◌≡◌, ◌≤◌, ◌<◌, ◌+◌, ◌∷◌, [], IfErr, IfOk, IfSome, IsTrue, length, MatchOption};
 ghost use Rattle.std.specs.Prelude.{Some};
 ghost use Rattle.msvc_nodes.specs.NodeView.{name_at, name_of, type_at, type_of};
 ghost use Rattle.msvc_grammar.specs.Letters.{digits};
-ghost use Rattle.msvc_grammar.specs.Reads.{counting, in_node, letter_here, read, with_value};
+ghost use Rattle.msvc_grammar.specs.Reads.{counting, letter_here, read, with_value};
 ghost use Rattle.msvc_grammar.specs.Rules.{after, literal, optional};
 ghost use Rattle.msvc_grammar.specs.State.{beginning_with, place};
 ghost use Rattle.msvc_parser.specs.Parser.{byte_here, consumed, Consumes};
@@ -66,7 +66,10 @@ impl<'a, 'b, L: NodeBudget, A: Allocator> Parser<'a, 'b, L, A> {
             arena,
             text_length: text.len(),
             rest: text,
-            backrefs: BackrefTables::new(arena),
+            backrefs: BackrefTables {
+                names: NestedList::new(arena),
+                types: NestedList::new(arena),
+            },
             listed_names: NestedList::new(arena),
             listed_types: NestedList::new(arena),
             back_references: Vec::new(arena),
@@ -149,28 +152,6 @@ impl<'a, 'b, L: NodeBudget, A: Allocator> Parser<'a, 'b, L, A> {
             return Err(self.reject(Message::TooManyNodes));
         }
         Ok(())
-    }
-
-    /// Counts a name without parts as a node and stores it in the arena.
-    #[inline(always)]
-    pub fn new_name(&mut self, name: Name<'a, 'b>) -> Result<&'b Name<'a, 'b>, Failed>
-        ensures value { ReadsAs name_at self.old self.new result
-            (λ left s. in_node left s (with_value (Some (name_of name.entry)))) }
-        ensures stays { Stays self.old self.new result }
-    {
-        self.count_node()?;
-        self.put_name(name)
-    }
-
-    /// Counts a type without parts as a node and stores it in the arena.
-    #[inline(always)]
-    pub fn new_type(&mut self, node: Type<'a, 'b>) -> Result<&'b Type<'a, 'b>, Failed>
-        ensures value { ReadsAs type_at self.old self.new result
-            (λ left s. in_node left s (with_value (Some (type_of node.entry)))) }
-        ensures stays { Stays self.old self.new result }
-    {
-        self.count_node()?;
-        self.put_type(node)
     }
 
     /// Records a syntax error at the first unread byte.
@@ -309,7 +290,12 @@ impl<'a, 'b, L: NodeBudget, A: Allocator> Parser<'a, 'b, L, A> {
         ensures kept { frame_of self.new ≡ frame_of self.old }
     {
         if let [first, rest @ ..] = self.rest {
-            if let Some(bits) = letters::optional_letter(letters, *first) {
+            let bits = match letters {
+                OptionalLetters::StorageClasses => letters::storage_class(*first),
+                OptionalLetters::Qualifiers => letters::qualifier(*first),
+                OptionalLetters::ReferenceQualifiers => letters::reference_qualifier(*first),
+            };
+            if let Some(bits) = bits {
                 self.rest = rest;
                 return bits;
             }

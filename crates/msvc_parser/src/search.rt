@@ -10,14 +10,20 @@ use std::simd::prelude::*;
 /// How many bytes are tested at once.
 const BLOCK: usize = 16;
 
-/// Returns the index of the first `byte`. Tests the first 16 bytes at once, and calls `memchr` for those after them.
+/// Returns the index of the first `byte`. Tests bytes one by one if they are few, else the first 16 at once, and calls
+/// `memchr` only for those after them.
 #[inline(always)]
 pub fn find_byte(byte: u8, bytes: &[u8]) -> Option<usize>
     ensures first { IsFirstByte (λ b. b == byte) bytes.now result }
     ensures inside { IfSome result (λ n. n < length bytes.now) }
 {
     if bytes.len() < BLOCK {
-        return find_among_few(byte, bytes);
+        'bytes: for i in 0..bytes.len() {
+            if bytes[i] == byte {
+                return Some(i);
+            }
+        }
+        return None;
     }
     let before = bytes_before(byte, bytes);
     if before < BLOCK {
@@ -27,20 +33,6 @@ pub fn find_byte(byte: u8, bytes: &[u8]) -> Option<usize>
         Some(index) => Some(BLOCK + index),
         None => None,
     }
-}
-
-/// Does the same byte by byte, which costs less than a call if bytes are few.
-#[inline(always)]
-fn find_among_few(byte: u8, bytes: &[u8]) -> Option<usize>
-    ensures first { IsFirstByte (λ b. b == byte) bytes.now result }
-    ensures inside { IfSome result (λ n. n < length bytes.now) }
-{
-    'bytes: for i in 0..bytes.len() {
-        if bytes[i] == byte {
-            return Some(i);
-        }
-    }
-    None
 }
 
 /// Returns how many of the first bytes precede the first `byte`: all of them if it is not among them.

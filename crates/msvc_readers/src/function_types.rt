@@ -15,7 +15,7 @@ ghost use Rattle.msvc_parser.specs.Parser.{Stays};
 ghost use Rattle.msvc_parser.specs.Rows.{EndsTypes, parts_at};
 ghost use Rattle.msvc_parser.specs.NestedList.{current, enclosing};
 
-use crate::parameters::{finish_types, function_parameters};
+use crate::parameters::function_parameters;
 use crate::qualified_names::qualified_name;
 use crate::types::{new_plain, type_};
 use bitflags::Flags;
@@ -202,12 +202,14 @@ pub fn put_parts<'a, 'b, L: NodeBudget, A: Allocator>(
     ensures rest { IfOk result (λ _. parser.new.rest.now ≡ parser.old.rest.now) }
     ensures kept { EndsTypes checkpoint parser.old parser.new result }
 {
-    let parameters = finish_types(parser, checkpoint)?.items;
+    let Some(parameters) = parser.listed_types.end_in(parser.arena, checkpoint) else {
+        return Err(parser.no_memory());
+    };
     parser.put(Function {
         convention,
         class,
         qualifiers: this_qualifiers,
-        parameters,
+        parameters: parameters.items,
         returned,
     })
 }

@@ -8,7 +8,6 @@ ghost use Rattle.msvc_grammar.specs.Rules as rules;
 ghost use Rattle.msvc_parser.specs.Parser.{Consumes, hash_at, name_length, ReadsAs};
 ghost use Rattle.msvc_parser.specs.Rows.{typed_symbol_at};
 
-use crate::qualified_names::take_until_at;
 use crate::symbols::untyped_symbol;
 use msvc_nodes::nodes::{Name, TypedSymbol};
 use msvc_parser::letters;
@@ -41,8 +40,8 @@ pub fn hash<'a, 'b, L: NodeBudget, A: Allocator>(
     ensures consumes { Consumes parser.old parser.new result }
 {
     let left = parser.rest;
-    match take_until_at(parser) {
-        Some(digits) if is_hash(digits) => Ok(digits),
+    match parser.source_name() {
+        Ok(digits) if is_hash(digits) => Ok(digits),
         _ => Err(parser.reject_at(Message::HashLength, after_digits(left))),
     }
 }

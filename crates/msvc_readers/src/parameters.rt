@@ -9,15 +9,14 @@ ghost use Rattle.msvc_grammar.specs.Reads.{read_name, with_value};
 ghost use Rattle.msvc_grammar.specs.Rules as rules;
 ghost use Rattle.msvc_parser.specs.Parser.{counting_ellipsis, Consumes, ellipsis_types};
 ghost use Rattle.msvc_parser.specs.Parser.{frame_of, parameters_stop, ReadsAs};
-ghost use Rattle.msvc_parser.specs.Parser.{state_of, types_at};
-ghost use Rattle.msvc_parser.specs.Rows.{EndsTypes, ListsTypes};
-ghost use Rattle.msvc_parser.specs.NestedList.{current, enclosing};
+ghost use Rattle.msvc_parser.specs.Parser.{state_of};
+ghost use Rattle.msvc_parser.specs.Rows.{ListsTypes};
+ghost use Rattle.msvc_parser.specs.NestedList.{current};
 
-use crate::types::type_;
+use crate::types::{new_plain, type_};
 use bitflags::Flags;
 use msvc_nodes::flags::StorageClass;
 use msvc_nodes::kinds::{PlainType, PrimitiveKind};
-use msvc_nodes::list::List;
 use msvc_nodes::nodes::Type;
 use msvc_parser::back_references::enters_table;
 use msvc_parser::forms::Ellipsis;
@@ -128,24 +127,6 @@ pub fn list_type<'a, 'b, L: NodeBudget, A: Allocator>(
     Ok(())
 }
 
-/// Copies the listed types into the arena and ends their part of the list.
-#[inline(always)]
-pub fn finish_types<'a, 'b, L: NodeBudget, A: Allocator>(
-    parser: &mut Parser<'a, 'b, L, A>,
-    checkpoint: Checkpoint,
-) -> Result<List<'b, &'b Type<'a, 'b>>, Failed>
-    requires { checkpoint.from ≤ length (enclosing parser.old.listed_types) }
-    ensures value { ReadsAs types_at parser.old parser.new result
-        (λ left s. with_value (Some (map type_at (current parser.old.listed_types))) left s) }
-    ensures rest { IfOk result (λ _. parser.new.rest.now ≡ parser.old.rest.now) }
-    ensures kept { EndsTypes checkpoint parser.old parser.new result }
-{
-    match parser.listed_types.end_in(parser.arena, checkpoint) {
-        Some(types) => Ok(types),
-        None => Err(parser.no_memory()),
-    }
-}
-
 /// Appends an ellipsis to the list of parameters, if there is one, and counts it as a node.
 #[tactic(auto, using(msvc_parser::proofs::Nodes::map_last), unfolding(msvc_nodes::specs::NodeView::type_of))]
 #[inline(never)]
@@ -163,7 +144,7 @@ pub fn list_ellipsis<'a, 'b, L: NodeBudget, A: Allocator>(
     match ellipsis {
         Ellipsis::Absent => Ok(()),
         Ellipsis::Present => {
-            let dots = parser.new_type(Type::Plain(PlainType::Variadic))?;
+            let dots = new_plain(parser, PlainType::Variadic)?;
             list_type(parser, dots)
         }
     }

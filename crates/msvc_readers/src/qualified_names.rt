@@ -1,7 +1,6 @@
 //! Names, scopes and templates, and the table of names that they are added to.
 
-ghost use Rattle.std.specs.Option.{option_map};
-ghost use Rattle.std.specs.Prelude.{◌≡◌, ◌≤◌, ◌<◌, ◌++◌, ◌∷◌, [], codes, IfErr, IfOk, IfSome, length, map, Some};
+ghost use Rattle.std.specs.Prelude.{◌≡◌, ◌≤◌, ◌<◌, ◌++◌, ◌∷◌, [], codes, IfErr, IfOk, length, map, Some};
 ghost use Rattle.std.specs.Prelude.{string_bytes};
 ghost use Rattle.msvc_nodes.specs.NodeView.{name_at, name_of, type_at, typed_symbol_of};
 ghost use Rattle.msvc_nodes.specs.Trees.{discriminator, nested, template, type_trees};
@@ -10,17 +9,16 @@ ghost use Rattle.msvc_grammar.specs.Grammar.{new_interface, new_source_name, tem
 ghost use Rattle.msvc_grammar.specs.Letters.{hexadecimal_codes};
 ghost use Rattle.msvc_grammar.specs.Reads.{and_then, in_node, letter_here, read, read_name, with_value};
 ghost use Rattle.msvc_grammar.specs.Rules as rules;
-ghost use Rattle.msvc_parser.specs.Parser.{cut_at, Consumes, frame_of};
-ghost use Rattle.msvc_parser.specs.Parser.{is_of_symbol, add_template_name, name_length, names_at};
+ghost use Rattle.msvc_parser.specs.Parser.{Consumes, frame_of};
+ghost use Rattle.msvc_parser.specs.Parser.{is_of_symbol, add_template_name};
 ghost use Rattle.msvc_parser.specs.Parser.{ReadsAs, state_of, Stays};
 ghost use Rattle.msvc_parser.specs.Rows.{EndsNames, EndsTypes, ListsNames, named_at};
 ghost use Rattle.msvc_parser.specs.NestedList.{current, enclosing};
 
-use crate::parameters::{finish_types, parameters};
+use crate::parameters::parameters;
 use crate::special_names::special_name;
 use crate::symbols::symbol_body;
 use bumpalo::Bump;
-use msvc_nodes::list::List;
 use msvc_nodes::nodes::{Name, Symbol, Template, TypedSymbol};
 use msvc_parser::forms::TemplateNames;
 use msvc_parser::letters;
@@ -28,36 +26,7 @@ use msvc_parser::limit::NodeBudget;
 use msvc_parser::nested_list::Checkpoint;
 use msvc_parser::parser::Parser;
 use msvc_parser::refusal::{Failed, Message, Refusal};
-use msvc_parser::source_names::name_length;
 use std::alloc::Allocator;
-
-/// Reads `SOURCE_NAME = {byte} "@"`: the bytes up to the next `@`, possibly none.
-pub fn source_name<'a, 'b, L: NodeBudget, A: Allocator>(
-    parser: &mut Parser<'a, 'b, L, A>,
-) -> Result<&'a [u8], Failed>
-    ensures value { ReadsAs (λ n. n.now) parser.old parser.new result (λ left s. cut_at (name_length left) left s) }
-    ensures consumes { Consumes parser.old parser.new result }
-{
-    match take_until_at(parser) {
-        Some(text) => Ok(text),
-        None => Err(parser.reject(Message::MissingAt)),
-    }
-}
-
-/// Reads up to and including the next `@`, and returns the bytes before it. Reads nothing if there is no `@`.
-pub fn take_until_at<'a, 'b, L: NodeBudget, A: Allocator>(
-    parser: &mut Parser<'a, 'b, L, A>,
-) -> Option<&'a [u8]>
-    ensures value { option_map (λ n. (n.now, parser.new.rest.now, state_of parser.new)) result
-        ≡ cut_at (name_length parser.old.rest.now) parser.old.rest.now (state_of parser.old) }
-    ensures shorter { IfSome result (λ _. length parser.new.rest.now < length parser.old.rest.now) }
-    ensures kept { frame_of parser.new ≡ frame_of parser.old }
-{
-    let bytes = parser.rest;
-    let end = name_length(bytes)?;
-    parser.rest = &bytes[end + 1..];
-    Some(&bytes[..end])
-}
 
 /// Reads a source name and memorizes it.
 #[tactic(auto, using(msvc_parser::proofs::NameSteps::new_source_name_is), unfolding(msvc_nodes::specs::NodeView::name_of))]
@@ -68,8 +37,9 @@ pub fn new_source_name<'a, 'b, L: NodeBudget, A: Allocator>(
     ensures consumes { Consumes parser.old parser.new result }
 {
     parser.count_node()?;
-    let text = source_name(parser)?;
-    parser.put_and_add_name_inline(Name::Source(text))
+    let text = parser.source_name()?;
+    let name = parser.put_name(Name::Source(text))?;
+    parser.add_name_inline(name, L::one())
 }
 
 /// Memorizes a template name that has `nodes` nodes, unless `templates` says not to, and returns it.
@@ -107,24 +77,6 @@ pub fn list_name<'a, 'b, L: NodeBudget, A: Allocator>(
         return Err(parser.no_memory());
     }
     Ok(())
-}
-
-/// Copies the listed names into the arena and ends their part of the list.
-#[inline(always)]
-pub fn finish_names<'a, 'b, L: NodeBudget, A: Allocator>(
-    parser: &mut Parser<'a, 'b, L, A>,
-    checkpoint: Checkpoint,
-) -> Result<List<'b, &'b Name<'a, 'b>>, Failed>
-    requires { checkpoint.from ≤ length (enclosing parser.old.listed_names) }
-    ensures value { ReadsAs names_at parser.old parser.new result
-        (λ left s. with_value (Some (map name_at (current parser.old.listed_names))) left s) }
-    ensures rest { IfOk result (λ _. parser.new.rest.now ≡ parser.old.rest.now) }
-    ensures kept { EndsNames checkpoint parser.old parser.new result }
-{
-    match parser.listed_names.end_in(parser.arena, checkpoint) {
-        Some(names) => Ok(names),
-        None => Err(parser.no_memory()),
-    }
 }
 
 /// Reads `UNQUALIFIED_NAME = digit | "?$" TEMPLATE_NAME | "?" SPECIAL_NAME | SOURCE_NAME`.
@@ -198,8 +150,13 @@ pub fn put_template<'a, 'b, L: NodeBudget, A: Allocator>(
     ensures rest { IfOk result (λ _. parser.new.rest.now ≡ parser.old.rest.now) }
     ensures kept { EndsTypes checkpoint parser.old parser.new result }
 {
-    let arguments = finish_types(parser, checkpoint)?.items;
-    let template = parser.put(Template { name, arguments })?;
+    let Some(arguments) = parser.listed_types.end_in(parser.arena, checkpoint) else {
+        return Err(parser.no_memory());
+    };
+    let template = parser.put(Template {
+        name,
+        arguments: arguments.items,
+    })?;
     parser.put_name(Name::Template(template))
 }
 
@@ -290,7 +247,7 @@ pub fn interface<'a, 'b, L: NodeBudget, A: Allocator>(
     ensures consumes { Consumes parser.old parser.new result }
 {
     parser.count_node()?;
-    let text = source_name(parser)?;
+    let text = parser.source_name()?;
     parser.expect(b"@", Message::AtExpected)?;
     parser.put_and_add_name(Name::Interface(text))
 }
@@ -423,6 +380,11 @@ pub fn put_symbol<'a, 'b, L: NodeBudget, A: Allocator>(
     ensures rest { IfOk result (λ _. parser.new.rest.now ≡ parser.old.rest.now) }
     ensures kept { EndsNames checkpoint parser.old parser.new result }
 {
-    let scope = finish_names(parser, checkpoint)?.items;
-    parser.put(Symbol { name, scope })
+    let Some(scope) = parser.listed_names.end_in(parser.arena, checkpoint) else {
+        return Err(parser.no_memory());
+    };
+    parser.put(Symbol {
+        name,
+        scope: scope.items,
+    })
 }

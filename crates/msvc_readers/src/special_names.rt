@@ -65,7 +65,8 @@ pub fn new_operator<'a, 'b, L: NodeBudget, A: Allocator>(
         (λ left s. in_node left s (with_value (Some (operator kind)))) }
     ensures stays { Stays parser.old parser.new result }
 {
-    parser.new_name(Name::Plain(kind))
+    parser.count_node()?;
+    parser.put_name(Name::Plain(kind))
 }
 
 /// Counts and stores a guard without an index.
@@ -79,7 +80,8 @@ pub fn new_guard<'a, 'b, L: NodeBudget, A: Allocator>(
         (λ left s. in_node left s (with_value (Some (guard kind None)))) }
     ensures stays { Stays parser.old parser.new result }
 {
-    parser.new_name(Name::Guard(kind, None))
+    parser.count_node()?;
+    parser.put_name(Name::Guard(kind, None))
 }
 
 /// Reads `"?" [storage class] TYPE`: a type descriptor, after its code.

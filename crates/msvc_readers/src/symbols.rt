@@ -15,7 +15,7 @@ ghost use Rattle.msvc_parser.specs.NestedList.{current, enclosing};
 use crate::function_types::{convention, function, member};
 use crate::guards::{indexed_symbol, numbered_guard};
 use crate::hashed_symbols::hashed_symbol;
-use crate::qualified_names::{finish_names, qualified_name, scope, template_name};
+use crate::qualified_names::{qualified_name, scope, template_name};
 use crate::types::{new_plain, type_};
 use bitflags::Flags;
 use msvc_nodes::flags::StorageClass;
@@ -222,8 +222,10 @@ pub fn put_table<'a, 'b, L: NodeBudget, A: Allocator>(
     ensures rest { IfOk result (λ _. parser.new.rest.now ≡ parser.old.rest.now) }
     ensures kept { EndsNames checkpoint parser.old parser.new result }
 {
-    let names = finish_names(parser, checkpoint)?.items;
-    let scope = parser.put(Scope { names })?;
+    let Some(names) = parser.listed_names.end_in(parser.arena, checkpoint) else {
+        return Err(parser.no_memory());
+    };
+    let scope = parser.put(Scope { names: names.items })?;
     parser.put_type(Type::Table(kind, class, scope))
 }
 

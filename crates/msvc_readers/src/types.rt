@@ -141,7 +141,8 @@ pub fn new_plain<'a, 'b, L: NodeBudget, A: Allocator>(
         (λ left s. in_node left s (with_value (Some (plain kind)))) }
     ensures stays { Stays parser.old parser.new result }
 {
-    parser.new_type(Type::Plain(kind))
+    parser.count_node()?;
+    parser.put_type(Type::Plain(kind))
 }
 
 /// Reads a class, struct, union, enumeration or alias by its name.

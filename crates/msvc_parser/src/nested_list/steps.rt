@@ -32,13 +32,6 @@ impl<'b, T: Copy, A: Allocator> NestedList<'b, T, A> {
         &self.items[self.from..]
     }
 
-    /// Returns how many items are in use.
-    pub fn len(&self) -> usize
-        ensures { result ≡ length (current self.now) }
-    {
-        self.items.len() - self.from
-    }
-
     /// Returns the item at an index, counted from the first in use.
     pub fn get(&self, index: usize) -> Option<T>
         ensures { result ≡ slice_get (current self.now) index }

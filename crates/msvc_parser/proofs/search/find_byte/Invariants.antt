@@ -1,5 +1,5 @@
 use Rattle.memchr.specs.Find.{Nowhere, Passes, is_byte}
-use Rattle.msvc_parser.proofs.search.find_among_few.Given as goal
+use Rattle.msvc_parser.proofs.search.find_byte.Given as goal
 
 -- none of the bytes before is that byte
 abbrev pub invariant-bytes : goal.invariant-bytes
