@@ -38,8 +38,7 @@ fn write_convention<A: Allocator>(
     if flags.contains(DemangleFlags::NO_MS_KEYWORDS) {
         return Ok(());
     }
-    write_text(out, convention_word(convention))?;
-    Ok(())
+    write_text(out, convention_word(convention))
 }
 
 /// Writes the parenthesis before the mark of a pointer to a function, and the calling convention.
@@ -54,8 +53,7 @@ pub fn write_calling<A: Allocator>(
 {
     write_opening(out, pointed)?;
     write_space(out, Space::UnlessOpen)?;
-    write_convention(out, convention, flags)?;
-    Ok(())
+    write_convention(out, convention, flags)
 }
 
 /// Writes a word of a member function, if its bit is set.
@@ -88,8 +86,7 @@ fn write_access_words<A: Allocator>(
     }
     write_member_word(out, FuncClass::PRIVATE, b"private: ", class)?;
     write_member_word(out, FuncClass::PROTECTED, b"protected: ", class)?;
-    write_member_word(out, FuncClass::PUBLIC, b"public: ", class)?;
-    Ok(())
+    write_member_word(out, FuncClass::PUBLIC, b"public: ", class)
 }
 
 /// Writes `static` and `virtual` of a member function. NO_MEMBER_TYPE drops them.
@@ -105,8 +102,7 @@ fn write_kind_words<A: Allocator>(
         return Ok(());
     }
     write_member_word(out, FuncClass::STATIC, b"static ", class)?;
-    write_member_word(out, FuncClass::VIRTUAL, b"virtual ", class)?;
-    Ok(())
+    write_member_word(out, FuncClass::VIRTUAL, b"virtual ", class)
 }
 
 /// Writes the words of a member function.
@@ -120,8 +116,7 @@ fn write_member_words<A: Allocator>(
 {
     write_member_word(out, FuncClass::THUNK, b"[thunk]: ", class)?;
     write_access_words(out, class, flags)?;
-    write_kind_words(out, class, flags)?;
-    Ok(())
+    write_kind_words(out, class, flags)
 }
 
 /// Writes the words of a member function, unless it is pointed to.
@@ -178,8 +173,7 @@ fn write_each_function_qualifier<A: Allocator>(
     write_wide_qualifier(out, qualifiers, flags)?;
     write_qualifier(out, kind, StorageClass::RESTRICT, b"__restrict", qualifiers)?;
     write_qualifier(out, kind, StorageClass::LVALUE_QUAL, b"&", qualifiers)?;
-    write_qualifier(out, kind, StorageClass::RVALUE_QUAL, b"&&", qualifiers)?;
-    Ok(())
+    write_qualifier(out, kind, StorageClass::RVALUE_QUAL, b"&&", qualifiers)
 }
 
 /// Writes the qualifiers of a function itself. Both bits of NO_THISTYPE together drop them.
@@ -194,8 +188,7 @@ fn write_function_qualifiers<A: Allocator>(
     if flags.contains(DemangleFlags::NO_THISTYPE) {
         return Ok(());
     }
-    write_each_function_qualifier(out, qualifiers, flags)?;
-    Ok(())
+    write_each_function_qualifier(out, qualifiers, flags)
 }
 
 /// Writes the end of a list of types.

@@ -178,8 +178,7 @@ pub fn push_typed_symbol<'a, 'b, S: Allocator>(
 {
     push_right(stack, tree.symbol_type, flags)?;
     push(stack, Item::Symbol(&tree.symbol, Some(tree.symbol_type)))?;
-    push_left(stack, tree.symbol_type, flags)?;
-    Ok(())
+    push_left(stack, tree.symbol_type, flags)
 }
 
 /// Prints a nested symbol, in quotes unless it is the name of a symbol itself.
@@ -196,13 +195,11 @@ fn print_nested<'a, 'b, S: Allocator, A: Allocator>(
     ensures lighter { OnOk result (Lightens (3 + typed_symbol_weight_of tree.now) stack.old.items stack.new.items) }
 {
     if of_symbol {
-        push_typed_symbol(stack, tree, flags)?;
-        return Ok(());
+        return push_typed_symbol(stack, tree, flags);
     }
     write_text(out, b"`")?;
     push(stack, Item::Text(b"'"))?;
-    push_typed_symbol(stack, tree, flags)?;
-    Ok(())
+    push_typed_symbol(stack, tree, flags)
 }
 
 /// Prints the descriptor of a type.
@@ -297,10 +294,7 @@ fn push_scope<'a, 'b, S: Allocator>(
 {
     match names {
         [] => Ok(()),
-        [_, ..] => {
-            push(stack, Item::Scope(Scope { names }))?;
-            Ok(())
-        }
+        [_, ..] => push(stack, Item::Scope(Scope { names })),
     }
 }
 
@@ -324,8 +318,7 @@ fn print_remaining_names<'a, 'b, S: Allocator, A: Allocator>(
     let last = left - 1;
     push_scope(stack, &names[..last])?;
     push(stack, Item::Text(b"::"))?;
-    print_name(stack, out, names[last], false, flags)?;
-    Ok(())
+    print_name(stack, out, names[last], false, flags)
 }
 
 /// Prints the names of a scope, the outermost first, each with `::` after it.
@@ -340,8 +333,7 @@ pub fn print_scope<'a, 'b, S: Allocator, A: Allocator>(
     ensures lighter { OnOk result (Lightens (scope_weight (names_in names.now)) stack.old.items stack.new.items) }
 {
     let left = write_spelled_names(out, names)?;
-    print_remaining_names(stack, out, names, left, flags)?;
-    Ok(())
+    print_remaining_names(stack, out, names, left, flags)
 }
 
 /// Prints the names of a scope and the name of a symbol in it. The name is printed at once if all names of the scope
@@ -361,15 +353,13 @@ fn print_in_scope<'a, 'b, S: Allocator, A: Allocator>(
 {
     let left = write_spelled_names(out, names)?;
     if left == 0 {
-        print_name(stack, out, name, true, flags)?;
-        return Ok(());
+        return print_name(stack, out, name, true, flags);
     }
     if !out.is_whole() {
         return Ok(());
     }
     push(stack, Item::Name(name, true))?;
-    print_remaining_names(stack, out, names, left, flags)?;
-    Ok(())
+    print_remaining_names(stack, out, names, left, flags)
 }
 
 /// Prints the names of a scope, the outermost first, with `::` between them.
@@ -387,8 +377,7 @@ pub fn print_path<'a, 'b, S: Allocator, A: Allocator>(
         [] => Ok(()),
         [name, outer @ ..] => {
             push(stack, Item::Name(*name, false))?;
-            print_scope(stack, out, outer, flags)?;
-            Ok(())
+            print_scope(stack, out, outer, flags)
         }
     }
 }
@@ -406,10 +395,7 @@ fn push_ctor_dtor_name<'a, 'b, S: Allocator>(
     ensures lighter { OnOk result (AddsAtMost (1 + scope_weight (names_in names.now)) stack.old.items stack.new.items) }
 {
     match names {
-        [] => {
-            push(stack, Item::Text(b"[invalid]"))?;
-            Ok(())
-        }
+        [] => push(stack, Item::Text(b"[invalid]")),
         [name, ..] => {
             push(stack, Item::Name(*name, false))?;
             if destructor {
@@ -459,13 +445,9 @@ fn push_conversion<'a, 'b, S: Allocator>(
         Some(returned) => {
             push(stack, Item::After(returned, false))?;
             push(stack, Item::Before(returned, false))?;
-            push(stack, Item::Text(b"operator "))?;
-            Ok(())
+            push(stack, Item::Text(b"operator "))
         }
-        None => {
-            push(stack, Item::Name(name, true))?;
-            Ok(())
-        }
+        None => push(stack, Item::Name(name, true)),
     }
 }
 
@@ -477,8 +459,7 @@ fn push_base_table<'a, 'b, S: Allocator>(
     ensures text { OnOk result (Pushes (text (codes "`vbtable'{for `") ∷ []) flags.0 stack.old.items stack.new.items) }
     ensures lighter { OnOk result (AddsAtMost 1 stack.old.items stack.new.items) }
 {
-    push(stack, Item::Text(b"`vbtable'{for `"))?;
-    Ok(())
+    push(stack, Item::Text(b"`vbtable'{for `"))
 }
 
 /// Writes the name of a literal operator.
@@ -561,6 +542,5 @@ pub fn print_member_pointer_class<'a, 'b, S: Allocator, A: Allocator>(
 {
     write_space(out, Space::AfterPointer)?;
     push(stack, Item::Text(b"::*"))?;
-    print_symbol(stack, out, class, None, flags)?;
-    Ok(())
+    print_symbol(stack, out, class, None, flags)
 }

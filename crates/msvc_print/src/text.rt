@@ -320,8 +320,7 @@ pub fn write_space<A: Allocator>(out: &mut Text<A>, kind: Space) -> Result<(), A
     if !kind.is_written_after(out.last_byte()) {
         return Ok(());
     }
-    write_text(out, b" ")?;
-    Ok(())
+    write_text(out, b" ")
 }
 
 /// Returns the space before a name.
@@ -390,8 +389,7 @@ fn write_set_qualifiers<A: Allocator>(
 {
     let kind = qualifier_space(flags);
     write_qualifier(out, kind, StorageClass::CONST, b"const", qualifiers)?;
-    write_qualifier(out, kind, StorageClass::VOLATILE, b"volatile", qualifiers)?;
-    Ok(())
+    write_qualifier(out, kind, StorageClass::VOLATILE, b"volatile", qualifiers)
 }
 
 /// Writes the space before the mark of a pointer or a reference, and the mark with its qualifiers.
@@ -406,8 +404,7 @@ pub fn write_mark<A: Allocator>(
 {
     write_mark_space(out, flags)?;
     write_text(out, word)?;
-    write_qualifiers(out, qualifiers, flags)?;
-    Ok(())
+    write_qualifiers(out, qualifiers, flags)
 }
 
 /// Writes the space before the mark of a pointer or a reference.
@@ -455,6 +452,5 @@ pub fn write_number<I: Integer, A: Allocator>(
     ensures { OnOk result (Writes (text (I.text number) ∷ []) out.old out.new) }
 {
     let mut buffer = Buffer::new();
-    write_text(out, buffer.format(number).as_bytes())?;
-    Ok(())
+    write_text(out, buffer.format(number).as_bytes())
 }

@@ -156,8 +156,7 @@ fn print_inner<'a, 'b, S: Allocator, A: Allocator>(
                 *symbol,
                 *qualifiers,
                 flags,
-            )?;
-            Ok(())
+            )
         }
         _ => push(stack, Item::Before(t, pointed)),
     }
@@ -245,14 +244,12 @@ pub fn print_suffix<'a, 'b, S: Allocator, A: Allocator>(
         Type::Pointing(_, _, inner) => push_suffix(stack, *inner, true, flags),
         Type::Array(length, _, inner) => {
             write_length(out, *length, pointed)?;
-            push_suffix(stack, *inner, false, flags)?;
-            Ok(())
+            push_suffix(stack, *inner, false, flags)
         }
         Type::Function(function) => print_function_end(stack, out, *function, pointed, flags),
         Type::MemberFunction(function) => print_function_end(stack, out, *function, pointed, flags),
         Type::MemberPointer(_, function) => {
-            print_member_pointer_end(stack, out, *function, flags)?;
-            Ok(())
+            print_member_pointer_end(stack, out, *function, flags)
         }
         Type::Variable(_, _, inner) => push_suffix(stack, *inner, false, flags),
         Type::Table(table, _, scope) => print_table_end(stack, out, *table, scope.names, flags),
@@ -341,8 +338,7 @@ fn print_function_end<'a, 'b, S: Allocator, A: Allocator>(
         true,
         ListEnd::Round(function.qualifiers),
         flags,
-    )?;
-    Ok(())
+    )
 }
 
 /// Pushes `const`, if a member function that is pointed to has it.
@@ -380,8 +376,7 @@ fn print_member_pointer_end<'a, 'b, S: Allocator, A: Allocator>(
     write_text(out, b")(")?;
     push_const(stack, function.qualifiers, flags)?;
     push_suffix(stack, function.returned, false, flags)?;
-    print_parameters(stack, out, function.parameters, true, ListEnd::Bare, flags)?;
-    Ok(())
+    print_parameters(stack, out, function.parameters, true, ListEnd::Bare, flags)
 }
 
 /// Prints what a table has after its name: the scope that it is for.
@@ -424,8 +419,7 @@ fn print_vftable_target<'a, 'b, S: Allocator, A: Allocator>(
         [_, ..] => {
             write_text(out, b"{for `")?;
             push(stack, Item::Text(b"'}"))?;
-            print_path(stack, out, names, flags)?;
-            Ok(())
+            print_path(stack, out, names, flags)
         }
     }
 }
@@ -466,10 +460,7 @@ fn print_list<'a, 'b, S: Allocator, A: Allocator>(
         return Ok(());
     }
     match &types[at..] {
-        [] => {
-            write_list_end(out, end, flags)?;
-            Ok(())
-        }
+        [] => write_list_end(out, end, flags),
         [t, later @ ..] => {
             let left = TypeList {
                 types: later,
@@ -477,8 +468,7 @@ fn print_list<'a, 'b, S: Allocator, A: Allocator>(
                 end,
             };
             push(stack, Item::Parameters(left))?;
-            print_parameter(stack, out, *t, flags)?;
-            Ok(())
+            print_parameter(stack, out, *t, flags)
         }
     }
 }
@@ -583,8 +573,7 @@ fn print_tagged<'a, 'b, S: Allocator, A: Allocator>(
 {
     write_text(out, word)?;
     push_qualifiers(stack, qualifiers, flags)?;
-    print_symbol(stack, out, symbol, None, flags)?;
-    Ok(())
+    print_symbol(stack, out, symbol, None, flags)
 }
 
 /// Writes the type of a thread-safe static guard.
@@ -607,8 +596,7 @@ fn write_thunk<A: Allocator>(
         out.old out.new) }
 {
     write_text(out, b"[thunk]: ")?;
-    write_calling(out, false, convention, flags)?;
-    Ok(())
+    write_calling(out, false, convention, flags)
 }
 
 /// Writes what a thunk has after its name: the offset in the table, in bytes, and the memory model.

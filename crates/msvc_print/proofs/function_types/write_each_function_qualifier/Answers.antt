@@ -1,4 +1,5 @@
 use Rattle.std.proofs.Common.{ap, sym, ◌∙◌, rules, ◌≡◌}
+use Rattle.std.proofs.lemmas.Result.{on_ok_weaker}
 use Rattle.msvc_print.proofs.Dropped.{each_function_qualifier-none}
 use Rattle.msvc_print.proofs.Settling.{add_all-none, settled_two}
 use Rattle.msvc_print.specs.Functions.{each_function_qualifier}
@@ -14,8 +15,10 @@ returns-then-is_empty g c =
 
 pub returns : goal.returns
 unfolding each_function_qualifier
-returns g c = settled_two _ _ _ _ _ c.in_ok-write_qualifier.ensures
+returns g c = on_ok_weaker c.write_qualifier-5.result
+    (λ last. settled_two _ _ _ _ _ c.in_ok-write_qualifier.ensures
     (settled_two _ _ _ _ _ c.in_ok-write_qualifier-2.ensures
     (settled_two _ _ _ _ _ c.in_ok-write_wide_qualifier.ensures
     (settled_two _ _ _ _ _ c.in_ok-write_qualifier-3.ensures
-    (settled_two _ _ _ _ _ c.in_ok-write_qualifier-4.ensures c.in_ok-write_qualifier-5.ensures))))
+    (settled_two _ _ _ _ _ c.in_ok-write_qualifier-4.ensures last)))))
+    c.write_qualifier-5.ensures
