@@ -18,11 +18,9 @@ ghost use Rattle.msvc_print.specs.Work.{AddsAtMost, Lightens, Prints, Pushes, re
 use crate::function_types::{write_calling, write_list_end, write_member_start, write_separator};
 use crate::item::{Item, ListEnd, TypeList, pop_list, push};
 use crate::qualified_names::{print_path, print_symbol};
-use crate::simple_types::{
-    write_later_calling, write_simple, write_simple_pointer, write_simple_types,
-};
+use crate::simple_types::{write_base, write_simple, write_simple_pointer, write_simple_types};
 use crate::text::{Text, write_closing, write_number, write_opening, write_qualifiers, write_text};
-use crate::words::{base_word, mark_word, tag_word, variable_word};
+use crate::words::{mark_word, tag_word, variable_word};
 use bitflags::Flags;
 use msvc_nodes::flags::{DemangleFlags, StorageClass};
 use msvc_nodes::kinds::{CallingConv, NumberedType, PlainType, SpecialTableKind, VarStorageKind};
@@ -44,12 +42,7 @@ pub fn print_prefix<'a, 'b, S: Allocator, A: Allocator>(
 {
     match t {
         Type::Plain(plain) => write_plain(out, *plain, pointed, flags),
-        Type::Base(base, qualifiers) => write_word(
-            out,
-            base_word(*base, flags),
-            *qualifiers,
-            flags,
-        ),
+        Type::Base(base, qualifiers) => write_base(out, *base, *qualifiers, flags),
         Type::Tagged(tag, qualifiers, symbol) => {
             print_tagged(
                 stack,
@@ -142,12 +135,7 @@ fn print_inner<'a, 'b, S: Allocator, A: Allocator>(
     ensures lighter { OnOk result (AddsAtMost (type_weight (type_of t.now)) stack.old.items stack.new.items) }
 {
     match t {
-        Type::Base(base, qualifiers) => write_word(
-            out,
-            base_word(*base, flags),
-            *qualifiers,
-            flags,
-        ),
+        Type::Base(base, qualifiers) => write_base(out, *base, *qualifiers, flags),
         Type::Tagged(tag, qualifiers, symbol) => {
             print_tagged(
                 stack,
@@ -201,11 +189,14 @@ fn print_function<'a, 'b, S: Allocator, A: Allocator>(
     if !out.is_whole() {
         return Ok(());
     }
-    if write_simple(out, function.returned, flags)? {
-        return write_later_calling(out, pointed, function.convention, flags);
+    if !write_simple(out, function.returned, flags)? {
+        push(stack, Item::Calling(pointed, function.convention))?;
+        return print_inner(stack, out, function.returned, false, flags);
     }
-    push(stack, Item::Calling(pointed, function.convention))?;
-    print_inner(stack, out, function.returned, false, flags)
+    if out.is_whole() {
+        write_calling(out, pointed, function.convention, flags)?;
+    }
+    Ok(())
 }
 
 /// Prints what a variable has before its name: words that no flag drops, its type, and its qualifiers.
@@ -523,21 +514,6 @@ fn print_parameter<'a, 'b, S: Allocator, A: Allocator>(
             Ok(())
         }
     }
-}
-
-/// Writes a word and qualifiers.
-#[tactic(auto, using(crate::proofs::Settling::settling))]
-#[inline(always)]
-pub fn write_word<A: Allocator>(
-    out: &mut Text<A>,
-    word: &[u8],
-    qualifiers: StorageClass,
-    flags: DemangleFlags,
-) -> Result<(), AllocError>
-    ensures { OnOk result (Writes (text word.now ∷ qualifier_pieces qualifiers.0 flags.0) out.old out.new) }
-{
-    write_text(out, word)?;
-    write_qualifiers(out, qualifiers, flags)
 }
 
 /// Pushes qualifiers, unless there are none.
