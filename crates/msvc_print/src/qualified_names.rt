@@ -7,11 +7,10 @@ ghost use Rattle.std.specs.Fmt.{signed_decimal};
 ghost use Rattle.msvc_nodes.specs.NodeView.{name_of, names_in, type_of, types_in};
 ghost use Rattle.msvc_nodes.specs.declared.kinds.Spelling.TheVariants as spelling_kind;
 ghost use Rattle.msvc_print.specs.Declaration as spec;
-ghost use Rattle.msvc_print.specs.Halves.{after, before};
 ghost use Rattle.msvc_print.specs.Operators.{spaced};
 ghost use Rattle.msvc_print.specs.Limited.{Writes, add_all};
 ghost use Rattle.msvc_print.specs.Pieces.{space, text};
-ghost use Rattle.msvc_print.specs.Sides.{alone, kept_left, kept_right};
+ghost use Rattle.msvc_print.specs.Sides.{alone};
 ghost use Rattle.msvc_print.specs.SymbolNodes.{class_pieces_of, class_weight_of, symbol_as_of, symbol_name_of};
 ghost use Rattle.msvc_print.specs.SymbolNodes.{symbol_pieces_of, symbol_weight_of, type_or_none};
 ghost use Rattle.msvc_print.specs.SymbolNodes.{typed_symbol_weight_of};
@@ -130,42 +129,8 @@ fn write_anonymous<A: Allocator>(out: &mut Text<A>) -> Result<(), AllocError>
     write_text(out, b"`anonymous namespace'")
 }
 
-/// Pushes what a symbol has after its name. NAME_ONLY drops it.
-fn push_right<'a, 'b, S: Allocator>(
-    stack: &mut Vec<Item<'a, 'b>, S>,
-    t: &'b Type<'a, 'b>,
-    flags: DemangleFlags,
-) -> Result<(), AllocError>
-    ensures text { OnOk result (Pushes (kept_right (after (type_of t.now) false flags.0) flags.0) flags.0
-        stack.old.items stack.new.items) }
-    ensures lighter { OnOk result (AddsAtMost (type_weight (type_of t.now)) stack.old.items stack.new.items) }
-{
-    if !flags.contains(DemangleFlags::NAME_ONLY) {
-        push(stack, Item::After(t, false))?;
-    }
-    Ok(())
-}
-
-/// Pushes what a symbol has before its name. NAME_ONLY and NO_FUNCTION_RETURNS drop it.
-fn push_left<'a, 'b, S: Allocator>(
-    stack: &mut Vec<Item<'a, 'b>, S>,
-    t: &'b Type<'a, 'b>,
-    flags: DemangleFlags,
-) -> Result<(), AllocError>
-    ensures text { OnOk result (Pushes (kept_left (before (type_of t.now) false flags.0) flags.0) flags.0
-        stack.old.items stack.new.items) }
-    ensures lighter { OnOk result (AddsAtMost (type_weight (type_of t.now)) stack.old.items stack.new.items) }
-{
-    if flags.contains(DemangleFlags::NAME_ONLY) {
-        return Ok(());
-    }
-    if !flags.contains(DemangleFlags::NO_FUNCTION_RETURNS) {
-        push(stack, Item::Before(t, false))?;
-    }
-    Ok(())
-}
-
-/// Pushes a symbol with its type: the name between what the type has before and after it.
+/// Pushes a symbol with its type: the name between what the type has before and after it. NAME_ONLY drops both, and
+/// NO_FUNCTION_RETURNS what it has before.
 #[tactic(auto, using(crate::proofs::Stack::pushes))]
 pub fn push_typed_symbol<'a, 'b, S: Allocator>(
     stack: &mut Vec<Item<'a, 'b>, S>,
@@ -176,9 +141,16 @@ pub fn push_typed_symbol<'a, 'b, S: Allocator>(
         stack.old.items stack.new.items) }
     ensures lighter { OnOk result (Lightens (typed_symbol_weight_of tree.now) stack.old.items stack.new.items) }
 {
-    push_right(stack, tree.symbol_type, flags)?;
-    push(stack, Item::Symbol(&tree.symbol, Some(tree.symbol_type)))?;
-    push_left(stack, tree.symbol_type, flags)
+    let name = Item::Symbol(&tree.symbol, Some(tree.symbol_type));
+    if flags.contains(DemangleFlags::NAME_ONLY) {
+        return push(stack, name);
+    }
+    push(stack, Item::After(tree.symbol_type, false))?;
+    push(stack, name)?;
+    if flags.contains(DemangleFlags::NO_FUNCTION_RETURNS) {
+        return Ok(());
+    }
+    push(stack, Item::Before(tree.symbol_type, false))
 }
 
 /// Prints a nested symbol, in quotes unless it is the name of a symbol itself.
