@@ -22,7 +22,7 @@ use crate::item::{Item, ListEnd, TypeList, push};
 use crate::operators::{
     NameKind, name_kind, operator_word, write_base_class, write_guard, write_spaced_word,
 };
-use crate::text::{Space, Text, name_space, write_number, write_space, write_text};
+use crate::text::{Space, Text, word_space, write_number, write_space, write_text};
 use bitflags::Flags;
 use msvc_nodes::flags::DemangleFlags;
 use msvc_nodes::nodes::{Name, Scope, Symbol, Type, TypedSymbol};
@@ -456,7 +456,7 @@ fn print_symbol_as<'a, 'b, S: Allocator, A: Allocator>(
     ensures lighter { OnOk result (Lightens (symbol_weight_of symbol.now (type_or_none symbol_type.entry))
         stack.old.items stack.new.items) }
 {
-    write_space(out, name_space(flags))?;
+    write_space(out, word_space(flags, Space::AfterReference))?;
     match kind {
         NameKind::Ordinary => print_in_scope(stack, out, symbol.scope, symbol.name, flags),
         NameKind::Constructor => {

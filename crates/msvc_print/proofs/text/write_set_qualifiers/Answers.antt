@@ -10,5 +10,5 @@ unfolding qualifiers
 returns g c = on_ok_weaker c.write_qualifier-2.result
     (λ last. settled_two _ _ _ _ _ c.in_ok-write_qualifier.ensures last
     ∙ ap (λ s. add_all c.args.out.now (qualifier s 1 (codes "const") c.args.qualifiers.0
-    ++ qualifier s 2 (codes "volatile") c.args.qualifiers.0)) c.qualifier_space-kind.ensures)
+    ++ qualifier s 2 (codes "volatile") c.args.qualifiers.0)) c.word_space-kind.ensures)
     c.write_qualifier-2.ensures
