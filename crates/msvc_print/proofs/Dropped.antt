@@ -1,7 +1,8 @@
 -- What the flags leave of the pieces that they may drop.
 use Rattle.std.proofs.Common.{◌≡◌, ℕ, List, [], ◌++◌, Bool, true, false, cond, refl, ap, ◌∙◌, codes}
-use Rattle.msvc_print.specs.Flags.{has, name_only, no_access_specifiers, no_function_returns}
-use Rattle.msvc_print.specs.Functions.{access_words, each_function_qualifier, member_word, wide_qualifier}
+use Rattle.msvc_print.specs.Flags.{has, name_only, no_access_specifiers, no_function_returns, no_this_type}
+use Rattle.msvc_print.specs.Functions.{access_words, each_function_qualifier, function_qualifiers}
+use Rattle.msvc_print.specs.Functions.{member_word, wide_qualifier}
 use Rattle.msvc_print.specs.Pieces.{Piece}
 use Rattle.msvc_print.specs.Sides.{kept_left, kept_right}
 
@@ -42,7 +43,17 @@ either : (b : Bool) (pieces : List Piece) → cond b pieces pieces ≡ pieces
 either true pieces = refl
 either false pieces = refl
 
+pub function_qualifiers-kept : (set flags : ℕ) → has flags no_this_type ≡ false →
+    function_qualifiers set flags ≡ each_function_qualifier set flags
+unfolding function_qualifiers
+function_qualifiers-kept set flags e = ap (λ b. cond b [] (each_function_qualifier set flags)) e
+
 -- a function without qualifiers shows none
-pub each_function_qualifier-none : (flags : ℕ) → each_function_qualifier 0 flags ≡ []
+each_function_qualifier-none : (flags : ℕ) → each_function_qualifier 0 flags ≡ []
 unfolding each_function_qualifier wide_qualifier
 each_function_qualifier-none flags = ap (λ pieces. pieces ++ []) (either _ [])
+
+pub function_qualifiers-none : (flags : ℕ) → function_qualifiers 0 flags ≡ []
+unfolding function_qualifiers
+function_qualifiers-none flags =
+    ap (λ pieces. cond (has flags no_this_type) [] pieces) (each_function_qualifier-none flags) ∙ either _ []

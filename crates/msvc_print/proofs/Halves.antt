@@ -11,6 +11,9 @@ use Rattle.msvc_print.specs.Halves.{after, before, function_end, member_pointer_
 use Rattle.msvc_print.specs.Pieces.{Piece, text}
 use Rattle.msvc_print.specs.Sides.{Sides, alone, around, between, kept_left, kept_right}
 use Rattle.msvc_print.specs.Words.{closing, mark_word, marked, opening, qualifiers, variable_word}
+use Rattle.msvc_print.specs.Flags.{has, name_only, no_function_returns}
+use Rattle.msvc_print.proofs.Dropped.{kept_left-all, kept_left-name_only, kept_left-no_returns}
+use Rattle.msvc_print.proofs.Dropped.{kept_right-all, kept_right-dropped}
 use Rattle.msvc_print.proofs.Stack.{pushes}
 
 -- pieces around pieces
@@ -121,5 +124,30 @@ symbol_pieces-halves n scope t flags =
     (left-before t flags)
     ∙ ap (λ x. kept_left (before t false flags) flags ++ (symbol_name n scope t flags ++ kept_right x flags))
     (right-after t flags)
+
+-- what flags keep of them
+pub symbol_pieces-name_only : (n : NameTree) (scope : NameTrees) (t : TypeTree) (flags : ℕ) →
+    has flags name_only ≡ true → symbol_pieces n scope t flags ≡ symbol_name n scope t flags
+symbol_pieces-name_only n scope t flags e =
+    symbol_pieces-halves n scope t flags
+    ∙ ap (λ x. x ++ (symbol_name n scope t flags ++ kept_right (after t false flags) flags)) (kept_left-name_only _ _ e)
+    ∙ ap (λ x. symbol_name n scope t flags ++ x) (kept_right-dropped _ _ e) ∙ append-nil (symbol_name n scope t flags)
+
+pub symbol_pieces-no_returns : (n : NameTree) (scope : NameTrees) (t : TypeTree) (flags : ℕ) →
+    has flags name_only ≡ false → has flags no_function_returns ≡ true →
+    symbol_pieces n scope t flags ≡ symbol_name n scope t flags ++ after t false flags
+symbol_pieces-no_returns n scope t flags e e' =
+    symbol_pieces-halves n scope t flags
+    ∙ ap (λ x. x ++ (symbol_name n scope t flags ++ kept_right (after t false flags) flags))
+    (kept_left-no_returns _ _ e e')
+    ∙ ap (λ x. symbol_name n scope t flags ++ x) (kept_right-all _ _ e)
+
+pub symbol_pieces-all : (n : NameTree) (scope : NameTrees) (t : TypeTree) (flags : ℕ) →
+    has flags name_only ≡ false → has flags no_function_returns ≡ false →
+    symbol_pieces n scope t flags ≡ before t false flags ++ (symbol_name n scope t flags ++ after t false flags)
+symbol_pieces-all n scope t flags e e' =
+    symbol_pieces-halves n scope t flags
+    ∙ ap (λ x. x ++ (symbol_name n scope t flags ++ kept_right (after t false flags) flags)) (kept_left-all _ _ e e')
+    ∙ ap (λ x. before t false flags ++ (symbol_name n scope t flags ++ x)) (kept_right-all _ _ e)
 
 pub ruleset pushed_left = (pushes, left-before)

@@ -1,6 +1,6 @@
 //! Writes what the declaration of a function has beside its types: words, calling conventions, qualifiers, commas.
 
-ghost use Rattle.std.specs.Prelude.{false, ◌≡◌, OnOk};
+ghost use Rattle.std.specs.Prelude.{◌≡◌, OnOk};
 ghost use Rattle.msvc_print.specs.Functions as spec;
 ghost use Rattle.msvc_print.specs.Limited.{Writes};
 ghost use Rattle.msvc_print.specs.Work.{end_pieces};
@@ -26,24 +26,9 @@ fn convention_word<'t>(convention: CallingConv) -> &'t [u8]
     }
 }
 
-/// Writes the word of a calling convention. NO_MS_KEYWORDS drops it.
-#[tactic(auto, using(crate::proofs::Settling::settling), unfolding(crate::specs::Functions::convention_pieces))]
-fn write_convention<A: Allocator>(
-    out: &mut Text<A>,
-    convention: CallingConv,
-    flags: DemangleFlags,
-) -> Result<(), AllocError>
-    ensures { OnOk result (Writes (spec.convention_pieces convention flags.0) out.old out.new) }
-{
-    if flags.contains(DemangleFlags::NO_MS_KEYWORDS) {
-        return Ok(());
-    }
-    write_text(out, convention_word(convention))?;
-    Ok(())
-}
-
-/// Writes the parenthesis before the mark of a pointer to a function, and the calling convention.
-#[tactic(auto, using(crate::proofs::Settling::settling), unfolding(crate::specs::Functions::calling))]
+/// Writes the parenthesis before the mark of a pointer to a function, and the calling convention. NO_MS_KEYWORDS drops
+/// the word of the convention.
+#[tactic(auto, using(crate::proofs::Settling::settling), unfolding(crate::specs::Functions::calling, crate::specs::Functions::convention_pieces))]
 pub fn write_calling<A: Allocator>(
     out: &mut Text<A>,
     pointed: bool,
@@ -54,8 +39,10 @@ pub fn write_calling<A: Allocator>(
 {
     write_opening(out, pointed)?;
     write_space(out, Space::UnlessOpen)?;
-    write_convention(out, convention, flags)?;
-    Ok(())
+    if flags.contains(DemangleFlags::NO_MS_KEYWORDS) {
+        return Ok(());
+    }
+    write_text(out, convention_word(convention))
 }
 
 /// Writes a word of a member function, if its bit is set.
@@ -88,8 +75,7 @@ fn write_access_words<A: Allocator>(
     }
     write_member_word(out, FuncClass::PRIVATE, b"private: ", class)?;
     write_member_word(out, FuncClass::PROTECTED, b"protected: ", class)?;
-    write_member_word(out, FuncClass::PUBLIC, b"public: ", class)?;
-    Ok(())
+    write_member_word(out, FuncClass::PUBLIC, b"public: ", class)
 }
 
 /// Writes `static` and `virtual` of a member function. NO_MEMBER_TYPE drops them.
@@ -105,8 +91,7 @@ fn write_kind_words<A: Allocator>(
         return Ok(());
     }
     write_member_word(out, FuncClass::STATIC, b"static ", class)?;
-    write_member_word(out, FuncClass::VIRTUAL, b"virtual ", class)?;
-    Ok(())
+    write_member_word(out, FuncClass::VIRTUAL, b"virtual ", class)
 }
 
 /// Writes the words of a member function.
@@ -120,8 +105,7 @@ fn write_member_words<A: Allocator>(
 {
     write_member_word(out, FuncClass::THUNK, b"[thunk]: ", class)?;
     write_access_words(out, class, flags)?;
-    write_kind_words(out, class, flags)?;
-    Ok(())
+    write_kind_words(out, class, flags)
 }
 
 /// Writes the words of a member function, unless it is pointed to.
@@ -161,27 +145,6 @@ fn write_wide_qualifier<A: Allocator>(
     Ok(())
 }
 
-/// Writes the qualifiers of a function itself whose bits are set.
-fn write_each_function_qualifier<A: Allocator>(
-    out: &mut Text<A>,
-    qualifiers: StorageClass,
-    flags: DemangleFlags,
-) -> Result<(), AllocError>
-    ensures { OnOk result (Writes (spec.each_function_qualifier qualifiers.0 flags.0) out.old out.new) }
-{
-    if qualifiers.is_empty() {
-        return Ok(());
-    }
-    let kind = Space::AfterPointer;
-    write_qualifier(out, kind, StorageClass::CONST, b"const", qualifiers)?;
-    write_qualifier(out, kind, StorageClass::VOLATILE, b"volatile", qualifiers)?;
-    write_wide_qualifier(out, qualifiers, flags)?;
-    write_qualifier(out, kind, StorageClass::RESTRICT, b"__restrict", qualifiers)?;
-    write_qualifier(out, kind, StorageClass::LVALUE_QUAL, b"&", qualifiers)?;
-    write_qualifier(out, kind, StorageClass::RVALUE_QUAL, b"&&", qualifiers)?;
-    Ok(())
-}
-
 /// Writes the qualifiers of a function itself. Both bits of NO_THISTYPE together drop them.
 #[tactic(auto, using(crate::proofs::Settling::settling), unfolding(crate::specs::Functions::function_qualifiers))]
 fn write_function_qualifiers<A: Allocator>(
@@ -194,8 +157,16 @@ fn write_function_qualifiers<A: Allocator>(
     if flags.contains(DemangleFlags::NO_THISTYPE) {
         return Ok(());
     }
-    write_each_function_qualifier(out, qualifiers, flags)?;
-    Ok(())
+    if qualifiers.is_empty() {
+        return Ok(());
+    }
+    let kind = Space::AfterPointer;
+    write_qualifier(out, kind, StorageClass::CONST, b"const", qualifiers)?;
+    write_qualifier(out, kind, StorageClass::VOLATILE, b"volatile", qualifiers)?;
+    write_wide_qualifier(out, qualifiers, flags)?;
+    write_qualifier(out, kind, StorageClass::RESTRICT, b"__restrict", qualifiers)?;
+    write_qualifier(out, kind, StorageClass::LVALUE_QUAL, b"&", qualifiers)?;
+    write_qualifier(out, kind, StorageClass::RVALUE_QUAL, b"&&", qualifiers)
 }
 
 /// Writes the end of a list of types.
@@ -220,19 +191,7 @@ pub fn write_list_end<A: Allocator>(
     }
 }
 
-/// Writes the comma between two parameters. Each word is a constant, which is stored without a call.
-#[tactic(auto, using(crate::proofs::Settling::settling), unfolding(crate::specs::Functions::separator))]
-fn write_comma<A: Allocator>(out: &mut Text<A>, flags: DemangleFlags) -> Result<(), AllocError>
-    ensures { OnOk result (Writes (spec.separator false flags.0) out.old out.new) }
-{
-    if flags.contains(DemangleFlags::SPACE_AFTER_COMMA) {
-        write_text(out, b", ")
-    } else {
-        write_text(out, b",")
-    }
-}
-
-/// Writes the comma before a parameter that is not the first.
+/// Writes the comma before a parameter that is not the first. Each word is a constant, which is stored without a call.
 #[tactic(auto, using(crate::proofs::Settling::settling), unfolding(crate::specs::Functions::separator))]
 pub fn write_separator<A: Allocator>(
     out: &mut Text<A>,
@@ -244,5 +203,9 @@ pub fn write_separator<A: Allocator>(
     if first {
         return Ok(());
     }
-    write_comma(out, flags)
+    if flags.contains(DemangleFlags::SPACE_AFTER_COMMA) {
+        write_text(out, b", ")
+    } else {
+        write_text(out, b",")
+    }
 }

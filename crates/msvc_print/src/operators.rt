@@ -137,8 +137,7 @@ pub fn write_base_class<A: Allocator>(
     write_comma_number(out, class.pointer, flags)?;
     write_comma_number(out, class.entry, flags)?;
     write_comma_number(out, class.attributes, flags)?;
-    write_text(out, b")'")?;
-    Ok(())
+    write_text(out, b")'")
 }
 
 /// Matches an operator with what it prints.

@@ -4,7 +4,7 @@ ghost use Rattle.std.specs.Prelude.{◌≡◌, ◌≤◌, ◌^◌, OnOk, IfOk, S
 ghost use Rattle.msvc_nodes.specs.NodeView.{typed_symbol_of};
 ghost use Rattle.msvc_print.specs.Declaration.{declaration};
 ghost use Rattle.msvc_print.specs.Within.{IsPrintedWithin};
-ghost use Rattle.msvc_print.specs.Work.{Lightens, Prints, finished, item_pieces, item_weight};
+ghost use Rattle.msvc_print.specs.Work.{Lightens, Prints, item_pieces, item_weight};
 
 use crate::function_types::write_calling;
 use crate::item::Item;
@@ -82,23 +82,6 @@ fn print_item<'a, 'b, S: Allocator, A: Allocator>(
     }
 }
 
-/// Prints the items of the stack, the last first, until none is left or `out` is not whole.
-fn run<'a, 'b, S: Allocator, A: Allocator>(
-    stack: &mut Vec<Item<'a, 'b>, S>,
-    out: &mut Text<A>,
-    flags: DemangleFlags,
-) -> Result<(), AllocError>
-    ensures { OnOk result (out.new ≡ finished stack.old.items out.old flags.0) }
-{
-    'items: while out.is_whole() {
-        let Some(item) = stack.pop() else {
-            return Ok(());
-        };
-        print_item(stack, out, item, flags)?;
-    }
-    Ok(())
-}
-
 /// Replaces the text of `out` with the declaration of `symbol` under `flags`. The stack of the printer is in `arena`.
 ///
 /// Fails only if an allocation fails; `out` is then unspecified.
@@ -133,11 +116,15 @@ pub fn print_within<'a, 'b, B: Allocator, A: Allocator>(
     out.clear(max);
     let mut stack = Vec::with_capacity(arena, FIRST_ITEMS)?;
     push_typed_symbol(&mut stack, symbol, flags)?;
-    run(&mut stack, out, flags)?;
-    let within = out.is_whole();
-    if !within && max == usize::MAX {
+    'items: while out.is_whole() {
+        let Some(item) = stack.pop() else {
+            return Ok(true);
+        };
+        print_item(&mut stack, out, item, flags)?;
+    }
+    if max == usize::MAX {
         // No allocation has so many bytes.
         return Err(AllocError);
     }
-    Ok(within)
+    Ok(false)
 }

@@ -7,11 +7,10 @@ ghost use Rattle.std.specs.Fmt.{signed_decimal};
 ghost use Rattle.msvc_nodes.specs.NodeView.{name_of, names_in, type_of, types_in};
 ghost use Rattle.msvc_nodes.specs.declared.kinds.Spelling.TheVariants as spelling_kind;
 ghost use Rattle.msvc_print.specs.Declaration as spec;
-ghost use Rattle.msvc_print.specs.Halves.{after, before};
 ghost use Rattle.msvc_print.specs.Operators.{spaced};
 ghost use Rattle.msvc_print.specs.Limited.{Writes, add_all};
 ghost use Rattle.msvc_print.specs.Pieces.{space, text};
-ghost use Rattle.msvc_print.specs.Sides.{alone, kept_left, kept_right};
+ghost use Rattle.msvc_print.specs.Sides.{alone};
 ghost use Rattle.msvc_print.specs.SymbolNodes.{class_pieces_of, class_weight_of, symbol_as_of, symbol_name_of};
 ghost use Rattle.msvc_print.specs.SymbolNodes.{symbol_pieces_of, symbol_weight_of, type_or_none};
 ghost use Rattle.msvc_print.specs.SymbolNodes.{typed_symbol_weight_of};
@@ -23,7 +22,7 @@ use crate::item::{Item, ListEnd, TypeList, push};
 use crate::operators::{
     NameKind, name_kind, operator_word, write_base_class, write_guard, write_spaced_word,
 };
-use crate::text::{Space, Text, name_space, write_number, write_space, write_text};
+use crate::text::{Space, Text, word_space, write_number, write_space, write_text};
 use bitflags::Flags;
 use msvc_nodes::flags::DemangleFlags;
 use msvc_nodes::nodes::{Name, Scope, Symbol, Type, TypedSymbol};
@@ -130,42 +129,8 @@ fn write_anonymous<A: Allocator>(out: &mut Text<A>) -> Result<(), AllocError>
     write_text(out, b"`anonymous namespace'")
 }
 
-/// Pushes what a symbol has after its name. NAME_ONLY drops it.
-fn push_right<'a, 'b, S: Allocator>(
-    stack: &mut Vec<Item<'a, 'b>, S>,
-    t: &'b Type<'a, 'b>,
-    flags: DemangleFlags,
-) -> Result<(), AllocError>
-    ensures text { OnOk result (Pushes (kept_right (after (type_of t.now) false flags.0) flags.0) flags.0
-        stack.old.items stack.new.items) }
-    ensures lighter { OnOk result (AddsAtMost (type_weight (type_of t.now)) stack.old.items stack.new.items) }
-{
-    if !flags.contains(DemangleFlags::NAME_ONLY) {
-        push(stack, Item::After(t, false))?;
-    }
-    Ok(())
-}
-
-/// Pushes what a symbol has before its name. NAME_ONLY and NO_FUNCTION_RETURNS drop it.
-fn push_left<'a, 'b, S: Allocator>(
-    stack: &mut Vec<Item<'a, 'b>, S>,
-    t: &'b Type<'a, 'b>,
-    flags: DemangleFlags,
-) -> Result<(), AllocError>
-    ensures text { OnOk result (Pushes (kept_left (before (type_of t.now) false flags.0) flags.0) flags.0
-        stack.old.items stack.new.items) }
-    ensures lighter { OnOk result (AddsAtMost (type_weight (type_of t.now)) stack.old.items stack.new.items) }
-{
-    if flags.contains(DemangleFlags::NAME_ONLY) {
-        return Ok(());
-    }
-    if !flags.contains(DemangleFlags::NO_FUNCTION_RETURNS) {
-        push(stack, Item::Before(t, false))?;
-    }
-    Ok(())
-}
-
-/// Pushes a symbol with its type: the name between what the type has before and after it.
+/// Pushes a symbol with its type: the name between what the type has before and after it. NAME_ONLY drops both, and
+/// NO_FUNCTION_RETURNS what it has before.
 #[tactic(auto, using(crate::proofs::Stack::pushes))]
 pub fn push_typed_symbol<'a, 'b, S: Allocator>(
     stack: &mut Vec<Item<'a, 'b>, S>,
@@ -176,10 +141,16 @@ pub fn push_typed_symbol<'a, 'b, S: Allocator>(
         stack.old.items stack.new.items) }
     ensures lighter { OnOk result (Lightens (typed_symbol_weight_of tree.now) stack.old.items stack.new.items) }
 {
-    push_right(stack, tree.symbol_type, flags)?;
-    push(stack, Item::Symbol(&tree.symbol, Some(tree.symbol_type)))?;
-    push_left(stack, tree.symbol_type, flags)?;
-    Ok(())
+    let name = Item::Symbol(&tree.symbol, Some(tree.symbol_type));
+    if flags.contains(DemangleFlags::NAME_ONLY) {
+        return push(stack, name);
+    }
+    push(stack, Item::After(tree.symbol_type, false))?;
+    push(stack, name)?;
+    if flags.contains(DemangleFlags::NO_FUNCTION_RETURNS) {
+        return Ok(());
+    }
+    push(stack, Item::Before(tree.symbol_type, false))
 }
 
 /// Prints a nested symbol, in quotes unless it is the name of a symbol itself.
@@ -196,13 +167,11 @@ fn print_nested<'a, 'b, S: Allocator, A: Allocator>(
     ensures lighter { OnOk result (Lightens (3 + typed_symbol_weight_of tree.now) stack.old.items stack.new.items) }
 {
     if of_symbol {
-        push_typed_symbol(stack, tree, flags)?;
-        return Ok(());
+        return push_typed_symbol(stack, tree, flags);
     }
     write_text(out, b"`")?;
     push(stack, Item::Text(b"'"))?;
-    push_typed_symbol(stack, tree, flags)?;
-    Ok(())
+    push_typed_symbol(stack, tree, flags)
 }
 
 /// Prints the descriptor of a type.
@@ -297,10 +266,7 @@ fn push_scope<'a, 'b, S: Allocator>(
 {
     match names {
         [] => Ok(()),
-        [_, ..] => {
-            push(stack, Item::Scope(Scope { names }))?;
-            Ok(())
-        }
+        [_, ..] => push(stack, Item::Scope(Scope { names })),
     }
 }
 
@@ -324,8 +290,7 @@ fn print_remaining_names<'a, 'b, S: Allocator, A: Allocator>(
     let last = left - 1;
     push_scope(stack, &names[..last])?;
     push(stack, Item::Text(b"::"))?;
-    print_name(stack, out, names[last], false, flags)?;
-    Ok(())
+    print_name(stack, out, names[last], false, flags)
 }
 
 /// Prints the names of a scope, the outermost first, each with `::` after it.
@@ -340,8 +305,7 @@ pub fn print_scope<'a, 'b, S: Allocator, A: Allocator>(
     ensures lighter { OnOk result (Lightens (scope_weight (names_in names.now)) stack.old.items stack.new.items) }
 {
     let left = write_spelled_names(out, names)?;
-    print_remaining_names(stack, out, names, left, flags)?;
-    Ok(())
+    print_remaining_names(stack, out, names, left, flags)
 }
 
 /// Prints the names of a scope and the name of a symbol in it. The name is printed at once if all names of the scope
@@ -361,15 +325,13 @@ fn print_in_scope<'a, 'b, S: Allocator, A: Allocator>(
 {
     let left = write_spelled_names(out, names)?;
     if left == 0 {
-        print_name(stack, out, name, true, flags)?;
-        return Ok(());
+        return print_name(stack, out, name, true, flags);
     }
     if !out.is_whole() {
         return Ok(());
     }
     push(stack, Item::Name(name, true))?;
-    print_remaining_names(stack, out, names, left, flags)?;
-    Ok(())
+    print_remaining_names(stack, out, names, left, flags)
 }
 
 /// Prints the names of a scope, the outermost first, with `::` between them.
@@ -387,8 +349,7 @@ pub fn print_path<'a, 'b, S: Allocator, A: Allocator>(
         [] => Ok(()),
         [name, outer @ ..] => {
             push(stack, Item::Name(*name, false))?;
-            print_scope(stack, out, outer, flags)?;
-            Ok(())
+            print_scope(stack, out, outer, flags)
         }
     }
 }
@@ -406,10 +367,7 @@ fn push_ctor_dtor_name<'a, 'b, S: Allocator>(
     ensures lighter { OnOk result (AddsAtMost (1 + scope_weight (names_in names.now)) stack.old.items stack.new.items) }
 {
     match names {
-        [] => {
-            push(stack, Item::Text(b"[invalid]"))?;
-            Ok(())
-        }
+        [] => push(stack, Item::Text(b"[invalid]")),
         [name, ..] => {
             push(stack, Item::Name(*name, false))?;
             if destructor {
@@ -459,13 +417,9 @@ fn push_conversion<'a, 'b, S: Allocator>(
         Some(returned) => {
             push(stack, Item::After(returned, false))?;
             push(stack, Item::Before(returned, false))?;
-            push(stack, Item::Text(b"operator "))?;
-            Ok(())
+            push(stack, Item::Text(b"operator "))
         }
-        None => {
-            push(stack, Item::Name(name, true))?;
-            Ok(())
-        }
+        None => push(stack, Item::Name(name, true)),
     }
 }
 
@@ -477,8 +431,7 @@ fn push_base_table<'a, 'b, S: Allocator>(
     ensures text { OnOk result (Pushes (text (codes "`vbtable'{for `") ∷ []) flags.0 stack.old.items stack.new.items) }
     ensures lighter { OnOk result (AddsAtMost 1 stack.old.items stack.new.items) }
 {
-    push(stack, Item::Text(b"`vbtable'{for `"))?;
-    Ok(())
+    push(stack, Item::Text(b"`vbtable'{for `"))
 }
 
 /// Writes the name of a literal operator.
@@ -503,7 +456,7 @@ fn print_symbol_as<'a, 'b, S: Allocator, A: Allocator>(
     ensures lighter { OnOk result (Lightens (symbol_weight_of symbol.now (type_or_none symbol_type.entry))
         stack.old.items stack.new.items) }
 {
-    write_space(out, name_space(flags))?;
+    write_space(out, word_space(flags, Space::AfterReference))?;
     match kind {
         NameKind::Ordinary => print_in_scope(stack, out, symbol.scope, symbol.name, flags),
         NameKind::Constructor => {
@@ -561,6 +514,5 @@ pub fn print_member_pointer_class<'a, 'b, S: Allocator, A: Allocator>(
 {
     write_space(out, Space::AfterPointer)?;
     push(stack, Item::Text(b"::*"))?;
-    print_symbol(stack, out, class, None, flags)?;
-    Ok(())
+    print_symbol(stack, out, class, None, flags)
 }

@@ -5,56 +5,25 @@ ghost use Rattle.std.specs.Prelude.{ℕ, ◌≡◌, ◌≤◌, ◌++◌, ◌∷�
 ghost use Rattle.msvc_nodes.specs.NodeView.{type_of, types_in};
 ghost use Rattle.msvc_print.specs.Declaration.{parameters};
 ghost use Rattle.msvc_print.specs.SimpleTypes as spec;
-ghost use Rattle.msvc_print.specs.Functions.{calling};
 ghost use Rattle.msvc_print.specs.Halves.{after, before};
 ghost use Rattle.msvc_print.specs.Limited.{Writes, add_all};
 ghost use Rattle.msvc_print.specs.Pieces.{text};
 ghost use Rattle.msvc_print.specs.Words.{base_word, marked, qualifiers as qualifier_pieces};
 
-use crate::function_types::{write_calling, write_separator};
-use crate::text::{Text, write_mark};
-use crate::types::{is_empty_pack, write_numbered, write_word};
+use crate::function_types::write_separator;
+use crate::text::{Text, write_mark, write_qualifiers, write_text};
+use crate::types::{is_empty_pack, write_numbered};
 use crate::words::{base_word, mark_word};
 use msvc_nodes::flags::{DemangleFlags, StorageClass};
-use msvc_nodes::kinds::{CallingConv, PrimitiveKind};
+use msvc_nodes::kinds::PrimitiveKind;
 use msvc_nodes::nodes::Type;
 use std::alloc::{AllocError, Allocator};
-
-/// Writes the mark of a pointer or a reference after what it points to, unless that was left out.
-fn write_later_mark<A: Allocator>(
-    out: &mut Text<A>,
-    word: &[u8],
-    qualifiers: StorageClass,
-    flags: DemangleFlags,
-) -> Result<(), AllocError>
-    ensures { OnOk result (Writes (marked word.now qualifiers.0 flags.0) out.old out.new) }
-{
-    if out.is_whole() {
-        write_mark(out, word, qualifiers, flags)?;
-    }
-    Ok(())
-}
-
-/// Writes the calling convention of a function after what it returns, unless that was left out.
-pub fn write_later_calling<A: Allocator>(
-    out: &mut Text<A>,
-    pointed: bool,
-    convention: CallingConv,
-    flags: DemangleFlags,
-) -> Result<(), AllocError>
-    ensures { OnOk result (Writes (calling pointed convention flags.0) out.old out.new) }
-{
-    if out.is_whole() {
-        write_calling(out, pointed, convention, flags)?;
-    }
-    Ok(())
-}
 
 /// Writes the word of a base type, and its qualifiers. It stays a call, since a loop that has it inline first makes
 /// ready each word that depends on flags.
 #[tactic(auto, using(crate::proofs::Settling::settling))]
 #[inline(never)]
-fn write_base<A: Allocator>(
+pub fn write_base<A: Allocator>(
     out: &mut Text<A>,
     base: PrimitiveKind,
     qualifiers: StorageClass,
@@ -63,7 +32,8 @@ fn write_base<A: Allocator>(
     ensures { OnOk result (Writes (text (base_word base flags.0) ∷ qualifier_pieces qualifiers.0 flags.0) out.old
         out.new) }
 {
-    write_word(out, base_word(base, flags), qualifiers, flags)
+    write_text(out, base_word(base, flags))?;
+    write_qualifiers(out, qualifiers, flags)
 }
 
 /// Writes a type that has no other in it, if it is simple. Returns whether it is.
@@ -108,7 +78,9 @@ pub fn write_simple_pointer<'a, 'b, A: Allocator>(
     if !write_simple_inner(out, inner, flags)? {
         return Ok(false);
     }
-    write_later_mark(out, word, qualifiers, flags)?;
+    if out.is_whole() {
+        write_mark(out, word, qualifiers, flags)?;
+    }
     Ok(true)
 }
 

@@ -2,12 +2,14 @@
 //! byte before it.
 
 ghost use Rattle.std.specs.Prelude.{◌≡◌, ◌<◌, ◌≤◌, ◌+◌, ◌∷◌, ◌++◌, [], ℕ, List, Some, OnOk, IfOk, is_some};
-ghost use Rattle.std.specs.Prelude.{length, string_bytes, take};
+ghost use Rattle.std.specs.Prelude.{cond, length, string_bytes, take};
 ghost use Rattle.std.specs.Str.{IsUtf8};
 ghost use Rattle.std.specs.Str.Lossy.{utf8_lossy};
+ghost use Rattle.msvc_print.specs.Flags.{has, space_before_pointer};
 ghost use Rattle.msvc_print.specs.Limited.{Writes, empty_within};
 ghost use Rattle.msvc_print.specs.Pieces.{is_written_after, last_byte, space, text};
 ghost use Rattle.msvc_print.specs.Words as spec;
+ghost use Rattle.msvc_print.specs.declared.text.Space.TheVariants.{AfterWord};
 
 use bitflags::Flags;
 use itoa::{Buffer, Integer};
@@ -219,23 +221,6 @@ fn copy_long(bytes: &mut [u8], at: usize, piece: &[u8])
     bytes[at..at + piece.len()].copy_from_slice(piece);
 }
 
-/// Copies `piece`, of fewer than 8 bytes, into `bytes` from index `at`.
-fn copy_short(bytes: &mut [u8], at: usize, piece: &[u8])
-    requires fits { at + length piece.now ≤ length bytes.old }
-    requires short { length piece.now < 8 }
-    ensures start { take (at + length piece.now) bytes.new ≡ take at bytes.old ++ piece.now }
-    ensures len { length bytes.new ≡ length bytes.old }
-{
-    let len = piece.len();
-    if len >= 4 {
-        copy_ends::<4>(bytes, at, piece);
-    } else if len >= 2 {
-        copy_ends::<2>(bytes, at, piece);
-    } else if len == 1 {
-        copy_front::<1>(bytes, at, piece);
-    }
-}
-
 /// Copies `piece` into `bytes` from index `at`. Most pieces are of at most 32 bytes, for which no call is needed.
 #[inline(always)]
 fn copy_at(bytes: &mut [u8], at: usize, piece: &[u8])
@@ -244,23 +229,20 @@ fn copy_at(bytes: &mut [u8], at: usize, piece: &[u8])
     ensures len { length bytes.new ≡ length bytes.old }
 {
     let len = piece.len();
-    if len < 8 {
-        copy_short(bytes, at, piece);
+    if len < 2 {
+        if len == 1 {
+            copy_front::<1>(bytes, at, piece);
+        }
+    } else if len < 4 {
+        copy_ends::<2>(bytes, at, piece);
+    } else if len < 8 {
+        copy_ends::<4>(bytes, at, piece);
     } else if len < 16 {
         copy_ends::<8>(bytes, at, piece);
     } else if len <= 32 {
         copy_ends::<16>(bytes, at, piece);
     } else {
         copy_long(bytes, at, piece);
-    }
-}
-
-/// Returns how many bytes are filled behind a piece of `len` bytes, at most.
-fn most_behind(len: usize) -> usize {
-    if len < LONG {
-        FILLING.as_flattened().len()
-    } else {
-        FILLED_AFTER_LONG
     }
 }
 
@@ -293,8 +275,12 @@ fn write_text_beyond<A: Allocator>(out: &mut Text<A>, bytes: &[u8]) -> Result<()
     out.bytes.truncate(out.written);
     out.bytes.extend_from_slice(bytes)?;
     out.written += bytes.len();
-    let max = most_behind(bytes.len()).min(out.max - out.written);
-    out.ready = fill_ahead(&mut out.bytes, max);
+    let most = if bytes.len() < LONG {
+        FILLING.as_flattened().len()
+    } else {
+        FILLED_AFTER_LONG
+    };
+    out.ready = fill_ahead(&mut out.bytes, most.min(out.max - out.written));
     Ok(())
 }
 
@@ -320,29 +306,17 @@ pub fn write_space<A: Allocator>(out: &mut Text<A>, kind: Space) -> Result<(), A
     if !kind.is_written_after(out.last_byte()) {
         return Ok(());
     }
-    write_text(out, b" ")?;
-    Ok(())
+    write_text(out, b" ")
 }
 
-/// Returns the space before a name.
-pub fn name_space(flags: DemangleFlags) -> Space
-    ensures { result ≡ spec.name_space flags.0 }
+/// Returns the space before a word. Under SPACE_BEFORE_POINTER it is `AfterWord`, and else `other`.
+pub fn word_space(flags: DemangleFlags, other: Space) -> Space
+    ensures { result ≡ cond (has flags.0 space_before_pointer) AfterWord other }
 {
     if flags.contains(DemangleFlags::SPACE_BEFORE_POINTER) {
         Space::AfterWord
     } else {
-        Space::AfterReference
-    }
-}
-
-/// Returns the space before `const` and `volatile`.
-fn qualifier_space(flags: DemangleFlags) -> Space
-    ensures { result ≡ spec.qualifier_space flags.0 }
-{
-    if flags.contains(DemangleFlags::SPACE_BEFORE_POINTER) {
-        Space::AfterWord
-    } else {
-        Space::AfterPointer
+        other
     }
 }
 
@@ -388,10 +362,9 @@ fn write_set_qualifiers<A: Allocator>(
 ) -> Result<(), AllocError>
     ensures { OnOk result (Writes (spec.qualifiers qualifiers.0 flags.0) out.old out.new) }
 {
-    let kind = qualifier_space(flags);
+    let kind = word_space(flags, Space::AfterPointer);
     write_qualifier(out, kind, StorageClass::CONST, b"const", qualifiers)?;
-    write_qualifier(out, kind, StorageClass::VOLATILE, b"volatile", qualifiers)?;
-    Ok(())
+    write_qualifier(out, kind, StorageClass::VOLATILE, b"volatile", qualifiers)
 }
 
 /// Writes the space before the mark of a pointer or a reference, and the mark with its qualifiers.
@@ -406,8 +379,7 @@ pub fn write_mark<A: Allocator>(
 {
     write_mark_space(out, flags)?;
     write_text(out, word)?;
-    write_qualifiers(out, qualifiers, flags)?;
-    Ok(())
+    write_qualifiers(out, qualifiers, flags)
 }
 
 /// Writes the space before the mark of a pointer or a reference.
@@ -455,6 +427,5 @@ pub fn write_number<I: Integer, A: Allocator>(
     ensures { OnOk result (Writes (text (I.text number) ∷ []) out.old out.new) }
 {
     let mut buffer = Buffer::new();
-    write_text(out, buffer.format(number).as_bytes())?;
-    Ok(())
+    write_text(out, buffer.format(number).as_bytes())
 }

@@ -18,11 +18,9 @@ ghost use Rattle.msvc_print.specs.Work.{AddsAtMost, Lightens, Prints, Pushes, re
 use crate::function_types::{write_calling, write_list_end, write_member_start, write_separator};
 use crate::item::{Item, ListEnd, TypeList, pop_list, push};
 use crate::qualified_names::{print_path, print_symbol};
-use crate::simple_types::{
-    write_later_calling, write_simple, write_simple_pointer, write_simple_types,
-};
+use crate::simple_types::{write_base, write_simple, write_simple_pointer, write_simple_types};
 use crate::text::{Text, write_closing, write_number, write_opening, write_qualifiers, write_text};
-use crate::words::{base_word, mark_word, tag_word, variable_word};
+use crate::words::{mark_word, tag_word, variable_word};
 use bitflags::Flags;
 use msvc_nodes::flags::{DemangleFlags, StorageClass};
 use msvc_nodes::kinds::{CallingConv, NumberedType, PlainType, SpecialTableKind, VarStorageKind};
@@ -44,12 +42,7 @@ pub fn print_prefix<'a, 'b, S: Allocator, A: Allocator>(
 {
     match t {
         Type::Plain(plain) => write_plain(out, *plain, pointed, flags),
-        Type::Base(base, qualifiers) => write_word(
-            out,
-            base_word(*base, flags),
-            *qualifiers,
-            flags,
-        ),
+        Type::Base(base, qualifiers) => write_base(out, *base, *qualifiers, flags),
         Type::Tagged(tag, qualifiers, symbol) => {
             print_tagged(
                 stack,
@@ -142,12 +135,7 @@ fn print_inner<'a, 'b, S: Allocator, A: Allocator>(
     ensures lighter { OnOk result (AddsAtMost (type_weight (type_of t.now)) stack.old.items stack.new.items) }
 {
     match t {
-        Type::Base(base, qualifiers) => write_word(
-            out,
-            base_word(*base, flags),
-            *qualifiers,
-            flags,
-        ),
+        Type::Base(base, qualifiers) => write_base(out, *base, *qualifiers, flags),
         Type::Tagged(tag, qualifiers, symbol) => {
             print_tagged(
                 stack,
@@ -156,8 +144,7 @@ fn print_inner<'a, 'b, S: Allocator, A: Allocator>(
                 *symbol,
                 *qualifiers,
                 flags,
-            )?;
-            Ok(())
+            )
         }
         _ => push(stack, Item::Before(t, pointed)),
     }
@@ -202,11 +189,14 @@ fn print_function<'a, 'b, S: Allocator, A: Allocator>(
     if !out.is_whole() {
         return Ok(());
     }
-    if write_simple(out, function.returned, flags)? {
-        return write_later_calling(out, pointed, function.convention, flags);
+    if !write_simple(out, function.returned, flags)? {
+        push(stack, Item::Calling(pointed, function.convention))?;
+        return print_inner(stack, out, function.returned, false, flags);
     }
-    push(stack, Item::Calling(pointed, function.convention))?;
-    print_inner(stack, out, function.returned, false, flags)
+    if out.is_whole() {
+        write_calling(out, pointed, function.convention, flags)?;
+    }
+    Ok(())
 }
 
 /// Prints what a variable has before its name: words that no flag drops, its type, and its qualifiers.
@@ -245,14 +235,12 @@ pub fn print_suffix<'a, 'b, S: Allocator, A: Allocator>(
         Type::Pointing(_, _, inner) => push_suffix(stack, *inner, true, flags),
         Type::Array(length, _, inner) => {
             write_length(out, *length, pointed)?;
-            push_suffix(stack, *inner, false, flags)?;
-            Ok(())
+            push_suffix(stack, *inner, false, flags)
         }
         Type::Function(function) => print_function_end(stack, out, *function, pointed, flags),
         Type::MemberFunction(function) => print_function_end(stack, out, *function, pointed, flags),
         Type::MemberPointer(_, function) => {
-            print_member_pointer_end(stack, out, *function, flags)?;
-            Ok(())
+            print_member_pointer_end(stack, out, *function, flags)
         }
         Type::Variable(_, _, inner) => push_suffix(stack, *inner, false, flags),
         Type::Table(table, _, scope) => print_table_end(stack, out, *table, scope.names, flags),
@@ -341,8 +329,7 @@ fn print_function_end<'a, 'b, S: Allocator, A: Allocator>(
         true,
         ListEnd::Round(function.qualifiers),
         flags,
-    )?;
-    Ok(())
+    )
 }
 
 /// Pushes `const`, if a member function that is pointed to has it.
@@ -380,8 +367,7 @@ fn print_member_pointer_end<'a, 'b, S: Allocator, A: Allocator>(
     write_text(out, b")(")?;
     push_const(stack, function.qualifiers, flags)?;
     push_suffix(stack, function.returned, false, flags)?;
-    print_parameters(stack, out, function.parameters, true, ListEnd::Bare, flags)?;
-    Ok(())
+    print_parameters(stack, out, function.parameters, true, ListEnd::Bare, flags)
 }
 
 /// Prints what a table has after its name: the scope that it is for.
@@ -424,8 +410,7 @@ fn print_vftable_target<'a, 'b, S: Allocator, A: Allocator>(
         [_, ..] => {
             write_text(out, b"{for `")?;
             push(stack, Item::Text(b"'}"))?;
-            print_path(stack, out, names, flags)?;
-            Ok(())
+            print_path(stack, out, names, flags)
         }
     }
 }
@@ -466,10 +451,7 @@ fn print_list<'a, 'b, S: Allocator, A: Allocator>(
         return Ok(());
     }
     match &types[at..] {
-        [] => {
-            write_list_end(out, end, flags)?;
-            Ok(())
-        }
+        [] => write_list_end(out, end, flags),
         [t, later @ ..] => {
             let left = TypeList {
                 types: later,
@@ -477,8 +459,7 @@ fn print_list<'a, 'b, S: Allocator, A: Allocator>(
                 end,
             };
             push(stack, Item::Parameters(left))?;
-            print_parameter(stack, out, *t, flags)?;
-            Ok(())
+            print_parameter(stack, out, *t, flags)
         }
     }
 }
@@ -535,21 +516,6 @@ fn print_parameter<'a, 'b, S: Allocator, A: Allocator>(
     }
 }
 
-/// Writes a word and qualifiers.
-#[tactic(auto, using(crate::proofs::Settling::settling))]
-#[inline(always)]
-pub fn write_word<A: Allocator>(
-    out: &mut Text<A>,
-    word: &[u8],
-    qualifiers: StorageClass,
-    flags: DemangleFlags,
-) -> Result<(), AllocError>
-    ensures { OnOk result (Writes (text word.now ∷ qualifier_pieces qualifiers.0 flags.0) out.old out.new) }
-{
-    write_text(out, word)?;
-    write_qualifiers(out, qualifiers, flags)
-}
-
 /// Pushes qualifiers, unless there are none.
 fn push_qualifiers<'a, 'b, S: Allocator>(
     stack: &mut Vec<Item<'a, 'b>, S>,
@@ -583,8 +549,7 @@ fn print_tagged<'a, 'b, S: Allocator, A: Allocator>(
 {
     write_text(out, word)?;
     push_qualifiers(stack, qualifiers, flags)?;
-    print_symbol(stack, out, symbol, None, flags)?;
-    Ok(())
+    print_symbol(stack, out, symbol, None, flags)
 }
 
 /// Writes the type of a thread-safe static guard.
@@ -607,8 +572,7 @@ fn write_thunk<A: Allocator>(
         out.old out.new) }
 {
     write_text(out, b"[thunk]: ")?;
-    write_calling(out, false, convention, flags)?;
-    Ok(())
+    write_calling(out, false, convention, flags)
 }
 
 /// Writes what a thunk has after its name: the offset in the table, in bytes, and the memory model.

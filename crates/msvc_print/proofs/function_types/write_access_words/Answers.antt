@@ -1,4 +1,5 @@
 use Rattle.std.proofs.Common.{◌≡◌, ap, sym, ◌∙◌, false, rules}
+use Rattle.std.proofs.lemmas.Result.{on_ok_weaker}
 use Rattle.msvc_print.proofs.Dropped.{access_words-kept}
 use Rattle.msvc_print.proofs.Settling.{settled_two}
 use Rattle.msvc_print.specs.Flags.{has, no_access_specifiers}
@@ -8,6 +9,8 @@ use Rattle.msvc_print.proofs.function_types.write_access_words.Goals as goal
 pub returns : goal.returns
 returns g c =
     let is : has c.args.flags.0 no_access_specifiers ≡ false = search rules in
-    settled_two _ _ _ _ _ c.in_ok-write_member_word.ensures
-    (settled_two _ _ _ _ _ c.in_ok-write_member_word-2.ensures c.in_ok-write_member_word-3.ensures)
-    ∙ ap (add_all c.args.out.now) (sym (access_words-kept _ _ is))
+    on_ok_weaker c.write_member_word-3.result
+    (λ last. settled_two _ _ _ _ _ c.in_ok-write_member_word.ensures
+    (settled_two _ _ _ _ _ c.in_ok-write_member_word-2.ensures last)
+    ∙ ap (add_all c.args.out.now) (sym (access_words-kept _ _ is)))
+    c.write_member_word-3.ensures

@@ -1,4 +1,5 @@
 use Rattle.std.proofs.Common.{◌≡◌, false, is_some, true, ap, sym, ◌∙◌, arith, rules}
+use Rattle.std.proofs.lemmas.Result.{on_ok_weaker}
 use Rattle.msvc_nodes.specs.NodeView.{name_of}
 use Rattle.msvc_print.specs.Declaration.{name_pieces}
 use Rattle.msvc_print.specs.Limited.{add_all}
@@ -12,11 +13,12 @@ use Rattle.msvc_print.proofs.qualified_names.print_in_scope.Goals as goal
 pub returns-then-left-eq0-clause-text : goal.returns-then-left-eq0-clause-text
 returns-then-left-eq0-clause-text g c =
     let name = name_pieces (name_of c.args.name.now) true c.args.flags.0 in
-    c.in_ok-print_name.ensures.text
+    on_ok_weaker c.print_name.result (λ last. last
     ∙ ap (λ x. finished c.args.stack.now.items (add_all x name) c.args.flags.0)
     (written-all c.args.names.now _ c.args.flags.0 c.args.out.now _ c.if-left-eq0.true
     (c.in_ok-left.ensures.text c.args.flags.0))
-    ∙ ap (λ x. finished c.args.stack.now.items x c.args.flags.0) (sym (add_all-append c.args.out.now _ name))
+    ∙ ap (λ x. finished c.args.stack.now.items x c.args.flags.0) (sym (add_all-append c.args.out.now _ name)))
+    c.print_name.ensures.text
 
 -- a piece was left out
 pub returns-then-not-is_whole-clause-text : goal.returns-then-not-is_whole-clause-text
@@ -31,15 +33,14 @@ returns-then-not-is_whole-clause-text g c =
 pub returns-clause-text : goal.returns-clause-text
 returns-clause-text g c =
     let name = name_pieces (name_of c.args.name.now) true c.args.flags.0 in
-    c.in_ok-print_remaining_names.ensures.text
+    on_ok_weaker c.print_remaining_names.result (λ last. last
     ∙ pushed_one _ _ _ _ _ c.in_ok-push.ensures
     ∙ ap (λ x. finished c.args.stack.now.items (add_all x name) c.args.flags.0)
     (c.in_ok-left.ensures.text c.args.flags.0)
-    ∙ ap (λ x. finished c.args.stack.now.items x c.args.flags.0) (sym (add_all-append c.args.out.now _ name))
+    ∙ ap (λ x. finished c.args.stack.now.items x c.args.flags.0) (sym (add_all-append c.args.out.now _ name)))
+    c.print_remaining_names.ensures.text
 
 pub returns-clause-lighter : goal.returns-clause-lighter
-returns-clause-lighter g c = omega (
-  arith,
-  work_one _ _ _ c.in_ok-push.ensures,
-  c.in_ok-print_remaining_names.ensures.lighter,
-)
+returns-clause-lighter g c = on_ok_weaker c.print_remaining_names.result
+    (λ last. omega (arith, work_one _ _ _ c.in_ok-push.ensures, last))
+    c.print_remaining_names.ensures.lighter

@@ -1,4 +1,5 @@
 use Rattle.std.proofs.Common.{ap, sym, ◌∙◌, arith}
+use Rattle.std.proofs.lemmas.Result.{on_ok_weaker}
 use Rattle.msvc_print.specs.Declaration.{scope_path, scope_pieces}
 use Rattle.msvc_print.specs.Limited.{add_all}
 use Rattle.msvc_print.specs.Work.{finished}
@@ -15,17 +16,18 @@ returns-in-empty-clause-text g c =
 pub returns-in-empty-clause-lighter : goal.returns-in-empty-clause-lighter
 returns-in-empty-clause-lighter g c = omega (arith, scope_weight-positive c.args.names.now)
 
-pub returns-in_ok-print_scope-in-len1-up-clause-text : goal.returns-in_ok-print_scope-in-len1-up-clause-text
+pub returns-in_ok-push-in-len1-up-clause-text : goal.returns-in_ok-push-in-len1-up-clause-text
 unfolding scope_pieces
-returns-in_ok-print_scope-in-len1-up-clause-text g c =
-    c.in_ok-print_scope-in-len1-up.ensures.text ∙ pushed_one _ _ _ _ _ c.in_ok-push-in-len1-up.ensures
+returns-in_ok-push-in-len1-up-clause-text g c =
+    on_ok_weaker c.print_scope.result (λ last. last ∙ pushed_one _ _ _ _ _ c.in_ok-push-in-len1-up.ensures
     ∙ ap (λ x. finished c.args.stack.now.items x c.args.flags.0)
     (sym (add_all-append c.args.out.now _ _) ∙ ap (add_all c.args.out.now)
-    (sym (ap (λ ns. scope_path ns c.args.flags.0) (names_in-first _ _ c.in-len1-up.len_at_least))))
+    (sym (ap (λ ns. scope_path ns c.args.flags.0) (names_in-first _ _ c.in-len1-up.len_at_least)))))
+    c.print_scope.ensures.text
 
-pub returns-in_ok-print_scope-in-len1-up-clause-lighter : goal.returns-in_ok-print_scope-in-len1-up-clause-lighter
-returns-in_ok-print_scope-in-len1-up-clause-lighter g c = omega (
+pub returns-in_ok-push-in-len1-up-clause-lighter : goal.returns-in_ok-push-in-len1-up-clause-lighter
+returns-in_ok-push-in-len1-up-clause-lighter g c = on_ok_weaker c.print_scope.result (λ last. omega (
   arith,
-  c.in_ok-print_scope-in-len1-up.ensures.lighter,
+  last,
   work-first c.args.names.now _ _ _ _ c.in-len1-up.len_at_least c.in_ok-push-in-len1-up.ensures,
-)
+)) c.print_scope.ensures.lighter

@@ -1,4 +1,5 @@
 use Rattle.std.proofs.Common.{◌<◌, take, ap, sym, ◌∙◌, arith}
+use Rattle.std.proofs.lemmas.Result.{on_ok_weaker}
 use Rattle.msvc_nodes.specs.NodeView.{names_in}
 use Rattle.msvc_print.specs.Declaration.{scope_prefix}
 use Rattle.msvc_print.specs.Limited.{add_all}
@@ -21,21 +22,21 @@ returns-then-left-eq0-clause-lighter g c = omega (arith, scope_weight-positive c
 pub returns-clause-text : goal.returns-clause-text
 returns-clause-text g c =
     let some : 0 < c.args.left = omega (arith, c.if-left-eq0.false) in
-    c.in_ok-print_name.ensures.text
+    on_ok_weaker c.print_name.result (λ last. last
     ∙ pushed_one _ _ _ _ _ c.in_ok-push.ensures
     ∙ c.in_ok-push_scope.ensures.text c.args.flags.0 _
     ∙ ap (λ x. finished c.args.stack.now.items x c.args.flags.0)
     (settled_three _ _ _ _ ∙ ap (add_all c.args.out.now)
-    (sym (scope_prefix-left c.args.names.now _ c.args.left c.args.flags.0 some c.requires)))
+    (sym (scope_prefix-left c.args.names.now _ c.args.left c.args.flags.0 some c.requires))))
+    c.print_name.ensures.text
 
 pub returns-clause-lighter : goal.returns-clause-lighter
 returns-clause-lighter g c =
     let some : 0 < c.args.left = omega (arith, c.if-left-eq0.false) in
-    omega (
+    on_ok_weaker c.print_name.result (λ last. omega (
       arith,
       work_one _ _ _ c.in_ok-push.ensures,
       c.in_ok-push_scope.ensures.lighter,
       scope_weight-fewer c.args.names.now c.args.left,
-      lightened-last c.args.names.now _ c.args.left _ _ some c.requires
-          c.in_ok-print_name.ensures.lighter,
-    )
+      lightened-last c.args.names.now _ c.args.left _ _ some c.requires last,
+    )) c.print_name.ensures.lighter

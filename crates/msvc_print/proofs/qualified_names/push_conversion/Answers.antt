@@ -1,4 +1,5 @@
 use Rattle.std.proofs.Common.{◌≡◌, ap, sym, ◌∙◌, arith, Some, None, true}
+use Rattle.std.proofs.lemmas.Result.{on_ok_weaker}
 use Rattle.msvc_nodes.specs.NodeView.{name_of, type_of}
 use Rattle.msvc_print.specs.Declaration.{name_pieces}
 use Rattle.msvc_print.specs.SymbolNodes.{type_or_none}
@@ -7,39 +8,42 @@ use Rattle.msvc_print.proofs.OperatorNames.{conversion-return, return_weight-bou
 use Rattle.msvc_print.proofs.Stack.{pushed_one, pushed_three, same_pieces, work_one}
 use Rattle.msvc_print.proofs.qualified_names.push_conversion.Goals as goal
 
-pub returns-in_ok-push-in-Some-3-clause-text : goal.returns-in_ok-push-in-Some-3-clause-text
+pub returns-in_ok-push-in-Some-2-clause-text : goal.returns-in_ok-push-in-Some-2-clause-text
 unfolding conversion_to
-returns-in_ok-push-in-Some-3-clause-text g c =
+returns-in_ok-push-in-Some-2-clause-text g c =
     let name = name_pieces (name_of c.args.name.now) true c.args.flags.0 in
     let is : Some (type_of c.in-Some.returned.now) ≡ member_return (type_or_none c.args.symbol_type)
     = c.in-Some.ensures in
-    λ out. pushed_three _ _ _ _ _ _ _ out _ c.in_ok-push-in-Some.ensures c.in_ok-push-in-Some-2.ensures
-    c.in_ok-push-in-Some-3.ensures
+    on_ok_weaker c.push-in-Some-2.result
+    (λ last out. pushed_three _ _ _ _ _ _ _ out _ c.in_ok-push-in-Some.ensures c.in_ok-push-in-Some-2.ensures last
     ∙ same_pieces _ out _ _ _ (ap (λ o. conversion_to o name c.args.flags.0) is
-    ∙ sym (conversion-return (type_or_none c.args.symbol_type) name c.args.flags.0))
+    ∙ sym (conversion-return (type_or_none c.args.symbol_type) name c.args.flags.0)))
+    c.push-in-Some-2.ensures
 
-pub returns-in_ok-push-in-Some-3-clause-lighter : goal.returns-in_ok-push-in-Some-3-clause-lighter
+pub returns-in_ok-push-in-Some-2-clause-lighter : goal.returns-in_ok-push-in-Some-2-clause-lighter
 unfolding return_weight
-returns-in_ok-push-in-Some-3-clause-lighter g c =
+returns-in_ok-push-in-Some-2-clause-lighter g c =
     let is : Some (type_of c.in-Some.returned.now) ≡ member_return (type_or_none c.args.symbol_type)
     = c.in-Some.ensures in
-    omega (
+    on_ok_weaker c.push-in-Some-2.result (λ last. omega (
       arith,
       work_one _ _ _ c.in_ok-push-in-Some.ensures,
       work_one _ _ _ c.in_ok-push-in-Some-2.ensures,
-      work_one _ _ _ c.in_ok-push-in-Some-3.ensures,
+      work_one _ _ _ last,
       ap return_weight is,
       return_weight-bound (type_or_none c.args.symbol_type),
-    )
+    )) c.push-in-Some-2.ensures
 
-pub returns-in_ok-push-in-None-clause-text : goal.returns-in_ok-push-in-None-clause-text
+pub returns-in-None-clause-text : goal.returns-in-None-clause-text
 unfolding conversion_to
-returns-in_ok-push-in-None-clause-text g c =
+returns-in-None-clause-text g c =
     let name = name_pieces (name_of c.args.name.now) true c.args.flags.0 in
     let is : None ≡ member_return (type_or_none c.args.symbol_type) = c.in-None.ensures in
-    λ out. pushed_one _ _ _ out _ c.in_ok-push-in-None.ensures
+    on_ok_weaker c.push-in-None.result (λ last out. pushed_one _ _ _ out _ last
     ∙ same_pieces _ out _ _ _ (ap (λ o. conversion_to o name c.args.flags.0) is
-    ∙ sym (conversion-return (type_or_none c.args.symbol_type) name c.args.flags.0))
+    ∙ sym (conversion-return (type_or_none c.args.symbol_type) name c.args.flags.0)))
+    c.push-in-None.ensures
 
-pub returns-in_ok-push-in-None-clause-lighter : goal.returns-in_ok-push-in-None-clause-lighter
-returns-in_ok-push-in-None-clause-lighter g c = omega (arith, work_one _ _ _ c.in_ok-push-in-None.ensures)
+pub returns-in-None-clause-lighter : goal.returns-in-None-clause-lighter
+returns-in-None-clause-lighter g c =
+    on_ok_weaker c.push-in-None.result (λ last. omega (arith, work_one _ _ _ last)) c.push-in-None.ensures

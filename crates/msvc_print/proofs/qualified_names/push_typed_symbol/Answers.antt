@@ -1,23 +1,51 @@
-use Rattle.std.proofs.Common.{ap, sym, ◌∙◌, arith}
+use Rattle.std.proofs.Common.{◌≡◌, sym, ◌∙◌, arith, rules, true, false}
+use Rattle.std.proofs.lemmas.Result.{on_ok_weaker}
 use Rattle.msvc_nodes.specs.NodeView.{type_of}
-use Rattle.msvc_print.proofs.Halves.{symbol_pieces-halves}
-use Rattle.msvc_print.proofs.Settling.{add_all-append}
-use Rattle.msvc_print.proofs.Stack.{pushed_one, same_pieces, work_one}
-use Rattle.msvc_print.specs.Work.{finished}
+use Rattle.msvc_print.proofs.Halves.{symbol_pieces-all, symbol_pieces-name_only, symbol_pieces-no_returns}
+use Rattle.msvc_print.proofs.Stack.{pushed_one, pushed_two, pushed_three, same_pieces, work_one}
+use Rattle.msvc_print.specs.Flags.{has, name_only, no_function_returns}
 use Rattle.msvc_print.proofs.qualified_names.push_typed_symbol.Goals as goal
+
+pub returns-then-contains-clause-text : goal.returns-then-contains-clause-text
+returns-then-contains-clause-text g c =
+    let is : has c.args.flags.0 name_only ≡ true = search rules in
+    on_ok_weaker c.push.result
+    (λ last out. pushed_one _ _ _ out _ last ∙ same_pieces _ out _ _ _
+    (sym (symbol_pieces-name_only _ _ (type_of c.args.tree.now.symbol_type.now) c.args.flags.0 is)))
+    c.push.ensures
+
+pub returns-then-contains-clause-lighter : goal.returns-then-contains-clause-lighter
+returns-then-contains-clause-lighter g c =
+    on_ok_weaker c.push.result (λ last. omega (arith, work_one _ _ _ last)) c.push.ensures
+
+pub returns-then-contains-2-clause-text : goal.returns-then-contains-2-clause-text
+returns-then-contains-2-clause-text g c =
+    let whole : has c.args.flags.0 name_only ≡ false = search rules in
+    let none : has c.args.flags.0 no_function_returns ≡ true = search rules in
+    λ out. pushed_two _ _ _ _ _ out _ c.in_ok-push.ensures c.in_ok-push-2.ensures
+    ∙ same_pieces _ out _ _ _
+    (sym (symbol_pieces-no_returns _ _ (type_of c.args.tree.now.symbol_type.now) c.args.flags.0 whole none))
+
+pub returns-then-contains-2-clause-lighter : goal.returns-then-contains-2-clause-lighter
+returns-then-contains-2-clause-lighter g c =
+    omega (arith, work_one _ _ _ c.in_ok-push.ensures, work_one _ _ _ c.in_ok-push-2.ensures)
 
 pub returns-clause-text : goal.returns-clause-text
 returns-clause-text g c =
-    λ out. c.in_ok-push_left.ensures.text out ∙ pushed_one _ _ _ _ _ c.in_ok-push.ensures
-    ∙ c.in_ok-push_right.ensures.text _
-    ∙ ap (λ x. finished c.args.stack.now.items x c.args.flags.0)
-    (sym (add_all-append out _ _ ∙ add_all-append _ _ _))
-    ∙ same_pieces _ out _ _ _ (sym (symbol_pieces-halves _ _ (type_of c.args.tree.now.symbol_type.now) c.args.flags.0))
+    let whole : has c.args.flags.0 name_only ≡ false = search rules in
+    let returns : has c.args.flags.0 no_function_returns ≡ false = search rules in
+    on_ok_weaker c.push-4.result
+    (λ last out. pushed_three _ _ _ _ _ _ _ out _ c.in_ok-push.ensures c.in_ok-push-2.ensures last
+    ∙ same_pieces _ out _ _ _
+    (sym (symbol_pieces-all _ _ (type_of c.args.tree.now.symbol_type.now) c.args.flags.0 whole returns)))
+    c.push-4.ensures
 
 pub returns-clause-lighter : goal.returns-clause-lighter
-returns-clause-lighter g c = omega (
-  arith,
-  c.in_ok-push_left.ensures.lighter,
-  work_one _ _ _ c.in_ok-push.ensures,
-  c.in_ok-push_right.ensures.lighter,
-)
+returns-clause-lighter g c = on_ok_weaker c.push-4.result
+    (λ last. omega (
+      arith,
+      work_one _ _ _ c.in_ok-push.ensures,
+      work_one _ _ _ c.in_ok-push-2.ensures,
+      work_one _ _ _ last,
+    ))
+    c.push-4.ensures

@@ -1,4 +1,5 @@
 use Rattle.std.proofs.Common.{◌∙◌, rules}
+use Rattle.std.proofs.lemmas.Result.{on_ok_weaker}
 use Rattle.msvc_print.proofs.Longer.{spaced, unspaced}
 use Rattle.msvc_print.proofs.text.write_space.Goals as goal
 
@@ -7,4 +8,5 @@ returns-then-not-is_written_after g c =
     unspaced _ _ c.args.kind _ c.last_byte.ensures.last c.last_byte.ensures.fits (search rules)
 
 pub returns : goal.returns
-returns g c = c.in_ok-write_text.ensures ∙ spaced _ _ c.args.kind _ c.last_byte.ensures.last (search rules)
+returns g c = on_ok_weaker c.write_text.result
+    (λ last. last ∙ spaced _ _ c.args.kind _ c.last_byte.ensures.last (search rules)) c.write_text.ensures

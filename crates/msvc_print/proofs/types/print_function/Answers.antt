@@ -1,5 +1,6 @@
 use Rattle.std.proofs.Common.{◌≡◌, false, is_some, ap, rules}
 use Rattle.msvc_print.proofs.SimpleTypes.{add_all-not_whole}
+use Rattle.msvc_print.proofs.Settling.{settled_two}
 use Rattle.msvc_print.specs.Work.{finished}
 use Rattle.msvc_print.proofs.types.print_function.Goals as goal
 
@@ -8,3 +9,9 @@ pub returns-then-not-is_whole-clause-text : goal.returns-then-not-is_whole-claus
 returns-then-not-is_whole-clause-text g c =
     let left_out : is_some c.args.out.now.text ≡ false = search rules in
     ap (λ x. finished c.args.stack.now.items x c.args.flags.0) (add_all-not_whole _ _ left_out)
+
+pub returns-else-is_whole-clause-text : goal.returns-else-is_whole-clause-text
+returns-else-is_whole-clause-text g c =
+    let left_out : is_some c.write_simple.new.out.text ≡ false = search rules in
+    ap (λ x. finished c.args.stack.now.items x c.args.flags.0)
+    (settled_two _ _ _ _ _ (c.in_ok-write_simple.ensures.simple c.if-not-branch.false) (add_all-not_whole _ _ left_out))

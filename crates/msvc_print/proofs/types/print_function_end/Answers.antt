@@ -1,12 +1,13 @@
 use Rattle.std.proofs.Common.{ap, ◌∙◌}
+use Rattle.std.proofs.lemmas.Result.{on_ok_weaker}
 use Rattle.msvc_print.proofs.Parameters.{settled-function_end}
 use Rattle.msvc_print.specs.Work.{finished}
 use Rattle.msvc_print.proofs.types.print_function_end.Goals as goal
 
 pub returns-clause-text : goal.returns-clause-text
 returns-clause-text g c =
-    c.in_ok-print_parameters.ensures.text ∙ c.in_ok-push_suffix.ensures.text _
+    on_ok_weaker c.print_parameters.result (λ last. last ∙ c.in_ok-push_suffix.ensures.text _
     ∙ ap (λ x. finished c.args.stack.now.items x c.args.flags.0)
     (settled-function_end _ _ _ c.args.function.now.parameters.now c.args.pointed c.args.function.now.qualifiers
-    c.args.flags.0 _
-    c.in_ok-write_closing.ensures c.in_ok-write_text.ensures)
+    c.args.flags.0 _ c.in_ok-write_closing.ensures c.in_ok-write_text.ensures))
+    c.print_parameters.ensures.text

@@ -1,4 +1,6 @@
+use Rattle.std.specs.Prelude.{OnOk}
 use Rattle.std.proofs.Common.{ap, arith, sym, subst, ◌∙◌}
+use Rattle.std.proofs.lemmas.Result.{on_ok_weaker}
 use Rattle.msvc_nodes.specs.NodeView.{type_of}
 use Rattle.msvc_nodes.proofs.NodeViews.{type_of-Tagged}
 use Rattle.msvc_print.specs.Halves.{before}
@@ -6,21 +8,19 @@ use Rattle.msvc_print.specs.Weights.{type_weight}
 use Rattle.msvc_print.specs.Work.{Prints}
 use Rattle.msvc_print.proofs.types.print_inner.Goals as goal
 
-pub returns-in_ok-print_tagged-in-Tagged-clause-text : goal.returns-in_ok-print_tagged-in-Tagged-clause-text
+pub returns-in-Tagged-clause-text : goal.returns-in-Tagged-clause-text
 unfolding before
-returns-in_ok-print_tagged-in-Tagged-clause-text g c =
+returns-in-Tagged-clause-text g c =
     let w = c.in-Tagged in
-    subst (λ t. Prints (before t c.args.pointed c.args.flags.0) c.args.flags.0 c.args.stack.now.items
-    c.args.out.now c.print_tagged.new.stack.items c.print_tagged.new.out)
+    subst (λ t. OnOk c.print_tagged.result (Prints (before t c.args.pointed c.args.flags.0) c.args.flags.0
+    c.args.stack.now.items c.args.out.now c.print_tagged.new.stack.items c.print_tagged.new.out))
     (sym (ap type_of w.is ∙ type_of-Tagged w.tag w.qualifiers w.symbol))
-    (rw (sym c.tag_word.ensures) c.in_ok-print_tagged-in-Tagged.ensures.text)
+    (rw (sym c.tag_word.ensures) c.print_tagged.ensures.text)
 
-pub returns-in_ok-print_tagged-in-Tagged-clause-lighter : goal.returns-in_ok-print_tagged-in-Tagged-clause-lighter
+pub returns-in-Tagged-clause-lighter : goal.returns-in-Tagged-clause-lighter
 unfolding type_weight
-returns-in_ok-print_tagged-in-Tagged-clause-lighter g c =
+returns-in-Tagged-clause-lighter g c =
     let w = c.in-Tagged in
-    omega (
-      arith,
-      c.in_ok-print_tagged-in-Tagged.ensures.lighter,
-      ap type_weight (ap type_of w.is ∙ type_of-Tagged w.tag w.qualifiers w.symbol),
-    )
+    on_ok_weaker c.print_tagged.result
+    (λ last. omega (arith, last, ap type_weight (ap type_of w.is ∙ type_of-Tagged w.tag w.qualifiers w.symbol)))
+    c.print_tagged.ensures.lighter

@@ -1,5 +1,6 @@
 use Rattle.std.specs.Prelude.{OnOk}
 use Rattle.std.proofs.Common.{ap, sym, subst, ◌∙◌, arith, rules}
+use Rattle.std.proofs.lemmas.Result.{on_ok_weaker}
 use Rattle.msvc_nodes.specs.NodeView.{type_of}
 use Rattle.msvc_nodes.proofs.NodeViews.{type_of-MemberPointer, type_of-Table}
 use Rattle.msvc_print.proofs.Parameters.{settled-array}
@@ -10,35 +11,34 @@ use Rattle.msvc_print.specs.Weights.{type_weight}
 use Rattle.msvc_print.specs.Work.{Lightens, Prints, finished}
 use Rattle.msvc_print.proofs.types.print_suffix.Goals as goal
 
-pub returns-in_ok-push_suffix-in-Array-clause-text : goal.returns-in_ok-push_suffix-in-Array-clause-text
+pub returns-in_ok-write_length-in-Array-clause-text : goal.returns-in_ok-write_length-in-Array-clause-text
 unfolding type_of
-returns-in_ok-push_suffix-in-Array-clause-text g c =
+returns-in_ok-write_length-in-Array-clause-text g c =
     let w = c.in-Array in
     let out = c.args.out.now in
-    c.in_ok-push_suffix-in-Array.ensures.text _ ∙ ap (λ x. finished c.args.stack.now.items x c.args.flags.0)
+    on_ok_weaker c.push_suffix-in-Array.result
+    (λ last. last _ ∙ ap (λ x. finished c.args.stack.now.items x c.args.flags.0)
     (settled-array out _ c.args.pointed _ w.length (type_of w.inner.now) w.field-1.0 c.args.flags.0
     c.in_ok-write_length-in-Array.ensures (search rules)
-    ∙ sym (ap (λ t. add_all out (after (type_of t) c.args.pointed c.args.flags.0)) w.is))
+    ∙ sym (ap (λ t. add_all out (after (type_of t) c.args.pointed c.args.flags.0)) w.is)))
+    c.push_suffix-in-Array.ensures.text
 
-pub returns-in_ok-print_member_pointer_end-in-MemberPointer-clause-text :
-    goal.returns-in_ok-print_member_pointer_end-in-MemberPointer-clause-text
+pub returns-in-MemberPointer-clause-text : goal.returns-in-MemberPointer-clause-text
 unfolding after
-returns-in_ok-print_member_pointer_end-in-MemberPointer-clause-text g c =
+returns-in-MemberPointer-clause-text g c =
     let w = c.in-MemberPointer in
-    c.in_ok-print_member_pointer_end-in-MemberPointer.ensures.text
-    ∙ same_pieces _ _ _ _ _ (sym (ap (λ t. after t c.args.pointed c.args.flags.0)
-    (ap type_of w.is ∙ type_of-MemberPointer w.field-0 w.function)))
+    on_ok_weaker c.print_member_pointer_end.result
+    (λ last. last ∙ same_pieces _ _ _ _ _ (sym (ap (λ t. after t c.args.pointed c.args.flags.0)
+    (ap type_of w.is ∙ type_of-MemberPointer w.field-0 w.function))))
+    c.print_member_pointer_end.ensures.text
 
-pub returns-in_ok-print_member_pointer_end-in-MemberPointer-clause-lighter :
-    goal.returns-in_ok-print_member_pointer_end-in-MemberPointer-clause-lighter
+pub returns-in-MemberPointer-clause-lighter : goal.returns-in-MemberPointer-clause-lighter
 unfolding type_weight
-returns-in_ok-print_member_pointer_end-in-MemberPointer-clause-lighter g c =
+returns-in-MemberPointer-clause-lighter g c =
     let w = c.in-MemberPointer in
-    omega (
-      arith,
-      c.in_ok-print_member_pointer_end-in-MemberPointer.ensures.lighter,
-      ap type_weight (ap type_of w.is ∙ type_of-MemberPointer w.field-0 w.function),
-    )
+    on_ok_weaker c.print_member_pointer_end.result
+    (λ last. omega (arith, last, ap type_weight (ap type_of w.is ∙ type_of-MemberPointer w.field-0 w.function)))
+    c.print_member_pointer_end.ensures.lighter
 
 pub returns-in-Table-clause-text : goal.returns-in-Table-clause-text
 unfolding after

@@ -1,5 +1,7 @@
+use Rattle.std.proofs.lemmas.Result.{on_ok_weaker}
 use Rattle.msvc_print.proofs.Settling.{settled_two}
 use Rattle.msvc_print.proofs.types.write_thunk.Goals as goal
 
 pub returns : goal.returns
-returns g c = settled_two _ _ _ _ _ c.in_ok-write_text.ensures c.in_ok-write_calling.ensures
+returns g c = on_ok_weaker c.write_calling.result
+    (λ last. settled_two _ _ _ _ _ c.in_ok-write_text.ensures last) c.write_calling.ensures
