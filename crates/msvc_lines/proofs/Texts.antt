@@ -1,13 +1,29 @@
 -- Lines, and the text of lines that follow one another.
-use Rattle.std.proofs.Common.{◌≡◌, ◌++◌, ◌∷◌, [], ℕ, List, ap, sym, subst, refl, ◌∙◌, append_assoc, append-nil}
+use Rattle.std.proofs.Common.{◌≡◌, ◌≢◌, ◌++◌, ◌∷◌, [], ℕ, List, ap, sym, subst, refl, ◌∙◌, append_assoc, append-nil}
 use Rattle.std.proofs.Common.{inl, inr}
 use Rattle.std.specs.Str.{IsUtf8}
+use Rattle.msvc_nodes.specs.Trees.{SymbolTree}
+use Rattle.msvc_grammar.specs.Parsed.{IsParsed}
+use Rattle.msvc_parser.specs.declared.refusal.Refusal.{Refusal}
+use Rattle.msvc_parser.specs.declared.refusal.Refusal.TheVariants as refusal
 use Rattle.msvc_print.specs.Declaration.{declaration}
+use Rattle.msvc_read.specs.Failures.{Fails}
 use Rattle.msvc_lines.specs.Lines.{line_of, lines_of}
 use Rattle.msvc_lines.specs.Answers.{IsAnswer, IsLineText, IsText, line_flags, nothing, left_out}
 use Rattle.msvc_lines.specs.Answers.{answered}
 use Rattle.msvc_lines.proofs.LineTexts.{AreJoined}
 use Rattle.msvc_lines.proofs.Pieces.{lines_of-append, lines_of-nil}
+
+-- the answer to a symbol is its declaration
+pub answer_declared : (symbol : List ℕ) (tree : SymbolTree) → IsParsed symbol tree
+    → IsAnswer symbol (declaration tree line_flags)
+answer_declared symbol tree is = inl (tree, (is.rest, is.notes, is.derived, is.only), refl)
+
+-- and the symbol itself, if it is rejected
+pub answer_rejected : (symbol : List ℕ) (reason : Refusal) → Fails symbol reason → reason ≢ refusal.Memory
+    → IsAnswer symbol symbol
+answer_rejected symbol refusal.Memory fails other = absurd (other refl)
+answer_rejected symbol (refusal.Unread message left) fails other = inr (fails.none, refl)
 
 -- the text of one line
 pub IsText-one : (line text : List ℕ) → IsUtf8 line → IsLineText line text → IsText (line ∷ []) text

@@ -1,11 +1,10 @@
 //! `undname` over one symbol and over lines, from a reader to writers.
 
-ghost use Rattle.std.specs.Prelude.{◌≡◌, ◌≢◌, ◌∷◌, ◌++◌, ℕ, List, [], Some, IfErr, IfOk, IfSome, OnOk, OnSome, codes};
+ghost use Rattle.std.specs.Prelude.{◌≡◌, ◌∷◌, ◌++◌, ℕ, List, [], IfOk, IfSome, OnOk, OnSome, codes};
 ghost use Rattle.std.specs.Prelude.{string_bytes};
 ghost use Rattle.std.specs.Io.KnownBytes.{Appends, Consumes, IsAtEnd};
 ghost use Rattle.msvc_nodes.specs.Errors.{error_text};
-ghost use Rattle.msvc_nodes.specs.declared.error.ErrorRepr.TheVariants.{Memory};
-ghost use Rattle.msvc_lines.specs.Answers.{IsAnswer, IsLineText, IsText};
+ghost use Rattle.msvc_lines.specs.Answers.{IsLineText, IsText};
 ghost use Rattle.msvc_lines.specs.Lines.{line_of};
 ghost use Rattle.msvc_watched.specs.Faults.{SetsFailureFlag, failure_flag, no_stream};
 ghost use Rattle.msvc_watched.specs.Runs.{Writes};
@@ -13,6 +12,7 @@ ghost use Rattle.msvc_lines.specs.LineRuns.{WritesLines};
 
 use msvc_nodes::error::Error;
 use msvc_nodes::flags::DemangleFlags;
+use msvc_parser::refusal::Refusal;
 use msvc_symbol::{Demangler, print_with_tree, printed_bytes};
 use msvc_watched::{Fault, Taken, Watched, fail, read_piece, write_all, write_line};
 use std::alloc::{AllocError, Global};
@@ -59,45 +59,33 @@ pub(crate) fn undname_in<W: Write, E: Write>(
     ensures sets_failed { SetsFailureFlag result no_stream (failure_flag out.old out.new) (failure_flag err.old err.new) }
 {
     let mut tree = String::new(alloc);
-    match answer(alloc, demangler, symbol, verbose, &mut tree) {
+    match print_with_tree(demangler, symbol, DemangleFlags::llvm(), verbose, &mut tree) {
         Ok(()) => {
             write_all(err, tree.as_bytes())?;
             write_line(out, printed_bytes(demangler))
         }
-        Err(error) => {
-            if error.is_out_of_memory() {
-                return Err(Fault::Memory);
-            }
-            report(alloc, &error, err)?;
+        Err(Refusal::Memory) => Err(Fault::Memory),
+        Err(refusal) => {
+            report(alloc, refusal, symbol, err)?;
             write_line(out, symbol.as_bytes())
         }
     }
 }
 
-/// Prints the declaration of a symbol, under the flags of lines, as the demangler's text, and its tree to `tree` if
-/// `verbose`.
-fn answer(
+/// Writes the error of a symbol that is rejected for this reason.
+fn report<E: Write>(
     alloc: Global,
-    demangler: &mut Demangler,
+    refusal: Refusal,
     symbol: &str,
-    verbose: bool,
-    tree: &mut String,
-) -> Result<(), Error>
-    ensures declared { IfOk result (λ _. (text : List ℕ) × (demangler.new.text ≡ Some text)
-        × IsAnswer symbol.now text) }
-    ensures rejected { IfErr result (λ e. e ≢ Memory → IsAnswer symbol.now symbol.now) }
-{
-    match print_with_tree(demangler, symbol, DemangleFlags::llvm(), verbose, tree) {
-        Ok(()) => Ok(()),
-        Err(refusal) => Err(refusal.error(alloc, symbol.as_bytes())),
-    }
-}
-
-/// Writes the error of a rejected symbol.
-fn report<E: Write>(alloc: Global, error: &Error, err: &mut Watched<E>) -> Result<(), Fault>
+    err: &mut Watched<E>,
+) -> Result<(), Fault>
     ensures sets_failed { SetsFailureFlag result no_stream no_stream (failure_flag err.old err.new) }
 {
-    match error_line(alloc, error) {
+    let error = refusal.error(alloc, symbol.as_bytes());
+    if error.is_out_of_memory() {
+        return Err(Fault::Memory);
+    }
+    match error_line(alloc, &error) {
         Ok(text) => write_all(err, text.as_bytes()),
         Err(_) => Err(Fault::Memory),
     }
