@@ -36,8 +36,10 @@ printed-within-limit max text =
     at true fits more = record { whole = λ within. (refl, fits refl); longer = λ beyond. absurd (cc) }
     at false fits more = record { whole = λ within. absurd (cc); longer = λ beyond. more refl }
 
-pub printed-within : (max : ℕ) (text : List ℕ) (is : Bool) (printed : Option (List ℕ)) →
-    is ≡ is_some printed → printed ≡ within max text → IsPrintedWithin max text is printed
-printed-within max text is printed tested same =
-    subst (λ b. IsPrintedWithin max text b printed) (sym (tested ∙ ap is_some same))
-    (subst (λ o. IsPrintedWithin max text (is_some (within max text)) o) (sym same) (printed-within-limit max text))
+-- the same of the text that the loop left
+pub printed-within : (max : ℕ) (text : List ℕ) (is : Bool) (out : LimitedText) (printed : Option (List ℕ)) →
+    printed ≡ out.text → is ≡ is_some out.text → out.text ≡ within max text → IsPrintedWithin max text is printed
+printed-within max text is out printed same tested all =
+    subst (λ b. IsPrintedWithin max text b printed) (sym (tested ∙ ap is_some all))
+    (subst (λ o. IsPrintedWithin max text (is_some (within max text)) o) (sym (same ∙ all))
+    (printed-within-limit max text))
