@@ -14,7 +14,7 @@ use Rattle.msvc_print.specs.Limited.{LimitedText, add_all}
 use Rattle.msvc_print.specs.Pieces.{Piece, text}
 use Rattle.msvc_print.proofs.Stack.{work_one}
 use Rattle.msvc_print.specs.Weights.{name_weight, scope_weight}
-use Rattle.msvc_print.specs.Work.{Lightens, work}
+use Rattle.msvc_print.specs.Work.{AddsLess, work}
 use Rattle.msvc_print.specs.declared.item.Item.{Item}
 use Rattle.msvc_print.specs.declared.item.Item.TheVariants as item
 
@@ -86,7 +86,7 @@ scope_weight-left ns d k some fits = ap (λ j. scope_weight (names_in (take j ns
     ∙ scope_weight-last ns d (k - 1) (omega arith)
 
 pub lightened-last : (ns : List (Bor Name)) (d : Bor Name) (k : ℕ) (s s' : List Item) → 0 < k → k ≤ length ns →
-    Lightens (name_weight (name_of (get_or ns (k - 1) d).now)) s s' →
+    AddsLess (name_weight (name_of (get_or ns (k - 1) d).now)) s s' →
     3 + work s' + scope_weight (names_in (take (k - 1) ns)) < scope_weight (names_in (take k ns)) + work s
 lightened-last ns d k s s' some fits h = omega (arith, scope_weight-left ns d k some fits)
 

@@ -15,7 +15,7 @@ use Rattle.msvc_print.specs.Limited.{LimitedText, add_all}
 use Rattle.msvc_print.specs.Pieces.{Piece, text}
 use Rattle.msvc_print.specs.Weights.{type_weight, types_weight}
 use Rattle.msvc_print.specs.Words.{closing}
-use Rattle.msvc_print.specs.Work.{Lightens, rest_of_parameters, work}
+use Rattle.msvc_print.specs.Work.{AddsLess, rest_of_parameters, work}
 use Rattle.msvc_print.specs.declared.item.Item.{Item}
 use Rattle.msvc_print.specs.declared.item.ListEnd.TheVariants.{Round, Bare}
 
@@ -36,7 +36,7 @@ types_weight-first ts d some = ap types_weight (types_in-first ts d some)
 
 -- the first type is printed on both sides of nothing
 pub lightened-first : (ts : List (Bor «Type»)) (d : Bor «Type») (s s' : List Item) → 1 ≤ length ts →
-    Lightens (type_weight (type_of (get_or ts 0 d).now) + type_weight (type_of (get_or ts 0 d).now)) s s' →
+    AddsLess (type_weight (type_of (get_or ts 0 d).now) + type_weight (type_of (get_or ts 0 d).now)) s s' →
     work s' + types_weight (types_in (take (length ts - 1) (drop 1 ts))) < types_weight (types_in ts) + work s
 lightened-first ts d s s' some h = omega (arith, types_weight-first ts d some)
 

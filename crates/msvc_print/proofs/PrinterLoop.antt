@@ -15,20 +15,15 @@ pub finished-none : (stack : List Item) (out : LimitedText) (flags : ℕ) → st
 unfolding finished
 finished-none stack out flags e = ap (λ s. finished s out flags) e
 
--- a symbol that is pushed alone
-pub pushed_typed_symbol : (t : TypedSymbol) (flags max : ℕ) (s s1 : List Item) (out : LimitedText) → s ≡ [] →
-    out ≡ empty_within max → Pushes (symbol_pieces_of t flags) flags s s1 →
-    finished s1 out flags ≡ add_all (empty_within max) (symbol_pieces_of t flags)
-pushed_typed_symbol t flags max s s1 out none empty pushed =
-    pushed out ∙ finished-none s _ flags none ∙ ap (λ x. add_all x (symbol_pieces_of t flags)) empty
-
--- once it is finished
-pub printed_typed_symbol : (t : TypedSymbol) (flags max : ℕ) (out : LimitedText) →
-    out ≡ add_all (empty_within max) (symbol_pieces_of t flags) →
-    out.text ≡ within max (declaration (typed_symbol_of t) flags)
+-- a symbol that is pushed alone, once it is finished
+pub printed_typed_symbol : (t : TypedSymbol) (flags max : ℕ) (s s1 : List Item) (out out1 : LimitedText) → s ≡ [] →
+    out ≡ empty_within max → Pushes (symbol_pieces_of t flags) flags s s1 → out1 ≡ finished s1 out flags →
+    out1.text ≡ within max (declaration (typed_symbol_of t) flags)
 unfolding declaration
-printed_typed_symbol t flags max out done =
-    ap (λ x. x.text) done ∙ add_all-within max [] (symbol_pieces_of t flags) (omega arith)
+printed_typed_symbol t flags max s s1 out out1 none empty pushed done =
+    ap (λ x. x.text) (done ∙ pushed out ∙ finished-none s _ flags none
+    ∙ ap (λ x. add_all x (symbol_pieces_of t flags)) empty)
+    ∙ add_all-within max [] (symbol_pieces_of t flags) (omega arith)
 
 -- what stands of a text under a limit, and whether the text has at most so many bytes
 printed-within-limit : (max : ℕ) (text : List ℕ) →
@@ -41,8 +36,10 @@ printed-within-limit max text =
     at true fits more = record { whole = λ within. (refl, fits refl); longer = λ beyond. absurd (cc) }
     at false fits more = record { whole = λ within. absurd (cc); longer = λ beyond. more refl }
 
-pub printed-within : (max : ℕ) (text : List ℕ) (is : Bool) (printed : Option (List ℕ)) →
-    is ≡ is_some printed → printed ≡ within max text → IsPrintedWithin max text is printed
-printed-within max text is printed tested same =
-    subst (λ b. IsPrintedWithin max text b printed) (sym (tested ∙ ap is_some same))
-    (subst (λ o. IsPrintedWithin max text (is_some (within max text)) o) (sym same) (printed-within-limit max text))
+-- the same of the text that the loop left
+pub printed-within : (max : ℕ) (text : List ℕ) (is : Bool) (out : LimitedText) (printed : Option (List ℕ)) →
+    printed ≡ out.text → is ≡ is_some out.text → out.text ≡ within max text → IsPrintedWithin max text is printed
+printed-within max text is out printed same tested all =
+    subst (λ b. IsPrintedWithin max text b printed) (sym (tested ∙ ap is_some all))
+    (subst (λ o. IsPrintedWithin max text (is_some (within max text)) o) (sym (same ∙ all))
+    (printed-within-limit max text))

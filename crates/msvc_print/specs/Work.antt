@@ -21,6 +21,7 @@ use Rattle.msvc_print.specs.declared.item.Item.TheVariants.{Qualifiers, Mark, Ar
 use Rattle.msvc_print.specs.declared.item.Item.TheVariants.{Before, After}
 use Rattle.msvc_print.specs.declared.item.ListEnd.{ListEnd}
 use Rattle.msvc_print.specs.declared.item.ListEnd.TheVariants.{Round, Bare, Angle}
+use Rattle.msvc_print.specs.declared.printer.Printer.{Printer}
 use Rattle.msvc_print.specs.declared.text.Space.TheVariants.{AfterAngle}
 
 -- what a member function returns
@@ -87,18 +88,36 @@ unfoldable pub work : List Item → ℕ
 work [] = 0
 work (item ∷ above) = item_weight item + work above
 
--- a step printed these pieces: wrote some, and left the rest on the stack
-abbrev pub Prints : List Piece → ℕ → List Item → LimitedText → List Item → LimitedText → Type 0
-Prints pieces flags stack out stack' out' = finished stack' out' flags ≡ finished stack (add_all out pieces) flags
-
 -- pushes stand for these pieces, whatever is written before them
 abbrev pub Pushes : List Piece → ℕ → List Item → List Item → Type 0
-Pushes pieces flags stack stack' = (out : LimitedText) → Prints pieces flags stack out stack' out
+Pushes pieces flags stack stack' =
+    (out : LimitedText) → finished stack' out flags ≡ finished stack (add_all out pieces) flags
 
 -- pushes added work of this weight at most
 abbrev pub AddsAtMost : ℕ → List Item → List Item → Type 0
 AddsAtMost weight stack stack' = work stack' ≤ weight + work stack
 
+-- pushes added work of less than this weight
+abbrev pub AddsLess : ℕ → List Item → List Item → Type 0
+AddsLess weight stack stack' = work stack' < weight + work stack
+
+-- the text once all that a printer has left to print is written after this one
+abbrev pub finished_after : {S A : Type 0} → Printer S A → LimitedText → LimitedText
+finished_after printer out = finished printer.stack.now.items out printer.flags.0
+
+-- a step of the printer printed these pieces: wrote some, and left the rest on the stack
+abbrev pub Prints : {S A : Type 0} → List Piece → Printer S A → Printer S A → Type 0
+Prints pieces printer printer' =
+    finished_after printer' printer'.out.now ≡ finished_after printer (add_all printer.out.now pieces)
+
+-- a step on work of this weight left at most as much
+abbrev pub LeavesAtMost : {S A : Type 0} → ℕ → Printer S A → Printer S A → Type 0
+LeavesAtMost weight printer printer' = AddsAtMost weight printer.stack.now.items printer'.stack.now.items
+
 -- a step on work of this weight left less
-abbrev pub Lightens : ℕ → List Item → List Item → Type 0
-Lightens weight stack stack' = work stack' < weight + work stack
+abbrev pub Lightens : {S A : Type 0} → ℕ → Printer S A → Printer S A → Type 0
+Lightens weight printer printer' = AddsLess weight printer.stack.now.items printer'.stack.now.items
+
+-- a step left the flags as they were, and wrote to the same text
+abbrev pub Keeps : {S A : Type 0} → Printer S A → Printer S A → Type 0
+Keeps printer printer' = (printer'.flags ≡ printer.flags) × (printer'.out.ghost_name ≡ printer.out.ghost_name)

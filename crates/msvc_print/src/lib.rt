@@ -3,8 +3,9 @@
 //! All words and all rules of printing live here, over nodes in an arena. Nothing here knows mangled texts, their
 //! grammar or owned trees.
 //!
-//! A symbol goes through `printer`, the loop over the stack of `item`; each step is a function of `qualified_names` or
-//! `types`; these call `simple_types`, `function_types`, `operators` and `words`; and `text` writes the bytes.
+//! A symbol goes through `printer`: its `Printer` has the stack of `item`, the output and the flags, and loops over the
+//! stack. Each step is a method of `Printer` in `qualified_names` or `types`; these call `simple_types`,
+//! `function_types`, `operators` and `words`; and `text` writes the bytes.
 #![tactic(auto)]
 
 mod function_types;

@@ -1,19 +1,17 @@
-//! The printer's loop over its stack, one step for each item, and the bytes that the stack takes.
+//! The printer: its state, its loop over the stack, one step for each item, and the bytes that the stack takes.
 
 ghost use Rattle.std.specs.Prelude.{◌≡◌, ◌≤◌, ◌^◌, OnOk, IfOk, Some, true};
 ghost use Rattle.msvc_nodes.specs.NodeView.{typed_symbol_of};
 ghost use Rattle.msvc_print.specs.Declaration.{declaration};
 ghost use Rattle.msvc_print.specs.Within.{IsPrintedWithin};
-ghost use Rattle.msvc_print.specs.Work.{Lightens, Prints, item_pieces, item_weight};
+ghost use Rattle.msvc_print.specs.Work.{Keeps, Lightens, Prints, finished_after, item_pieces, item_weight};
 
 use crate::function_types::write_calling;
 use crate::item::Item;
 use crate::operators::write_spaced_word;
-use crate::qualified_names::{
-    print_member_pointer_class, print_name, print_scope, print_symbol, push_typed_symbol,
-};
+use crate::qualified_names::push_typed_symbol;
 use crate::text::{Text, write_mark, write_qualifiers, write_text};
-use crate::types::{print_parameters, print_prefix, print_suffix, write_array_prefix};
+use crate::types::write_array_prefix;
 use bumpalo::Bump;
 use msvc_nodes::flags::DemangleFlags;
 use msvc_nodes::nodes::TypedSymbol;
@@ -35,6 +33,17 @@ const BYTES_PER_NODE: usize = 128;
 /// Most bytes that are asked for ahead of printing.
 const MAX_ARENA_BYTES: usize = 1 << 20;
 
+/// The state of the printer.
+#[derive(Drop)]
+pub struct Printer<'a, 'b, 't, S: Allocator, A: Allocator> {
+    /// What is left to print. The next item is the last.
+    pub stack: &'t mut Vec<Item<'a, 'b>, S>,
+    /// The text that pieces are written to.
+    pub out: &'t mut Text<A>,
+    /// The flags that the symbol is printed under. They stay as they are.
+    pub flags: DemangleFlags,
+}
+
 /// Returns how many bytes of an arena the stack takes while a symbol of `symbol_bytes` bytes and at most `nodes` nodes
 /// is printed, at most a megabyte. `usize::MAX` nodes are no limit. An arena that has these bytes makes no further
 /// request for memory. Of a longer symbol, the stack asks for the rest as it grows.
@@ -49,36 +58,47 @@ pub fn print_arena_bytes(symbol_bytes: usize, nodes: usize) -> usize
         .min(MAX_ARENA_BYTES)
 }
 
-/// Prints one item of the stack.
-#[tactic(auto, using(crate::proofs::Stack::pushes))]
-fn print_item<'a, 'b, S: Allocator, A: Allocator>(
-    stack: &mut Vec<Item<'a, 'b>, S>,
-    out: &mut Text<A>,
-    item: Item<'a, 'b>,
-    flags: DemangleFlags,
-) -> Result<(), AllocError>
-    ensures text { OnOk result (Prints (item_pieces item.entry flags.0) flags.0
-        stack.old.items out.old stack.new.items out.new) }
-    ensures lighter { OnOk result (Lightens (item_weight item.entry) stack.old.items stack.new.items) }
-{
-    match item {
-        Item::Text(bytes) => write_text(out, bytes),
-        Item::Name(name, of_symbol) => print_name(stack, out, name, of_symbol, flags),
-        Item::Scope(scope) => print_scope(stack, out, scope.names, flags),
-        Item::Symbol(symbol, symbol_type) => print_symbol(stack, out, symbol, symbol_type, flags),
-        Item::Class(class) => print_member_pointer_class(stack, out, class, flags),
-        Item::Spaced(word) => write_spaced_word(out, word),
-        Item::Qualifiers(qualifiers) => write_qualifiers(out, qualifiers, flags),
-        Item::Mark(word, qualifiers) => write_mark(out, word, qualifiers, flags),
-        Item::ArrayLevel(qualifiers, pointed) => write_array_prefix(
-            out, qualifiers, pointed, flags,
-        ),
-        Item::Calling(pointed, convention) => write_calling(out, pointed, convention, flags),
-        Item::Parameters(list) => {
-            print_parameters(stack, out, list.types, list.first, list.end, flags)
+impl<'a, 'b, 't, S: Allocator, A: Allocator> Printer<'a, 'b, 't, S, A> {
+    /// Prints one item of the stack.
+    #[tactic(auto, using(crate::proofs::Stack::pushes))]
+    fn print_item(&mut self, item: Item<'a, 'b>) -> Result<(), AllocError>
+        ensures text { OnOk result (Prints (item_pieces item.entry self.old.flags.0) self.old self.new) }
+        ensures lighter { OnOk result (Lightens (item_weight item.entry) self.old self.new) }
+        ensures kept { Keeps self.old self.new }
+    {
+        match item {
+            Item::Text(bytes) => write_text(self.out, bytes),
+            Item::Name(name, of_symbol) => self.print_name(name, of_symbol),
+            Item::Scope(scope) => self.print_scope(scope.names),
+            Item::Symbol(symbol, symbol_type) => self.print_symbol(symbol, symbol_type),
+            Item::Class(class) => self.print_member_pointer_class(class),
+            Item::Spaced(word) => write_spaced_word(self.out, word),
+            Item::Qualifiers(qualifiers) => write_qualifiers(self.out, qualifiers, self.flags),
+            Item::Mark(word, qualifiers) => write_mark(self.out, word, qualifiers, self.flags),
+            Item::ArrayLevel(qualifiers, pointed) => write_array_prefix(
+                self.out, qualifiers, pointed, self.flags,
+            ),
+            Item::Calling(pointed, convention) => write_calling(
+                self.out, pointed, convention, self.flags,
+            ),
+            Item::Parameters(list) => self.print_parameters(list.types, list.first, list.end),
+            Item::Before(t, pointed) => self.print_prefix(t, pointed),
+            Item::After(t, pointed) => self.print_suffix(t, pointed),
         }
-        Item::Before(t, pointed) => print_prefix(stack, out, t, pointed, flags),
-        Item::After(t, pointed) => print_suffix(stack, out, t, pointed, flags),
+    }
+
+    /// Prints the items of the stack, the last first, until none is left or `out` is not whole.
+    fn run(&mut self) -> Result<(), AllocError>
+        ensures text { OnOk result (self.new.out.now ≡ finished_after self.old self.old.out.now) }
+        ensures kept { Keeps self.old self.new }
+    {
+        'items: while self.out.is_whole() {
+            let Some(item) = self.stack.pop() else {
+                return Ok(());
+            };
+            self.print_item(item)?;
+        }
+        Ok(())
     }
 }
 
@@ -116,15 +136,16 @@ pub fn print_within<'a, 'b, B: Allocator, A: Allocator>(
     out.clear(max);
     let mut stack = Vec::with_capacity(arena, FIRST_ITEMS)?;
     push_typed_symbol(&mut stack, symbol, flags)?;
-    'items: while out.is_whole() {
-        let Some(item) = stack.pop() else {
-            return Ok(true);
-        };
-        print_item(&mut stack, out, item, flags)?;
-    }
-    if max == usize::MAX {
+    let mut printer = Printer {
+        stack: &mut stack,
+        out,
+        flags,
+    };
+    printer.run()?;
+    let within = printer.out.is_whole();
+    if !within && max == usize::MAX {
         // No allocation has so many bytes.
         return Err(AllocError);
     }
-    Ok(false)
+    Ok(within)
 }

@@ -15,13 +15,14 @@ ghost use Rattle.msvc_print.specs.SymbolNodes.{class_pieces_of, class_weight_of,
 ghost use Rattle.msvc_print.specs.SymbolNodes.{symbol_pieces_of, symbol_weight_of, type_or_none};
 ghost use Rattle.msvc_print.specs.SymbolNodes.{typed_symbol_weight_of};
 ghost use Rattle.msvc_print.specs.Weights.{name_weight, scope_weight, type_weight, types_weight};
-ghost use Rattle.msvc_print.specs.Work.{AddsAtMost, Lightens, Prints, Pushes, member_return};
+ghost use Rattle.msvc_print.specs.Work.{AddsAtMost, AddsLess, Keeps, Lightens, Prints, Pushes, member_return};
 ghost use Rattle.msvc_print.specs.declared.text.Space.TheVariants.{AfterPointer};
 
 use crate::item::{Item, ListEnd, TypeList, push};
 use crate::operators::{
     NameKind, name_kind, operator_word, write_base_class, write_guard, write_spaced_word,
 };
+use crate::printer::Printer;
 use crate::text::{Space, Text, word_space, write_number, write_space, write_text};
 use bitflags::Flags;
 use msvc_nodes::flags::DemangleFlags;
@@ -139,7 +140,7 @@ pub fn push_typed_symbol<'a, 'b, S: Allocator>(
 ) -> Result<(), AllocError>
     ensures text { OnOk result (Pushes (symbol_pieces_of tree.now flags.0) flags.0
         stack.old.items stack.new.items) }
-    ensures lighter { OnOk result (Lightens (typed_symbol_weight_of tree.now) stack.old.items stack.new.items) }
+    ensures lighter { OnOk result (AddsLess (typed_symbol_weight_of tree.now) stack.old.items stack.new.items) }
 {
     let name = Item::Symbol(&tree.symbol, Some(tree.symbol_type));
     if flags.contains(DemangleFlags::NAME_ONLY) {
@@ -153,105 +154,243 @@ pub fn push_typed_symbol<'a, 'b, S: Allocator>(
     push(stack, Item::Before(tree.symbol_type, false))
 }
 
-/// Prints a nested symbol, in quotes unless it is the name of a symbol itself.
-#[tactic(auto, using(crate::proofs::Stack::pushes), unfolding(crate::specs::Declaration::quoted_unless))]
-fn print_nested<'a, 'b, S: Allocator, A: Allocator>(
-    stack: &mut Vec<Item<'a, 'b>, S>,
-    out: &mut Text<A>,
-    tree: &'b TypedSymbol<'a, 'b>,
-    of_symbol: bool,
-    flags: DemangleFlags,
-) -> Result<(), AllocError>
-    ensures text { OnOk result (Prints (spec.quoted_unless of_symbol (symbol_pieces_of tree.now flags.0)) flags.0
-        stack.old.items out.old stack.new.items out.new) }
-    ensures lighter { OnOk result (Lightens (3 + typed_symbol_weight_of tree.now) stack.old.items stack.new.items) }
-{
-    if of_symbol {
-        return push_typed_symbol(stack, tree, flags);
-    }
-    write_text(out, b"`")?;
-    push(stack, Item::Text(b"'"))?;
-    push_typed_symbol(stack, tree, flags)
-}
-
-/// Prints the descriptor of a type.
-#[tactic(auto, using(crate::proofs::Halves::pushed_left))]
-#[cold]
-fn print_descriptor<'a, 'b, S: Allocator, A: Allocator>(
-    stack: &mut Vec<Item<'a, 'b>, S>,
-    out: &mut Text<A>,
-    described: &'b Type<'a, 'b>,
-    flags: DemangleFlags,
-) -> Result<(), AllocError>
-    ensures text { OnOk result (Prints (space AfterPointer
-        ∷ ((spec.grown (type_of described.now) false alone flags.0).left
-        ++ text (codes "::`RTTI Type Descriptor'") ∷ [])) flags.0
-        stack.old.items out.old stack.new.items out.new) }
-    ensures lighter { OnOk result (Lightens (3 + type_weight (type_of described.now))
-        stack.old.items stack.new.items) }
-{
-    write_space(out, Space::AfterPointer)?;
-    push(stack, Item::Text(b"::`RTTI Type Descriptor'"))?;
-    push(stack, Item::Before(described, false))
-}
-
-/// Prints a template with its arguments. Most of their names are spelled, and are written at once.
-#[tactic(auto, using(crate::proofs::Stack::pushes))]
-fn print_template<'a, 'b, S: Allocator, A: Allocator>(
-    stack: &mut Vec<Item<'a, 'b>, S>,
-    out: &mut Text<A>,
-    name: &'b Name<'a, 'b>,
-    arguments: &'b [&'b Type<'a, 'b>],
-    flags: DemangleFlags,
-) -> Result<(), AllocError>
-    ensures text { OnOk result (Prints (spec.name_pieces (name_of name.now) false flags.0
-        ++ spec.angled (spec.parameters (types_in arguments.now) true flags.0)) flags.0
-        stack.old.items out.old stack.new.items out.new) }
-    ensures lighter { OnOk result (Lightens (3 + name_weight (name_of name.now) + types_weight (types_in arguments.now))
-        stack.old.items stack.new.items) }
-{
-    let list = Item::Parameters(TypeList {
-        types: arguments,
-        first: true,
-        end: ListEnd::Angle,
-    });
-    if write_if_spelled(out, name)? {
-        write_text(out, b"<")?;
-        return push(stack, list);
-    }
-    push(stack, list)?;
-    push(stack, Item::Text(b"<"))?;
-    push(stack, Item::Name(name, false))
-}
-
-/// Prints a name.
-#[tactic(auto, using(crate::proofs::Nodes::printed), unfolding(crate::specs::Declaration::name_pieces, crate::specs::Weights::name_weight, msvc_nodes::specs::NodeView::name_of))]
-pub fn print_name<'a, 'b, S: Allocator, A: Allocator>(
-    stack: &mut Vec<Item<'a, 'b>, S>,
-    out: &mut Text<A>,
-    name: &'b Name<'a, 'b>,
-    of_symbol: bool,
-    flags: DemangleFlags,
-) -> Result<(), AllocError>
-    ensures text { OnOk result (Prints (spec.name_pieces (name_of name.now) of_symbol flags.0) flags.0
-        stack.old.items out.old stack.new.items out.new) }
-    ensures lighter { OnOk result (Lightens (name_weight (name_of name.now)) stack.old.items stack.new.items) }
-{
-    match name {
-        Name::Source(bytes) => write_text(out, *bytes),
-        Name::Interface(bytes) => write_interface(out, *bytes),
-        Name::Md5(bytes) => write_md5(out, *bytes),
-        Name::Anonymous => write_anonymous(out),
-        Name::AnonymousDigits(_) => write_anonymous(out),
-        Name::Plain(operator) => write_spaced_word(out, operator_word(*operator)),
-        Name::Guard(guard, number) => write_guard(out, *guard, *number),
-        Name::TypeDescriptor(_, described) => print_descriptor(stack, out, *described, flags),
-        Name::BaseClassDescriptor(place) => write_base_class(out, *place, flags),
-        Name::Template(template) => {
-            print_template(stack, out, template.name, template.arguments, flags)
+impl<'a, 'b, 't, S: Allocator, A: Allocator> Printer<'a, 'b, 't, S, A> {
+    /// Prints a nested symbol, in quotes unless it is the name of a symbol itself.
+    #[tactic(auto, using(crate::proofs::Stack::pushes), unfolding(crate::specs::Declaration::quoted_unless))]
+    fn print_nested(
+        &mut self,
+        tree: &'b TypedSymbol<'a, 'b>,
+        of_symbol: bool,
+    ) -> Result<(), AllocError>
+        ensures text { OnOk result (Prints (spec.quoted_unless of_symbol (symbol_pieces_of tree.now self.old.flags.0))
+            self.old self.new) }
+        ensures lighter { OnOk result (Lightens (3 + typed_symbol_weight_of tree.now) self.old self.new) }
+        ensures kept { Keeps self.old self.new }
+    {
+        if of_symbol {
+            push_typed_symbol(self.stack, tree, self.flags)?;
+            return Ok(());
         }
-        Name::Discriminator(number) => write_discriminator(out, *number),
-        Name::Nested(tree) => print_nested(stack, out, *tree, of_symbol, flags),
+        write_text(self.out, b"`")?;
+        push(self.stack, Item::Text(b"'"))?;
+        push_typed_symbol(self.stack, tree, self.flags)?;
+        Ok(())
+    }
+
+    /// Prints the descriptor of a type.
+    #[tactic(auto, using(crate::proofs::Halves::pushed_left))]
+    #[cold]
+    fn print_descriptor(&mut self, described: &'b Type<'a, 'b>) -> Result<(), AllocError>
+        ensures text { OnOk result
+            (Prints (space AfterPointer ∷ ((spec.grown (type_of described.now) false alone self.old.flags.0).left
+            ++ text (codes "::`RTTI Type Descriptor'") ∷ [])) self.old self.new) }
+        ensures lighter { OnOk result (Lightens (3 + type_weight (type_of described.now)) self.old self.new) }
+        ensures kept { Keeps self.old self.new }
+    {
+        write_space(self.out, Space::AfterPointer)?;
+        push(self.stack, Item::Text(b"::`RTTI Type Descriptor'"))?;
+        push(self.stack, Item::Before(described, false))
+    }
+
+    /// Prints a template with its arguments. Most of their names are spelled, and are written at once.
+    #[tactic(auto, using(crate::proofs::Stack::pushes))]
+    fn print_template(
+        &mut self,
+        name: &'b Name<'a, 'b>,
+        arguments: &'b [&'b Type<'a, 'b>],
+    ) -> Result<(), AllocError>
+        ensures text { OnOk result (Prints (spec.name_pieces (name_of name.now) false self.old.flags.0
+            ++ spec.angled (spec.parameters (types_in arguments.now) true self.old.flags.0)) self.old self.new) }
+        ensures lighter { OnOk result
+            (Lightens (3 + name_weight (name_of name.now) + types_weight (types_in arguments.now)) self.old self.new) }
+        ensures kept { Keeps self.old self.new }
+    {
+        let list = Item::Parameters(TypeList {
+            types: arguments,
+            first: true,
+            end: ListEnd::Angle,
+        });
+        if write_if_spelled(self.out, name)? {
+            write_text(self.out, b"<")?;
+            return push(self.stack, list);
+        }
+        push(self.stack, list)?;
+        push(self.stack, Item::Text(b"<"))?;
+        push(self.stack, Item::Name(name, false))
+    }
+
+    /// Prints a name.
+    #[tactic(auto, using(crate::proofs::Nodes::printed), unfolding(crate::specs::Declaration::name_pieces, crate::specs::Weights::name_weight, msvc_nodes::specs::NodeView::name_of))]
+    pub fn print_name(&mut self, name: &'b Name<'a, 'b>, of_symbol: bool) -> Result<(), AllocError>
+        ensures text { OnOk result (Prints (spec.name_pieces (name_of name.now) of_symbol self.old.flags.0)
+            self.old self.new) }
+        ensures lighter { OnOk result (Lightens (name_weight (name_of name.now)) self.old self.new) }
+        ensures kept { Keeps self.old self.new }
+    {
+        match name {
+            Name::Source(bytes) => write_text(self.out, *bytes),
+            Name::Interface(bytes) => write_interface(self.out, *bytes),
+            Name::Md5(bytes) => write_md5(self.out, *bytes),
+            Name::Anonymous => write_anonymous(self.out),
+            Name::AnonymousDigits(_) => write_anonymous(self.out),
+            Name::Plain(operator) => write_spaced_word(self.out, operator_word(*operator)),
+            Name::Guard(guard, number) => write_guard(self.out, *guard, *number),
+            Name::TypeDescriptor(_, described) => self.print_descriptor(*described),
+            Name::BaseClassDescriptor(place) => write_base_class(self.out, *place, self.flags),
+            Name::Template(template) => self.print_template(template.name, template.arguments),
+            Name::Discriminator(number) => write_discriminator(self.out, *number),
+            Name::Nested(tree) => self.print_nested(*tree, of_symbol),
+        }
+    }
+
+    /// Prints the first `left` names of a scope, the outermost first, each with `::` after it.
+    #[inline(always)]
+    fn print_remaining_names(
+        &mut self,
+        names: &'b [&'b Name<'a, 'b>],
+        left: usize,
+    ) -> Result<(), AllocError>
+        requires { left ≤ length names.now }
+        ensures text { OnOk result (Prints (spec.scope_prefix (names_in (take left names.now)) self.old.flags.0)
+            self.old self.new) }
+        ensures lighter { OnOk result (Lightens (scope_weight (names_in names.now)) self.old self.new) }
+        ensures kept { Keeps self.old self.new }
+    {
+        if left == 0 {
+            return Ok(());
+        }
+        let last = left - 1;
+        push_scope(self.stack, &names[..last])?;
+        push(self.stack, Item::Text(b"::"))?;
+        self.print_name(names[last], false)?;
+        Ok(())
+    }
+
+    /// Prints the names of a scope, the outermost first, each with `::` after it.
+    pub fn print_scope(&mut self, names: &'b [&'b Name<'a, 'b>]) -> Result<(), AllocError>
+        ensures text { OnOk result (Prints (spec.scope_prefix (names_in names.now) self.old.flags.0)
+            self.old self.new) }
+        ensures lighter { OnOk result (Lightens (scope_weight (names_in names.now)) self.old self.new) }
+        ensures kept { Keeps self.old self.new }
+    {
+        let left = write_spelled_names(self.out, names)?;
+        self.print_remaining_names(names, left)?;
+        Ok(())
+    }
+
+    /// Prints the names of a scope and the name of a symbol in it. The name is printed at once if all names of the
+    /// scope are spelled, as most are.
+    fn print_in_scope(
+        &mut self,
+        names: &'b [&'b Name<'a, 'b>],
+        name: &'b Name<'a, 'b>,
+    ) -> Result<(), AllocError>
+        ensures text { OnOk result (Prints (spec.scope_prefix (names_in names.now) self.old.flags.0
+            ++ spec.name_pieces (name_of name.now) true self.old.flags.0) self.old self.new) }
+        ensures lighter { OnOk result (Lightens (1 + scope_weight (names_in names.now) + name_weight (name_of name.now))
+            self.old self.new) }
+        ensures kept { Keeps self.old self.new }
+    {
+        let left = write_spelled_names(self.out, names)?;
+        if left == 0 {
+            self.print_name(name, true)?;
+            return Ok(());
+        }
+        if !self.out.is_whole() {
+            return Ok(());
+        }
+        push(self.stack, Item::Name(name, true))?;
+        self.print_remaining_names(names, left)?;
+        Ok(())
+    }
+
+    /// Prints the names of a scope, the outermost first, with `::` between them.
+    pub fn print_path(&mut self, names: &'b [&'b Name<'a, 'b>]) -> Result<(), AllocError>
+        ensures text { OnOk result (Prints (spec.scope_path (names_in names.now) self.old.flags.0) self.old self.new) }
+        ensures lighter { OnOk result (Lightens (scope_weight (names_in names.now)) self.old self.new) }
+        ensures kept { Keeps self.old self.new }
+    {
+        match names {
+            [] => Ok(()),
+            [name, outer @ ..] => {
+                push(self.stack, Item::Name(*name, false))?;
+                self.print_scope(outer)?;
+                Ok(())
+            }
+        }
+    }
+
+    /// Prints a symbol's name in its scope, by the kind of the name.
+    #[tactic(auto, using(crate::proofs::Stack::pushes), unfolding(crate::specs::Operators::scoped))]
+    fn print_symbol_as(
+        &mut self,
+        symbol: &'b Symbol<'a, 'b>,
+        symbol_type: Option<&'b Type<'a, 'b>>,
+        kind: NameKind,
+    ) -> Result<(), AllocError>
+        ensures text { OnOk result
+            (Prints (symbol_as_of kind symbol.now (type_or_none symbol_type.entry) self.old.flags.0)
+            self.old self.new) }
+        ensures lighter { OnOk result (Lightens (symbol_weight_of symbol.now (type_or_none symbol_type.entry))
+            self.old self.new) }
+        ensures kept { Keeps self.old self.new }
+    {
+        write_space(self.out, word_space(self.flags, Space::AfterReference))?;
+        match kind {
+            NameKind::Ordinary => self.print_in_scope(symbol.scope, symbol.name),
+            NameKind::Constructor => {
+                push_ctor_dtor_name(self.stack, symbol.scope, false, self.flags)?;
+                self.print_scope(symbol.scope)
+            }
+            NameKind::Destructor => {
+                push_ctor_dtor_name(self.stack, symbol.scope, true, self.flags)?;
+                self.print_scope(symbol.scope)
+            }
+            NameKind::Conversion => {
+                push_conversion(self.stack, symbol.name, symbol_type, self.flags)?;
+                self.print_scope(symbol.scope)
+            }
+            NameKind::BaseTable => {
+                push_base_table(self.stack, self.flags)?;
+                self.print_scope(symbol.scope)
+            }
+            NameKind::Literal => {
+                write_literal(self.out)?;
+                self.print_path(symbol.scope)
+            }
+        }
+    }
+
+    /// Prints a symbol's name in its scope.
+    pub fn print_symbol(
+        &mut self,
+        symbol: &'b Symbol<'a, 'b>,
+        symbol_type: Option<&'b Type<'a, 'b>>,
+    ) -> Result<(), AllocError>
+        ensures text { OnOk result (Prints (symbol_name_of symbol.now (type_or_none symbol_type.entry) self.old.flags.0)
+            self.old self.new) }
+        ensures lighter { OnOk result (Lightens (symbol_weight_of symbol.now (type_or_none symbol_type.entry))
+            self.old self.new) }
+        ensures kept { Keeps self.old self.new }
+    {
+        let kind = name_kind(symbol.name);
+        self.print_symbol_as(symbol, symbol_type, kind)
+    }
+
+    /// Prints the class whose member function is pointed to.
+    #[tactic(auto, using(crate::proofs::Stack::pushes))]
+    pub fn print_member_pointer_class(
+        &mut self,
+        class: &'b Symbol<'a, 'b>,
+    ) -> Result<(), AllocError>
+        ensures text { OnOk result (Prints (class_pieces_of class.now self.old.flags.0) self.old self.new) }
+        ensures lighter { OnOk result (Lightens (class_weight_of class.now) self.old self.new) }
+        ensures kept { Keeps self.old self.new }
+    {
+        write_space(self.out, Space::AfterPointer)?;
+        push(self.stack, Item::Text(b"::*"))?;
+        self.print_symbol(class, None)?;
+        Ok(())
     }
 }
 
@@ -267,90 +406,6 @@ fn push_scope<'a, 'b, S: Allocator>(
     match names {
         [] => Ok(()),
         [_, ..] => push(stack, Item::Scope(Scope { names })),
-    }
-}
-
-/// Prints the first `left` names of a scope, the outermost first, each with `::` after it.
-#[inline(always)]
-fn print_remaining_names<'a, 'b, S: Allocator, A: Allocator>(
-    stack: &mut Vec<Item<'a, 'b>, S>,
-    out: &mut Text<A>,
-    names: &'b [&'b Name<'a, 'b>],
-    left: usize,
-    flags: DemangleFlags,
-) -> Result<(), AllocError>
-    requires { left ≤ length names.now }
-    ensures text { OnOk result (Prints (spec.scope_prefix (names_in (take left names.now)) flags.0) flags.0
-        stack.old.items out.old stack.new.items out.new) }
-    ensures lighter { OnOk result (Lightens (scope_weight (names_in names.now)) stack.old.items stack.new.items) }
-{
-    if left == 0 {
-        return Ok(());
-    }
-    let last = left - 1;
-    push_scope(stack, &names[..last])?;
-    push(stack, Item::Text(b"::"))?;
-    print_name(stack, out, names[last], false, flags)
-}
-
-/// Prints the names of a scope, the outermost first, each with `::` after it.
-pub fn print_scope<'a, 'b, S: Allocator, A: Allocator>(
-    stack: &mut Vec<Item<'a, 'b>, S>,
-    out: &mut Text<A>,
-    names: &'b [&'b Name<'a, 'b>],
-    flags: DemangleFlags,
-) -> Result<(), AllocError>
-    ensures text { OnOk result (Prints (spec.scope_prefix (names_in names.now) flags.0) flags.0
-        stack.old.items out.old stack.new.items out.new) }
-    ensures lighter { OnOk result (Lightens (scope_weight (names_in names.now)) stack.old.items stack.new.items) }
-{
-    let left = write_spelled_names(out, names)?;
-    print_remaining_names(stack, out, names, left, flags)
-}
-
-/// Prints the names of a scope and the name of a symbol in it. The name is printed at once if all names of the scope
-/// are spelled, as most are.
-fn print_in_scope<'a, 'b, S: Allocator, A: Allocator>(
-    stack: &mut Vec<Item<'a, 'b>, S>,
-    out: &mut Text<A>,
-    names: &'b [&'b Name<'a, 'b>],
-    name: &'b Name<'a, 'b>,
-    flags: DemangleFlags,
-) -> Result<(), AllocError>
-    ensures text { OnOk result (Prints
-        (spec.scope_prefix (names_in names.now) flags.0 ++ spec.name_pieces (name_of name.now) true flags.0) flags.0
-        stack.old.items out.old stack.new.items out.new) }
-    ensures lighter { OnOk result (Lightens (1 + scope_weight (names_in names.now) + name_weight (name_of name.now))
-        stack.old.items stack.new.items) }
-{
-    let left = write_spelled_names(out, names)?;
-    if left == 0 {
-        return print_name(stack, out, name, true, flags);
-    }
-    if !out.is_whole() {
-        return Ok(());
-    }
-    push(stack, Item::Name(name, true))?;
-    print_remaining_names(stack, out, names, left, flags)
-}
-
-/// Prints the names of a scope, the outermost first, with `::` between them.
-pub fn print_path<'a, 'b, S: Allocator, A: Allocator>(
-    stack: &mut Vec<Item<'a, 'b>, S>,
-    out: &mut Text<A>,
-    names: &'b [&'b Name<'a, 'b>],
-    flags: DemangleFlags,
-) -> Result<(), AllocError>
-    ensures text { OnOk result (Prints (spec.scope_path (names_in names.now) flags.0) flags.0
-        stack.old.items out.old stack.new.items out.new) }
-    ensures lighter { OnOk result (Lightens (scope_weight (names_in names.now)) stack.old.items stack.new.items) }
-{
-    match names {
-        [] => Ok(()),
-        [name, outer @ ..] => {
-            push(stack, Item::Name(*name, false))?;
-            print_scope(stack, out, outer, flags)
-        }
     }
 }
 
@@ -439,80 +494,4 @@ fn write_literal<A: Allocator>(out: &mut Text<A>) -> Result<(), AllocError>
     ensures { OnOk result (Writes (spaced (codes "operator \"\"")) out.old out.new) }
 {
     write_spaced_word(out, b"operator \"\"")
-}
-
-/// Prints a symbol's name in its scope, by the kind of the name.
-#[tactic(auto, using(crate::proofs::Stack::pushes), unfolding(crate::specs::Operators::scoped))]
-fn print_symbol_as<'a, 'b, S: Allocator, A: Allocator>(
-    stack: &mut Vec<Item<'a, 'b>, S>,
-    out: &mut Text<A>,
-    symbol: &'b Symbol<'a, 'b>,
-    symbol_type: Option<&'b Type<'a, 'b>>,
-    kind: NameKind,
-    flags: DemangleFlags,
-) -> Result<(), AllocError>
-    ensures text { OnOk result (Prints (symbol_as_of kind symbol.now (type_or_none symbol_type.entry) flags.0) flags.0
-        stack.old.items out.old stack.new.items out.new) }
-    ensures lighter { OnOk result (Lightens (symbol_weight_of symbol.now (type_or_none symbol_type.entry))
-        stack.old.items stack.new.items) }
-{
-    write_space(out, word_space(flags, Space::AfterReference))?;
-    match kind {
-        NameKind::Ordinary => print_in_scope(stack, out, symbol.scope, symbol.name, flags),
-        NameKind::Constructor => {
-            push_ctor_dtor_name(stack, symbol.scope, false, flags)?;
-            print_scope(stack, out, symbol.scope, flags)
-        }
-        NameKind::Destructor => {
-            push_ctor_dtor_name(stack, symbol.scope, true, flags)?;
-            print_scope(stack, out, symbol.scope, flags)
-        }
-        NameKind::Conversion => {
-            push_conversion(stack, symbol.name, symbol_type, flags)?;
-            print_scope(stack, out, symbol.scope, flags)
-        }
-        NameKind::BaseTable => {
-            push_base_table(stack, flags)?;
-            print_scope(stack, out, symbol.scope, flags)
-        }
-        NameKind::Literal => {
-            write_literal(out)?;
-            print_path(stack, out, symbol.scope, flags)
-        }
-    }
-}
-
-/// Prints a symbol's name in its scope.
-pub fn print_symbol<'a, 'b, S: Allocator, A: Allocator>(
-    stack: &mut Vec<Item<'a, 'b>, S>,
-    out: &mut Text<A>,
-    symbol: &'b Symbol<'a, 'b>,
-    symbol_type: Option<&'b Type<'a, 'b>>,
-    flags: DemangleFlags,
-) -> Result<(), AllocError>
-    ensures text { OnOk result (Prints (symbol_name_of symbol.now (type_or_none symbol_type.entry) flags.0) flags.0
-        stack.old.items out.old stack.new.items out.new) }
-    ensures lighter { OnOk result (Lightens (symbol_weight_of symbol.now (type_or_none symbol_type.entry))
-        stack.old.items stack.new.items) }
-{
-    let kind = name_kind(symbol.name);
-    print_symbol_as(stack, out, symbol, symbol_type, kind, flags)
-}
-
-/// Prints the class whose member function is pointed to.
-#[tactic(auto, using(crate::proofs::Stack::pushes))]
-pub fn print_member_pointer_class<'a, 'b, S: Allocator, A: Allocator>(
-    stack: &mut Vec<Item<'a, 'b>, S>,
-    out: &mut Text<A>,
-    class: &'b Symbol<'a, 'b>,
-    flags: DemangleFlags,
-) -> Result<(), AllocError>
-    ensures text { OnOk result (Prints
-        (class_pieces_of class.now flags.0) flags.0
-        stack.old.items out.old stack.new.items out.new) }
-    ensures lighter { OnOk result (Lightens (class_weight_of class.now) stack.old.items stack.new.items) }
-{
-    write_space(out, Space::AfterPointer)?;
-    push(stack, Item::Text(b"::*"))?;
-    print_symbol(stack, out, class, None, flags)
 }

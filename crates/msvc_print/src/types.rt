@@ -13,11 +13,11 @@ ghost use Rattle.msvc_print.specs.Pieces.{text};
 ghost use Rattle.msvc_print.specs.SymbolNodes.{no_type, symbol_name_of, symbol_weight_of};
 ghost use Rattle.msvc_print.specs.Weights.{scope_weight, type_weight, types_weight};
 ghost use Rattle.msvc_print.specs.Words.{closing, marked, opening, qualifiers as qualifier_pieces, variable_word};
-ghost use Rattle.msvc_print.specs.Work.{AddsAtMost, Lightens, Prints, Pushes, rest_of_parameters};
+ghost use Rattle.msvc_print.specs.Work.{AddsAtMost, Keeps, LeavesAtMost, Lightens, Prints, Pushes, rest_of_parameters};
 
 use crate::function_types::{write_calling, write_list_end, write_member_start, write_separator};
 use crate::item::{Item, ListEnd, TypeList, pop_list, push};
-use crate::qualified_names::{print_path, print_symbol};
+use crate::printer::Printer;
 use crate::simple_types::{write_base, write_simple, write_simple_pointer, write_simple_types};
 use crate::text::{Text, write_closing, write_number, write_opening, write_qualifiers, write_text};
 use crate::words::{mark_word, tag_word, variable_word};
@@ -27,60 +27,348 @@ use msvc_nodes::kinds::{CallingConv, NumberedType, PlainType, SpecialTableKind, 
 use msvc_nodes::nodes::{Function, Name, Symbol, Type};
 use std::alloc::{AllocError, Allocator};
 
-/// Prints what a type has before the name.
-#[tactic(auto, using(crate::proofs::Nodes::printed), unfolding(crate::specs::Halves::before, crate::specs::Weights::type_weight, msvc_nodes::specs::NodeView::type_of))]
-pub fn print_prefix<'a, 'b, S: Allocator, A: Allocator>(
-    stack: &mut Vec<Item<'a, 'b>, S>,
-    out: &mut Text<A>,
-    t: &'b Type<'a, 'b>,
-    pointed: bool,
-    flags: DemangleFlags,
-) -> Result<(), AllocError>
-    ensures text { OnOk result (Prints (before (type_of t.now) pointed flags.0) flags.0
-        stack.old.items out.old stack.new.items out.new) }
-    ensures lighter { OnOk result (Lightens (type_weight (type_of t.now)) stack.old.items stack.new.items) }
-{
-    match t {
-        Type::Plain(plain) => write_plain(out, *plain, pointed, flags),
-        Type::Base(base, qualifiers) => write_base(out, *base, *qualifiers, flags),
-        Type::Tagged(tag, qualifiers, symbol) => {
-            print_tagged(
-                stack,
-                out,
-                tag_word(*tag, flags),
-                *symbol,
+impl<'a, 'b, 't, S: Allocator, A: Allocator> Printer<'a, 'b, 't, S, A> {
+    /// Prints what a type has before the name.
+    #[tactic(auto, using(crate::proofs::Nodes::printed), unfolding(crate::specs::Halves::before, crate::specs::Weights::type_weight, msvc_nodes::specs::NodeView::type_of))]
+    pub fn print_prefix(&mut self, t: &'b Type<'a, 'b>, pointed: bool) -> Result<(), AllocError>
+        ensures text { OnOk result (Prints (before (type_of t.now) pointed self.old.flags.0) self.old self.new) }
+        ensures lighter { OnOk result (Lightens (type_weight (type_of t.now)) self.old self.new) }
+        ensures kept { Keeps self.old self.new }
+    {
+        match t {
+            Type::Plain(plain) => write_plain(self.out, *plain, pointed, self.flags),
+            Type::Base(base, qualifiers) => write_base(self.out, *base, *qualifiers, self.flags),
+            Type::Tagged(tag, qualifiers, symbol) => {
+                self.print_tagged(tag_word(*tag, self.flags), *symbol, *qualifiers)
+            }
+            Type::Numbered(kind, number) => write_numbered(
+                self.out, *kind, *number, pointed, self.flags,
+            ),
+            Type::ConstantString(_) => Ok(()),
+            Type::Pointing(affinity, qualifiers, inner) => {
+                self.print_pointer(mark_word(*affinity), *qualifiers, *inner)
+            }
+            Type::Array(_, qualifiers, inner) => {
+                push(self.stack, Item::ArrayLevel(*qualifiers, pointed))?;
+                self.print_inner(*inner, false)
+            }
+            Type::Function(function) => self.print_function(*function, pointed),
+            Type::MemberFunction(function) => {
+                write_member_start(self.out, pointed, function.class, self.flags)?;
+                self.print_function(*function, pointed)
+            }
+            Type::MemberPointer(class, function) => {
+                push(self.stack, Item::Class(*class))?;
+                self.print_function(*function, true)
+            }
+            Type::Variable(kind, qualifiers, inner) => self.print_variable(
+                *inner,
+                *kind,
                 *qualifiers,
-                flags,
-            )
+            ),
+            Type::Table(_, qualifiers, _) => write_qualifiers(self.out, *qualifiers, self.flags),
+            Type::VcallThunk(_, convention) => write_thunk(self.out, *convention, self.flags),
         }
-        Type::Numbered(kind, number) => write_numbered(out, *kind, *number, pointed, flags),
-        Type::ConstantString(_) => Ok(()),
-        Type::Pointing(affinity, qualifiers, inner) => {
-            print_pointer(stack, out, mark_word(*affinity), *qualifiers, *inner, flags)
+    }
+
+    /// Prints what a type inside another has before the name. Most have no type in them, and are printed at once.
+    #[tactic(auto, using(crate::proofs::Nodes::printed), unfolding(crate::specs::Halves::before, crate::specs::Weights::type_weight, msvc_nodes::specs::NodeView::type_of))]
+    fn print_inner(&mut self, t: &'b Type<'a, 'b>, pointed: bool) -> Result<(), AllocError>
+        ensures text { OnOk result (Prints (before (type_of t.now) pointed self.old.flags.0) self.old self.new) }
+        ensures lighter { OnOk result (LeavesAtMost (type_weight (type_of t.now)) self.old self.new) }
+        ensures kept { Keeps self.old self.new }
+    {
+        match t {
+            Type::Base(base, qualifiers) => write_base(self.out, *base, *qualifiers, self.flags),
+            Type::Tagged(tag, qualifiers, symbol) => {
+                self.print_tagged(tag_word(*tag, self.flags), *symbol, *qualifiers)?;
+                Ok(())
+            }
+            _ => push(self.stack, Item::Before(t, pointed)),
         }
-        Type::Array(_, qualifiers, inner) => {
-            push(stack, Item::ArrayLevel(*qualifiers, pointed))?;
-            print_inner(stack, out, *inner, false, flags)
+    }
+
+    /// Prints what a pointer or a reference has before the name.
+    #[tactic(auto, using(crate::proofs::Stack::pushes))]
+    fn print_pointer(
+        &mut self,
+        word: &'b [u8],
+        qualifiers: StorageClass,
+        inner: &'b Type<'a, 'b>,
+    ) -> Result<(), AllocError>
+        ensures text { OnOk result (Prints (before (type_of inner.now) true self.old.flags.0
+            ++ marked word.now qualifiers.0 self.old.flags.0) self.old self.new) }
+        ensures lighter { OnOk result (Lightens (2 + type_weight (type_of inner.now)) self.old self.new) }
+        ensures kept { Keeps self.old self.new }
+    {
+        if write_simple_pointer(self.out, word, qualifiers, inner, self.flags)? {
+            return Ok(());
         }
-        Type::Function(function) => print_function(stack, out, *function, pointed, flags),
-        Type::MemberFunction(function) => {
-            write_member_start(out, pointed, function.class, flags)?;
-            print_function(stack, out, *function, pointed, flags)
+        push(self.stack, Item::Mark(word, qualifiers))?;
+        self.print_inner(inner, true)
+    }
+
+    /// Prints what a function has before its name.
+    #[tactic(auto, using(crate::proofs::Stack::pushes))]
+    fn print_function(
+        &mut self,
+        function: &'b Function<'a, 'b>,
+        pointed: bool,
+    ) -> Result<(), AllocError>
+        ensures text { OnOk result (Prints (before (type_of function.now.returned.now) false self.old.flags.0
+            ++ calling pointed function.now.convention self.old.flags.0) self.old self.new) }
+        ensures lighter { OnOk result (Lightens (2 + type_weight (type_of function.now.returned.now))
+            self.old self.new) }
+        ensures kept { Keeps self.old self.new }
+    {
+        if !self.out.is_whole() {
+            return Ok(());
         }
-        Type::MemberPointer(class, function) => {
-            push(stack, Item::Class(*class))?;
-            print_function(stack, out, *function, true, flags)
+        if !write_simple(self.out, function.returned, self.flags)? {
+            push(self.stack, Item::Calling(pointed, function.convention))?;
+            return self.print_inner(function.returned, false);
         }
-        Type::Variable(kind, qualifiers, inner) => print_variable(
-            stack,
-            out,
-            *inner,
-            *kind,
-            *qualifiers,
-            flags,
-        ),
-        Type::Table(_, qualifiers, _) => write_qualifiers(out, *qualifiers, flags),
-        Type::VcallThunk(_, convention) => write_thunk(out, *convention, flags),
+        if self.out.is_whole() {
+            write_calling(self.out, pointed, function.convention, self.flags)?;
+        }
+        Ok(())
+    }
+
+    /// Prints what a variable has before its name: words that no flag drops, its type, and its qualifiers.
+    #[tactic(auto, using(crate::proofs::Stack::pushes))]
+    fn print_variable(
+        &mut self,
+        inner: &'b Type<'a, 'b>,
+        kind: VarStorageKind,
+        qualifiers: StorageClass,
+    ) -> Result<(), AllocError>
+        ensures text { OnOk result
+            (Prints (text (variable_word kind) ∷ (before (type_of inner.now) false self.old.flags.0
+            ++ qualifier_pieces qualifiers.0 self.old.flags.0)) self.old self.new) }
+        ensures lighter { OnOk result (Lightens (3 + type_weight (type_of inner.now)) self.old self.new) }
+        ensures kept { Keeps self.old self.new }
+    {
+        write_text(self.out, variable_word(kind))?;
+        push_qualifiers(self.stack, qualifiers, self.flags)?;
+        self.print_inner(inner, false)
+    }
+
+    /// Prints what a type has after the name.
+    #[tactic(auto, using(crate::proofs::Nodes::printed), unfolding(crate::specs::Halves::after, crate::specs::Weights::type_weight, msvc_nodes::specs::NodeView::type_of))]
+    pub fn print_suffix(&mut self, t: &'b Type<'a, 'b>, pointed: bool) -> Result<(), AllocError>
+        ensures text { OnOk result (Prints (after (type_of t.now) pointed self.old.flags.0) self.old self.new) }
+        ensures lighter { OnOk result (Lightens (type_weight (type_of t.now)) self.old self.new) }
+        ensures kept { Keeps self.old self.new }
+    {
+        match t {
+            Type::Pointing(_, _, inner) => push_suffix(self.stack, *inner, true, self.flags),
+            Type::Array(length, _, inner) => {
+                write_length(self.out, *length, pointed)?;
+                push_suffix(self.stack, *inner, false, self.flags)?;
+                Ok(())
+            }
+            Type::Function(function) => self.print_function_end(*function, pointed),
+            Type::MemberFunction(function) => self.print_function_end(*function, pointed),
+            Type::MemberPointer(_, function) => {
+                self.print_member_pointer_end(*function)?;
+                Ok(())
+            }
+            Type::Variable(_, _, inner) => push_suffix(self.stack, *inner, false, self.flags),
+            Type::Table(table, _, scope) => self.print_table_end(*table, scope.names),
+            Type::VcallThunk(number, _) => write_thunk_end(self.out, *number, self.flags),
+            Type::Plain(_) => Ok(()),
+            Type::Base(_, _) => Ok(()),
+            Type::Tagged(_, _, _) => Ok(()),
+            Type::Numbered(_, _) => Ok(()),
+            Type::ConstantString(_) => Ok(()),
+        }
+    }
+
+    /// Prints what a function has after its name: its parameters, its qualifiers, and the rest of what it returns.
+    #[tactic(auto, using(crate::proofs::Stack::pushes))]
+    fn print_function_end(
+        &mut self,
+        function: &'b Function<'a, 'b>,
+        pointed: bool,
+    ) -> Result<(), AllocError>
+        ensures text { OnOk result
+            (Prints (function_end pointed
+            (spec.parameters (types_in function.now.parameters.now) true self.old.flags.0) function.now.qualifiers.0
+            self.old.flags.0 (after (type_of function.now.returned.now) false self.old.flags.0)) self.old self.new) }
+        ensures lighter { OnOk result (Lightens (3 + types_weight (types_in function.now.parameters.now)
+            + type_weight (type_of function.now.returned.now)) self.old self.new) }
+        ensures kept { Keeps self.old self.new }
+    {
+        write_closing(self.out, pointed)?;
+        write_text(self.out, b"(")?;
+        push_suffix(self.stack, function.returned, false, self.flags)?;
+        self.print_parameters(
+            function.parameters,
+            true,
+            ListEnd::Round(function.qualifiers),
+        )?;
+        Ok(())
+    }
+
+    /// Prints what a pointer to a member function has after its name: the parameters, the rest of what the function
+    /// returns, and its `const`.
+    #[tactic(auto, using(crate::proofs::Stack::pushes))]
+    fn print_member_pointer_end(&mut self, function: &'b Function<'a, 'b>) -> Result<(), AllocError>
+        ensures text { OnOk result
+            (Prints (member_pointer_end
+            (spec.parameters (types_in function.now.parameters.now) true self.old.flags.0) function.now.qualifiers.0
+            (after (type_of function.now.returned.now) false self.old.flags.0)) self.old self.new) }
+        ensures lighter { OnOk result (Lightens (3 + types_weight (types_in function.now.parameters.now)
+            + type_weight (type_of function.now.returned.now)) self.old self.new) }
+        ensures kept { Keeps self.old self.new }
+    {
+        write_text(self.out, b")(")?;
+        push_const(self.stack, function.qualifiers, self.flags)?;
+        push_suffix(self.stack, function.returned, false, self.flags)?;
+        self.print_parameters(function.parameters, true, ListEnd::Bare)?;
+        Ok(())
+    }
+
+    /// Prints what a table has after its name: the scope that it is for.
+    #[tactic(auto, using(crate::proofs::Stack::pushes), unfolding(crate::specs::Declaration::table_end))]
+    fn print_table_end(
+        &mut self,
+        table: SpecialTableKind,
+        names: &'b [&'b Name<'a, 'b>],
+    ) -> Result<(), AllocError>
+        ensures text { OnOk result
+            (Prints (spec.table_end table (names_in names.now) (spec.scope_path (names_in names.now) self.old.flags.0))
+            self.old self.new) }
+        ensures lighter { OnOk result (Lightens (3 + scope_weight (names_in names.now)) self.old self.new) }
+        ensures kept { Keeps self.old self.new }
+    {
+        match table {
+            SpecialTableKind::Functions => self.print_vftable_target(names),
+            SpecialTableKind::Bases => {
+                push(self.stack, Item::Text(b"'}}"))?;
+                self.print_path(names)
+            }
+        }
+    }
+
+    /// Prints the scope that a table of virtual functions is for, if it is for one.
+    fn print_vftable_target(&mut self, names: &'b [&'b Name<'a, 'b>]) -> Result<(), AllocError>
+        ensures text { OnOk result
+            (Prints (spec.table_end Functions (names_in names.now)
+            (spec.scope_path (names_in names.now) self.old.flags.0)) self.old self.new) }
+        ensures lighter { OnOk result (Lightens (3 + scope_weight (names_in names.now)) self.old self.new) }
+        ensures kept { Keeps self.old self.new }
+    {
+        match names {
+            [] => Ok(()),
+            [_, ..] => {
+                write_text(self.out, b"{for `")?;
+                push(self.stack, Item::Text(b"'}"))?;
+                self.print_path(names)?;
+                Ok(())
+            }
+        }
+    }
+
+    /// Prints the simple types that a list begins with, with a comma before each but the first. If one that is not
+    /// simple follows, begins to print it and pushes the rest; else prints what stands after the last.
+    fn print_list(
+        &mut self,
+        types: &'b [&'b Type<'a, 'b>],
+        first: bool,
+        end: ListEnd,
+    ) -> Result<(), AllocError>
+        ensures text { OnOk result (Prints (rest_of_parameters types.now first end self.old.flags.0)
+            self.old self.new) }
+        ensures lighter { OnOk result (Lightens (types_weight (types_in types.now)) self.old self.new) }
+        ensures kept { Keeps self.old self.new }
+    {
+        let at = write_simple_types(self.out, types, first, self.flags)?;
+        if !self.out.is_whole() {
+            return Ok(());
+        }
+        match &types[at..] {
+            [] => {
+                write_list_end(self.out, end, self.flags)?;
+                Ok(())
+            }
+            [t, later @ ..] => {
+                let left = TypeList {
+                    types: later,
+                    first: false,
+                    end,
+                };
+                push(self.stack, Item::Parameters(left))?;
+                self.print_parameter(*t)?;
+                Ok(())
+            }
+        }
+    }
+
+    /// Prints the types of a list, with a comma before each but the first, and what stands after them. Goes on with the
+    /// lists that are then the last items of the stack.
+    pub fn print_parameters(
+        &mut self,
+        types: &'b [&'b Type<'a, 'b>],
+        first: bool,
+        end: ListEnd,
+    ) -> Result<(), AllocError>
+        ensures text { OnOk result (Prints (rest_of_parameters types.now first end self.old.flags.0)
+            self.old self.new) }
+        ensures lighter { OnOk result (Lightens (types_weight (types_in types.now)) self.old self.new) }
+        ensures kept { Keeps self.old self.new }
+    {
+        let mut list = TypeList { types, first, end };
+        'lists: while self.out.is_whole() {
+            self.print_list(list.types, list.first, list.end)?;
+            let Some(next) = pop_list(self.stack) else {
+                return Ok(());
+            };
+            list = next;
+        }
+        Ok(())
+    }
+
+    /// Prints a type on both sides of nothing.
+    fn print_parameter(&mut self, t: &'b Type<'a, 'b>) -> Result<(), AllocError>
+        ensures text { OnOk result (Prints (before (type_of t.now) false self.old.flags.0
+            ++ after (type_of t.now) false self.old.flags.0) self.old self.new) }
+        ensures lighter { OnOk result (Lightens (type_weight (type_of t.now) + type_weight (type_of t.now))
+            self.old self.new) }
+        ensures kept { Keeps self.old self.new }
+    {
+        match t {
+            Type::Tagged(tag, qualifiers, symbol) => {
+                let word = tag_word(*tag, self.flags);
+                self.print_tagged(word, *symbol, *qualifiers)?;
+                Ok(())
+            }
+            _ => {
+                push_suffix(self.stack, t, false, self.flags)?;
+                self.print_prefix(t, false)?;
+                Ok(())
+            }
+        }
+    }
+
+    /// Prints a word, a name in its scope, and qualifiers.
+    #[tactic(auto, using(crate::proofs::Stack::pushes))]
+    fn print_tagged(
+        &mut self,
+        word: &[u8],
+        symbol: &'b Symbol<'a, 'b>,
+        qualifiers: StorageClass,
+    ) -> Result<(), AllocError>
+        ensures text { OnOk result
+            (Prints (text word.now ∷ (symbol_name_of symbol.now no_type self.old.flags.0
+            ++ qualifier_pieces qualifiers.0 self.old.flags.0)) self.old self.new) }
+        ensures lighter { OnOk result (Lightens (3 + symbol_weight_of symbol.now no_type) self.old self.new) }
+        ensures kept { Keeps self.old self.new }
+    {
+        write_text(self.out, word)?;
+        push_qualifiers(self.stack, qualifiers, self.flags)?;
+        self.print_symbol(symbol, None)?;
+        Ok(())
     }
 }
 
@@ -118,138 +406,6 @@ pub fn write_numbered<A: Allocator>(
         NumberedType::Constant => write_number(out, number),
         NumberedType::TemplateParameter => write_template_parameter(out, number),
         NumberedType::ThreadSafeGuard => write_thread_safe_guard(out, number),
-    }
-}
-
-/// Prints what a type inside another has before the name. Most have no type in them, and are printed at once.
-#[tactic(auto, using(crate::proofs::Nodes::printed), unfolding(crate::specs::Halves::before, crate::specs::Weights::type_weight, msvc_nodes::specs::NodeView::type_of))]
-fn print_inner<'a, 'b, S: Allocator, A: Allocator>(
-    stack: &mut Vec<Item<'a, 'b>, S>,
-    out: &mut Text<A>,
-    t: &'b Type<'a, 'b>,
-    pointed: bool,
-    flags: DemangleFlags,
-) -> Result<(), AllocError>
-    ensures text { OnOk result (Prints (before (type_of t.now) pointed flags.0) flags.0
-        stack.old.items out.old stack.new.items out.new) }
-    ensures lighter { OnOk result (AddsAtMost (type_weight (type_of t.now)) stack.old.items stack.new.items) }
-{
-    match t {
-        Type::Base(base, qualifiers) => write_base(out, *base, *qualifiers, flags),
-        Type::Tagged(tag, qualifiers, symbol) => {
-            print_tagged(
-                stack,
-                out,
-                tag_word(*tag, flags),
-                *symbol,
-                *qualifiers,
-                flags,
-            )
-        }
-        _ => push(stack, Item::Before(t, pointed)),
-    }
-}
-
-/// Prints what a pointer or a reference has before the name.
-#[tactic(auto, using(crate::proofs::Stack::pushes))]
-fn print_pointer<'a, 'b, S: Allocator, A: Allocator>(
-    stack: &mut Vec<Item<'a, 'b>, S>,
-    out: &mut Text<A>,
-    word: &'b [u8],
-    qualifiers: StorageClass,
-    inner: &'b Type<'a, 'b>,
-    flags: DemangleFlags,
-) -> Result<(), AllocError>
-    ensures text { OnOk result (Prints (before (type_of inner.now) true flags.0 ++ marked word.now qualifiers.0 flags.0)
-        flags.0 stack.old.items out.old stack.new.items out.new) }
-    ensures lighter { OnOk result (Lightens (2 + type_weight (type_of inner.now)) stack.old.items stack.new.items) }
-{
-    if write_simple_pointer(out, word, qualifiers, inner, flags)? {
-        return Ok(());
-    }
-    push(stack, Item::Mark(word, qualifiers))?;
-    print_inner(stack, out, inner, true, flags)
-}
-
-/// Prints what a function has before its name.
-#[tactic(auto, using(crate::proofs::Stack::pushes))]
-fn print_function<'a, 'b, S: Allocator, A: Allocator>(
-    stack: &mut Vec<Item<'a, 'b>, S>,
-    out: &mut Text<A>,
-    function: &'b Function<'a, 'b>,
-    pointed: bool,
-    flags: DemangleFlags,
-) -> Result<(), AllocError>
-    ensures text { OnOk result (Prints (before (type_of function.now.returned.now) false flags.0
-        ++ calling pointed function.now.convention flags.0) flags.0
-        stack.old.items out.old stack.new.items out.new) }
-    ensures lighter { OnOk result (Lightens (2 + type_weight (type_of function.now.returned.now))
-        stack.old.items stack.new.items) }
-{
-    if !out.is_whole() {
-        return Ok(());
-    }
-    if !write_simple(out, function.returned, flags)? {
-        push(stack, Item::Calling(pointed, function.convention))?;
-        return print_inner(stack, out, function.returned, false, flags);
-    }
-    if out.is_whole() {
-        write_calling(out, pointed, function.convention, flags)?;
-    }
-    Ok(())
-}
-
-/// Prints what a variable has before its name: words that no flag drops, its type, and its qualifiers.
-#[tactic(auto, using(crate::proofs::Stack::pushes))]
-fn print_variable<'a, 'b, S: Allocator, A: Allocator>(
-    stack: &mut Vec<Item<'a, 'b>, S>,
-    out: &mut Text<A>,
-    inner: &'b Type<'a, 'b>,
-    kind: VarStorageKind,
-    qualifiers: StorageClass,
-    flags: DemangleFlags,
-) -> Result<(), AllocError>
-    ensures text { OnOk result (Prints (text (variable_word kind) ∷ (before (type_of inner.now) false flags.0
-        ++ qualifier_pieces qualifiers.0 flags.0)) flags.0 stack.old.items out.old stack.new.items out.new) }
-    ensures lighter { OnOk result (Lightens (3 + type_weight (type_of inner.now)) stack.old.items stack.new.items) }
-{
-    write_text(out, variable_word(kind))?;
-    push_qualifiers(stack, qualifiers, flags)?;
-    print_inner(stack, out, inner, false, flags)
-}
-
-/// Prints what a type has after the name.
-#[tactic(auto, using(crate::proofs::Nodes::printed), unfolding(crate::specs::Halves::after, crate::specs::Weights::type_weight, msvc_nodes::specs::NodeView::type_of))]
-pub fn print_suffix<'a, 'b, S: Allocator, A: Allocator>(
-    stack: &mut Vec<Item<'a, 'b>, S>,
-    out: &mut Text<A>,
-    t: &'b Type<'a, 'b>,
-    pointed: bool,
-    flags: DemangleFlags,
-) -> Result<(), AllocError>
-    ensures text { OnOk result (Prints (after (type_of t.now) pointed flags.0) flags.0
-        stack.old.items out.old stack.new.items out.new) }
-    ensures lighter { OnOk result (Lightens (type_weight (type_of t.now)) stack.old.items stack.new.items) }
-{
-    match t {
-        Type::Pointing(_, _, inner) => push_suffix(stack, *inner, true, flags),
-        Type::Array(length, _, inner) => {
-            write_length(out, *length, pointed)?;
-            push_suffix(stack, *inner, false, flags)
-        }
-        Type::Function(function) => print_function_end(stack, out, *function, pointed, flags),
-        Type::MemberFunction(function) => print_function_end(stack, out, *function, pointed, flags),
-        Type::MemberPointer(_, function) => {
-            print_member_pointer_end(stack, out, *function, flags)
-        }
-        Type::Variable(_, _, inner) => push_suffix(stack, *inner, false, flags),
-        Type::Table(table, _, scope) => print_table_end(stack, out, *table, scope.names, flags),
-        Type::VcallThunk(number, _) => write_thunk_end(out, *number, flags),
-        Type::Plain(_) => Ok(()),
-        Type::Base(_, _) => Ok(()),
-        Type::Tagged(_, _, _) => Ok(()),
-        Type::Numbered(_, _) => Ok(()),
-        Type::ConstantString(_) => Ok(()),
     }
 }
 
@@ -303,35 +459,6 @@ fn push_suffix<'a, 'b, S: Allocator>(
     Ok(())
 }
 
-/// Prints what a function has after its name: its parameters, its qualifiers, and the rest of what it returns.
-#[tactic(auto, using(crate::proofs::Stack::pushes))]
-fn print_function_end<'a, 'b, S: Allocator, A: Allocator>(
-    stack: &mut Vec<Item<'a, 'b>, S>,
-    out: &mut Text<A>,
-    function: &'b Function<'a, 'b>,
-    pointed: bool,
-    flags: DemangleFlags,
-) -> Result<(), AllocError>
-    ensures text { OnOk result (Prints (function_end pointed
-        (spec.parameters (types_in function.now.parameters.now) true flags.0) function.now.qualifiers.0
-        flags.0 (after (type_of function.now.returned.now) false flags.0)) flags.0
-        stack.old.items out.old stack.new.items out.new) }
-    ensures lighter { OnOk result (Lightens (3 + types_weight (types_in function.now.parameters.now)
-        + type_weight (type_of function.now.returned.now)) stack.old.items stack.new.items) }
-{
-    write_closing(out, pointed)?;
-    write_text(out, b"(")?;
-    push_suffix(stack, function.returned, false, flags)?;
-    print_parameters(
-        stack,
-        out,
-        function.parameters,
-        true,
-        ListEnd::Round(function.qualifiers),
-        flags,
-    )
-}
-
 /// Pushes `const`, if a member function that is pointed to has it.
 fn push_const<'a, 'b, S: Allocator>(
     stack: &mut Vec<Item<'a, 'b>, S>,
@@ -346,73 +473,6 @@ fn push_const<'a, 'b, S: Allocator>(
         push(stack, Item::Spaced(b"const"))?;
     }
     Ok(())
-}
-
-/// Prints what a pointer to a member function has after its name: the parameters, the rest of what the function
-/// returns, and its `const`.
-#[tactic(auto, using(crate::proofs::Stack::pushes))]
-fn print_member_pointer_end<'a, 'b, S: Allocator, A: Allocator>(
-    stack: &mut Vec<Item<'a, 'b>, S>,
-    out: &mut Text<A>,
-    function: &'b Function<'a, 'b>,
-    flags: DemangleFlags,
-) -> Result<(), AllocError>
-    ensures text { OnOk result (Prints (member_pointer_end
-        (spec.parameters (types_in function.now.parameters.now) true flags.0) function.now.qualifiers.0
-        (after (type_of function.now.returned.now) false flags.0)) flags.0
-        stack.old.items out.old stack.new.items out.new) }
-    ensures lighter { OnOk result (Lightens (3 + types_weight (types_in function.now.parameters.now)
-        + type_weight (type_of function.now.returned.now)) stack.old.items stack.new.items) }
-{
-    write_text(out, b")(")?;
-    push_const(stack, function.qualifiers, flags)?;
-    push_suffix(stack, function.returned, false, flags)?;
-    print_parameters(stack, out, function.parameters, true, ListEnd::Bare, flags)
-}
-
-/// Prints what a table has after its name: the scope that it is for.
-#[tactic(auto, using(crate::proofs::Stack::pushes), unfolding(crate::specs::Declaration::table_end))]
-fn print_table_end<'a, 'b, S: Allocator, A: Allocator>(
-    stack: &mut Vec<Item<'a, 'b>, S>,
-    out: &mut Text<A>,
-    table: SpecialTableKind,
-    names: &'b [&'b Name<'a, 'b>],
-    flags: DemangleFlags,
-) -> Result<(), AllocError>
-    ensures text { OnOk result (Prints
-        (spec.table_end table (names_in names.now) (spec.scope_path (names_in names.now) flags.0)) flags.0
-        stack.old.items out.old stack.new.items out.new) }
-    ensures lighter { OnOk result (Lightens (3 + scope_weight (names_in names.now)) stack.old.items stack.new.items) }
-{
-    match table {
-        SpecialTableKind::Functions => print_vftable_target(stack, out, names, flags),
-        SpecialTableKind::Bases => {
-            push(stack, Item::Text(b"'}}"))?;
-            print_path(stack, out, names, flags)
-        }
-    }
-}
-
-/// Prints the scope that a table of virtual functions is for, if it is for one.
-fn print_vftable_target<'a, 'b, S: Allocator, A: Allocator>(
-    stack: &mut Vec<Item<'a, 'b>, S>,
-    out: &mut Text<A>,
-    names: &'b [&'b Name<'a, 'b>],
-    flags: DemangleFlags,
-) -> Result<(), AllocError>
-    ensures text { OnOk result (Prints (spec.table_end Functions (names_in names.now)
-        (spec.scope_path (names_in names.now) flags.0)) flags.0
-        stack.old.items out.old stack.new.items out.new) }
-    ensures lighter { OnOk result (Lightens (3 + scope_weight (names_in names.now)) stack.old.items stack.new.items) }
-{
-    match names {
-        [] => Ok(()),
-        [_, ..] => {
-            write_text(out, b"{for `")?;
-            push(stack, Item::Text(b"'}"))?;
-            print_path(stack, out, names, flags)
-        }
-    }
 }
 
 /// Returns whether a type is a pack without parameters.
@@ -432,124 +492,20 @@ pub fn is_empty_pack<'a, 'b>(t: &'b Type<'a, 'b>) -> bool
     }
 }
 
-/// Prints the simple types that a list begins with, with a comma before each but the first. If one that is not simple
-/// follows, begins to print it and pushes the rest; else prints what stands after the last.
-fn print_list<'a, 'b, S: Allocator, A: Allocator>(
-    stack: &mut Vec<Item<'a, 'b>, S>,
-    out: &mut Text<A>,
-    types: &'b [&'b Type<'a, 'b>],
-    first: bool,
-    end: ListEnd,
-    flags: DemangleFlags,
-) -> Result<(), AllocError>
-    ensures text { OnOk result (Prints (rest_of_parameters types.now first end flags.0) flags.0
-        stack.old.items out.old stack.new.items out.new) }
-    ensures lighter { OnOk result (Lightens (types_weight (types_in types.now)) stack.old.items stack.new.items) }
-{
-    let at = write_simple_types(out, types, first, flags)?;
-    if !out.is_whole() {
-        return Ok(());
-    }
-    match &types[at..] {
-        [] => write_list_end(out, end, flags),
-        [t, later @ ..] => {
-            let left = TypeList {
-                types: later,
-                first: false,
-                end,
-            };
-            push(stack, Item::Parameters(left))?;
-            print_parameter(stack, out, *t, flags)
-        }
-    }
-}
-
-/// Prints the types of a list, with a comma before each but the first, and what stands after them. Goes on with the
-/// lists that are then the last items of the stack.
-pub fn print_parameters<'a, 'b, S: Allocator, A: Allocator>(
-    stack: &mut Vec<Item<'a, 'b>, S>,
-    out: &mut Text<A>,
-    types: &'b [&'b Type<'a, 'b>],
-    first: bool,
-    end: ListEnd,
-    flags: DemangleFlags,
-) -> Result<(), AllocError>
-    ensures text { OnOk result (Prints (rest_of_parameters types.now first end flags.0) flags.0
-        stack.old.items out.old stack.new.items out.new) }
-    ensures lighter { OnOk result (Lightens (types_weight (types_in types.now)) stack.old.items stack.new.items) }
-{
-    let mut list = TypeList { types, first, end };
-    'lists: while out.is_whole() {
-        print_list(stack, out, list.types, list.first, list.end, flags)?;
-        let Some(next) = pop_list(stack) else {
-            return Ok(());
-        };
-        list = next;
-    }
-    Ok(())
-}
-
-/// Prints a type on both sides of nothing.
-fn print_parameter<'a, 'b, S: Allocator, A: Allocator>(
-    stack: &mut Vec<Item<'a, 'b>, S>,
-    out: &mut Text<A>,
-    t: &'b Type<'a, 'b>,
-    flags: DemangleFlags,
-) -> Result<(), AllocError>
-    ensures text { OnOk result (Prints
-        (before (type_of t.now) false flags.0 ++ after (type_of t.now) false flags.0) flags.0
-        stack.old.items out.old stack.new.items out.new) }
-    ensures lighter { OnOk result (Lightens (type_weight (type_of t.now) + type_weight (type_of t.now))
-        stack.old.items stack.new.items) }
-{
-    match t {
-        Type::Tagged(tag, qualifiers, symbol) => {
-            let word = tag_word(*tag, flags);
-            print_tagged(stack, out, word, *symbol, *qualifiers, flags)?;
-            Ok(())
-        }
-        _ => {
-            push_suffix(stack, t, false, flags)?;
-            print_prefix(stack, out, t, false, flags)?;
-            Ok(())
-        }
-    }
-}
-
 /// Pushes qualifiers, unless there are none.
 fn push_qualifiers<'a, 'b, S: Allocator>(
     stack: &mut Vec<Item<'a, 'b>, S>,
     qualifiers: StorageClass,
     flags: DemangleFlags,
 ) -> Result<(), AllocError>
-    ensures text { OnOk result (Pushes (qualifier_pieces qualifiers.0 flags.0) flags.0 stack.old.items stack.new.items) }
+    ensures text { OnOk result
+        (Pushes (qualifier_pieces qualifiers.0 flags.0) flags.0 stack.old.items stack.new.items) }
     ensures lighter { OnOk result (AddsAtMost 1 stack.old.items stack.new.items) }
 {
     if !qualifiers.is_empty() {
         push(stack, Item::Qualifiers(qualifiers))?;
     }
     Ok(())
-}
-
-/// Prints a word, a name in its scope, and qualifiers.
-#[tactic(auto, using(crate::proofs::Stack::pushes))]
-fn print_tagged<'a, 'b, S: Allocator, A: Allocator>(
-    stack: &mut Vec<Item<'a, 'b>, S>,
-    out: &mut Text<A>,
-    word: &[u8],
-    symbol: &'b Symbol<'a, 'b>,
-    qualifiers: StorageClass,
-    flags: DemangleFlags,
-) -> Result<(), AllocError>
-    ensures text { OnOk result (Prints
-        (text word.now ∷ (symbol_name_of symbol.now no_type flags.0 ++ qualifier_pieces qualifiers.0 flags.0)) flags.0
-        stack.old.items out.old stack.new.items out.new) }
-    ensures lighter { OnOk result (Lightens (3 + symbol_weight_of symbol.now no_type)
-        stack.old.items stack.new.items) }
-{
-    write_text(out, word)?;
-    push_qualifiers(stack, qualifiers, flags)?;
-    print_symbol(stack, out, symbol, None, flags)
 }
 
 /// Writes the type of a thread-safe static guard.

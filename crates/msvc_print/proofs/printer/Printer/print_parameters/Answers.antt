@@ -1,0 +1,34 @@
+use Rattle.std.proofs.Common.{◌≡◌, false, is_some, arith, ap, sym, ◌∙◌, rules}
+use Rattle.msvc_print.specs.Work.{finished_after}
+use Rattle.msvc_print.proofs.SimpleTypes.{add_all-not_whole}
+use Rattle.msvc_print.proofs.Parameters.{types_weight-positive}
+use Rattle.msvc_print.proofs.Stack.{pushed_one, work_one}
+use Rattle.msvc_print.proofs.printer.Printer.print_parameters.Goals as goal
+
+pub lists-smaller : goal.lists-smaller
+lists-smaller g c = omega (arith, c.in_ok-print_list.ensures.lighter, work_one _ _ _ c.in-Some.ensures.list)
+
+pub lists-preserved : goal.lists-preserved
+lists-preserved g c = record {
+  text = sym (pushed_one _ _ _ _ _ c.in-Some.ensures.list) ∙ c.in_ok-print_list.ensures.text ∙ c.lists.invariant.text;
+  lighter = omega (
+    arith,
+    c.in_ok-print_list.ensures.lighter,
+    c.lists.invariant.lighter,
+    work_one _ _ _ c.in-Some.ensures.list,
+  );
+  kept = (
+    c.print_list.ensures.kept.0 ∙ c.lists.invariant.kept.0,
+    c.print_list.ensures.kept.1 ∙ c.lists.invariant.kept.1,
+  );
+}
+
+-- a piece was left out
+pub returns-clause-text : goal.returns-clause-text
+returns-clause-text g c =
+    let left_out : is_some c.lists.self.out.now.text ≡ false = search rules in
+    ap (finished_after c.lists.self) (add_all-not_whole _ _ left_out) ∙ c.lists.invariant.text
+
+pub returns-clause-lighter : goal.returns-clause-lighter
+returns-clause-lighter g c =
+    omega (arith, c.lists.invariant.lighter, types_weight-positive c.lists.list.types.now)
