@@ -180,9 +180,9 @@ pub fn put_tagged<'a, 'b, L: NodeBudget, A: Allocator>(
     parser.put_type(Type::Tagged(tag, qualifiers, symbol))
 }
 
-/// Reads a pointer or reference to a type.
+/// Reads `POINTEE = ["E"] [storage class] TYPE`, and stores a pointer or reference to it.
 #[cycle(readers)]
-#[tactic(auto, unfolding(msvc_nodes::specs::NodeView::type_of))]
+#[tactic(auto, using(msvc_parser::proofs::TypeSteps::pointee_is), unfolding(msvc_nodes::specs::NodeView::type_of))]
 pub fn pointing_type<'a, 'b, L: NodeBudget, A: Allocator>(
     parser: &mut Parser<'a, 'b, L, A>,
     affinity: PointerAffinity,
@@ -194,7 +194,9 @@ pub fn pointing_type<'a, 'b, L: NodeBudget, A: Allocator>(
     ensures consumes { Consumes parser.old parser.new result }
 {
     parser.count_node()?;
-    let inner = pointee(parser)?;
+    let size = parser.optional_flag(b'E', StorageClass::PTR64);
+    let class = parser.optional(OptionalLetters::StorageClasses);
+    let inner = type_(parser, size.union(class))?;
     parser.put_type(Type::Pointing(affinity, qualifiers, inner))
 }
 
@@ -265,20 +267,6 @@ pub fn plain_type<'a, 'b, L: NodeBudget, A: Allocator>(
         b'?' => template_parameter(parser),
         _ => parser.type_of_letter(letter, qualifiers),
     }
-}
-
-/// Reads `POINTEE = ["E"] [storage class] TYPE`.
-#[cycle(readers)]
-#[tactic(auto, using(msvc_parser::proofs::TypeSteps::pointee_is))]
-pub fn pointee<'a, 'b, L: NodeBudget, A: Allocator>(
-    parser: &mut Parser<'a, 'b, L, A>,
-) -> Result<&'b Type<'a, 'b>, Failed>
-    ensures value { ReadsAs type_at parser.old parser.new result (read_name rules.pointee) }
-    ensures consumes { Consumes parser.old parser.new result }
-{
-    let size = parser.optional_flag(b'E', StorageClass::PTR64);
-    let class = parser.optional(OptionalLetters::StorageClasses);
-    type_(parser, size.union(class))
 }
 
 /// Reads `ARRAY = NUMBER {NUMBER} ["$$C" array qualifier] TYPE`: the first number is how many lengths follow. The

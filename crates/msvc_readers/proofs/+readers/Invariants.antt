@@ -58,9 +58,6 @@ decreases-parameters::parameters g l = level l.parser.now.rest.now 4
 abbrev pub decreases-types::plain_type : goal.decreases-types::plain_type
 decreases-types::plain_type g l = level l.parser.now.rest.now 0
 
-abbrev pub decreases-types::pointee : goal.decreases-types::pointee
-decreases-types::pointee g l = level l.parser.now.rest.now 3
-
 abbrev pub decreases-qualified_names::qualified_name : goal.decreases-qualified_names::qualified_name
 decreases-qualified_names::qualified_name g l = level l.parser.now.rest.now 3
 
