@@ -168,13 +168,11 @@ impl<'a, 'b, 't, S: Allocator, A: Allocator> Printer<'a, 'b, 't, S, A> {
         ensures kept { Keeps self.old self.new }
     {
         if of_symbol {
-            push_typed_symbol(self.stack, tree, self.flags)?;
-            return Ok(());
+            return push_typed_symbol(self.stack, tree, self.flags);
         }
         write_text(self.out, b"`")?;
         push(self.stack, Item::Text(b"'"))?;
-        push_typed_symbol(self.stack, tree, self.flags)?;
-        Ok(())
+        push_typed_symbol(self.stack, tree, self.flags)
     }
 
     /// Prints the descriptor of a type.
@@ -262,8 +260,7 @@ impl<'a, 'b, 't, S: Allocator, A: Allocator> Printer<'a, 'b, 't, S, A> {
         let last = left - 1;
         push_scope(self.stack, &names[..last])?;
         push(self.stack, Item::Text(b"::"))?;
-        self.print_name(names[last], false)?;
-        Ok(())
+        self.print_name(names[last], false)
     }
 
     /// Prints the names of a scope, the outermost first, each with `::` after it.
@@ -274,8 +271,7 @@ impl<'a, 'b, 't, S: Allocator, A: Allocator> Printer<'a, 'b, 't, S, A> {
         ensures kept { Keeps self.old self.new }
     {
         let left = write_spelled_names(self.out, names)?;
-        self.print_remaining_names(names, left)?;
-        Ok(())
+        self.print_remaining_names(names, left)
     }
 
     /// Prints the names of a scope and the name of a symbol in it. The name is printed at once if all names of the
@@ -293,15 +289,13 @@ impl<'a, 'b, 't, S: Allocator, A: Allocator> Printer<'a, 'b, 't, S, A> {
     {
         let left = write_spelled_names(self.out, names)?;
         if left == 0 {
-            self.print_name(name, true)?;
-            return Ok(());
+            return self.print_name(name, true);
         }
         if !self.out.is_whole() {
             return Ok(());
         }
         push(self.stack, Item::Name(name, true))?;
-        self.print_remaining_names(names, left)?;
-        Ok(())
+        self.print_remaining_names(names, left)
     }
 
     /// Prints the names of a scope, the outermost first, with `::` between them.
@@ -314,8 +308,7 @@ impl<'a, 'b, 't, S: Allocator, A: Allocator> Printer<'a, 'b, 't, S, A> {
             [] => Ok(()),
             [name, outer @ ..] => {
                 push(self.stack, Item::Name(*name, false))?;
-                self.print_scope(outer)?;
-                Ok(())
+                self.print_scope(outer)
             }
         }
     }
@@ -389,8 +382,7 @@ impl<'a, 'b, 't, S: Allocator, A: Allocator> Printer<'a, 'b, 't, S, A> {
     {
         write_space(self.out, Space::AfterPointer)?;
         push(self.stack, Item::Text(b"::*"))?;
-        self.print_symbol(class, None)?;
-        Ok(())
+        self.print_symbol(class, None)
     }
 }
 

@@ -81,8 +81,7 @@ impl<'a, 'b, 't, S: Allocator, A: Allocator> Printer<'a, 'b, 't, S, A> {
         match t {
             Type::Base(base, qualifiers) => write_base(self.out, *base, *qualifiers, self.flags),
             Type::Tagged(tag, qualifiers, symbol) => {
-                self.print_tagged(tag_word(*tag, self.flags), *symbol, *qualifiers)?;
-                Ok(())
+                self.print_tagged(tag_word(*tag, self.flags), *symbol, *qualifiers)
             }
             _ => push(self.stack, Item::Before(t, pointed)),
         }
@@ -164,15 +163,11 @@ impl<'a, 'b, 't, S: Allocator, A: Allocator> Printer<'a, 'b, 't, S, A> {
             Type::Pointing(_, _, inner) => push_suffix(self.stack, *inner, true, self.flags),
             Type::Array(length, _, inner) => {
                 write_length(self.out, *length, pointed)?;
-                push_suffix(self.stack, *inner, false, self.flags)?;
-                Ok(())
+                push_suffix(self.stack, *inner, false, self.flags)
             }
             Type::Function(function) => self.print_function_end(*function, pointed),
             Type::MemberFunction(function) => self.print_function_end(*function, pointed),
-            Type::MemberPointer(_, function) => {
-                self.print_member_pointer_end(*function)?;
-                Ok(())
-            }
+            Type::MemberPointer(_, function) => self.print_member_pointer_end(*function),
             Type::Variable(_, _, inner) => push_suffix(self.stack, *inner, false, self.flags),
             Type::Table(table, _, scope) => self.print_table_end(*table, scope.names),
             Type::VcallThunk(number, _) => write_thunk_end(self.out, *number, self.flags),
@@ -206,8 +201,7 @@ impl<'a, 'b, 't, S: Allocator, A: Allocator> Printer<'a, 'b, 't, S, A> {
             function.parameters,
             true,
             ListEnd::Round(function.qualifiers),
-        )?;
-        Ok(())
+        )
     }
 
     /// Prints what a pointer to a member function has after its name: the parameters, the rest of what the function
@@ -225,8 +219,7 @@ impl<'a, 'b, 't, S: Allocator, A: Allocator> Printer<'a, 'b, 't, S, A> {
         write_text(self.out, b")(")?;
         push_const(self.stack, function.qualifiers, self.flags)?;
         push_suffix(self.stack, function.returned, false, self.flags)?;
-        self.print_parameters(function.parameters, true, ListEnd::Bare)?;
-        Ok(())
+        self.print_parameters(function.parameters, true, ListEnd::Bare)
     }
 
     /// Prints what a table has after its name: the scope that it is for.
@@ -264,8 +257,7 @@ impl<'a, 'b, 't, S: Allocator, A: Allocator> Printer<'a, 'b, 't, S, A> {
             [_, ..] => {
                 write_text(self.out, b"{for `")?;
                 push(self.stack, Item::Text(b"'}"))?;
-                self.print_path(names)?;
-                Ok(())
+                self.print_path(names)
             }
         }
     }
@@ -288,10 +280,7 @@ impl<'a, 'b, 't, S: Allocator, A: Allocator> Printer<'a, 'b, 't, S, A> {
             return Ok(());
         }
         match &types[at..] {
-            [] => {
-                write_list_end(self.out, end, self.flags)?;
-                Ok(())
-            }
+            [] => write_list_end(self.out, end, self.flags),
             [t, later @ ..] => {
                 let left = TypeList {
                     types: later,
@@ -299,8 +288,7 @@ impl<'a, 'b, 't, S: Allocator, A: Allocator> Printer<'a, 'b, 't, S, A> {
                     end,
                 };
                 push(self.stack, Item::Parameters(left))?;
-                self.print_parameter(*t)?;
-                Ok(())
+                self.print_parameter(*t)
             }
         }
     }
@@ -367,8 +355,7 @@ impl<'a, 'b, 't, S: Allocator, A: Allocator> Printer<'a, 'b, 't, S, A> {
     {
         write_text(self.out, word)?;
         push_qualifiers(self.stack, qualifiers, self.flags)?;
-        self.print_symbol(symbol, None)?;
-        Ok(())
+        self.print_symbol(symbol, None)
     }
 }
 

@@ -18,22 +18,25 @@ returns-then-not-is_whole-clause-text g c =
 pub returns-then-not-is_whole-clause-lighter : goal.returns-then-not-is_whole-clause-lighter
 returns-then-not-is_whole-clause-lighter g c = omega (arith, types_weight-positive c.args.types.now)
 
-pub returns-in_ok-write_list_end-in-empty-clause-text : goal.returns-in_ok-write_list_end-in-empty-clause-text
-returns-in_ok-write_list_end-in-empty-clause-text g c =
-    ap (finished_after c.args.self.now) (c.in_ok-write_list_end-in-empty.ensures
+pub returns-in-empty-clause-text : goal.returns-in-empty-clause-text
+returns-in-empty-clause-text g c =
+    on_ok_weaker c.write_list_end.result
+    (λ last. ap (finished_after c.args.self.now) (last
     ∙ rest-written _ _ _ _ c.in-empty.len_below
-    ∙ written-rest c.args.types.now c.in_ok-at.at _ c.args.end c.args.self.now.flags.0 _ _ c.in_ok-at.ensures.text)
+    ∙ written-rest c.args.types.now c.in_ok-at.at _ c.args.end c.args.self.now.flags.0 _ _ c.in_ok-at.ensures.text))
+    c.write_list_end.ensures
 
 pub returns-in-empty-clause-lighter : goal.returns-in-empty-clause-lighter
 returns-in-empty-clause-lighter g c = on_ok_weaker c.write_list_end.result
     (λ last. omega (arith, types_weight-positive c.args.types.now)) c.write_list_end.ensures
 
-pub returns-in_ok-print_parameter-in-len1-up-clause-text : goal.returns-in_ok-print_parameter-in-len1-up-clause-text
-returns-in_ok-print_parameter-in-len1-up-clause-text g c =
-    c.in_ok-print_parameter-in-len1-up.ensures.text ∙ pushed_one _ _ _ _ _ c.in_ok-push-in-len1-up.ensures
+pub returns-in_ok-push-in-len1-up-clause-text : goal.returns-in_ok-push-in-len1-up-clause-text
+returns-in_ok-push-in-len1-up-clause-text g c =
+    on_ok_weaker c.print_parameter.result (λ last. last ∙ pushed_one _ _ _ _ _ c.in_ok-push-in-len1-up.ensures
     ∙ ap (finished_after c.args.self.now)
     (rest-begun _ _ c.args.end c.args.self.now.flags.0 _ c.in-len1-up.len_at_least
-    ∙ written-rest c.args.types.now c.in_ok-at.at _ c.args.end c.args.self.now.flags.0 _ _ c.in_ok-at.ensures.text)
+    ∙ written-rest c.args.types.now c.in_ok-at.at _ c.args.end c.args.self.now.flags.0 _ _ c.in_ok-at.ensures.text))
+    c.print_parameter.ensures.text
 
 pub returns-in_ok-push-in-len1-up-clause-lighter : goal.returns-in_ok-push-in-len1-up-clause-lighter
 returns-in_ok-push-in-len1-up-clause-lighter g c = on_ok_weaker c.print_parameter.result (λ last. omega (

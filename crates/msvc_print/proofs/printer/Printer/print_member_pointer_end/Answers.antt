@@ -6,7 +6,9 @@ use Rattle.msvc_print.proofs.printer.Printer.print_member_pointer_end.Goals as g
 
 pub returns-clause-text : goal.returns-clause-text
 returns-clause-text g c =
-    c.in_ok-print_parameters.ensures.text ∙ c.in_ok-push_suffix.ensures.text _ ∙ c.in_ok-push_const.ensures.text _
+    on_ok_weaker c.print_parameters.result
+    (λ last. last ∙ c.in_ok-push_suffix.ensures.text _ ∙ c.in_ok-push_const.ensures.text _
     ∙ ap (finished_after c.args.self.now)
     (settled-member_pointer_end _ _ c.args.function.now.parameters.now c.args.function.now.qualifiers.0
-    c.args.self.now.flags.0 _ c.in_ok-write_text.ensures)
+    c.args.self.now.flags.0 _ c.in_ok-write_text.ensures))
+    c.print_parameters.ensures.text

@@ -18,11 +18,12 @@ returns-in-empty-clause-lighter g c = omega (arith, scope_weight-positive c.args
 
 pub returns-in_ok-push-in-len1-up-clause-text : goal.returns-in_ok-push-in-len1-up-clause-text
 unfolding scope_pieces
-returns-in_ok-print_scope-in-len1-up-clause-text g c =
-    c.in_ok-print_scope-in-len1-up.ensures.text ∙ pushed_one _ _ _ _ _ c.in_ok-push-in-len1-up.ensures
+returns-in_ok-push-in-len1-up-clause-text g c =
+    on_ok_weaker c.print_scope.result (λ last. last ∙ pushed_one _ _ _ _ _ c.in_ok-push-in-len1-up.ensures
     ∙ ap (finished_after c.args.self.now)
     (sym (add_all-append c.args.self.now.out.now _ _) ∙ ap (add_all c.args.self.now.out.now)
-    (sym (ap (λ ns. scope_path ns c.args.self.now.flags.0) (names_in-first _ _ c.in-len1-up.len_at_least))))
+    (sym (ap (λ ns. scope_path ns c.args.self.now.flags.0) (names_in-first _ _ c.in-len1-up.len_at_least)))))
+    c.print_scope.ensures.text
 
 pub returns-in_ok-push-in-len1-up-clause-lighter : goal.returns-in_ok-push-in-len1-up-clause-lighter
 returns-in_ok-push-in-len1-up-clause-lighter g c = on_ok_weaker c.print_scope.result (λ last. omega (

@@ -27,7 +27,8 @@ returns-clause-text g c =
     ∙ c.in_ok-push_scope.ensures.text c.args.self.now.flags.0 _
     ∙ ap (finished_after c.args.self.now)
     (settled_three _ _ _ _ ∙ ap (add_all c.args.self.now.out.now)
-    (sym (scope_prefix-left c.args.names.now _ c.args.left c.args.self.now.flags.0 some c.requires)))
+    (sym (scope_prefix-left c.args.names.now _ c.args.left c.args.self.now.flags.0 some c.requires))))
+    c.print_name.ensures.text
 
 pub returns-clause-lighter : goal.returns-clause-lighter
 returns-clause-lighter g c =

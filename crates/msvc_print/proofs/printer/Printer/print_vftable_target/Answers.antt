@@ -14,20 +14,20 @@ use Rattle.msvc_print.proofs.printer.Printer.print_vftable_target.Goals as goal
 pub returns-in-empty-clause-text : goal.returns-in-empty-clause-text
 unfolding table_end
 returns-in-empty-clause-text g c =
-    printed_none _ _ _ _
-    (ap (λ ns. table_end Functions ns (scope_path (names_in c.args.names.now) c.args.self.now.flags.0))
+    printed_none _ _ _ _ (ap (λ ns. table_end Functions ns (scope_path (names_in c.args.names.now) c.args.self.now.flags.0))
     (names_in-none _ c.in-empty.len_below))
 
-pub returns-in_ok-print_path-in-len1-up-clause-text : goal.returns-in_ok-print_path-in-len1-up-clause-text
-returns-in_ok-print_path-in-len1-up-clause-text g c =
+pub returns-in_ok-push-in-len1-up-clause-text : goal.returns-in_ok-push-in-len1-up-clause-text
+returns-in_ok-push-in-len1-up-clause-text g c =
     let path = scope_path (names_in c.args.names.now) c.args.self.now.flags.0 in
-    c.in_ok-print_path-in-len1-up.ensures.text ∙ pushed_one _ _ _ _ _ c.in_ok-push-in-len1-up.ensures
+    on_ok_weaker c.print_path.result (λ last. last ∙ pushed_one _ _ _ _ _ c.in_ok-push-in-len1-up.ensures
     ∙ ap (finished_after c.args.self.now)
     (sym (add_all-append c.write_text.new.out path (text (codes "'}") ∷ []))
     ∙ ap (λ x. add_all x (path ++ text (codes "'}") ∷ [])) c.in_ok-write_text-in-len1-up.ensures
     ∙ sym (add_all-first c.args.self.now.out.now (text (codes "{for `")) (path ++ text (codes "'}") ∷ []))
     ∙ ap (add_all c.args.self.now.out.now)
-    (sym (table_end-some c.args.names.now path c.in-len1-up.len_at_least)))
+    (sym (table_end-some c.args.names.now path c.in-len1-up.len_at_least))))
+    c.print_path.ensures.text
 
 pub returns-in_ok-push-in-len1-up-clause-lighter : goal.returns-in_ok-push-in-len1-up-clause-lighter
 returns-in_ok-push-in-len1-up-clause-lighter g c =
