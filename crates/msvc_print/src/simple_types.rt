@@ -1,7 +1,7 @@
 //! Writes simple types, which need no stack: base types, numbers, and pointers and references to these. They have
 //! nothing after the name.
 
-ghost use Rattle.std.specs.Prelude.{ℕ, ◌≡◌, ◌≤◌, ◌++◌, ◌∷◌, [], Bool, true, false, OnOk, IfOk, drop, length};
+ghost use Rattle.std.specs.Prelude.{◌≡◌, ◌≤◌, ◌++◌, ◌∷◌, [], Bool, true, false, OnOk, IfOk, drop, length};
 ghost use Rattle.msvc_nodes.specs.NodeView.{type_of, types_in};
 ghost use Rattle.msvc_print.specs.Declaration.{parameters};
 ghost use Rattle.msvc_print.specs.SimpleTypes as spec;

@@ -39,7 +39,7 @@ const BYTES_PER_NODE: usize = 384;
 const BYTES_AT_FIRST: usize = 1024;
 
 /// The most bytes that an arena begins with.
-const MAX_ARENA_BYTES: usize = 1 << 20;
+pub const MAX_ARENA_BYTES: usize = 1 << 20;
 
 /// Returns the tree of the symbol that `input` begins with.
 ///

@@ -8,7 +8,6 @@ use Rattle.msvc_nodes.specs.declared.error.Limit.TheVariants.{Bytes}
 use Rattle.msvc_grammar.specs.Counts.{node_count}
 use Rattle.msvc_grammar.specs.Parsed.{IsParsed, IsSymbolLength}
 use Rattle.msvc_parser.specs.Errors.{IsErrorOf, IsMessageAt, limit_of_message}
-use Rattle.msvc_parser.specs.declared.refusal.Refusal.{Refusal}
 use Rattle.msvc_parser.specs.declared.refusal.Refusal.TheVariants as refusal
 use Rattle.msvc_print.specs.Declaration.{declaration}
 pub use Rattle.msvc_read.specs.Failures.{FailsUnder}

@@ -24,7 +24,7 @@ use msvc_nodes::flags::DemangleFlags;
 use msvc_nodes::nodes::TypedSymbol;
 use msvc_parser::refusal::Refusal;
 use msvc_print::{Text, print_arena_bytes, print_within};
-use msvc_read::{parse_arena_bytes, read_symbol};
+use msvc_read::{MAX_ARENA_BYTES, parse_arena_bytes, read_symbol};
 use std::alloc::{AllocError, Allocator, Global};
 use std::marker::Model;
 
@@ -36,9 +36,6 @@ const TEXT_AT_FIRST: usize = 64;
 
 /// The most bytes to reserve for a declaration.
 const MAX_TEXT: usize = 1 << 16;
-
-/// The most bytes that an arena begins with.
-const MAX_ARENA_BYTES: usize = 1 << 20;
 
 /// The bytes of an arena that is never made anew.
 const FIXED: usize = usize::MAX;

@@ -1,7 +1,7 @@
 //! Reasons why a symbol has no declaration, for memory from any allocator. An error for callers is made of it only
 //! where it leaves a public call.
 
-ghost use Rattle.std.specs.Prelude.{◌≡◌, ◌↔◌, IfOk, IsTrue, length, string_bytes};
+ghost use Rattle.std.specs.Prelude.{◌≡◌, ◌↔◌, IfOk, IsTrue, string_bytes};
 ghost use Rattle.msvc_parser.specs.declared.refusal.Refusal.TheVariants as refusal;
 ghost use Rattle.msvc_symbol.specs.Failures.{IsErrorFor, IsFailureText, IsInside, limit_of_failure, offset_of_failure};
 ghost use Rattle.msvc_symbol.specs.declared.failure.Failure.TheVariants.{Unread};

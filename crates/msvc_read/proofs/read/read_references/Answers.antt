@@ -16,7 +16,8 @@ pub returns-then-nodes-eq18446744073709551615-clause-fails : goal.returns-then-n
 returns-then-nodes-eq18446744073709551615-clause-fails g c =
     let read = c.read_notes in
     rw (no_limit c.args.nodes c.if-nodes-eq18446744073709551615.true)
-    (unlisted None c.args.input.now (λ found. map note_of found.items) read.result read.ensures.value read.ensures.start)
+    (unlisted None c.args.input.now (λ found. map note_of found.items) read.result read.ensures.value
+    read.ensures.start)
 
 pub returns-then-nodes-eq18446744073709551615-clause-laws : goal.returns-then-nodes-eq18446744073709551615-clause-laws
 returns-then-nodes-eq18446744073709551615-clause-laws g c = laws c.args.input.now
@@ -26,13 +27,15 @@ pub returns-else-nodes-eq18446744073709551615-clause-listed :
 returns-else-nodes-eq18446744073709551615-clause-listed g c =
     let read = c.read_notes-else-nodes-eq18446744073709551615 in
     rw (a_limit c.args.nodes c.if-nodes-eq18446744073709551615.false)
-    (under-listed (Some c.args.nodes) c.args.input.now (λ found. map note_of found.items) read.result read.ensures.value)
+    (under-listed (Some c.args.nodes) c.args.input.now (λ found. map note_of found.items) read.result
+    read.ensures.value)
 
 pub returns-else-nodes-eq18446744073709551615-clause-fails : goal.returns-else-nodes-eq18446744073709551615-clause-fails
 returns-else-nodes-eq18446744073709551615-clause-fails g c =
     let read = c.read_notes-else-nodes-eq18446744073709551615 in
     rw (a_limit c.args.nodes c.if-nodes-eq18446744073709551615.false)
-    (unlisted (Some c.args.nodes) c.args.input.now (λ found. map note_of found.items) read.result read.ensures.value read.ensures.start)
+    (unlisted (Some c.args.nodes) c.args.input.now (λ found. map note_of found.items) read.result
+    read.ensures.value read.ensures.start)
 
 pub returns-else-nodes-eq18446744073709551615-clause-laws : goal.returns-else-nodes-eq18446744073709551615-clause-laws
 returns-else-nodes-eq18446744073709551615-clause-laws g c = laws c.args.input.now

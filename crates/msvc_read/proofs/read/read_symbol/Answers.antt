@@ -36,7 +36,8 @@ pub returns-else-nodes-eq18446744073709551615-clause-parsed :
     goal.returns-else-nodes-eq18446744073709551615-clause-parsed
 returns-else-nodes-eq18446744073709551615-clause-parsed g c =
     let read = c.read_nodes-else-nodes-eq18446744073709551615 in
-    under-parsed (Some c.args.nodes) c.args.input.now (λ r. (typed_symbol_of r.0, r.1)) read.result c.utf8.input read.ensures.value
+    under-parsed (Some c.args.nodes) c.args.input.now (λ r. (typed_symbol_of r.0, r.1)) read.result c.utf8.input
+    read.ensures.value
 
 pub returns-else-nodes-eq18446744073709551615-clause-within :
     goal.returns-else-nodes-eq18446744073709551615-clause-within
@@ -49,7 +50,8 @@ pub returns-else-nodes-eq18446744073709551615-clause-length :
     goal.returns-else-nodes-eq18446744073709551615-clause-length
 returns-else-nodes-eq18446744073709551615-clause-length g c =
     let read = c.read_nodes-else-nodes-eq18446744073709551615 in
-    under-length (Some c.args.nodes) c.args.input.now (λ r. (typed_symbol_of r.0, r.1)) read.result c.utf8.input read.ensures.value
+    under-length (Some c.args.nodes) c.args.input.now (λ r. (typed_symbol_of r.0, r.1)) read.result c.utf8.input
+    read.ensures.value
 
 pub returns-else-nodes-eq18446744073709551615-clause-fails : goal.returns-else-nodes-eq18446744073709551615-clause-fails
 returns-else-nodes-eq18446744073709551615-clause-fails g c =

@@ -44,7 +44,8 @@ pub returns-in-Table-clause-text : goal.returns-in-Table-clause-text
 unfolding after
 returns-in-Table-clause-text g c =
     let w = c.in-Table in
-    subst (λ t. OnOk c.print_table_end.result (Prints (after t c.args.pointed c.args.self.now.flags.0) c.args.self.now c.print_table_end.new.self))
+    subst (λ t. OnOk c.print_table_end.result
+    (Prints (after t c.args.pointed c.args.self.now.flags.0) c.args.self.now c.print_table_end.new.self))
     (sym (ap type_of w.is ∙ type_of-Table w.table w.field-1 w.scope)) c.print_table_end.ensures.text
 
 pub returns-in-Table-clause-lighter : goal.returns-in-Table-clause-lighter

@@ -14,7 +14,8 @@ use Rattle.msvc_print.proofs.printer.Printer.print_vftable_target.Goals as goal
 pub returns-in-empty-clause-text : goal.returns-in-empty-clause-text
 unfolding table_end
 returns-in-empty-clause-text g c =
-    printed_none _ _ _ _ (ap (λ ns. table_end Functions ns (scope_path (names_in c.args.names.now) c.args.self.now.flags.0))
+    printed_none _ _ _ _
+    (ap (λ ns. table_end Functions ns (scope_path (names_in c.args.names.now) c.args.self.now.flags.0))
     (names_in-none _ c.in-empty.len_below))
 
 pub returns-in_ok-push-in-len1-up-clause-text : goal.returns-in_ok-push-in-len1-up-clause-text
