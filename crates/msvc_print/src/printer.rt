@@ -33,7 +33,8 @@ const BYTES_PER_NODE: usize = 128;
 /// Most bytes that are asked for ahead of printing.
 const MAX_ARENA_BYTES: usize = 1 << 20;
 
-/// The state of the printer.
+/// The state of the printer. Both parts are borrowed: of a struct that owns memory, the prover does not learn what a
+/// reference in it held at its end.
 #[derive(Drop)]
 pub struct Printer<'a, 'b, 't, S: Allocator, A: Allocator> {
     /// What is left to print. The next item is the last.
