@@ -1,12 +1,11 @@
 -- What C sees of a symbol's tree and of its back references.
-use Rattle.std.proofs.Common.{◌≡◌, ◌≢◌, ◌≤◌, ◌<◌, ◌-◌, ◌∙◌, ◌++◌, ℕ, zero, suc, Bool, List, [], ◌∷◌, None, Some, ap}
-use Rattle.std.proofs.Common.{arith, drop, get_or, length, map, ne_eqb, refl, set, subst, sym, take}
-use Rattle.std.specs.Prelude.{◌^◌, if◌then◌else◌}
+use Rattle.std.proofs.Common.{◌≡◌, ◌≢◌, ◌≤◌, ◌<◌, ◌-◌, ◌∙◌, ◌++◌, ℕ, zero, suc, List, [], ◌∷◌, ap}
+use Rattle.std.proofs.Common.{arith, drop, get_or, length, map, refl, set, subst, sym, take}
 use Rattle.std.specs.Str.{IsUtf8}
 use Rattle.msvc_parser.specs.Parser.{note_of}
 use Rattle.msvc_parser.specs.declared.back_references.BackReference.{BackReference}
 use Rattle.msvc_demangler.specs.Counts.{node_count}
-use Rattle.msvc_demangler.specs.Limits.{IsWithin, Limits, limit_of_number}
+use Rattle.msvc_demangler.specs.Limits.{IsWithin, Limits}
 use Rattle.msvc_demangler.specs.Parsed.{AreReferences, IsParsed}
 use Rattle.msvc_demangler.specs.State.{Note}
 use Rattle.msvc_demangler.specs.Trees.{SymbolTree}
@@ -82,13 +81,6 @@ all_written (n ∷ notes) (o ∷ old) (suc count) a b c =
     ap (λ xs. reference_of n ∷ xs)
     (all_written notes old count (omega (arith, a)) (omega (arith, b))
     (λ h. let more : length (o ∷ old) ≤ suc count = c (omega (arith, h)) in omega (arith, more)))
-
--- a number of nodes within a limit that is one
-pub within_limit : (most count : ℕ) → most ≢ 2 ^ 64 - 1 → count ≤ most
-    → IsWithin (limit_of_number most) count
-within_limit most count is inside =
-    let Within : Bool → Type 0 = λ none. IsWithin (if none then None else Some most) count in
-    subst Within (sym (ne_eqb most (2 ^ 64 - 1) is)) inside
 
 pub list_found : (limits : Limits) (symbol : List ℕ) (old new : List Reference) (notes : List Note)
     (status offset count : ℕ) → IsUtf8 symbol → (are : AreReferences symbol notes)

@@ -39,7 +39,8 @@ pub fn undname_one<W: Write, E: Write>(
 ) -> Result<(), Fault>
     ensures text { (text : List ℕ) × Appends (W.contents out.old.stream) (W.contents out.new.stream) text
         × Writes result (IsLineText symbol.now) text }
-    ensures sets_failed { SetsFailureFlag result no_stream (failure_flag out.old out.new) (failure_flag err.old err.new) }
+    ensures sets_failed { SetsFailureFlag result no_stream (failure_flag out.old out.new)
+        (failure_flag err.old err.new) }
 {
     let mut demangler = Demangler::new(alloc);
     undname_in(alloc, &mut demangler, symbol, out, err, verbose)
@@ -56,7 +57,8 @@ pub(crate) fn undname_in<W: Write, E: Write>(
 ) -> Result<(), Fault>
     ensures text { (text : List ℕ) × Appends (W.contents out.old.stream) (W.contents out.new.stream) text
         × Writes result (IsLineText symbol.now) text }
-    ensures sets_failed { SetsFailureFlag result no_stream (failure_flag out.old out.new) (failure_flag err.old err.new) }
+    ensures sets_failed { SetsFailureFlag result no_stream (failure_flag out.old out.new)
+        (failure_flag err.old err.new) }
 {
     let mut tree = String::new(alloc);
     match print_with_tree(demangler, symbol, DemangleFlags::llvm(), verbose, &mut tree) {
@@ -164,7 +166,8 @@ fn undname_line<W: Write, E: Write>(
 ) -> Result<(), Fault>
     ensures text { (text : List ℕ) × Appends (W.contents out.old.stream) (W.contents out.new.stream) text
         × Writes result (IsText (line_of piece.now ∷ [])) text }
-    ensures sets_failed { SetsFailureFlag result no_stream (failure_flag out.old out.new) (failure_flag err.old err.new) }
+    ensures sets_failed { SetsFailureFlag result no_stream (failure_flag out.old out.new)
+        (failure_flag err.old err.new) }
 {
     match from_utf8(without_end(piece)) {
         Ok(line) => undname_in(alloc, demangler, line, out, err, verbose),

@@ -48,7 +48,8 @@ fn undname_all<W: Write, E: Write>(
     err: &mut Watched<E>,
     verbose: bool,
 ) -> Result<(), Fault>
-    ensures sets_failed { SetsFailureFlag result no_stream (failure_flag out.old out.new) (failure_flag err.old err.new) }
+    ensures sets_failed { SetsFailureFlag result no_stream (failure_flag out.old out.new)
+        (failure_flag err.old err.new) }
 {
     let mut demangler = Demangler::new(alloc);
     for symbol in symbols {

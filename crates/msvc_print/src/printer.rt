@@ -37,7 +37,7 @@ const MAX_ARENA_BYTES: usize = 1 << 20;
 /// reference in it held at its end.
 #[derive(Drop)]
 pub struct Printer<'a, 'b, 't, S: Allocator, A: Allocator> {
-    /// What is left to print. The next item is the last.
+    /// The items that are not printed yet. The last one is printed next.
     pub stack: &'t mut Vec<Item<'a, 'b>, S>,
     /// The text that pieces are written to.
     pub out: &'t mut Text<A>,
