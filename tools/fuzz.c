@@ -1,6 +1,7 @@
 /* Calls the C library over each input of AFL++, for tools/fuzz. An input is the bytes of a symbol, or of a text to
-   filter. The program aborts if a call writes beyond its buffer, truncates a text in another way than documented, or
-   returns another status or length the second time.
+   filter. The calls get a copy of just its length, so that the sanitizer of addresses finds a read beyond its end. The
+   program aborts if a call writes beyond its buffer, truncates a text in another way than documented, or returns
+   another status or length the second time.
 
    The archive has no instrumentation, so the bytes of the result stand in for its branches: each three in a row take
    one of 256 instrumented branches here. The library as one C file has branches of its own beside these. */
@@ -101,13 +102,17 @@ static void try_call(call *called, const char *input, size_t length)
 int main(void)
 {
     __AFL_INIT();
-    const char *input = (const char *)__AFL_FUZZ_TESTCASE_BUF;
+    const unsigned char *bytes = __AFL_FUZZ_TESTCASE_BUF;
     while (__AFL_LOOP(10000)) {
         size_t length = (size_t)__AFL_FUZZ_TESTCASE_LEN;
+        char *input = malloc(length);
+        expect(input != NULL);
+        memcpy(input, bytes, length);
         try_call(demangle, input, length);
         try_call(filter, input, length);
         struct msvc_demangler_result read = msvc_demangler_prefix(input, length, MSVC_DEMANGLER_DEFAULT_NODES);
         expect(read.status != MSVC_DEMANGLER_OK || read.length <= length);
+        free(input);
     }
     return 0;
 }

@@ -1,6 +1,6 @@
 //! The allocator: one block at a time, of all the memory.
 
-ghost use Rattle.std.specs.Prelude.{◌≡◌, ◌≤◌, ◌^◌, ◌<◌, IfSome};
+ghost use Rattle.std.specs.Prelude.{◌≡◌, ◌≤◌, ◌<◌, IfSome};
 ghost use Rattle.lent_memory.specs.Ownership.{IsSize, block_token};
 
 use crate::slot::Slot;

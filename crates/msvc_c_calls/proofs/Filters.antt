@@ -138,7 +138,8 @@ pub ended : (flags bits : ℕ) (text old front : List ℕ) (parts : List Part) (
     → IsFilteredInto flags text old (set (front ++ drop room old) written 0) 0 count
 ended flags bits text [] front parts room written count same are is last held written_is front_is =
     let front_none : front ≡ [] = is_empty front (held ∙ ap (λ r. length (take {A = ℕ} r [])) last) in
-    let none : front ++ drop room [] ≡ [] = ap (λ xs. xs ++ drop room []) front_none ∙ ap (λ r. drop {A = ℕ} r []) last in
+    let none : front ++ drop room [] ≡ [] =
+    ap (λ xs. xs ++ drop room []) front_none ∙ ap (λ r. drop {A = ℕ} r []) last in
     filtered-into flags bits text [] _ parts count same are is (ap (λ xs. set xs written 0) none)
 ended flags bits text (first ∷ old) front parts room written count same are is last held written_is front_is =
     let some : (length (front ++ drop room (first ∷ old)) == 0) ≡ false =
@@ -156,8 +157,8 @@ moved flags text old new made status is total count s t n into =
     subst Status (sym s) (subst Total (sym t) (subst New (sym n) into))
 
 -- what it returns and writes if memory runs out
-pub filter_lost : (flags : ℕ) (text old others new : List ℕ) (status total : ℕ) → length others ≡ length old → status ≡ 3
-    → total ≡ length out_of_memory_text → IsWritten out_of_memory_text others new
+pub filter_lost : (flags : ℕ) (text old others new : List ℕ) (status total : ℕ) → length others ≡ length old
+    → status ≡ 3 → total ≡ length out_of_memory_text → IsWritten out_of_memory_text others new
     → IsFilteredInto flags text old new status total
 filter_lost flags text old others new status total held s t written =
     moved flags text old new new status 3 total _ s t refl (not_filtered others held written)

@@ -16,8 +16,8 @@ ghost use Rattle.msvc_facts.specs.Letters.{AreTables};
 ghost use Rattle.msvc_facts.specs.Texts.{AreAnswered, AreLines, AreWords};
 ghost use Rattle.msvc_facts.specs.Trees.{AreCounted, AreRefused, AreTrees};
 
-/// Does nothing. Each clause is a record of facts, which hold of the definitions alone; a fact that no clause names would
-/// not be checked.
+/// Does nothing. Each clause is a record of facts, which hold of the definitions alone; a fact that no clause names
+/// would not be checked.
 pub fn facts()
     ensures tables { AreTables }
     ensures trees { AreTrees }

@@ -1,6 +1,9 @@
 //! The whole run of the program `undname`, over readers and writers: its options, and the symbols among its arguments.
 
+ghost use Rattle.std.specs.Prelude.{◌≡◌, [], ℕ, List, OnOk, OnSome, map, string_bytes};
+ghost use Rattle.std.specs.Io.KnownBytes.{Appends, Consumes, IsAtEnd};
 ghost use Rattle.msvc_watched.specs.Faults.{SetsFailureFlag, failure_flag, no_stream};
+ghost use Rattle.msvc_lines.specs.Arguments.{WritesAnswers, WritesSymbols, symbols_of};
 
 use crate::lines::{undname_in, undname_lines};
 use msvc_symbol::Demangler;
@@ -22,6 +25,11 @@ pub fn undname_run<R: BufRead, W: Write, E: Write>(
     out: &mut Watched<W>,
     err: &mut Watched<E>,
 ) -> Result<(), Fault>
+    ensures text { (taken text : List ℕ) × Consumes (R.remaining input.old.stream) (R.remaining input.new.stream) taken
+        × Appends (W.contents out.old.stream) (W.contents out.new.stream) text
+        × WritesAnswers result (symbols_of (map string_bytes words.now)) taken text }
+    ensures end { symbols_of (map string_bytes words.now) ≡ []
+        → OnOk result (OnSome (R.remaining input.old.stream) (IsAtEnd (R.remaining input.new.stream))) }
     ensures sets_failed { SetsFailureFlag result (failure_flag input.old input.new) (failure_flag out.old out.new)
         (failure_flag err.old err.new) }
 {
@@ -33,7 +41,9 @@ pub fn undname_run<R: BufRead, W: Write, E: Write>(
 }
 
 /// Splits the arguments into the symbols and whether the first argument is `-v`.
-fn options(words: &[String]) -> (&[String], bool) {
+fn options(words: &[String]) -> (&[String], bool)
+    ensures { map string_bytes result.0.now ≡ symbols_of (map string_bytes words.now) }
+{
     match words.split_first() {
         Some((first, symbols)) if first.as_str() == "-v" => (symbols, true),
         _ => (words, false),
@@ -48,6 +58,8 @@ fn undname_all<W: Write, E: Write>(
     err: &mut Watched<E>,
     verbose: bool,
 ) -> Result<(), Fault>
+    ensures text { (text : List ℕ) × Appends (W.contents out.old.stream) (W.contents out.new.stream) text
+        × WritesSymbols result (map string_bytes symbols.now) text }
     ensures sets_failed { SetsFailureFlag result no_stream (failure_flag out.old out.new)
         (failure_flag err.old err.new) }
 {

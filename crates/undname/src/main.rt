@@ -24,20 +24,18 @@ const PROGRAM: &str = "undname";
 const VERSION: &str = "undname 0.11.0";
 
 fn main(rt: HostRuntime) -> ExitCode {
-    match arguments(&rt, PROGRAM) {
-        Ok(words) => match perform(&rt, words.get(1..).unwrap_or(&[])) {
-            Ok(()) => ExitCode::SUCCESS,
-            Err(fault) => failure(&rt, PROGRAM, fault),
-        },
-        Err(status) => status,
-    }
-}
-
-/// Runs the program on the words after its name.
-fn perform(rt: &HostRuntime, words: &[String]) -> Result<(), Fault> {
-    match words.first() {
-        Some(word) if word.as_str() == "--version" => show_version(rt),
-        _ => run(rt, words),
+    let words = match arguments(&rt, PROGRAM) {
+        Ok(words) => words,
+        Err(status) => return status,
+    };
+    let words = words.get(1..).unwrap_or(&[]);
+    let done = match words.first() {
+        Some(word) if word.as_str() == "--version" => show_version(&rt),
+        _ => run(&rt, words),
+    };
+    match done {
+        Ok(()) => ExitCode::SUCCESS,
+        Err(fault) => failure(&rt, PROGRAM, fault),
     }
 }
 

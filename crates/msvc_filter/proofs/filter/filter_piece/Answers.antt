@@ -43,8 +43,8 @@ symbols-preserved c =
         c.in_ok-extend_from_slice-in-None.ensures.items ∙ text-stays c.symbols.text.items so.1.0 stay so.1.1,
         subst (λ n. ArePartsUpTo c.args.flags.0 c.args.scan.now piece until (so.1.0 ++ map kept stay) n
             c.next_symbol.new.scan) end
-            (parts-further c.args.flags.0 c.args.scan.now c.symbols.scan c.next_symbol.new.scan piece until at (until - at)
-            so.1.0
+            (parts-further c.args.flags.0 c.args.scan.now c.symbols.scan c.next_symbol.new.scan piece until at
+            (until - at) so.1.0
             (map kept stay) so.1.2 (omega arith) (omega arith) none),
       ),
     )
