@@ -1,9 +1,9 @@
--- Each fact about lines, their text and words is computed.
+-- Each fact about lines, their text, arguments and words is computed.
 use Rattle.std.proofs.Common.{refl}
 use Rattle.msvc_demangler.specs.Lines.{pieces}
 use Rattle.msvc_facts.proofs.Answering.{is_answered, text_of}
 use Rattle.msvc_facts.proofs.OnLiterals.{filtering}
-use Rattle.msvc_facts.specs.Texts.{AreAnswered, AreLines, AreWords}
+use Rattle.msvc_facts.specs.Texts.{AreAnswered, AreArguments, AreLines, AreWords}
 
 pub lines : AreLines
 unfolding pieces
@@ -29,6 +29,17 @@ answers = record {
   flags = is_answered refl;
   not_utf8 = is_answered refl;
   not_ascii = is_answered refl;
+}
+
+pub arguments : AreArguments
+arguments = record {
+  none = refl;
+  option = refl;
+  after_the_option = refl;
+  second = refl;
+  twice = refl;
+  longer = refl;
+  empty = refl;
 }
 
 pub words : AreWords

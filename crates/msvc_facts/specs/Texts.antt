@@ -1,7 +1,9 @@
--- How bytes are cut into lines, what is written for lines, and where a symbol may stand in a text.
+-- How bytes are cut into lines, what is written for lines, which arguments are symbols, and where a symbol may stand in
+-- a text.
 use Rattle.std.specs.Prelude.{ℕ, List, [], ◌∷◌, ◌≡◌, codes, false, map, reverse, true}
 use Prim.Native.String.{String}
 use Rattle.msvc_demangler.specs.Answers.{IsFilterText}
+use Rattle.msvc_demangler.specs.Arguments.{symbols_of}
 use Rattle.msvc_demangler.specs.Lines.{lines_of}
 use Rattle.msvc_demangler.specs.SymbolBounds.{continues, is_start, is_visible, max_bytes, symbol_extent}
 
@@ -39,6 +41,20 @@ pub record AreAnswered : Type 0 where
   pub flags : Gives "?f@@YAXHPAPAH@Z\n" "void __cdecl f(int, int **)\n"
   pub not_utf8 : IsAnswered (0xE9 ∷ codes "\n?x@@3HA\n") (codes "int x\n")
   pub not_ascii : IsAnswered (0xC3 ∷ 0xA9 ∷ codes "\n") (0xC3 ∷ 0xA9 ∷ codes "\n")
+
+-- the symbols among some arguments
+abbrev AreSymbolsOf : List String → List String → Type 0
+AreSymbolsOf words symbols = symbols_of (map codes words) ≡ map codes symbols
+
+pub record AreArguments : Type 0 where
+  pub none : AreSymbolsOf [] []
+  pub option : AreSymbolsOf ("-v" ∷ []) []
+  pub after_the_option : AreSymbolsOf ("-v" ∷ "?x@@3HA" ∷ "main" ∷ []) ("?x@@3HA" ∷ "main" ∷ [])
+  -- only the first argument is an option
+  pub second : AreSymbolsOf ("main" ∷ "-v" ∷ []) ("main" ∷ "-v" ∷ [])
+  pub twice : AreSymbolsOf ("-v" ∷ "-v" ∷ []) ("-v" ∷ [])
+  pub longer : AreSymbolsOf ("-vv" ∷ []) ("-vv" ∷ [])
+  pub empty : AreSymbolsOf ("" ∷ []) ("" ∷ [])
 
 -- a ? may begin a symbol after these bytes, which stand after a line feed
 abbrev Begins : String → Type 0

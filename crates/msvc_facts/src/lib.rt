@@ -13,7 +13,7 @@ ghost use Rattle.msvc_facts.specs.Declarations.{
 };
 ghost use Rattle.msvc_facts.specs.Filtered.{AreCandidates, AreFiltered, AreFitting};
 ghost use Rattle.msvc_facts.specs.Letters.{AreTables};
-ghost use Rattle.msvc_facts.specs.Texts.{AreAnswered, AreLines, AreWords};
+ghost use Rattle.msvc_facts.specs.Texts.{AreAnswered, AreArguments, AreLines, AreWords};
 ghost use Rattle.msvc_facts.specs.Trees.{AreCounted, AreRefused, AreTrees};
 
 /// Does nothing. Each clause is a record of facts, which hold of the definitions alone; a fact that no clause names
@@ -32,6 +32,7 @@ pub fn facts()
     ensures flags { AreFlags }
     ensures lines { AreLines }
     ensures answers { AreAnswered }
+    ensures arguments { AreArguments }
     ensures words { AreWords }
     ensures candidates { AreCandidates }
     ensures filtered { AreFiltered }

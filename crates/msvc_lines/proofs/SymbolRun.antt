@@ -1,6 +1,6 @@
 -- A run over symbols, on its way.
-use Rattle.std.proofs.Common.{◌≡◌, ◌≢◌, ◌++◌, ◌∷◌, ◌<◌, [], ℕ, List, Result, ap, sym, subst, refl, ◌∙◌}
-use Rattle.std.proofs.Common.{append_assoc, append-nil, drop, drop-cons, get_or, length, take, take-length}
+use Rattle.std.proofs.Common.{◌≡◌, ◌≢◌, ◌++◌, ◌∷◌, ◌<◌, ◌+◌, [], ℕ, suc, List, Result, ap, sym, subst, refl, ◌∙◌}
+use Rattle.std.proofs.Common.{append_assoc, append-nil, drop, drop-cons, get_or, length, take}
 use Rattle.std.proofs.lemmas.List.{map-append, map_more, take-append-drop}
 use Rattle.std.specs.Prelude.{map}
 use Rattle.std.specs.declared.option.Option.{Option}
@@ -47,15 +47,17 @@ SymbolRun-fault f xs i d fault writer writes on less so begun written is =
     sym (take-append-drop i xs) ∙ ap (λ l. take i xs ++ l) (drop-cons xs i d less) in (
       so.0 ++ begun,
       Appends-trans _ _ _ _ _ so.1 written,
-      map f (take i xs),
-      map f (drop (suc i) xs),
-      f (get_or xs i d),
-      so.0,
-      begun,
-      ap (map f) split ∙ map-append f (take i xs) (get_or xs i d ∷ drop (suc i) xs),
-      refl,
-      so.2,
-      is,
+      (
+        map f (take i xs),
+        map f (drop (suc i) xs),
+        f (get_or xs i d),
+        so.0,
+        begun,
+        ap (map f) split ∙ map-append f (take i xs) (get_or xs i d ∷ drop (suc i) xs),
+        refl,
+        so.2,
+        is,
+      ),
     )
 
 -- where there are symbols, nothing is taken from the reader
@@ -63,3 +65,8 @@ pub WritesAnswers-symbols : {A : Type 0} (r : Result A Fault) (symbols : List (L
     → symbols ≢ [] → WritesSymbols r symbols text → WritesAnswers r symbols [] text
 WritesAnswers-symbols r [] text some h = absurd (some refl)
 WritesAnswers-symbols r (symbol ∷ symbols) text some h = (refl, h)
+
+-- where there are some items, there are as many of what they are mapped to
+pub mapped-some : {A B : Type 0} (f : A → B) (xs : List A) → length xs ≢ 0 → map f xs ≢ []
+mapped-some f [] some e = some refl
+mapped-some f (x ∷ xs) some e = cc

@@ -19,7 +19,7 @@ pub data IsSymbolsText : List (List ℕ) → List ℕ → Type 0 where
 -- What a run over symbols that failed has written: the text of those before one, and a beginning of that of this one if
 -- a write failed.
 abbrev pub LeavesOffAt : Fault → List (List ℕ) → List ℕ → Type 0
-LeavesOffAt fault symbols text = (done left : List (List ℕ)) (symbol before begun : List ℕ)
+LeavesOffAt fault symbols text = (done left : List (List ℕ)) × (symbol before begun : List ℕ)
     × (symbols ≡ done ++ symbol ∷ left) × (text ≡ before ++ begun) × IsSymbolsText done before
     × WritesPart fault (IsLineText symbol) begun
 

@@ -2,7 +2,7 @@ use Rattle.msvc_facts.proofs.BackReferences.{name_references, type_references}
 use Rattle.msvc_facts.proofs.Declarations.{declarations, flags, names, spaces, types}
 use Rattle.msvc_facts.proofs.Filtered.{candidates, filtered, fitted}
 use Rattle.msvc_facts.proofs.Letters.{tables}
-use Rattle.msvc_facts.proofs.Texts.{answers, lines, words}
+use Rattle.msvc_facts.proofs.Texts.{answers, arguments, lines, words}
 use Rattle.msvc_facts.proofs.Trees.{counts, refusals, trees}
 use Rattle.msvc_facts.proofs.facts.Goals as goal
 
@@ -44,6 +44,9 @@ returns-clause-lines c = lines
 
 pub returns-clause-answers : goal.returns-clause-answers
 returns-clause-answers c = answers
+
+pub returns-clause-arguments : goal.returns-clause-arguments
+returns-clause-arguments c = arguments
 
 pub returns-clause-words : goal.returns-clause-words
 returns-clause-words c = words
