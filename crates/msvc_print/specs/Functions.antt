@@ -1,7 +1,8 @@
 -- What the declaration of a function has beside its types.
 use Rattle.std.specs.Prelude.{ℕ, List, [], ◌∷◌, ◌++◌, Bool, cond, codes}
 use Rattle.msvc_nodes.specs.declared.kinds.CallingConv.{CallingConv}
-use Rattle.msvc_nodes.specs.declared.kinds.CallingConv.TheVariants.{Cdecl, Pascal, Thiscall, Stdcall, Fastcall, _Regcall}
+use Rattle.msvc_nodes.specs.declared.kinds.CallingConv.TheVariants.{Cdecl, Pascal, Thiscall, Stdcall, Fastcall}
+use Rattle.msvc_nodes.specs.declared.kinds.CallingConv.TheVariants.{_Regcall}
 use Rattle.msvc_print.specs.Flags.{has, no_access_specifiers, no_member_type, no_ms_keywords, no_this_type}
 use Rattle.msvc_print.specs.Flags.{space_after_comma, with_ptr64}
 use Rattle.msvc_print.specs.Pieces.{Piece, text, space}

@@ -2,8 +2,8 @@
 -- speaks of it.
 use Rattle.std.specs.Prelude.{ℕ, ◌+◌}
 use Rattle.msvc_nodes.specs.Trees.{NameTree, NameTrees, TypeTree, TypeTrees, type_descriptor}
-use Rattle.msvc_nodes.specs.Trees.{template, nested, no_names, names, no_types, types, tagged, pointing, array, function}
-use Rattle.msvc_nodes.specs.Trees.{member_function, member_pointer, variable, table}
+use Rattle.msvc_nodes.specs.Trees.{template, nested, no_names, names, no_types, types, tagged, pointing, array}
+use Rattle.msvc_nodes.specs.Trees.{function, member_function, member_pointer, variable, table}
 
 -- a name with its scope and the type of its symbol, by their weights
 abbrev pub scoped_weight : ℕ → ℕ → ℕ → ℕ

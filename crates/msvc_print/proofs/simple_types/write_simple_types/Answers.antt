@@ -5,7 +5,9 @@ use Rattle.msvc_print.specs.SimpleTypes.{begun}
 use Rattle.msvc_print.specs.Limited.{add_all}
 use Rattle.msvc_print.proofs.SimpleTypes.{left_out-end, passed-pack, written-end, written-simple, written-separator}
 use Rattle.msvc_print.proofs.simple_types.write_simple_types.Goals as goal
-use Rattle.msvc_print.proofs.simple_types.write_simple_types.Goals.{then-not-is_empty_pack+in_ok-write_separator+in_ok-write_simple+else-not-branch}
+use Rattle.msvc_print.proofs.simple_types.write_simple_types.Goals.{
+  then-not-is_empty_pack+in_ok-write_separator+in_ok-write_simple+else-not-branch,
+}
 use Rattle.msvc_print.proofs.simple_types.write_simple_types.Goals.{else-not-is_empty_pack}
 
 -- a type that is not simple is left, after its comma
