@@ -51,28 +51,14 @@ left_out max true before piece more =
     ap (λ t. record { max = max; text = t }) (sym (within-exceeds max (settle before piece) more))
 left_out max false before piece more = refl
 
--- a space that is not written after this byte, the last of the text
-pub unspaced : (max : ℕ) (out : Option (List ℕ)) (kind : Space) (byte : ℕ) →
-    ((bytes : List ℕ) → out ≡ Some bytes → byte ≡ last_byte bytes) →
-    ((bytes : List ℕ) → out ≡ Some bytes → length bytes ≤ max) → is_written_after kind byte ≡ false →
-    record { max = max; text = out } ≡ add_all (record { max = max; text = out }) (space kind ∷ [])
+-- a space that is written
+pub spaced : (max : ℕ) (whole : Bool) (before : List ℕ) (kind : Space) →
+    is_written_after kind (last_byte before) ≡ true → add_all (limited max whole before) (text (blank ∷ []) ∷ [])
+    ≡ add_all (limited max whole before) (space kind ∷ [])
 unfolding add_all settle_within
-unspaced max None kind byte last fits not = refl
-unspaced max (Some bytes) kind byte last fits not =
-    let is : is_written_after kind (last_byte bytes) ≡ false
-    = ap (is_written_after kind) (sym (last bytes refl)) ∙ not in
-    added max true bytes bytes (space kind) (ap (λ b. cond b (bytes ++ blank ∷ []) bytes) is) (fits bytes refl)
-
--- a space that is written after it
-pub spaced : (max : ℕ) (out : Option (List ℕ)) (kind : Space) (byte : ℕ) →
-    ((bytes : List ℕ) → out ≡ Some bytes → byte ≡ last_byte bytes) → is_written_after kind byte ≡ true →
-    add_all (record { max = max; text = out }) (text (blank ∷ []) ∷ [])
-    ≡ add_all (record { max = max; text = out }) (space kind ∷ [])
-unfolding add_all settle_within
-spaced max None kind byte last is = refl
-spaced max (Some bytes) kind byte last is =
-    ap (λ b. record { max = max; text = within max (cond b (bytes ++ blank ∷ []) bytes) })
-    (sym (ap (is_written_after kind) (sym (last bytes refl)) ∙ is))
+spaced max true before kind is =
+    ap (λ b. record { max = max; text = within max (cond b (before ++ blank ∷ []) before) }) (sym is)
+spaced max false before kind is = refl
 
 -- a text that is not whole stays so
 pub add_all-left_out : (max : ℕ) (pieces : List Piece) →

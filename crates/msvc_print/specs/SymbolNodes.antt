@@ -7,11 +7,10 @@ use Rattle.msvc_nodes.specs.declared.kinds.PlainType.TheVariants as plain_kind
 use Rattle.msvc_nodes.specs.declared.nodes.Symbol.{Symbol}
 use Rattle.msvc_nodes.specs.declared.nodes.Type.{«Type»}
 use Rattle.msvc_nodes.specs.declared.nodes.TypedSymbol.{TypedSymbol}
-use Rattle.msvc_print.specs.Declaration.{symbol_as, symbol_name, symbol_pieces}
+use Rattle.msvc_print.specs.Declaration.{symbol_name, symbol_pieces}
 use Rattle.msvc_print.specs.Halves.{pointed_name}
 use Rattle.msvc_print.specs.Pieces.{Piece}
 use Rattle.msvc_print.specs.Weights.{symbol_weight, type_weight, typed_symbol_weight}
-use Rattle.msvc_print.specs.declared.operators.NameKind.{NameKind}
 
 -- the type of a symbol that has none
 abbrev pub no_type : TypeTree
@@ -21,10 +20,6 @@ no_type = plain plain_kind.None
 abbrev pub type_or_none : Option (Bor «Type») → TypeTree
 type_or_none None = no_type
 type_or_none (Some t) = type_of t.now
-
--- a name in its scope, whose symbol has this type, where the name prints in this way
-abbrev pub symbol_as_of : NameKind → Symbol → TypeTree → ℕ → List Piece
-symbol_as_of kind s t flags = symbol_as kind (name_of s.name.now) (names_in s.scope.now) t flags
 
 -- a name in its scope, whose symbol has this type
 abbrev pub symbol_name_of : Symbol → TypeTree → ℕ → List Piece

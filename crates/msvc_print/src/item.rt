@@ -1,7 +1,6 @@
 //! The items of the printer's stack: what is left to print.
 
-ghost use Rattle.std.specs.Prelude.{◌≡◌, ◌++◌, ◌∷◌, [], IfNone, IfSome, OnOk};
-ghost use Rattle.msvc_print.specs.declared.item.Item.TheVariants.{Parameters};
+ghost use Rattle.std.specs.Prelude.{◌≡◌, ◌++◌, ◌∷◌, [], OnOk};
 
 use msvc_nodes::flags::StorageClass;
 use msvc_nodes::kinds::CallingConv;
@@ -68,17 +67,4 @@ pub fn push<'a, 'b, S: Allocator>(
 {
     stack.push(item)?;
     Ok(())
-}
-
-/// Pops the last item, if it is what is left of a list. Returns the list.
-pub fn pop_list<'a, 'b, S: Allocator>(stack: &mut Vec<Item<'a, 'b>, S>) -> Option<TypeList<'a, 'b>>
-    ensures list { IfSome result (λ list. stack.old.items ≡ stack.new.items ++ Parameters list ∷ []) }
-    ensures other { IfNone result (stack.new.items ≡ stack.old.items) }
-{
-    let Some(Item::Parameters(list)) = stack.last() else {
-        return None;
-    };
-    let list = *list;
-    stack.pop();
-    Some(list)
 }

@@ -11,7 +11,7 @@ ghost use Rattle.msvc_print.specs.Operators.{spaced};
 ghost use Rattle.msvc_print.specs.Limited.{Writes, add_all};
 ghost use Rattle.msvc_print.specs.Pieces.{space, text};
 ghost use Rattle.msvc_print.specs.Sides.{alone};
-ghost use Rattle.msvc_print.specs.SymbolNodes.{class_pieces_of, class_weight_of, symbol_as_of, symbol_name_of};
+ghost use Rattle.msvc_print.specs.SymbolNodes.{class_pieces_of, class_weight_of, symbol_name_of};
 ghost use Rattle.msvc_print.specs.SymbolNodes.{symbol_pieces_of, symbol_weight_of, type_or_none};
 ghost use Rattle.msvc_print.specs.SymbolNodes.{typed_symbol_weight_of};
 ghost use Rattle.msvc_print.specs.Weights.{name_weight, scope_weight, type_weight, types_weight};
@@ -315,21 +315,19 @@ impl<'a, 'b, 't, S: Allocator, A: Allocator> Printer<'a, 'b, 't, S, A> {
 
     /// Prints a symbol's name in its scope, by the kind of the name.
     #[tactic(auto, using(crate::proofs::Stack::pushes), unfolding(crate::specs::Operators::scoped))]
-    fn print_symbol_as(
+    pub fn print_symbol(
         &mut self,
         symbol: &'b Symbol<'a, 'b>,
         symbol_type: Option<&'b Type<'a, 'b>>,
-        kind: NameKind,
     ) -> Result<(), AllocError>
-        ensures text { OnOk result
-            (Prints (symbol_as_of kind symbol.now (type_or_none symbol_type.entry) self.old.flags.0)
+        ensures text { OnOk result (Prints (symbol_name_of symbol.now (type_or_none symbol_type.entry) self.old.flags.0)
             self.old self.new) }
         ensures lighter { OnOk result (Lightens (symbol_weight_of symbol.now (type_or_none symbol_type.entry))
             self.old self.new) }
         ensures kept { Keeps self.old self.new }
     {
         write_space(self.out, word_space(self.flags, Space::AfterReference))?;
-        match kind {
+        match name_kind(symbol.name) {
             NameKind::Ordinary => self.print_in_scope(symbol.scope, symbol.name),
             NameKind::Constructor => {
                 push_ctor_dtor_name(self.stack, symbol.scope, false, self.flags)?;
@@ -352,22 +350,6 @@ impl<'a, 'b, 't, S: Allocator, A: Allocator> Printer<'a, 'b, 't, S, A> {
                 self.print_path(symbol.scope)
             }
         }
-    }
-
-    /// Prints a symbol's name in its scope.
-    pub fn print_symbol(
-        &mut self,
-        symbol: &'b Symbol<'a, 'b>,
-        symbol_type: Option<&'b Type<'a, 'b>>,
-    ) -> Result<(), AllocError>
-        ensures text { OnOk result (Prints (symbol_name_of symbol.now (type_or_none symbol_type.entry) self.old.flags.0)
-            self.old self.new) }
-        ensures lighter { OnOk result (Lightens (symbol_weight_of symbol.now (type_or_none symbol_type.entry))
-            self.old self.new) }
-        ensures kept { Keeps self.old self.new }
-    {
-        let kind = name_kind(symbol.name);
-        self.print_symbol_as(symbol, symbol_type, kind)
     }
 
     /// Prints the class whose member function is pointed to.

@@ -1,13 +1,13 @@
 //! Texts under a limit of bytes, and the pieces that are written to them. Whether a space is written depends on the
 //! byte before it.
 
-ghost use Rattle.std.specs.Prelude.{◌≡◌, ◌<◌, ◌≤◌, ◌+◌, ◌∷◌, ◌++◌, [], ℕ, List, Some, OnOk, IfOk, is_some};
+ghost use Rattle.std.specs.Prelude.{◌≡◌, ◌≤◌, ◌+◌, ◌∷◌, ◌++◌, [], ℕ, List, Some, OnOk, IfOk, is_some};
 ghost use Rattle.std.specs.Prelude.{cond, length, string_bytes, take};
 ghost use Rattle.std.specs.Str.{IsUtf8};
 ghost use Rattle.std.specs.Str.Lossy.{utf8_lossy};
 ghost use Rattle.msvc_print.specs.Flags.{has, space_before_pointer};
 ghost use Rattle.msvc_print.specs.Limited.{Writes, empty_within};
-ghost use Rattle.msvc_print.specs.Pieces.{is_written_after, last_byte, space, text};
+ghost use Rattle.msvc_print.specs.Pieces.{is_written_after, space, text};
 ghost use Rattle.msvc_print.specs.Words as spec;
 ghost use Rattle.msvc_print.specs.declared.text.Space.TheVariants.{AfterWord};
 
@@ -112,18 +112,6 @@ impl<A: Allocator> Text<A> {
         unsafe { from_utf8_unchecked(self.as_bytes()) }
     }
 
-    /// Returns the last byte, or 0 if there is none.
-    fn last_byte(&self) -> u8
-        ensures last { (bytes : List ℕ) → self.now.text ≡ Some bytes → result ≡ last_byte bytes }
-        ensures fits { (bytes : List ℕ) → self.now.text ≡ Some bytes → length bytes ≤ self.now.max }
-    {
-        if self.written == 0 {
-            0
-        } else {
-            self.bytes[self.written - 1]
-        }
-    }
-
     /// Returns what was written, without a copy.
     fn into_bytes(self) -> Vec<u8, A>
         ensures { (bytes : List ℕ) → self.text ≡ Some bytes → result.items ≡ bytes }
@@ -190,15 +178,6 @@ impl Space {
     }
 }
 
-/// Copies the first `N` bytes of `piece` into `bytes` from index `at`.
-fn copy_front<const N: usize>(bytes: &mut [u8], at: usize, piece: &[u8])
-    requires { (N ≤ length piece.now) × (at + N ≤ length bytes.old) }
-    ensures start { take (at + N) bytes.new ≡ take at bytes.old ++ take N piece.now }
-    ensures len { length bytes.new ≡ length bytes.old }
-{
-    Simd::<u8, N>::from_slice(piece).copy_to_slice(&mut bytes[at..]);
-}
-
 /// Copies a piece of `N` to twice `N` bytes into `bytes` from index `at`: its first `N` bytes, and its last.
 fn copy_ends<const N: usize>(bytes: &mut [u8], at: usize, piece: &[u8])
     requires fits { at + length piece.now ≤ length bytes.old }
@@ -207,8 +186,8 @@ fn copy_ends<const N: usize>(bytes: &mut [u8], at: usize, piece: &[u8])
     ensures len { length bytes.new ≡ length bytes.old }
 {
     let last = piece.len() - N;
-    copy_front::<N>(bytes, at, piece);
-    copy_front::<N>(bytes, at + last, &piece[last..]);
+    Simd::<u8, N>::from_slice(piece).copy_to_slice(&mut bytes[at..]);
+    Simd::<u8, N>::from_slice(&piece[last..]).copy_to_slice(&mut bytes[at + last..]);
 }
 
 /// Copies `piece`, which is long, into `bytes` from index `at`.
@@ -231,7 +210,7 @@ fn copy_at(bytes: &mut [u8], at: usize, piece: &[u8])
     let len = piece.len();
     if len < 2 {
         if len == 1 {
-            copy_front::<1>(bytes, at, piece);
+            bytes[at] = piece[0];
         }
     } else if len < 4 {
         copy_ends::<2>(bytes, at, piece);
@@ -303,7 +282,12 @@ pub fn write_text<A: Allocator>(out: &mut Text<A>, bytes: &[u8]) -> Result<(), A
 pub fn write_space<A: Allocator>(out: &mut Text<A>, kind: Space) -> Result<(), AllocError>
     ensures { OnOk result (Writes (space kind ∷ []) out.old out.new) }
 {
-    if !kind.is_written_after(out.last_byte()) {
+    let last = if out.written == 0 {
+        0
+    } else {
+        out.bytes[out.written - 1]
+    };
+    if !kind.is_written_after(last) {
         return Ok(());
     }
     write_text(out, b" ")
@@ -377,22 +361,13 @@ pub fn write_mark<A: Allocator>(
 ) -> Result<(), AllocError>
     ensures { OnOk result (Writes (spec.marked word.now qualifiers.0 flags.0) out.old out.new) }
 {
-    write_mark_space(out, flags)?;
-    write_text(out, word)?;
-    write_qualifiers(out, qualifiers, flags)
-}
-
-/// Writes the space before the mark of a pointer or a reference.
-#[tactic(auto, unfolding(crate::specs::Limited::add_all))]
-fn write_mark_space<A: Allocator>(out: &mut Text<A>, flags: DemangleFlags) -> Result<(), AllocError>
-    ensures { OnOk result (Writes (spec.mark_space flags.0) out.old out.new) }
-{
     if !flags.contains(DemangleFlags::HUG_TYPE) {
         write_space(out, Space::AfterPointer)?;
     } else if flags.contains(DemangleFlags::SPACE_BEFORE_POINTER) {
         write_space(out, Space::AfterWord)?;
     }
-    Ok(())
+    write_text(out, word)?;
+    write_qualifiers(out, qualifiers, flags)
 }
 
 /// Writes the parenthesis before the mark of a pointer, if the type is pointed to.

@@ -16,7 +16,7 @@ ghost use Rattle.msvc_print.specs.Words.{closing, marked, opening, qualifiers as
 ghost use Rattle.msvc_print.specs.Work.{AddsAtMost, Keeps, LeavesAtMost, Lightens, Prints, Pushes, rest_of_parameters};
 
 use crate::function_types::{write_calling, write_list_end, write_member_start, write_separator};
-use crate::item::{Item, ListEnd, TypeList, pop_list, push};
+use crate::item::{Item, ListEnd, TypeList, push};
 use crate::printer::Printer;
 use crate::simple_types::{write_base, write_simple, write_simple_pointer, write_simple_types};
 use crate::text::{Text, write_closing, write_number, write_opening, write_qualifiers, write_text};
@@ -309,10 +309,11 @@ impl<'a, 'b, 't, S: Allocator, A: Allocator> Printer<'a, 'b, 't, S, A> {
         let mut list = TypeList { types, first, end };
         'lists: while self.out.is_whole() {
             self.print_list(list.types, list.first, list.end)?;
-            let Some(next) = pop_list(self.stack) else {
+            let Some(Item::Parameters(next)) = self.stack.last() else {
                 return Ok(());
             };
-            list = next;
+            list = *next;
+            self.stack.pop();
         }
         Ok(())
     }
@@ -418,18 +419,7 @@ fn may_have_suffix<'a, 'b>(t: &'b Type<'a, 'b>) -> bool
     }
 }
 
-/// Returns whether a type, or the one that it points to, may have something after the name.
-#[tactic(auto, unfolding(crate::specs::Halves::after, msvc_nodes::specs::NodeView::type_of))]
-fn has_suffix<'a, 'b>(t: &'b Type<'a, 'b>) -> bool
-    ensures { result ≡ false → (pointed : Bool) (flags : ℕ) → after (type_of t.now) pointed flags ≡ [] }
-{
-    match t {
-        Type::Pointing(_, _, inner) => may_have_suffix(*inner),
-        _ => may_have_suffix(t),
-    }
-}
-
-/// Pushes what a type has after the name, if it has anything.
+/// Pushes what a type has after the name, if it, or the type that it points to, may have anything there.
 fn push_suffix<'a, 'b, S: Allocator>(
     stack: &mut Vec<Item<'a, 'b>, S>,
     t: &'b Type<'a, 'b>,
@@ -440,7 +430,11 @@ fn push_suffix<'a, 'b, S: Allocator>(
         (Pushes (after (type_of t.now) pointed flags.0) flags.0 stack.old.items stack.new.items) }
     ensures lighter { OnOk result (AddsAtMost (type_weight (type_of t.now)) stack.old.items stack.new.items) }
 {
-    if has_suffix(t) {
+    let may_have = match t {
+        Type::Pointing(_, _, inner) => may_have_suffix(*inner),
+        _ => may_have_suffix(t),
+    };
+    if may_have {
         push(stack, Item::After(t, pointed))?;
     }
     Ok(())
