@@ -1,4 +1,5 @@
 //! Writes what the declaration of a function has beside its types: words, calling conventions, qualifiers, commas.
+#![tactic(auto, using(crate::proofs::Stack::pushes), unfolding(crate::specs::Functions::access_words, crate::specs::Functions::calling, crate::specs::Functions::convention_pieces, crate::specs::Functions::function_qualifiers, crate::specs::Functions::kind_words, crate::specs::Functions::member_start, crate::specs::Functions::member_words, crate::specs::Functions::separator, crate::specs::Functions::wide_qualifier))]
 
 ghost use Rattle.std.specs.Prelude.{◌≡◌, OnOk};
 ghost use Rattle.msvc_print.specs.Functions as spec;
@@ -28,7 +29,6 @@ fn convention_word<'t>(convention: CallingConv) -> &'t [u8]
 
 /// Writes the parenthesis before the mark of a pointer to a function, and the calling convention. NO_MS_KEYWORDS drops
 /// the word of the convention.
-#[tactic(auto, using(crate::proofs::Settling::settling), unfolding(crate::specs::Functions::calling, crate::specs::Functions::convention_pieces))]
 pub fn write_calling<A: Allocator>(
     out: &mut Text<A>,
     pointed: bool,
@@ -46,7 +46,6 @@ pub fn write_calling<A: Allocator>(
 }
 
 /// Writes a word of a member function, if its bit is set.
-#[tactic(auto, unfolding(crate::specs::Limited::add_all))]
 fn write_member_word<A: Allocator>(
     out: &mut Text<A>,
     bit: FuncClass,
@@ -62,7 +61,6 @@ fn write_member_word<A: Allocator>(
 }
 
 /// Writes who may call a member function. NO_ACCESS_SPECIFIERS drops it.
-#[tactic(auto, using(crate::proofs::Settling::settling), unfolding(crate::specs::Functions::access_words))]
 fn write_access_words<A: Allocator>(
     out: &mut Text<A>,
     class: FuncClass,
@@ -79,7 +77,6 @@ fn write_access_words<A: Allocator>(
 }
 
 /// Writes `static` and `virtual` of a member function. NO_MEMBER_TYPE drops them.
-#[tactic(auto, using(crate::proofs::Settling::settling), unfolding(crate::specs::Functions::kind_words))]
 fn write_kind_words<A: Allocator>(
     out: &mut Text<A>,
     class: FuncClass,
@@ -95,7 +92,6 @@ fn write_kind_words<A: Allocator>(
 }
 
 /// Writes the words of a member function.
-#[tactic(auto, using(crate::proofs::Settling::settling), unfolding(crate::specs::Functions::member_words))]
 fn write_member_words<A: Allocator>(
     out: &mut Text<A>,
     class: FuncClass,
@@ -109,7 +105,6 @@ fn write_member_words<A: Allocator>(
 }
 
 /// Writes the words of a member function, unless it is pointed to.
-#[tactic(auto, using(crate::proofs::Settling::settling), unfolding(crate::specs::Functions::member_start))]
 pub fn write_member_start<A: Allocator>(
     out: &mut Text<A>,
     pointed: bool,
@@ -125,7 +120,6 @@ pub fn write_member_start<A: Allocator>(
 }
 
 /// Writes `__ptr64`, if its bit is set and WITH_PTR64 shows it.
-#[tactic(auto, using(crate::proofs::Settling::settling), unfolding(crate::specs::Functions::wide_qualifier))]
 fn write_wide_qualifier<A: Allocator>(
     out: &mut Text<A>,
     qualifiers: StorageClass,
@@ -146,7 +140,6 @@ fn write_wide_qualifier<A: Allocator>(
 }
 
 /// Writes the qualifiers of a function itself. Both bits of NO_THISTYPE together drop them.
-#[tactic(auto, using(crate::proofs::Settling::settling), unfolding(crate::specs::Functions::function_qualifiers))]
 fn write_function_qualifiers<A: Allocator>(
     out: &mut Text<A>,
     qualifiers: StorageClass,
@@ -170,7 +163,6 @@ fn write_function_qualifiers<A: Allocator>(
 }
 
 /// Writes the end of a list of types.
-#[tactic(auto, using(crate::proofs::Settling::settling))]
 pub fn write_list_end<A: Allocator>(
     out: &mut Text<A>,
     end: ListEnd,
@@ -192,7 +184,6 @@ pub fn write_list_end<A: Allocator>(
 }
 
 /// Writes the comma before a parameter that is not the first. Each word is a constant, which is stored without a call.
-#[tactic(auto, using(crate::proofs::Settling::settling), unfolding(crate::specs::Functions::separator))]
 pub fn write_separator<A: Allocator>(
     out: &mut Text<A>,
     first: bool,

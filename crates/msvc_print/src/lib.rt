@@ -6,7 +6,7 @@
 //! A symbol goes through `printer`: its `Printer` has the stack of `item`, the output and the flags, and loops over the
 //! stack. Each step is a method of `Printer` in `qualified_names` or `types`; these call `simple_types`,
 //! `function_types`, `operators` and `words`; and `text` writes the bytes.
-#![tactic(auto)]
+#![tactic(auto, using(crate::proofs::Stack::pushes))]
 
 mod function_types;
 mod item;

@@ -1,4 +1,5 @@
 //! Names of operators: their words, a row each, and which of them print otherwise as the name of a symbol itself.
+#![tactic(auto, using(crate::proofs::Stack::pushes), unfolding(crate::specs::Operators::base_class_pieces, crate::specs::Operators::guard_number, crate::specs::Operators::guard_pieces, crate::specs::Operators::name_kind, crate::specs::Operators::operator_word, msvc_nodes::specs::NodeView::name_of))]
 
 ghost use Rattle.std.specs.Prelude.{◌≡◌, OnOk};
 ghost use Rattle.msvc_nodes.specs.Trees.{operator};
@@ -33,7 +34,6 @@ pub enum NameKind {
 }
 
 /// Returns how the name of a plain operator prints where it is the name of a symbol itself.
-#[tactic(auto, unfolding(crate::specs::Operators::name_kind))]
 fn operator_kind(plain: PlainOperator) -> NameKind
     ensures { result ≡ name_kind (operator plain) }
 {
@@ -48,7 +48,6 @@ fn operator_kind(plain: PlainOperator) -> NameKind
 }
 
 /// Returns how a name prints where it is the name of a symbol itself.
-#[tactic(auto, unfolding(crate::specs::Operators::name_kind, msvc_nodes::specs::NodeView::name_of))]
 pub fn name_kind<'a, 'b>(name: &'b Name<'a, 'b>) -> NameKind
     ensures { result ≡ name_kind (name_of name.now) }
 {
@@ -59,7 +58,6 @@ pub fn name_kind<'a, 'b>(name: &'b Name<'a, 'b>) -> NameKind
 }
 
 /// Writes fixed words after the space that operators begin with.
-#[tactic(auto, using(crate::proofs::Settling::settling))]
 pub fn write_spaced_word<A: Allocator>(out: &mut Text<A>, word: &[u8]) -> Result<(), AllocError>
     ensures { OnOk result (out.new ≡ add_all out.old (spaced word.now)) }
 {
@@ -68,7 +66,6 @@ pub fn write_spaced_word<A: Allocator>(out: &mut Text<A>, word: &[u8]) -> Result
 }
 
 /// Writes the number of a guard, if it has one.
-#[tactic(auto, using(crate::proofs::Settling::settling), unfolding(crate::specs::Operators::guard_number))]
 fn write_guard_number<A: Allocator>(
     out: &mut Text<A>,
     number: Option<u32>,
@@ -96,7 +93,6 @@ fn guard_word<'t>(guard: Guard) -> &'t [u8]
 }
 
 /// Writes the guard of a static variable.
-#[tactic(auto, using(crate::proofs::Settling::settling), unfolding(crate::specs::Operators::guard_pieces))]
 pub fn write_guard<A: Allocator>(
     out: &mut Text<A>,
     guard: Guard,
@@ -109,7 +105,6 @@ pub fn write_guard<A: Allocator>(
 }
 
 /// Writes a comma and a number.
-#[tactic(auto, using(crate::proofs::Settling::settling))]
 fn write_comma_number<A: Allocator>(
     out: &mut Text<A>,
     number: i32,
@@ -122,7 +117,6 @@ fn write_comma_number<A: Allocator>(
 }
 
 /// Writes the place of a base class in an object, as run-time type information names it.
-#[tactic(auto, using(crate::proofs::Settling::settling), unfolding(crate::specs::Operators::base_class_pieces))]
 #[cold]
 pub fn write_base_class<A: Allocator>(
     out: &mut Text<A>,
@@ -150,7 +144,6 @@ macro_rules! word_of_operator {
 }
 
 /// Returns the words of an operator.
-#[tactic(auto, unfolding(crate::specs::Operators::operator_word))]
 pub fn operator_word<'t>(operator: PlainOperator) -> &'t [u8]
     ensures { result.now ≡ operator_word operator }
 {

@@ -61,7 +61,6 @@ pub fn print_arena_bytes(symbol_bytes: usize, nodes: usize) -> usize
 
 impl<'a, 'b, 't, S: Allocator, A: Allocator> Printer<'a, 'b, 't, S, A> {
     /// Prints one item of the stack.
-    #[tactic(auto, using(crate::proofs::Stack::pushes))]
     fn print_item(&mut self, item: Item<'a, 'b>) -> Result<(), AllocError>
         ensures text { OnOk result (Prints (item_pieces item.entry self.old.flags.0) self.old self.new) }
         ensures lighter { OnOk result (Lightens (item_weight item.entry) self.old self.new) }

@@ -1,5 +1,6 @@
 //! Prints names: those of scopes, and that of a symbol in its scope. Spelled names are written at once; what holds
 //! types or other names is pushed.
+#![tactic(auto, using(crate::proofs::Halves::pushed_left, crate::proofs::Nodes::printed), unfolding(crate::specs::Declaration::name_pieces, crate::specs::Declaration::quoted_unless, crate::specs::Operators::scoped, crate::specs::Weights::name_weight, crate::specs::Work::member_return, msvc_nodes::specs::NodeView::name_of, msvc_nodes::specs::NodeView::type_of))]
 
 ghost use Rattle.std.specs.Prelude.{ℕ, ◌≡◌, ◌≤◌, ◌+◌, ◌++◌, ◌∷◌, [], Bool, true, false, OnOk, IfOk};
 ghost use Rattle.std.specs.Prelude.{codes, cond, take, length, option_map};
@@ -30,7 +31,6 @@ use msvc_nodes::nodes::{Name, Scope, Symbol, Type, TypedSymbol};
 use std::alloc::{AllocError, Allocator};
 
 /// Writes bytes between two words.
-#[tactic(auto, using(crate::proofs::Settling::settling))]
 fn write_bracketed<A: Allocator>(
     out: &mut Text<A>,
     opening: &[u8],
@@ -46,7 +46,6 @@ fn write_bracketed<A: Allocator>(
 }
 
 /// Writes the name of an interface, in its brackets.
-#[tactic(auto, using(crate::proofs::Settling::settling))]
 #[cold]
 fn write_interface<A: Allocator>(out: &mut Text<A>, bytes: &[u8]) -> Result<(), AllocError>
     ensures { OnOk result (Writes (spec.spelled_name spelling_kind.Interface bytes.now) out.old out.new) }
@@ -55,7 +54,6 @@ fn write_interface<A: Allocator>(out: &mut Text<A>, bytes: &[u8]) -> Result<(), 
 }
 
 /// Writes the digits that stand for a name, between their marks.
-#[tactic(auto, using(crate::proofs::Settling::settling))]
 #[cold]
 fn write_md5<A: Allocator>(out: &mut Text<A>, bytes: &[u8]) -> Result<(), AllocError>
     ensures { OnOk result (Writes (spec.spelled_name spelling_kind.Md5 bytes.now) out.old out.new) }
@@ -64,7 +62,6 @@ fn write_md5<A: Allocator>(out: &mut Text<A>, bytes: &[u8]) -> Result<(), AllocE
 }
 
 /// Writes a name if it is spelled, and returns whether it is.
-#[tactic(auto, unfolding(crate::specs::Declaration::name_pieces, msvc_nodes::specs::NodeView::name_of))]
 #[inline(always)]
 fn write_if_spelled<'a, 'b, A: Allocator>(
     out: &mut Text<A>,
@@ -114,7 +111,6 @@ fn write_spelled_names<'a, 'b, A: Allocator>(
 }
 
 /// Writes the number that parts local names, in quotes.
-#[tactic(auto, using(crate::proofs::Settling::settling))]
 fn write_discriminator<A: Allocator>(out: &mut Text<A>, number: i32) -> Result<(), AllocError>
     ensures { OnOk result (Writes (spec.quoted (text (signed_decimal number) ∷ [])) out.old out.new) }
 {
@@ -132,7 +128,6 @@ fn write_anonymous<A: Allocator>(out: &mut Text<A>) -> Result<(), AllocError>
 
 /// Pushes a symbol with its type: the name between what the type has before and after it. NAME_ONLY drops both, and
 /// NO_FUNCTION_RETURNS what it has before.
-#[tactic(auto, using(crate::proofs::Stack::pushes))]
 pub fn push_typed_symbol<'a, 'b, S: Allocator>(
     stack: &mut Vec<Item<'a, 'b>, S>,
     tree: &'b TypedSymbol<'a, 'b>,
@@ -156,7 +151,6 @@ pub fn push_typed_symbol<'a, 'b, S: Allocator>(
 
 impl<'a, 'b, 't, S: Allocator, A: Allocator> Printer<'a, 'b, 't, S, A> {
     /// Prints a nested symbol, in quotes unless it is the name of a symbol itself.
-    #[tactic(auto, using(crate::proofs::Stack::pushes), unfolding(crate::specs::Declaration::quoted_unless))]
     fn print_nested(
         &mut self,
         tree: &'b TypedSymbol<'a, 'b>,
@@ -176,7 +170,6 @@ impl<'a, 'b, 't, S: Allocator, A: Allocator> Printer<'a, 'b, 't, S, A> {
     }
 
     /// Prints the descriptor of a type.
-    #[tactic(auto, using(crate::proofs::Halves::pushed_left))]
     #[cold]
     fn print_descriptor(&mut self, described: &'b Type<'a, 'b>) -> Result<(), AllocError>
         ensures text { OnOk result
@@ -191,7 +184,6 @@ impl<'a, 'b, 't, S: Allocator, A: Allocator> Printer<'a, 'b, 't, S, A> {
     }
 
     /// Prints a template with its arguments. Most of their names are spelled, and are written at once.
-    #[tactic(auto, using(crate::proofs::Stack::pushes))]
     fn print_template(
         &mut self,
         name: &'b Name<'a, 'b>,
@@ -218,7 +210,6 @@ impl<'a, 'b, 't, S: Allocator, A: Allocator> Printer<'a, 'b, 't, S, A> {
     }
 
     /// Prints a name.
-    #[tactic(auto, using(crate::proofs::Nodes::printed), unfolding(crate::specs::Declaration::name_pieces, crate::specs::Weights::name_weight, msvc_nodes::specs::NodeView::name_of))]
     pub fn print_name(&mut self, name: &'b Name<'a, 'b>, of_symbol: bool) -> Result<(), AllocError>
         ensures text { OnOk result (Prints (spec.name_pieces (name_of name.now) of_symbol self.old.flags.0)
             self.old self.new) }
@@ -314,7 +305,6 @@ impl<'a, 'b, 't, S: Allocator, A: Allocator> Printer<'a, 'b, 't, S, A> {
     }
 
     /// Prints a symbol's name in its scope, by the kind of the name.
-    #[tactic(auto, using(crate::proofs::Stack::pushes), unfolding(crate::specs::Operators::scoped))]
     pub fn print_symbol(
         &mut self,
         symbol: &'b Symbol<'a, 'b>,
@@ -353,7 +343,6 @@ impl<'a, 'b, 't, S: Allocator, A: Allocator> Printer<'a, 'b, 't, S, A> {
     }
 
     /// Prints the class whose member function is pointed to.
-    #[tactic(auto, using(crate::proofs::Stack::pushes))]
     pub fn print_member_pointer_class(
         &mut self,
         class: &'b Symbol<'a, 'b>,
@@ -408,7 +397,6 @@ fn push_ctor_dtor_name<'a, 'b, S: Allocator>(
 }
 
 /// Returns the type that a member function returns, or `None` of any other type.
-#[tactic(auto, unfolding(crate::specs::Work::member_return, msvc_nodes::specs::NodeView::type_of))]
 fn function_return<'a, 'b>(t: &'b Type<'a, 'b>) -> Option<&'b Type<'a, 'b>>
     ensures { option_map (λ t. type_of t.now) result ≡ member_return (type_of t.now) }
 {

@@ -1,5 +1,6 @@
 //! Writes simple types, which need no stack: base types, numbers, and pointers and references to these. They have
 //! nothing after the name.
+#![tactic(auto, using(crate::proofs::Nodes::printed), unfolding(crate::specs::Halves::after, crate::specs::Halves::before, msvc_nodes::specs::NodeView::type_of))]
 
 ghost use Rattle.std.specs.Prelude.{◌≡◌, ◌≤◌, ◌++◌, ◌∷◌, [], Bool, true, false, OnOk, IfOk, drop, length};
 ghost use Rattle.msvc_nodes.specs.NodeView.{type_of, types_in};
@@ -21,7 +22,6 @@ use std::alloc::{AllocError, Allocator};
 
 /// Writes the word of a base type, and its qualifiers. It stays a call, since a loop that has it inline first makes
 /// ready each word that depends on flags.
-#[tactic(auto, using(crate::proofs::Settling::settling))]
 #[inline(never)]
 pub fn write_base<A: Allocator>(
     out: &mut Text<A>,
@@ -37,7 +37,6 @@ pub fn write_base<A: Allocator>(
 }
 
 /// Writes a type that has no other in it, if it is simple. Returns whether it is.
-#[tactic(auto, using(crate::proofs::Nodes::printed), unfolding(crate::specs::Halves::after, crate::specs::Halves::before, msvc_nodes::specs::NodeView::type_of))]
 fn write_simple_inner<'a, 'b, A: Allocator>(
     out: &mut Text<A>,
     t: &'b Type<'a, 'b>,
@@ -62,7 +61,6 @@ fn write_simple_inner<'a, 'b, A: Allocator>(
 }
 
 /// Writes what a pointer or a reference has before the name, if what it points to is simple. Returns whether it is.
-#[tactic(auto, using(crate::proofs::Settling::settling))]
 pub fn write_simple_pointer<'a, 'b, A: Allocator>(
     out: &mut Text<A>,
     word: &[u8],
@@ -85,7 +83,6 @@ pub fn write_simple_pointer<'a, 'b, A: Allocator>(
 }
 
 /// Writes a type, if it is simple. Returns whether it is.
-#[tactic(auto, using(crate::proofs::Nodes::printed), unfolding(crate::specs::Halves::after, crate::specs::Halves::before, msvc_nodes::specs::NodeView::type_of))]
 #[inline(always)]
 pub fn write_simple<'a, 'b, A: Allocator>(
     out: &mut Text<A>,

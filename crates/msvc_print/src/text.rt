@@ -1,5 +1,6 @@
 //! Texts under a limit of bytes, and the pieces that are written to them. Whether a space is written depends on the
 //! byte before it.
+#![tactic(auto, using(crate::proofs::Stack::pushes), unfolding(crate::specs::Words::closing, crate::specs::Words::marked, crate::specs::Words::opening))]
 
 ghost use Rattle.std.specs.Prelude.{◌≡◌, ◌≤◌, ◌+◌, ◌∷◌, ◌++◌, [], ℕ, List, Some, OnOk, IfOk, is_some};
 ghost use Rattle.std.specs.Prelude.{cond, length, string_bytes, take};
@@ -305,7 +306,6 @@ pub fn word_space(flags: DemangleFlags, other: Space) -> Space
 }
 
 /// Writes a space and a qualifier, if its bit is set.
-#[tactic(auto, unfolding(crate::specs::Limited::add_all))]
 #[inline(always)]
 pub fn write_qualifier<A: Allocator>(
     out: &mut Text<A>,
@@ -352,7 +352,6 @@ fn write_set_qualifiers<A: Allocator>(
 }
 
 /// Writes the space before the mark of a pointer or a reference, and the mark with its qualifiers.
-#[tactic(auto, using(crate::proofs::Settling::settling), unfolding(crate::specs::Words::marked))]
 pub fn write_mark<A: Allocator>(
     out: &mut Text<A>,
     word: &[u8],
@@ -371,7 +370,6 @@ pub fn write_mark<A: Allocator>(
 }
 
 /// Writes the parenthesis before the mark of a pointer, if the type is pointed to.
-#[tactic(auto, unfolding(crate::specs::Limited::add_all, crate::specs::Words::opening))]
 pub fn write_opening<A: Allocator>(out: &mut Text<A>, pointed: bool) -> Result<(), AllocError>
     ensures { OnOk result (Writes (spec.opening pointed) out.old out.new) }
 {
@@ -383,7 +381,6 @@ pub fn write_opening<A: Allocator>(out: &mut Text<A>, pointed: bool) -> Result<(
 }
 
 /// Writes the parenthesis that closes that of [`write_opening`], if the type is pointed to.
-#[tactic(auto, unfolding(crate::specs::Limited::add_all, crate::specs::Words::closing))]
 pub fn write_closing<A: Allocator>(out: &mut Text<A>, pointed: bool) -> Result<(), AllocError>
     ensures { OnOk result (Writes (spec.closing pointed) out.old out.new) }
 {
@@ -394,7 +391,6 @@ pub fn write_closing<A: Allocator>(out: &mut Text<A>, pointed: bool) -> Result<(
 }
 
 /// Writes a number in decimal, with a minus if it is negative.
-#[tactic(auto, unfolding(crate::specs::Limited::add_all))]
 pub fn write_number<I: Integer, A: Allocator>(
     out: &mut Text<A>,
     number: I,

@@ -88,7 +88,6 @@ impl<'a, 'b, 't, S: Allocator, A: Allocator> Printer<'a, 'b, 't, S, A> {
     }
 
     /// Prints what a pointer or a reference has before the name.
-    #[tactic(auto, using(crate::proofs::Stack::pushes))]
     fn print_pointer(
         &mut self,
         word: &'b [u8],
@@ -108,7 +107,6 @@ impl<'a, 'b, 't, S: Allocator, A: Allocator> Printer<'a, 'b, 't, S, A> {
     }
 
     /// Prints what a function has before its name.
-    #[tactic(auto, using(crate::proofs::Stack::pushes))]
     fn print_function(
         &mut self,
         function: &'b Function<'a, 'b>,
@@ -134,7 +132,6 @@ impl<'a, 'b, 't, S: Allocator, A: Allocator> Printer<'a, 'b, 't, S, A> {
     }
 
     /// Prints what a variable has before its name: words that no flag drops, its type, and its qualifiers.
-    #[tactic(auto, using(crate::proofs::Stack::pushes))]
     fn print_variable(
         &mut self,
         inner: &'b Type<'a, 'b>,
@@ -180,7 +177,6 @@ impl<'a, 'b, 't, S: Allocator, A: Allocator> Printer<'a, 'b, 't, S, A> {
     }
 
     /// Prints what a function has after its name: its parameters, its qualifiers, and the rest of what it returns.
-    #[tactic(auto, using(crate::proofs::Stack::pushes))]
     fn print_function_end(
         &mut self,
         function: &'b Function<'a, 'b>,
@@ -206,7 +202,6 @@ impl<'a, 'b, 't, S: Allocator, A: Allocator> Printer<'a, 'b, 't, S, A> {
 
     /// Prints what a pointer to a member function has after its name: the parameters, the rest of what the function
     /// returns, and its `const`.
-    #[tactic(auto, using(crate::proofs::Stack::pushes))]
     fn print_member_pointer_end(&mut self, function: &'b Function<'a, 'b>) -> Result<(), AllocError>
         ensures text { OnOk result
             (Prints (member_pointer_end
@@ -341,7 +336,6 @@ impl<'a, 'b, 't, S: Allocator, A: Allocator> Printer<'a, 'b, 't, S, A> {
     }
 
     /// Prints a word, a name in its scope, and qualifiers.
-    #[tactic(auto, using(crate::proofs::Stack::pushes))]
     fn print_tagged(
         &mut self,
         word: &[u8],
@@ -490,7 +484,6 @@ fn push_qualifiers<'a, 'b, S: Allocator>(
 }
 
 /// Writes the type of a thread-safe static guard.
-#[tactic(auto, using(crate::proofs::Settling::settling))]
 fn write_thread_safe_guard<A: Allocator>(out: &mut Text<A>, number: i32) -> Result<(), AllocError>
     ensures { OnOk result (Writes (text (codes "TSS") ∷ text (signed_decimal number) ∷ [])
         out.old out.new) }
@@ -513,7 +506,6 @@ fn write_thunk<A: Allocator>(
 }
 
 /// Writes what a thunk has after its name: the offset in the table, in bytes, and the memory model.
-#[tactic(auto, using(crate::proofs::Settling::settling))]
 fn write_thunk_end<A: Allocator>(
     out: &mut Text<A>,
     number: i32,
@@ -528,7 +520,6 @@ fn write_thunk_end<A: Allocator>(
 }
 
 /// Writes a template parameter by its number.
-#[tactic(auto, using(crate::proofs::Settling::settling))]
 fn write_template_parameter<A: Allocator>(out: &mut Text<A>, number: i32) -> Result<(), AllocError>
     ensures { OnOk result (Writes
         (text (codes "`template-parameter") ∷ text (signed_decimal number) ∷ text (codes "'") ∷ [])
@@ -540,7 +531,6 @@ fn write_template_parameter<A: Allocator>(out: &mut Text<A>, number: i32) -> Res
 }
 
 /// Writes the parenthesis after the name of a pointer to an array, and the length of the array.
-#[tactic(auto, using(crate::proofs::Stack::pushes))]
 fn write_length<A: Allocator>(
     out: &mut Text<A>,
     length: i32,
@@ -555,7 +545,6 @@ fn write_length<A: Allocator>(
 }
 
 /// Writes the qualifiers of an array, and the parenthesis before the mark of a pointer to it.
-#[tactic(auto, using(crate::proofs::Stack::pushes))]
 pub fn write_array_prefix<A: Allocator>(
     out: &mut Text<A>,
     qualifiers: StorageClass,
