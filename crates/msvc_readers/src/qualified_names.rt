@@ -106,6 +106,7 @@ pub fn unqualified_name<'a, 'b, L: NodeBudget, A: Allocator>(
 /// Reads `TEMPLATE_NAME = UNQUALIFIED_NAME PARAMETERS`, with separate tables of names and types.
 #[cycle(readers)]
 #[tactic(auto, using(msvc_parser::proofs::NameSteps::template_kept_is))]
+#[inline(never)]
 pub fn template_name<'a, 'b, L: NodeBudget, A: Allocator>(
     parser: &mut Parser<'a, 'b, L, A>,
     templates: TemplateNames,
