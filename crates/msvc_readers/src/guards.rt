@@ -9,13 +9,13 @@ ghost use Rattle.msvc_grammar.specs.Grammar.{guard_marker, is_in_range, numbered
 ghost use Rattle.msvc_grammar.specs.Letters.{digits};
 ghost use Rattle.msvc_grammar.specs.Reads.{and_then, in_node, letter_here, read, read_name, with_value};
 ghost use Rattle.msvc_grammar.specs.Rules as rules;
-ghost use Rattle.msvc_parser.specs.Parser.{Consumes, guard_of, indexed, MayConsume, ReadsAs};
+ghost use Rattle.msvc_parser.specs.Parser.{Consumes, indexed, MayConsume, ReadsAs};
 ghost use Rattle.msvc_parser.specs.Rows.{EndsNames, named_at, typed_symbol_at};
 ghost use Rattle.msvc_parser.specs.NestedList.{current, enclosing};
 
 use crate::qualified_names::{nested_name, put_symbol, scope};
 use crate::symbols::put_typed_symbol;
-use msvc_nodes::kinds::{Guard, NumberedType};
+use msvc_nodes::kinds::NumberedType;
 use msvc_nodes::nodes::{Name, Symbol, Type, TypedSymbol};
 use msvc_parser::limit::NodeBudget;
 use msvc_parser::nested_list::Checkpoint;
@@ -39,11 +39,11 @@ pub fn indexed_symbol<'a, 'b, L: NodeBudget, A: Allocator>(
         (indexed (name_of symbol.now.name.now) (map name_at symbol.now.scope.now)) }
     ensures consumes { MayConsume parser.old parser.new result }
 {
-    let Some(guard) = guard_of_name(symbol.name) else {
+    let Name::Guard(guard, _) = symbol.name else {
         return Ok(symbol);
     };
     let index = guard_index(parser)?;
-    let name = parser.put_name(Name::Guard(guard, index))?;
+    let name = parser.put_name(Name::Guard(*guard, index))?;
     parser.put(Symbol {
         name,
         scope: symbol.scope,
@@ -197,26 +197,4 @@ fn longer_number(value: u32, digit: u8) -> Option<u32>
         return None;
     }
     Some(longer as u32)
-}
-
-/// Returns which guard a name is, if any. The other names are listed, since the prover does not know which ones `_`
-/// covers.
-#[tactic(auto, unfolding(msvc_nodes::specs::NodeView::name_of))]
-fn guard_of_name<'a, 'b>(name: &'b Name<'a, 'b>) -> Option<Guard>
-    ensures { result ≡ guard_of (name_of name.now) }
-{
-    match name {
-        Name::Source(_) => None,
-        Name::Interface(_) => None,
-        Name::Md5(_) => None,
-        Name::Anonymous => None,
-        Name::AnonymousDigits(_) => None,
-        Name::Plain(_) => None,
-        Name::Guard(guard, _) => Some(*guard),
-        Name::TypeDescriptor(_, _) => None,
-        Name::BaseClassDescriptor(_) => None,
-        Name::Template(_) => None,
-        Name::Discriminator(_) => None,
-        Name::Nested(_) => None,
-    }
 }

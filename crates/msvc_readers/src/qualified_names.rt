@@ -1,6 +1,6 @@
 //! Names, scopes and templates, and the table of names that they are added to.
 
-ghost use Rattle.std.specs.Prelude.{◌≡◌, ◌≤◌, ◌<◌, ◌++◌, ◌∷◌, [], codes, IfErr, IfOk, length, map, Some};
+ghost use Rattle.std.specs.Prelude.{◌≡◌, ◌≤◌, ◌<◌, ◌++◌, codes, IfOk, length, map, Some};
 ghost use Rattle.std.specs.Prelude.{string_bytes};
 ghost use Rattle.msvc_nodes.specs.NodeView.{name_at, name_of, type_at, typed_symbol_of};
 ghost use Rattle.msvc_nodes.specs.Trees.{discriminator, nested, template, type_trees};
@@ -9,9 +9,7 @@ ghost use Rattle.msvc_grammar.specs.Grammar.{new_interface, new_source_name, tem
 ghost use Rattle.msvc_grammar.specs.Letters.{hexadecimal_codes};
 ghost use Rattle.msvc_grammar.specs.Reads.{and_then, in_node, letter_here, read, read_name, with_value};
 ghost use Rattle.msvc_grammar.specs.Rules as rules;
-ghost use Rattle.msvc_parser.specs.Parser.{Consumes, frame_of};
-ghost use Rattle.msvc_parser.specs.Parser.{is_of_symbol, add_template_name};
-ghost use Rattle.msvc_parser.specs.Parser.{ReadsAs, state_of, Stays};
+ghost use Rattle.msvc_parser.specs.Parser.{add_template_name, Consumes, is_of_symbol, ReadsAs, Stays};
 ghost use Rattle.msvc_parser.specs.Rows.{EndsNames, EndsTypes, ListsNames, named_at};
 ghost use Rattle.msvc_parser.specs.NestedList.{current, enclosing};
 
@@ -25,7 +23,7 @@ use msvc_parser::letters;
 use msvc_parser::limit::NodeBudget;
 use msvc_parser::nested_list::Checkpoint;
 use msvc_parser::parser::Parser;
-use msvc_parser::refusal::{Failed, Message, Refusal};
+use msvc_parser::refusal::{Failed, Message};
 use std::alloc::Allocator;
 
 /// Reads a source name and memorizes it.
@@ -60,23 +58,6 @@ pub fn add_template_name<'a, 'b, L: NodeBudget, A: Allocator>(
         TemplateNames::Memorized => parser.add_name(name, nodes),
         TemplateNames::NotMemorized => Ok(name),
     }
-}
-
-/// Appends a name to the list of the scope.
-pub fn list_name<'a, 'b, L: NodeBudget, A: Allocator>(
-    parser: &mut Parser<'a, 'b, L, A>,
-    name: &'b Name<'a, 'b>,
-) -> Result<(), Failed>
-    ensures rest { IfOk result (λ _. parser.new.rest.now ≡ parser.old.rest.now) }
-    ensures state { IfOk result (λ _. state_of parser.new ≡ state_of parser.old) }
-    ensures kept { IfOk result (λ _. frame_of parser.new
-        ≡ record (frame_of parser.old) { listed_names = current parser.old.listed_names ++ name.entry ∷ [] }) }
-    ensures last_error { IfErr result (λ _. parser.new.last_error ≡ Refusal.Memory) }
-{
-    if parser.listed_names.push(name).is_err() {
-        return Err(parser.no_memory());
-    }
-    Ok(())
 }
 
 /// Reads `UNQUALIFIED_NAME = digit | "?$" TEMPLATE_NAME | "?" SPECIAL_NAME | SOURCE_NAME`.
@@ -349,7 +330,9 @@ pub fn scope<'a, 'b, L: NodeBudget, A: Allocator>(
             return Ok(checkpoint);
         }
         let name = nested_name(parser)?;
-        list_name(parser, name)?;
+        if parser.listed_names.push(name).is_err() {
+            return Err(parser.no_memory());
+        }
     }
 }
 

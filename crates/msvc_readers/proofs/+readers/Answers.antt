@@ -92,36 +92,41 @@ qualified_names::scope-names-preserved g t c =
     let kept : frame_of c.nested_name.new.parser ≡ frame_of c.names.parser =
     c.in_ok-name.ensures.consumes.1 ∙ c.consume.ensures.kept in
     let shorter : length c.nested_name.new.parser.rest.now < length c.names.parser.rest.now = search rules in
-    let items : current c.list_name.new.parser.listed_names ≡ current c.names.parser.listed_names ++ c.in_ok-name.name ∷
-    [] =
-    ap (λ (f : Frame _ _). f.listed_names) c.in_ok-list_name.ensures.kept
-    ∙ ap (λ (f : Frame _ _). f.listed_names ++ c.in_ok-name.name ∷ []) kept in
-    let seen : map name_at (current c.list_name.new.parser.listed_names)
+    let pushed : current c.push.new.self
+    ≡ current c.nested_name.new.parser.listed_names ++ c.in_ok-name.name ∷ [] = search rules in
+    let around : enclosing c.push.new.self ≡ enclosing c.nested_name.new.parser.listed_names = search rules in
+    let items : current c.push.new.self ≡ current c.names.parser.listed_names ++ c.in_ok-name.name ∷ [] =
+    pushed ∙ ap (λ (f : Frame _ _). f.listed_names ++ c.in_ok-name.name ∷ []) kept in
+    let seen : map name_at (current c.push.new.self)
     ≡ map name_at (current c.names.parser.listed_names) ++ name_at c.in_ok-name.name ∷ [] =
     ap (map name_at) items ∙ map_last name_at (current c.names.parser.listed_names) c.in_ok-name.name in
     let none : after (64 ∷ []) c.names.parser.rest.now ≡ None = search rules in
     let read : read_name nested_name c.names.parser.rest.now (state_of c.names.parser)
     ≡ Some (name_at c.in_ok-name.name, c.nested_name.new.parser.rest.now, state_of c.nested_name.new.parser) =
-    search rules in
-    let rest : c.list_name.new.parser.rest.now ≡ c.nested_name.new.parser.rest.now = c.in_ok-list_name.ensures.rest in
-    let state : state_of c.list_name.new.parser ≡ state_of c.nested_name.new.parser = c.in_ok-list_name.ensures.state in (
-      ap (λ (ns : List NameTree). with_front ns (read_name scope c.list_name.new.parser.rest.now
-          (state_of c.list_name.new.parser)))
-          seen
-          ∙ ap (λ l. with_front (map name_at (current c.names.parser.listed_names) ++ name_at c.in_ok-name.name ∷ [])
-          (read_name scope l (state_of c.list_name.new.parser))) rest
-          ∙ ap (λ (s : State). with_front (map name_at (current c.names.parser.listed_names)
-          ++ name_at c.in_ok-name.name ∷ [])
-          (read_name scope c.nested_name.new.parser.rest.now s)) state
+    search rules in (
+      ap (λ (ns : List NameTree). with_front ns
+          (read_name scope c.nested_name.new.parser.rest.now (state_of c.nested_name.new.parser))) seen
           ∙ sym (scope_more (map name_at (current c.names.parser.listed_names)) c.names.parser.rest.now
           c.nested_name.new.parser.rest.now
           (state_of c.names.parser) (state_of c.nested_name.new.parser) (name_at c.in_ok-name.name) none read)
           ∙ c.names.invariant.0,
-      omega (arith, shorter, ap length rest, c.names.invariant.1),
+      omega (arith, shorter, c.names.invariant.1),
       c.names.invariant.2,
-      frame_names _ _ _ _ (frame_of c.names.parser) (frame_of c.nested_name.new.parser) (frame_of c.list_name.new.parser)
+      frame_names _ _ _ _ (frame_of c.names.parser) (frame_of c.nested_name.new.parser)
+          (record (frame_of c.nested_name.new.parser) {
+            listed_names = current c.push.new.self;
+            names_before = enclosing c.push.new.self;
+          })
           c.in_ok-name.name _
-          c.names.invariant.3 kept c.in_ok-list_name.ensures.kept,
+          c.names.invariant.3 kept
+          (ap (λ xs. record (frame_of c.nested_name.new.parser) {
+            listed_names = xs;
+            names_before = enclosing c.push.new.self;
+          }) pushed
+          ∙ ap (λ xs. record (frame_of c.nested_name.new.parser) {
+            listed_names = current c.nested_name.new.parser.listed_names ++ c.in_ok-name.name ∷ [];
+            names_before = xs;
+          }) around),
     )
 
 -- the new one goes after those so far
