@@ -112,7 +112,6 @@ pub fn member_pointer<'a, 'b, L: NodeBudget, A: Allocator>(
 }
 
 /// Stores a function of these parts. It stands outside the cycle, as `put_tagged` does.
-#[tactic(auto, using(msvc_parser::proofs::Nodes::views))]
 #[inline(never)]
 pub fn put_function<'a, 'b, L: NodeBudget, A: Allocator>(
     parser: &mut Parser<'a, 'b, L, A>,
@@ -155,7 +154,6 @@ pub fn put_function_type<'a, 'b, L: NodeBudget, A: Allocator>(
 }
 
 /// Stores a member function of these parts. It stands outside the cycle, as `put_tagged` does.
-#[tactic(auto, using(msvc_parser::proofs::Nodes::views))]
 #[inline(never)]
 pub fn put_member<'a, 'b, L: NodeBudget, A: Allocator>(
     parser: &mut Parser<'a, 'b, L, A>,
@@ -170,7 +168,6 @@ pub fn put_member<'a, 'b, L: NodeBudget, A: Allocator>(
 }
 
 /// Stores a pointer to a member function of these parts. It stands outside the cycle, as `put_tagged` does.
-#[tactic(auto, using(msvc_parser::proofs::Nodes::views))]
 #[inline(never)]
 pub fn put_member_pointer<'a, 'b, L: NodeBudget, A: Allocator>(
     parser: &mut Parser<'a, 'b, L, A>,

@@ -48,7 +48,6 @@ pub fn function_parameters<'a, 'b, L: NodeBudget, A: Allocator>(
 }
 
 /// Puts one `void`, which is already counted, on a new part of the list. The result ends that part.
-#[tactic(auto, unfolding(msvc_nodes::specs::NodeView::type_of))]
 #[inline(never)]
 pub fn no_parameters<'a, 'b, L: NodeBudget, A: Allocator>(
     parser: &mut Parser<'a, 'b, L, A>,

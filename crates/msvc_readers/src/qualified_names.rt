@@ -119,7 +119,6 @@ pub fn template<'a, 'b, L: NodeBudget, A: Allocator>(
 }
 
 /// Stores a template of its name and of the arguments on the list. It stands outside the cycle, as `put_tagged` does.
-#[tactic(auto, using(msvc_parser::proofs::Nodes::views))]
 #[inline(never)]
 pub fn put_template<'a, 'b, L: NodeBudget, A: Allocator>(
     parser: &mut Parser<'a, 'b, L, A>,
@@ -189,7 +188,6 @@ pub fn locally_scoped_name<'a, 'b, L: NodeBudget, A: Allocator>(
 }
 
 /// Reads the number that distinguishes a scope.
-#[tactic(auto, unfolding(msvc_nodes::specs::NodeView::name_of))]
 #[inline(never)]
 pub fn discriminator<'a, 'b, L: NodeBudget, A: Allocator>(
     parser: &mut Parser<'a, 'b, L, A>,
@@ -205,7 +203,6 @@ pub fn discriminator<'a, 'b, L: NodeBudget, A: Allocator>(
 }
 
 /// Stores a symbol as a name.
-#[tactic(auto, using(msvc_parser::proofs::Nodes::views))]
 #[inline(never)]
 pub fn put_nested<'a, 'b, L: NodeBudget, A: Allocator>(
     parser: &mut Parser<'a, 'b, L, A>,

@@ -55,7 +55,6 @@ pub fn no_special_name<'a, 'b, L: NodeBudget, A: Allocator>(
 }
 
 /// Counts and stores an operator without parts.
-#[tactic(auto, unfolding(msvc_nodes::specs::NodeView::name_of))]
 #[inline(never)]
 pub fn new_operator<'a, 'b, L: NodeBudget, A: Allocator>(
     parser: &mut Parser<'a, 'b, L, A>,
@@ -70,7 +69,6 @@ pub fn new_operator<'a, 'b, L: NodeBudget, A: Allocator>(
 }
 
 /// Counts and stores a guard without an index.
-#[tactic(auto, unfolding(msvc_nodes::specs::NodeView::name_of))]
 #[inline(never)]
 pub fn new_guard<'a, 'b, L: NodeBudget, A: Allocator>(
     parser: &mut Parser<'a, 'b, L, A>,
@@ -128,7 +126,6 @@ pub fn base_class_descriptor<'a, 'b, L: NodeBudget, A: Allocator>(
 }
 
 /// Stores the place of a base class as a name. It stands outside the cycle, as `put_tagged` does.
-#[tactic(auto, unfolding(msvc_nodes::specs::NodeView::name_of))]
 pub fn put_base_class<'a, 'b, L: NodeBudget, A: Allocator>(
     parser: &mut Parser<'a, 'b, L, A>,
     place: BaseClass,

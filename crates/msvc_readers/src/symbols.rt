@@ -83,7 +83,6 @@ pub fn template_symbol<'a, 'b, L: NodeBudget, A: Allocator>(
 }
 
 /// Stores a symbol that has a name but no scope and no type. Its nodes are already counted.
-#[tactic(auto, unfolding(msvc_nodes::specs::NodeView::type_of))]
 pub fn untyped_symbol<'a, 'b, L: NodeBudget, A: Allocator>(
     parser: &mut Parser<'a, 'b, L, A>,
     name: &'b Name<'a, 'b>,

@@ -131,7 +131,6 @@ pub fn marked_member_pointer<'a, 'b, L: NodeBudget, A: Allocator>(
 }
 
 /// Counts and stores a type without parts.
-#[tactic(auto, unfolding(msvc_nodes::specs::NodeView::type_of))]
 #[inline(never)]
 pub fn new_plain<'a, 'b, L: NodeBudget, A: Allocator>(
     parser: &mut Parser<'a, 'b, L, A>,
@@ -202,7 +201,6 @@ pub fn pointing_type<'a, 'b, L: NodeBudget, A: Allocator>(
 
 /// Reads a pointer or reference to a function.
 #[cycle(readers)]
-#[tactic(auto, unfolding(msvc_nodes::specs::NodeView::type_of))]
 pub fn pointed_function<'a, 'b, L: NodeBudget, A: Allocator>(
     parser: &mut Parser<'a, 'b, L, A>,
     affinity: PointerAffinity,
@@ -219,7 +217,6 @@ pub fn pointed_function<'a, 'b, L: NodeBudget, A: Allocator>(
 }
 
 /// Reads a template argument that is a number.
-#[tactic(auto, unfolding(msvc_nodes::specs::NodeView::type_of))]
 pub fn numbered_type<'a, 'b, L: NodeBudget, A: Allocator>(
     parser: &mut Parser<'a, 'b, L, A>,
     kind: NumberedType,
@@ -367,7 +364,6 @@ pub fn nested_arrays<'a, 'b, L: NodeBudget, A: Allocator>(
 }
 
 /// Reads the negated number of a template parameter.
-#[tactic(auto, unfolding(msvc_nodes::specs::NodeView::type_of))]
 #[inline(never)]
 pub fn template_parameter<'a, 'b, L: NodeBudget, A: Allocator>(
     parser: &mut Parser<'a, 'b, L, A>,
