@@ -14,7 +14,8 @@ use Rattle.msvc_parser.proofs.SymbolSteps.{encoding_by, symbol_of}
 use Rattle.msvc_parser.proofs.TypeSteps.{plain_letter, referred_step, type_by}
 use Rattle.msvc_grammar.specs.Counts.{name_count, type_count}
 use Rattle.msvc_grammar.specs.Grammar.{named_symbol, template_inside, template_kept}
-use Rattle.msvc_grammar.specs.Letters.{base_types, compound_letters, digits, encoding_letters, function_classes, rows_of}
+use Rattle.msvc_grammar.specs.Letters.{base_types, compound_letters, digits, encoding_letters, function_classes}
+use Rattle.msvc_grammar.specs.Letters.{rows_of}
 use Rattle.msvc_parser.specs.Parser.{Frame, byte_here, frame_of, indexed, is_of_symbol}
 use Rattle.msvc_parser.specs.Parser.{add_template_name, known_name_of, memorized_of}
 use Rattle.msvc_parser.specs.Parser.{found_or, parameters_stop, state_of, type_of_letter}
@@ -48,7 +49,8 @@ types::plain_type-returns-in_default-clause-value g t c =
 
 -- a letter that is none of the others is that of a member function or none
 
-pub symbols::encoding-returns-in-Some-function_class-clause-value : goal.symbols::encoding-returns-in-Some-function_class-clause-value
+pub symbols::encoding-returns-in-Some-function_class-clause-value :
+    goal.symbols::encoding-returns-in-Some-function_class-clause-value
 symbols::encoding-returns-in-Some-function_class-clause-value g t c =
     let first : byte_here c.args.parser.now.rest.now (state_of c.args.parser.now)
     ≡ Some (c.in-Some.letter, c.next_byte.new.self.rest.now, state_of c.next_byte.new.self) =
@@ -62,8 +64,8 @@ symbols::encoding-returns-in-Some-function_class-clause-value g t c =
     let read : read_name encoding c.args.parser.now.rest.now (state_of c.args.parser.now)
     ≡ read_name (encoding_after (member_of c.in-Some-function_class.class.0)) c.next_byte.new.self.rest.now
     (state_of c.next_byte.new.self) =
-    encoding_first c.in-Some.letter c.args.parser.now.rest.now c.next_byte.new.self.rest.now (state_of c.args.parser.now)
-    (state_of c.next_byte.new.self) first
+    encoding_first c.in-Some.letter c.args.parser.now.rest.now c.next_byte.new.self.rest.now
+    (state_of c.args.parser.now) (state_of c.next_byte.new.self) first
     ∙ others
     ∙ member_letter c.in-Some.letter c.in-Some-function_class.class.0 c.next_byte.new.self.rest.now
     (state_of c.next_byte.new.self) class in
@@ -80,8 +82,8 @@ symbols::encoding-returns-in-None-clause-value g t c =
     (state_of c.next_byte.new.self) = search rules in
     let none : lookup c.in-Some.letter function_classes ≡ None = sym c.in-None.ensures in
     let read : read_name encoding c.args.parser.now.rest.now (state_of c.args.parser.now) ≡ None =
-    encoding_first c.in-Some.letter c.args.parser.now.rest.now c.next_byte.new.self.rest.now (state_of c.args.parser.now)
-    (state_of c.next_byte.new.self) first
+    encoding_first c.in-Some.letter c.args.parser.now.rest.now c.next_byte.new.self.rest.now
+    (state_of c.args.parser.now) (state_of c.next_byte.new.self) first
     ∙ others
     ∙ no_member_letter c.in-Some.letter c.next_byte.new.self.rest.now (state_of c.next_byte.new.self) none in
     rw c.reject.ensures.last_error read
@@ -155,8 +157,8 @@ parameters::parameters-parameters-preserved g t c =
           ++ type_at c.in_ok-parameter.parameter ∷ [])
           (read_name parameters c.parameter.new.parser.rest.now s)) state
           ∙ sym (parameters_more (map type_at (current c.parameters.parser.listed_types)) c.parameters.parser.rest.now
-          c.parameter.new.parser.rest.now
-          (state_of c.parameters.parser) (state_of c.parameter.new.parser) (type_at c.in_ok-parameter.parameter) none read)
+          c.parameter.new.parser.rest.now (state_of c.parameters.parser) (state_of c.parameter.new.parser)
+          (type_at c.in_ok-parameter.parameter) none read)
           ∙ c.parameters.invariant.0,
       omega (arith, c.in_ok-parameter.ensures.consumes.0, ap length rest, c.parameters.invariant.1),
       c.parameters.invariant.2,

@@ -17,7 +17,8 @@ digits-preserved g c =
       c.guard_digit-in-digits.new.parser.rest.now,
       state_of c.guard_digit-in-digits.new.parser,
     ) = search rules in
-    let shorter : length c.guard_digit-in-digits.new.parser.rest.now < length c.digits.parser.rest.now = search rules in (
+    let shorter : length c.guard_digit-in-digits.new.parser.rest.now < length c.digits.parser.rest.now =
+    search rules in (
       ap (λ n. read_name (decimal n) c.guard_digit-in-digits.new.parser.rest.now
           (state_of c.guard_digit-in-digits.new.parser)) (sym same)
           ∙ sym (decimal_more c.digits.value c.in_ok-digit.digit c.digits.parser.rest.now

@@ -22,7 +22,8 @@ returns-clause-value g c =
       c.args.parser.now.rest.now,
       state_of c.args.parser.now,
     )
-    ≡ Some (symbol, c.put_symbol.new.parser.rest.now, state_of c.put_symbol.new.parser) = c.in_ok-symbol.ensures.value in
+    ≡ Some (symbol, c.put_symbol.new.parser.rest.now, state_of c.put_symbol.new.parser) =
+    c.in_ok-symbol.ensures.value in
     let put : Some (
       numbered number_kind.ThreadSafeGuard (to_z w32 (of_z w32 c.args.number)),
       c.put_symbol.new.parser.rest.now,

@@ -18,10 +18,12 @@ digits-preserved g c =
     search rules in
     let shorter : length c.hexadecimal_digit.new.parser.rest.now < length c.digits.parser.rest.now = search rules in (
       ap (λ ds. with_front ds
-          (read_name hexadecimal_digits c.hexadecimal_digit.new.parser.rest.now (state_of c.hexadecimal_digit.new.parser)))
+          (read_name hexadecimal_digits c.hexadecimal_digit.new.parser.rest.now
+          (state_of c.hexadecimal_digit.new.parser)))
           pushed
-          ∙ sym (digits_more (string_bytes c.digits.digits) c.digits.parser.rest.now c.hexadecimal_digit.new.parser.rest.now
-          (state_of c.digits.parser) (state_of c.hexadecimal_digit.new.parser) c.in_ok-digit.digit none read)
+          ∙ sym (digits_more (string_bytes c.digits.digits) c.digits.parser.rest.now
+          c.hexadecimal_digit.new.parser.rest.now (state_of c.digits.parser) (state_of c.hexadecimal_digit.new.parser)
+          c.in_ok-digit.digit none read)
           ∙ c.digits.invariant.0,
       omega (arith, shorter, c.digits.invariant.1),
       c.in_ok-digit.ensures.consumes.1 ∙ c.consume.ensures.kept ∙ c.digits.invariant.2,
