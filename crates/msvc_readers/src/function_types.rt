@@ -32,7 +32,7 @@ use std::alloc::Allocator;
 
 /// Reads `FUNCTION = SIGNATURE`: a function outside of any class.
 #[cycle(readers)]
-#[tactic(auto, using(msvc_parser::proofs::SymbolSteps::function_step))]
+#[tactic(auto, using(msvc_parser::proofs::SymbolSteps::function_step, msvc_parser::proofs::Nodes::views))]
 pub fn function<'a, 'b, L: NodeBudget, A: Allocator>(
     parser: &mut Parser<'a, 'b, L, A>,
 ) -> Result<&'b Type<'a, 'b>, Failed>
@@ -46,7 +46,7 @@ pub fn function<'a, 'b, L: NodeBudget, A: Allocator>(
         FuncClass::empty(),
         StorageClass::empty(),
     )?;
-    put_function(parser, f)
+    parser.put_type(Type::Function(f))
 }
 
 /// Reads `MEMBER = [THUNK_NUMBER] [THIS_QUALIFIERS] SIGNATURE`.
@@ -111,20 +111,6 @@ pub fn member_pointer<'a, 'b, L: NodeBudget, A: Allocator>(
     put_member_pointer(parser, symbol, f)
 }
 
-/// Stores a function of these parts. It stands outside the cycle, as `put_tagged` does.
-#[inline(never)]
-pub fn put_function<'a, 'b, L: NodeBudget, A: Allocator>(
-    parser: &mut Parser<'a, 'b, L, A>,
-    f: &'b Function<'a, 'b>,
-) -> Result<&'b Type<'a, 'b>, Failed>
-    ensures value { ReadsAs type_at parser.old parser.new result
-        (with_value (Some (tree.function f.now.convention (type_trees (map type_at f.now.parameters.now))
-        f.now.qualifiers.0 (type_of f.now.returned.now)))) }
-    ensures stays { Stays parser.old parser.new result }
-{
-    parser.put_type(Type::Function(f))
-}
-
 /// Stores a function type of these parts and of the parameters on the list. It stands outside the cycle, as
 /// `put_tagged` does.
 #[inline(never)]
@@ -150,7 +136,7 @@ pub fn put_function_type<'a, 'b, L: NodeBudget, A: Allocator>(
         returned,
         checkpoint,
     )?;
-    put_function(parser, f)
+    parser.put_type(Type::Function(f))
 }
 
 /// Stores a member function of these parts. It stands outside the cycle, as `put_tagged` does.
