@@ -51,7 +51,7 @@ pub fn function<'a, 'b, L: NodeBudget, A: Allocator>(
 
 /// Reads `MEMBER = [THUNK_NUMBER] [THIS_QUALIFIERS] SIGNATURE`.
 #[cycle(readers)]
-#[tactic(auto, using(msvc_parser::proofs::SymbolSteps::member_step))]
+#[tactic(auto, using(msvc_parser::proofs::SymbolSteps::member_step, msvc_parser::proofs::Nodes::views))]
 pub fn member<'a, 'b, L: NodeBudget, A: Allocator>(
     parser: &mut Parser<'a, 'b, L, A>,
     class: FuncClass,
@@ -64,7 +64,7 @@ pub fn member<'a, 'b, L: NodeBudget, A: Allocator>(
     thunk_number(parser, class)?;
     let this_qualifiers = this_qualifiers(parser, object_qualifiers(class));
     let f = signature(parser, FunctionKind::Member, class, this_qualifiers)?;
-    put_member(parser, f)
+    parser.put_type(Type::MemberFunction(f))
 }
 
 /// Reads `FUNCTION_TYPE = [THIS_QUALIFIERS] convention [class of what is returned] TYPE FUNCTION_PARAMETERS`.
@@ -137,20 +137,6 @@ pub fn put_function_type<'a, 'b, L: NodeBudget, A: Allocator>(
         checkpoint,
     )?;
     parser.put_type(Type::Function(f))
-}
-
-/// Stores a member function of these parts. It stands outside the cycle, as `put_tagged` does.
-#[inline(never)]
-pub fn put_member<'a, 'b, L: NodeBudget, A: Allocator>(
-    parser: &mut Parser<'a, 'b, L, A>,
-    f: &'b Function<'a, 'b>,
-) -> Result<&'b Type<'a, 'b>, Failed>
-    ensures value { ReadsAs type_at parser.old parser.new result
-        (with_value (Some (tree.member_function f.now.class.0 f.now.convention
-        (type_trees (map type_at f.now.parameters.now)) f.now.qualifiers.0 (type_of f.now.returned.now)))) }
-    ensures stays { Stays parser.old parser.new result }
-{
-    parser.put_type(Type::MemberFunction(f))
 }
 
 /// Stores a pointer to a member function of these parts. It stands outside the cycle, as `put_tagged` does.
