@@ -5,5 +5,5 @@ pub returns-else-has_arena-clause-filtered : goal.returns-else-has_arena-clause-
 returns-else-has_arena-clause-filtered c =
     let is = c.out_of_memory.ensures.result in
     filter_lost c.args.flags c.args.input.now c.args.out.now c.filter-found.new.out _ _ _ c.filter-found.auto.out is.0
-        is.2
+    is.2
     c.out_of_memory.ensures.written
