@@ -117,13 +117,6 @@ is_empty : (bytes : List ℕ) → length bytes ≡ 0 → bytes ≡ []
 is_empty [] e = refl
 is_empty (b ∷ bytes) e = absurd (omega (arith, e))
 
--- nothing is written into a buffer of no bytes
-pub into-nothing : (parts : List Part) (old new : List ℕ) → length new ≡ length old → (length new == 0) ≡ true
-    → ArePartsWritten parts old new
-into-nothing parts [] new same none = is_empty new same
-into-nothing parts (first ∷ old) new same none =
-    let zero : length new ≡ 0 = eqb-true (length new) 0 none in absurd (omega (arith, same, zero))
-
 not_zero : (n : ℕ) (is : Bool) → (suc n == 0) ≡ is → is ≡ false
 not_zero n true e = let no : suc n ≡ 0 = eqb-true (suc n) 0 e in absurd (omega (arith, no))
 not_zero n false e = refl

@@ -12,7 +12,8 @@ use Rattle.msvc_nodes.specs.declared.kinds.Spelling.TheVariants as spelling_kind
 use Rattle.msvc_nodes.specs.Trees.{spelled, plain}
 use Rattle.msvc_nodes.specs.declared.kinds.CallingConv.TheVariants.{Cdecl}
 use Rattle.msvc_grammar.specs.Sorts.{Sort, nothing, bits, integer, bytes, name_tree, type_tree, symbol_tree, base_type}
-use Rattle.msvc_grammar.specs.Sorts.{type_letter, encoding_letter, convention, perhaps, list, both, Value, based, extended}
+use Rattle.msvc_grammar.specs.Sorts.{type_letter, encoding_letter, convention, perhaps, list, both, Value, based}
+use Rattle.msvc_grammar.specs.Sorts.{extended}
 use Rattle.msvc_grammar.specs.Sorts.{named, points, arrayed, indexed, referred, variable_of, table_of, type_information}
 use Rattle.msvc_grammar.specs.Sorts.{untyped, encoded_string, virtual_call, plain_function, member_of}
 use Rattle.msvc_grammar.specs.Rules.{Production, symbol, symbol_body, guard_index, unsigned, decimal, encoding}
@@ -23,8 +24,8 @@ use Rattle.msvc_grammar.specs.Rules.{pointee, array, dimension, positive, length
 use Rattle.msvc_grammar.specs.Rules.{template_name, scope, nested_name, locally_scoped_name, anonymous_namespace}
 use Rattle.msvc_grammar.specs.Rules.{hexadecimal_digits, source_name, number, magnitude, letters, required, Condition}
 use Rattle.msvc_grammar.specs.Rules.{none_of}
-use Rattle.msvc_grammar.specs.Rules.{at_end, every, some_of, is_nil, Rule, letter, literal, up_to, here, ◌>>=◌, ◌or◌, call}
-use Rattle.msvc_grammar.specs.Rules.{noted, entering, apart, node}
+use Rattle.msvc_grammar.specs.Rules.{at_end, every, some_of, is_nil, Rule, letter, literal, up_to, here, ◌>>=◌, ◌or◌}
+use Rattle.msvc_grammar.specs.Rules.{call, noted, entering, apart, node}
 use Rattle.msvc_grammar.specs.Rules.{prefixed_type, function_type, member_pointer, class_part}
 use Rattle.msvc_grammar.specs.Rules.{special_name, special_after, literal_or, texts_of, text_and, text_or}
 use Rattle.msvc_grammar.specs.Letters.{type_texts, special_texts}

@@ -5,7 +5,8 @@ use Rattle.std.proofs.Common.{ap, ◌∙◌, ◌-◌, length, nat_lt}
 use Rattle.std.proofs.lemmas.Bool.{eq-eqb}
 use Rattle.msvc_grammar.specs.Sorts.{Sort, Value}
 use Rattle.msvc_grammar.specs.State.{State, counted, is_allowed, more, span_of, uncounted}
-use Rattle.msvc_grammar.specs.Reads.{Found, Reads, given, a_letter, a_literal, a_part, where_it_holds, in_a_row, the_first}
+use Rattle.msvc_grammar.specs.Reads.{Found, Reads, given, a_letter, a_literal, a_part, where_it_holds, in_a_row}
+use Rattle.msvc_grammar.specs.Reads.{the_first}
 use Rattle.msvc_grammar.specs.Reads.{the_second, called, a_node, a_known_name, remembered, a_known_type, a_noted_type}
 use Rattle.msvc_grammar.specs.Reads.{entered, set_apart, with_value, with_byte, part_here, after_literal, and_then}
 use Rattle.msvc_grammar.specs.Reads.{or_else}

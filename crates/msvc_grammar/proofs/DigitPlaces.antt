@@ -10,8 +10,8 @@ use Rattle.msvc_grammar.specs.Sorts.{virtual_call, plain_function, member_of}
 use Rattle.msvc_grammar.specs.Rules.{Production, guard_index, unsigned, encoding_after, characters, thunk_number}
 use Rattle.msvc_grammar.specs.Rules.{this_qualifiers, returned, required}
 use Rattle.msvc_grammar.specs.Rules.{function_parameters, parameters, parameter, type_, type_after, positive, lengths}
-use Rattle.msvc_grammar.specs.Rules.{plain_type, Condition, none_of, at_end, every, some_of, Rule, letter, literal, up_to}
-use Rattle.msvc_grammar.specs.Rules.{here, ◌>>=◌, ◌or◌, call}
+use Rattle.msvc_grammar.specs.Rules.{plain_type, Condition, none_of, at_end, every, some_of, Rule, letter, literal}
+use Rattle.msvc_grammar.specs.Rules.{up_to, here, ◌>>=◌, ◌or◌, call}
 use Rattle.msvc_grammar.specs.Rules.{noted, entering, apart, node, begins_of, prefixed_type, function_type, class_part}
 use Rattle.msvc_grammar.specs.Rules.{special_name}
 use Rattle.msvc_grammar.specs.Rules.{special_after, unqualified_name, text_and}

@@ -4,8 +4,8 @@ use Rattle.std.proofs.Common.{◌+◌, ◌*◌, refl, ap, ◌∙◌, arith}
 use Rattle.std.proofs.lemmas.Bool.{ltb-true}
 use Rattle.msvc_grammar.specs.Sorts.{Sort}
 use Rattle.msvc_grammar.specs.State.{State, counted, is_allowed, more}
-use Rattle.msvc_grammar.specs.Reads.{counting, only_if, emptied, Found, Reader, and_then, or_else, entered_by, put_apart}
-use Rattle.msvc_grammar.specs.Reads.{read_by}
+use Rattle.msvc_grammar.specs.Reads.{counting, only_if, emptied, Found, Reader, and_then, or_else, entered_by}
+use Rattle.msvc_grammar.specs.Reads.{put_apart, read_by}
 use Rattle.msvc_grammar.specs.Reads.{read_within, ranks, read_name, read}
 use Rattle.msvc_grammar.specs.Rules.{Production, holds, Rule, here, ◌>>=◌, ◌or◌, call, node, entering, apart}
 use Rattle.msvc_grammar.specs.Grammar.{grammar}

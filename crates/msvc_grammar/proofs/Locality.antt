@@ -10,8 +10,8 @@ use Rattle.msvc_grammar.specs.State.{Entry, Note, State, place, with_name, with_
 use Rattle.msvc_grammar.specs.State.{counted, take_note}
 use Rattle.msvc_grammar.specs.Reads.{enter, note_digit, emptied, put_back, Reads, given, a_letter, a_literal, a_part}
 use Rattle.msvc_grammar.specs.Reads.{where_it_holds, in_a_row, the_first, the_second, called, a_known_name, remembered}
-use Rattle.msvc_grammar.specs.Reads.{a_known_type, a_node, a_noted_type, entered, nodes_of_name, nodes_of_type, set_apart}
-use Rattle.msvc_grammar.specs.Reads.{ranks}
+use Rattle.msvc_grammar.specs.Reads.{a_known_type, a_node, a_noted_type, entered, nodes_of_name, nodes_of_type}
+use Rattle.msvc_grammar.specs.Reads.{set_apart, ranks}
 use Rattle.msvc_nodes.specs.Equality.{same_type}
 use Rattle.msvc_grammar.specs.Rules.{type_, known_type, holds, Rule}
 use Rattle.msvc_grammar.specs.Grammar.{grammar}

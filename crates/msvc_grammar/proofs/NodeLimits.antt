@@ -9,9 +9,10 @@ use Rattle.msvc_grammar.specs.Counts.{node_count}
 use Rattle.msvc_grammar.specs.Sorts.{Sort, Value}
 use Rattle.msvc_grammar.specs.State.{Entry, Note, State, at_most, beginning_with, counted, is_allowed, more, span_of}
 use Rattle.msvc_grammar.specs.State.{uncounted}
-use Rattle.msvc_grammar.specs.Reads.{Derives, Found, Reader, Reads, and_then, counting, emptied, entered_by, letter_here}
+use Rattle.msvc_grammar.specs.Reads.{Derives, Found, Reader, Reads, and_then, counting, emptied, entered_by}
+use Rattle.msvc_grammar.specs.Reads.{letter_here}
 use Rattle.msvc_grammar.specs.Reads.{after_literal, name_known, nodes_of_name, nodes_of_type, note_digit, noted_by}
-use Rattle.msvc_grammar.specs.Reads.{noted_here, only_if, part_here, put_apart, ranks, read, read_by, read_name}
+use Rattle.msvc_grammar.specs.Reads.{noted_here, only_if, part_here, put_apart, ranks, read_by, read_name}
 use Rattle.msvc_grammar.specs.Reads.{read_within, type_known, type_noted, with_byte, with_value}
 use Rattle.msvc_grammar.specs.Rules.{Production, Rule, after, apart, call, entering, give, here, holds, known_name}
 use Rattle.msvc_grammar.specs.Rules.{known_type, letter, literal, lookup, node, noted, remember, symbol, up_to, ◌>>=◌}
@@ -138,13 +139,6 @@ within-allowed (suc k) b n left s ok =
 name-allowed : KeepsAllowed (λ b m. read_name m)
 unfolding read_name
 name-allowed b n left s ok = within-allowed (ranks * suc (length left)) b n left s ok
-
--- what is read keeps to the limit
-pub read-allowed : {a : Sort} (r : Rule a) (left : List ℕ) (s : State) (v : Value a) (rest : List ℕ) (t : State)
-    → read r left s ≡ Some (v, rest, t) → is_allowed s.count ≡ true → is_allowed t.count ≡ true
-unfolding read
-read-allowed r left s v rest t e ok =
-    if_is Allowed (read r left s) (v, rest, t) e (allowed_by (λ b m. read_name m) name-allowed r left s ok)
 
 pub read_name-allowed : {a : Sort} (n : Production a) (left : List ℕ) (s : State) (v : Value a) (rest : List ℕ)
     (t : State)

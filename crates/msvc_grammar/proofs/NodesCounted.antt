@@ -22,7 +22,7 @@ use Rattle.msvc_grammar.specs.Rules.{prefixed_type, function_type, member_pointe
 use Rattle.msvc_grammar.specs.declared.forms.TypePrefix.TheVariants as form
 use Rattle.msvc_grammar.specs.declared.forms.SpecialForm.TheVariants as special
 use Rattle.msvc_grammar.specs.Grammar.{grammar, arrays, pointed_return_qualifiers}
-use Rattle.msvc_grammar.specs.Grammar.{entering_name, hashed_symbol, named_symbol}
+use Rattle.msvc_grammar.specs.Grammar.{hashed_symbol, named_symbol}
 use Rattle.msvc_grammar.specs.Grammar.{nested_symbol, new_interface, new_source_name, numbered_guard, template_inside}
 use Rattle.msvc_grammar.specs.Grammar.{template_kept, template_symbol, with_index}
 use Rattle.msvc_grammar.specs.Letters.{conventions, digits, encoding_letters, extended_types, function_classes}
@@ -94,10 +94,6 @@ module _ (w : ℕ) where
   unfolding Makes
   makes_texts [] f go = tt
   makes_texts (row ∷ table) f go = ((refl, λ _. go row.1), makes_texts table f go)
-
-  makes_entering : (r : Rule name_tree) → Makes 0 r → Makes 0 (entering_name r)
-  unfolding Makes
-  makes_entering r h = (h, λ n. (refl, λ _. omega arith))
 
   pub makes_source : Makes 0 new_source_name
   unfolding Makes
@@ -336,25 +332,9 @@ pub symbol_counts : {n : Production symbol_tree} {left : List ℕ} {s : State} {
     → Reads symbol_tree (call n) left s v rest t → t.count ≡ more (symbol_count s.count.weight v) s.count
 symbol_counts d = call_counts d
 
-pub type_counts : {n : Production type_tree} {left : List ℕ} {s : State} {v : TypeTree} {rest : List ℕ} {t : State}
-    → Reads type_tree (call n) left s v rest t → t.count ≡ more (type_count s.count.weight v) s.count
-type_counts d = call_counts d
-
-pub name_counts : {n : Production name_tree} {left : List ℕ} {s : State} {v : NameTree} {rest : List ℕ} {t : State}
-    → Reads name_tree (call n) left s v rest t → t.count ≡ more (name_count s.count.weight v) s.count
-name_counts d = call_counts d
-
 pub template_counts : {left : List ℕ} {s : State} {v : NameTree} {rest : List ℕ} {t : State}
     → Reads name_tree template_inside left s v rest t → t.count ≡ more (name_count s.count.weight v) s.count
 template_counts {s = s} d = rule_counts d (makes_template s.count.weight)
-
-pub source_counts : {left : List ℕ} {s : State} {v : NameTree} {rest : List ℕ} {t : State}
-    → Reads name_tree new_source_name left s v rest t → t.count ≡ more (name_count s.count.weight v) s.count
-source_counts {s = s} d = rule_counts d (makes_source s.count.weight)
-
-pub interface_counts : {left : List ℕ} {s : State} {v : NameTree} {rest : List ℕ} {t : State}
-    → Reads name_tree new_interface left s v rest t → t.count ≡ more (name_count s.count.weight v) s.count
-interface_counts {s = s} d = rule_counts d (makes_interface s.count.weight)
 
 -- The same of what is read
 
@@ -362,11 +342,6 @@ interface_counts {s = s} d = rule_counts d (makes_interface s.count.weight)
 read_derived : {a : Sort} (r : Rule a) (left : List ℕ) (s : State) (v : Value a) (rest : List ℕ) (t : State)
     → read r left s ≡ Some (v, rest, t) → Reads a r left s v rest t
 read_derived r left s v rest t e = if_is (Derived r left s) (read r left s) (v, rest, t) e (read-sound r left s)
-
-pub read-counts : {a : Sort} (r : Rule a) (left : List ℕ) (s : State) (v : Value a) (rest : List ℕ) (t : State)
-    → read r left s ≡ Some (v, rest, t) → Makes s.count.weight 0 r
-    → t.count ≡ more (size s.count.weight a v) s.count
-read-counts r left s v rest t e h = rule_counts (read_derived r left s v rest t e) h
 
 pub read_name-counts : {a : Sort} (n : Production a) (left : List ℕ) (s : State) (v : Value a) (rest : List ℕ)
     (t : State)
@@ -377,14 +352,6 @@ read_name-counts n left s v rest t e =
 pub read-template-counts : (left : List ℕ) (s : State) (v : NameTree) (rest : List ℕ) (t : State)
     → read template_inside left s ≡ Some (v, rest, t) → t.count ≡ more (name_count s.count.weight v) s.count
 read-template-counts left s v rest t e = template_counts (read_derived template_inside left s v rest t e)
-
-pub read-source-counts : (left : List ℕ) (s : State) (v : NameTree) (rest : List ℕ) (t : State)
-    → read new_source_name left s ≡ Some (v, rest, t) → t.count ≡ more (name_count s.count.weight v) s.count
-read-source-counts left s v rest t e = source_counts (read_derived new_source_name left s v rest t e)
-
-pub read-interface-counts : (left : List ℕ) (s : State) (v : NameTree) (rest : List ℕ) (t : State)
-    → read new_interface left s ≡ Some (v, rest, t) → t.count ≡ more (name_count s.count.weight v) s.count
-read-interface-counts left s v rest t e = interface_counts (read_derived new_interface left s v rest t e)
 
 -- how much is made when a type was read, and the inside of a template
 

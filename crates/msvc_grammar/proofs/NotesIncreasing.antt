@@ -7,8 +7,8 @@ use Rattle.msvc_nodes.specs.Trees.{SymbolTree}
 use Rattle.msvc_grammar.specs.Sorts.{Sort, Value}
 use Rattle.msvc_grammar.specs.State.{Note, State, place, span_of, remember_name, remember_type, beginning}
 use Rattle.msvc_grammar.specs.Reads.{Derives, Reads, given, a_letter, a_literal, a_part, where_it_holds, in_a_row}
-use Rattle.msvc_grammar.specs.Reads.{the_first, the_second, called, a_known_name, remembered, a_known_type, a_noted_type}
-use Rattle.msvc_grammar.specs.Reads.{a_node, entered, set_apart}
+use Rattle.msvc_grammar.specs.Reads.{the_first, the_second, called, a_known_name, remembered, a_known_type}
+use Rattle.msvc_grammar.specs.Reads.{a_noted_type, a_node, entered, set_apart}
 use Rattle.msvc_grammar.specs.Rules.{Rule}
 use Rattle.msvc_grammar.specs.Written.{AreRising}
 use Rattle.msvc_grammar.proofs.Progress.{IsTail, tail}

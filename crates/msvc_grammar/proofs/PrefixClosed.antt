@@ -8,8 +8,8 @@ use Rattle.msvc_grammar.specs.State.{Entry, State, place, counted, remember_type
 use Rattle.msvc_grammar.specs.Reads.{enter, note_digit, Reads, given, a_letter, a_literal, a_part, where_it_holds}
 use Rattle.msvc_grammar.specs.Reads.{in_a_row, the_first, the_second, called, a_known_name, remembered, a_known_type}
 use Rattle.msvc_grammar.specs.Reads.{a_node, a_noted_type, entered, nodes_of_name, nodes_of_type, set_apart, ranks}
-use Rattle.msvc_grammar.specs.Rules.{Production, call, noted, entering, Condition, none_of, at_end, holds, some_of, begins}
-use Rattle.msvc_grammar.specs.Rules.{Rule}
+use Rattle.msvc_grammar.specs.Rules.{Production, call, noted, entering, Condition, none_of, at_end, holds, some_of}
+use Rattle.msvc_grammar.specs.Rules.{begins, Rule}
 use Rattle.msvc_grammar.proofs.Checks.{rank, Fine, fine, consumes, rank_small}
 use Rattle.msvc_grammar.proofs.Progress.{tail}
 use Rattle.msvc_grammar.proofs.FirstSets.{all, some-every, not_if, begins-longer}

@@ -49,12 +49,6 @@ pub if_is : {A : Type 0} (P : A × List ℕ × State → Type 0) (o : Found A) (
     → IfFound P o → P x
 if_is P o x e h = subst (IfFound P) e h
 
--- the same, with the equation
-pub if_known : {A : Type 0} (P : A × List ℕ × State → Type 0) (o : Found A)
-    → ((x : A × List ℕ × State) → o ≡ Some x → P x) → IfFound P o
-if_known P None go = tt
-if_known P (Some x) go = go x refl
-
 pub after-is : (literal left remaining : List ℕ) → after literal left ≡ Some remaining → left ≡ literal ++ remaining
 after-is [] left remaining e = cc
 after-is (l ∷ ls) [] remaining e = absurd (cc)

@@ -22,8 +22,8 @@ use Rattle.msvc_grammar.specs.Grammar.{grammar}
 use Rattle.msvc_grammar.proofs.Checks.{some_value, rank, consumes, Fine, fine, bars, differ, the_same, others}
 use Rattle.msvc_grammar.proofs.Checks.{Local, same_local, rank_small}
 use Rattle.msvc_grammar.proofs.Progress.{IsTail, tail, tail_of_tail, least_first, least_second, shorter}
-use Rattle.msvc_grammar.proofs.FirstSets.{after-text, barred, differ-never, begins-both, begins-inside, if_both, both_if}
-use Rattle.msvc_grammar.proofs.FirstSets.{either_if}
+use Rattle.msvc_grammar.proofs.FirstSets.{after-text, barred, differ-never, begins-both, begins-inside, if_both}
+use Rattle.msvc_grammar.proofs.FirstSets.{both_if, either_if}
 use Rattle.msvc_grammar.proofs.FirstSets.{not_if, some-every, every-both}
 use Rattle.msvc_grammar.proofs.Locality.{Alike, later-trans, later-type, done-type, local, types-are-local}
 use Rattle.msvc_grammar.proofs.DigitPlaces.{ahead, runs_up, stops, is_in, misses_by, misses_within, misses, clear_by}

@@ -31,15 +31,15 @@ use Rattle.msvc_grammar.specs.Rules.{positive, lengths, qualified_name, unqualif
 use Rattle.msvc_grammar.specs.Rules.{nested_name}
 use Rattle.msvc_grammar.specs.Rules.{locally_scoped_name, anonymous_namespace, hexadecimal_digits}
 use Rattle.msvc_grammar.specs.Rules.{source_name, number, magnitude}
-use Rattle.msvc_grammar.specs.Rules.{letters, required, none_of, at_end, Rule, give, letter, literal, up_to, here, ◌>>=◌}
-use Rattle.msvc_grammar.specs.Rules.{◌>>◌, ◌or◌, lookup, every}
-use Rattle.msvc_grammar.specs.Rules.{call, known_name, remember, known_type, noted, entering, apart, begins_of, letter_or}
-use Rattle.msvc_grammar.specs.Rules.{literal_or, node, text_and, text_or, optional, never}
+use Rattle.msvc_grammar.specs.Rules.{letters, required, none_of, at_end, Rule, give, letter, literal, up_to, here}
+use Rattle.msvc_grammar.specs.Rules.{◌>>=◌, ◌>>◌, ◌or◌, lookup, every}
+use Rattle.msvc_grammar.specs.Rules.{call, known_name, remember, known_type, noted, entering, apart, begins_of}
+use Rattle.msvc_grammar.specs.Rules.{letter_or, literal_or, node, text_and, text_or, optional, never}
 use Rattle.msvc_grammar.specs.Rules.{prefixed_type, function_type, member_pointer}
 use Rattle.msvc_grammar.specs.Rules.{class_part, special_name, special_after}
-use Rattle.msvc_grammar.specs.Letters.{digits, hexadecimal, hexadecimal_codes, qualifiers, storage_classes}
-use Rattle.msvc_grammar.specs.Letters.{qualifiers_of_returns, qualifiers_of_arrays, pointer_sizes, restricts, alignments}
-use Rattle.msvc_grammar.specs.Letters.{reference_qualifiers, extended_types, type_letters, type_texts, conventions, static}
+use Rattle.msvc_grammar.specs.Letters.{digits, hexadecimal, hexadecimal_codes, qualifiers, storage_classes, alignments}
+use Rattle.msvc_grammar.specs.Letters.{qualifiers_of_returns, qualifiers_of_arrays, pointer_sizes, restricts, static}
+use Rattle.msvc_grammar.specs.Letters.{reference_qualifiers, extended_types, type_letters, type_texts, conventions}
 use Rattle.msvc_grammar.specs.Letters.{thunk, function_classes, encoding_letters, special_texts, character_sizes}
 use Rattle.msvc_grammar.specs.Letters.{plain_characters, escaped_characters, at_sign, decimal_base, hexadecimal_base}
 

@@ -6,8 +6,8 @@ use Rattle.std.specs.Prelude.{is_some}
 use Rattle.msvc_grammar.specs.declared.forms.SpecialForm.{SpecialForm}
 use Rattle.msvc_grammar.specs.declared.forms.TypePrefix.{TypePrefix}
 use Rattle.msvc_nodes.specs.Trees.{NameTree}
-use Rattle.msvc_grammar.specs.Sorts.{TypeLetter, EncodingLetter, Sort, nothing, bits, integer, bytes, name_tree, type_tree}
-use Rattle.msvc_grammar.specs.Sorts.{symbol_tree, convention, perhaps, list, both, Value}
+use Rattle.msvc_grammar.specs.Sorts.{TypeLetter, EncodingLetter, Sort, nothing, bits, integer, bytes, name_tree}
+use Rattle.msvc_grammar.specs.Sorts.{type_tree, symbol_tree, convention, perhaps, list, both, Value}
 
 -- The names of the productions, each with the sort of what it reads. What stands after a name is what the production
 -- is given: a value so far, the qualifiers of a type, what was read before it.

@@ -72,10 +72,6 @@ pub pieces-line : (finished part : List ℕ) → IsLines finished → part ≢ [
 pieces-line finished part lines some one =
     pieces-append finished part lines ∙ ap (λ ps. pieces finished ++ ps) (pieces-one part some one)
 
-pub pieces-nil : pieces [] ≡ []
-unfolding pieces
-pieces-nil = refl
-
 -- and likewise the lines
 pub lines_of-append : (finished part : List ℕ) → IsLines finished → part ≢ [] → IsOfOneLine part
     → lines_of (finished ++ part) ≡ lines_of finished ++ line_of part ∷ []

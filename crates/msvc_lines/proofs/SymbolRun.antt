@@ -66,7 +66,7 @@ pub WritesAnswers-symbols : {A : Type 0} (r : Result A Fault) (symbols : List (L
 WritesAnswers-symbols r [] text some h = absurd (some refl)
 WritesAnswers-symbols r (symbol ∷ symbols) text some h = (refl, h)
 
--- where there are some items, there are as many of what they are mapped to
+-- where there are some items, there are some of what they are mapped to
 pub mapped-some : {A B : Type 0} (f : A → B) (xs : List A) → length xs ≢ 0 → map f xs ≢ []
 mapped-some f [] some e = some refl
 mapped-some f (x ∷ xs) some e = cc

@@ -56,11 +56,6 @@ name_of-Nested b =
     ap (λ ns. tree.nested (name_of b.now.symbol.name.now) ns (type_of b.now.symbol_type.now))
     (names_of-hidden b.now.symbol.scope.now)
 
-pub name_of-TypeDescriptor : (q : StorageClass) (b : Bor «Type»)
-    → name_of (n.TypeDescriptor q b) ≡ tree.type_descriptor q.0 (type_of b.now)
-unfolding name_of type_of
-name_of-TypeDescriptor q b = refl
-
 pub type_of-Tagged : (k : TagKind) (q : StorageClass) (b : Bor Symbol)
     → type_of (t.Tagged k q b) ≡ tree.tagged k (name_of b.now.name.now) (names_in b.now.scope.now) q.0
 unfolding type_of name_of names_of

@@ -1,5 +1,5 @@
 -- How large a tree is: the bound on how deep a function on trees goes.
-use Rattle.std.specs.Prelude.{ℕ, suc, ◌+◌, Option, Some, None}
+use Rattle.std.specs.Prelude.{ℕ, suc, ◌+◌}
 use Rattle.msvc_nodes.specs.Trees.{NameTree, NameTrees, TypeTree, TypeTrees, type_descriptor, template, nested}
 use Rattle.msvc_nodes.specs.Trees.{no_names, names, tagged, pointing, array, function, member_function, member_pointer}
 use Rattle.msvc_nodes.specs.Trees.{variable, table, no_types, types}
@@ -29,8 +29,3 @@ abbrev mutual
   pub types_size : TypeTrees → ℕ
   types_size no_types = 1
   types_size (types t ts) = suc (type_size t + types_size ts)
-
--- of a name in its scope, if there is one
-abbrev pub class_size : Option (NameTree × NameTrees) → ℕ
-class_size None = 0
-class_size (Some x) = name_size x.0 + names_size x.1

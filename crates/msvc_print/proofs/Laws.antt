@@ -27,9 +27,7 @@ use Rattle.msvc_print.specs.Functions.{access_words, calling, convention_pieces,
 use Rattle.msvc_print.specs.Functions.{each_function_qualifier, kind_words, member_start, member_word, member_words}
 use Rattle.msvc_print.specs.Functions.{parameter_list}
 use Rattle.msvc_print.specs.Functions.{function_qualifier, function_qualifiers, separator, wide_qualifier}
-use Rattle.msvc_print.specs.Laws.{Agree, DecodingChangesNothing, HashIsItsText, NameOnlyAsksNoType}
-use Rattle.msvc_print.specs.Laws.{OtherBitsChangeNothing}
-use Rattle.msvc_print.specs.Laws.{all_but_decoding, obeyed_flags}
+use Rattle.msvc_print.specs.Laws.{Agree, HashIsItsText, NameOnlyAsksNoType, OtherBitsChangeNothing, obeyed_flags}
 use Rattle.msvc_print.specs.Operators.{base_class_pieces, name_kind, unqualified_name, scoped}
 use Rattle.msvc_print.specs.Pieces.{Piece, resolve, settle_all, space, text}
 use Rattle.msvc_print.specs.Sides.{Sides, alone, around, between, kept, kept_left, kept_right}
@@ -314,10 +312,6 @@ pub other_bits-change-nothing : OtherBitsChangeNothing
 unfolding declaration
 other_bits-change-nothing = λ s a b agree.
     ap resolve (symbol_pieces-same s.name s.scope s.symbol_type a b (all-same a b agree))
-
-pub decoding-changes-nothing : DecodingChangesNothing
-decoding-changes-nothing = λ s a b agree.
-    other_bits-change-nothing s a b (fewer a b all_but_decoding obeyed_flags refl agree)
 
 -- under NAME_ONLY nothing but the name is left
 name_only-pieces : (n : NameTree) (scope : NameTrees) (t : TypeTree) (flags : ℕ) → has flags name_only ≡ true →

@@ -7,13 +7,9 @@ use Rattle.msvc_nodes.specs.declared.kinds.PlainOperator.TheVariants as plain_op
 use Rattle.msvc_print.specs.Declaration.{declaration}
 use Rattle.msvc_print.specs.Flags.{has, name_only}
 
--- the bits that some definition asks for
+-- the bits that some definition asks for; that of DECODE_32_BIT is none of them
 abbrev pub obeyed_flags : ℕ
 obeyed_flags = 0x1F016E6
-
--- all bits of a word but for that of DECODE_32_BIT
-abbrev pub all_but_decoding : ℕ
-all_but_decoding = 0xFFFFF7FF
 
 -- two words have the same bits within these
 abbrev pub Agree : ℕ → ℕ → ℕ → Type 0
@@ -22,10 +18,6 @@ Agree bits a b = bit_and a bits ≡ bit_and b bits
 -- words that differ in bits alone that are not asked for have the same declarations
 abbrev pub OtherBitsChangeNothing : Type 0
 OtherBitsChangeNothing = (s : SymbolTree) (a b : ℕ) → Agree obeyed_flags a b → declaration s a ≡ declaration s b
-
--- words that differ in DECODE_32_BIT alone have the same declarations
-abbrev pub DecodingChangesNothing : Type 0
-DecodingChangesNothing = (s : SymbolTree) (a b : ℕ) → Agree all_but_decoding a b → declaration s a ≡ declaration s b
 
 -- under NAME_ONLY symbols that differ in their types alone have the same declarations, but for conversion operators
 abbrev pub NameOnlyAsksNoType : Type 0

@@ -2,17 +2,11 @@
 use Rattle.std.proofs.Common.{◌≡◌, ℤ, Box, Global, refl}
 use Rattle.std.proofs.Common.{ap, ◌∙◌}
 use Rattle.msvc_nodes.specs.Trees as tree
-use Rattle.msvc_nodes.specs.declared.kinds.PrimitiveKind.TheVariants as base_kind
-use Rattle.msvc_nodes.specs.declared.kinds.PointerAffinity.TheVariants as mark_kind
-use Rattle.msvc_nodes.specs.declared.kinds.NumberedType.TheVariants as number_kind
-use Rattle.msvc_nodes.specs.declared.kinds.PlainType.TheVariants as plain_kind
-use Rattle.msvc_nodes.specs.declared.kinds.TagKind.TheVariants as tag_kind
 use Rattle.msvc_tree.specs.View.{name_of, operator_of, type_of, names_of, types_of, names_in, types_in, params_of}
 use Rattle.msvc_tree.specs.View.{scope_of}
 use Rattle.msvc_nodes.specs.declared.flags.FuncClass.{FuncClass}
 use Rattle.msvc_nodes.specs.declared.flags.StorageClass.{StorageClass}
 use Rattle.msvc_nodes.specs.declared.kinds.CallingConv.{CallingConv}
-use Rattle.msvc_nodes.specs.declared.kinds.VarStorageKind.{VarStorageKind}
 use Rattle.msvc_tree.specs.declared.tree.Name as code
 use Rattle.msvc_tree.specs.declared.tree.Name.{Name, Row_of-Type, end_of-Type, more_of-Type, Row_of-Name, end_of-Name}
 use Rattle.msvc_tree.specs.declared.tree.Name.{more_of-Name, items-the_row-Type, items-the_row-Name}
@@ -53,63 +47,6 @@ pub operator_of-RTTIBaseClassDescriptor : (i : ℤ) (j : ℤ) (k : ℤ) (l : ℤ
 unfolding operator_of
 operator_of-RTTIBaseClassDescriptor i j k l = refl
 
-pub type_of-None : type_of code_type.None ≡ tree.plain plain_kind.None
-unfolding type_of
-type_of-None = refl
-
-pub type_of-Void : (q : StorageClass) → type_of (code_type.Void q) ≡ tree.base base_kind.Void q.0
-unfolding type_of
-type_of-Void q = refl
-
-pub type_of-Class : (s : Symbol) (q : StorageClass)
-    → type_of (code_type.Class s q) ≡ tree.tagged tag_kind.Class (name_of s.name) (scope_of s.scope) q.0
-unfolding type_of name_of names_of
-type_of-Class s q = ap (λ x. tree.tagged tag_kind.Class (name_of s.name) x q.0) (names_of-hidden s.scope)
-
-pub type_of-Struct : (s : Symbol) (q : StorageClass)
-    → type_of (code_type.Struct s q) ≡ tree.tagged tag_kind.Struct (name_of s.name) (scope_of s.scope) q.0
-unfolding type_of name_of names_of
-type_of-Struct s q = ap (λ x. tree.tagged tag_kind.Struct (name_of s.name) x q.0) (names_of-hidden s.scope)
-
-pub type_of-Union : (s : Symbol) (q : StorageClass)
-    → type_of (code_type.Union s q) ≡ tree.tagged tag_kind.Union (name_of s.name) (scope_of s.scope) q.0
-unfolding type_of name_of names_of
-type_of-Union s q = ap (λ x. tree.tagged tag_kind.Union (name_of s.name) x q.0) (names_of-hidden s.scope)
-
-pub type_of-Enum : (s : Symbol) (q : StorageClass)
-    → type_of (code_type.Enum s q) ≡ tree.tagged tag_kind.Enum (name_of s.name) (scope_of s.scope) q.0
-unfolding type_of name_of names_of
-type_of-Enum s q = ap (λ x. tree.tagged tag_kind.Enum (name_of s.name) x q.0) (names_of-hidden s.scope)
-
-pub type_of-TemplateParameterWithIndex : (n : ℤ)
-    → type_of (code_type.TemplateParameterWithIndex n) ≡ tree.numbered number_kind.TemplateParameter n
-unfolding type_of
-type_of-TemplateParameterWithIndex n = refl
-
-pub type_of-VarArgs : type_of code_type.VarArgs ≡ tree.plain plain_kind.Variadic
-unfolding type_of
-type_of-VarArgs = refl
-
-pub type_of-Ptr : (b : Box «Type» Global) (q : StorageClass)
-    → type_of (code_type.Ptr b q) ≡ tree.pointing mark_kind.Pointer (type_of b.value) q.0
-unfolding type_of
-type_of-Ptr b q = refl
-
-pub type_of-Ref : (b : Box «Type» Global) (q : StorageClass)
-    → type_of (code_type.Ref b q) ≡ tree.pointing mark_kind.Reference (type_of b.value) q.0
-unfolding type_of
-type_of-Ref b q = refl
-
-pub type_of-RValueRef : (b : Box «Type» Global) (q : StorageClass)
-    → type_of (code_type.RValueRef b q) ≡ tree.pointing mark_kind.RValueReference (type_of b.value) q.0
-unfolding type_of
-type_of-RValueRef b q = refl
-
-pub type_of-Array : (n : ℤ) (b : Box «Type» Global) (q : StorageClass)
-    → type_of (code_type.Array n b q) ≡ tree.array n (type_of b.value) q.0
-unfolding type_of
-type_of-Array n b q = refl
-
 pub type_of-NonMemberFunction : (c : CallingConv) (p : Params) (w : StorageClass) (b : Box «Type» Global)
     → type_of (code_type.NonMemberFunction c p w b) ≡ tree.function c (params_of p) w.0 (type_of b.value)
 unfolding type_of types_of
@@ -129,10 +66,5 @@ type_of-MemberFunctionPointer s f c p w b =
     (type_of b.value)) (names_of-hidden s.scope)
     ∙ ap (λ x. tree.member_pointer (name_of s.name) (scope_of s.scope) f.0 c x w.0 (type_of b.value))
     (types_of-hidden p)
-
-pub type_of-Var : (b : Box «Type» Global) (k : VarStorageKind) (q : StorageClass)
-    → type_of (code_type.Var b k q) ≡ tree.variable (type_of b.value) k q.0
-unfolding type_of
-type_of-Var b k q = refl
 
 pub ruleset rows = (types_of-hidden, names_of-hidden)

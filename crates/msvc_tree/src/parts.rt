@@ -72,7 +72,8 @@ pub fn pointing_from<'a>(
     inner: Result<Box<Type<'a>>, AllocError>,
     qualifiers: StorageClass,
 ) -> Result<Type<'a>, AllocError>
-    ensures { IfOk result (λ t. IsOkAnd inner.entry (λ b. type_of t ≡ pointing affinity (type_of b.value) qualifiers.0)) }
+    ensures { IfOk result (λ t. IsOkAnd inner.entry
+        (λ b. type_of t ≡ pointing affinity (type_of b.value) qualifiers.0)) }
 {
     Ok(pointing_type(affinity, inner?, qualifiers))
 }
