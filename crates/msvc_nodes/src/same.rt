@@ -1,4 +1,5 @@
 //! Equality of nodes: two are the same where they are seen as the same tree.
+#![tactic(auto, using(crate::proofs::NodeViews::views), unfolding(crate::specs::NodeView::name_of, crate::specs::NodeView::type_of))]
 
 ghost use Rattle.std.specs.Prelude.{◌≡◌, ◌↔◌, IsTrue};
 ghost use Rattle.msvc_nodes.specs.Equality.{same_name as name_is, same_type as type_is};
@@ -18,7 +19,6 @@ pub fn is_same_name<'a, 'b>(left: &'b Name<'a, 'b>, right: &'b Name<'a, 'b>) -> 
 
 /// Does what [`same_name`] does, and compares names of the source, which most are, in the caller's own code.
 #[inline(always)]
-#[tactic(auto, using(crate::proofs::NodeViews::views), unfolding(crate::specs::NodeView::name_of))]
 fn same_name_inline<'a, 'b>(left: &'b Name<'a, 'b>, right: &'b Name<'a, 'b>) -> bool
     ensures { IsTrue result ↔ (name_of left.now ≡ name_of right.now) }
 {
@@ -65,7 +65,6 @@ fn same_place(left: &BaseClass, right: &BaseClass) -> bool
 
 /// Tests whether two names are seen as the same: of one variant, with the same parts.
 #[cycle(same)]
-#[tactic(auto, using(crate::proofs::NodeViews::views), unfolding(crate::specs::NodeView::name_of))]
 fn same_name<'a, 'b>(left: &'b Name<'a, 'b>, right: &'b Name<'a, 'b>) -> bool
     ensures { IsTrue result ↔ (name_of left.now ≡ name_of right.now) }
 {
@@ -236,7 +235,6 @@ fn same_types<'a, 'b>(left: &'b [&'b Type<'a, 'b>], right: &'b [&'b Type<'a, 'b>
 
 /// Tests whether two types are seen as the same: of one variant, with the same parts.
 #[cycle(same)]
-#[tactic(auto, using(crate::proofs::NodeViews::views), unfolding(crate::specs::NodeView::type_of))]
 fn same_type<'a, 'b>(left: &'b Type<'a, 'b>, right: &'b Type<'a, 'b>) -> bool
     ensures { IsTrue result ↔ (type_of left.now ≡ type_of right.now) }
 {

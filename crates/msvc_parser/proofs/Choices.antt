@@ -102,8 +102,6 @@ unfolding byte_here
 letter_step table [] s = refl
 letter_step table (b ∷ bs) s = refl
 
-pub ruleset letter_is = (letter_step)
-
 pub letter_following : {A : Type 0} (table : List (ℕ × A)) (o : Option (List ℕ)) (other : Found A) (s : State)
     → chosen o (λ rest. letter_here table rest s) other
     ≡ chosen o (λ rest. and_then (byte_here rest s) (λ b l t. with_value (lookup b table) l t)) other

@@ -5,7 +5,7 @@ use Rattle.std.specs.Prelude.{slice_get, codes, bit_or}
 use Rattle.msvc_nodes.specs.Trees as tree
 use Rattle.msvc_nodes.specs.declared.kinds.PrimitiveKind.TheVariants as base_kind
 use Rattle.msvc_nodes.specs.declared.kinds.PlainType.TheVariants as plain_kind
-use Rattle.msvc_nodes.specs.Trees.{NameTree, TypeTree, function, name_trees, plain, type_trees}
+use Rattle.msvc_nodes.specs.Trees.{function, name_trees, plain, type_trees}
 use Rattle.msvc_parser.specs.Parser.{byte_here}
 use Rattle.msvc_grammar.specs.State.{State}
 use Rattle.msvc_grammar.specs.Sorts.{bits, type_tree, list}
@@ -16,10 +16,9 @@ use Rattle.msvc_grammar.specs.Rules.{optional, class_part, function_type, member
 use Rattle.msvc_grammar.specs.Grammar.{grammar, has, pointed_return_qualifiers}
 use Rattle.msvc_grammar.specs.Letters.{digits, pointer_sizes, restricts, alignments, reference_qualifiers, qualifiers}
 use Rattle.msvc_grammar.specs.Letters.{storage_classes, conventions, qualifiers_of_returns, function_classes}
-use Rattle.msvc_grammar.specs.Reads.{read_name, read, read_by, letter_here, with_value, type_noted, noted_by, entered_by}
-use Rattle.msvc_grammar.specs.Reads.{and_then, counting, in_node, or_else}
+use Rattle.msvc_grammar.specs.Reads.{read_name, read, read_by, letter_here, with_value, type_noted, noted_by}
+use Rattle.msvc_grammar.specs.Reads.{entered_by, and_then, in_node, or_else}
 use Rattle.msvc_grammar.proofs.FuelIndependence.{read_name-is}
-use Rattle.msvc_nodes.specs.declared.kinds.CallingConv.{CallingConv}
 use Rattle.msvc_parser.proofs.Choices.{or_none, choose, chosen, no_letter, literal_or-is, letter_following}
 use Rattle.msvc_grammar.specs.Rules.{◌>>=◌, ◌>>◌}
 
@@ -34,8 +33,6 @@ pub thunk_number_none : (left : List ℕ) (s : State) → read_name (thunk_numbe
 unfolding grammar read read_by
 thunk_number_none left s = read_name-is (thunk_number false) left s
 
-pub ruleset thunk_number_is = (thunk_number_there, thunk_number_none)
-
 pub this_qualifiers_static : (left : List ℕ) (s : State) → read_name (this_qualifiers true) left s ≡ Some (0, left, s)
 unfolding grammar read read_by
 this_qualifiers_static left s = read_name-is (this_qualifiers true) left s
@@ -44,8 +41,6 @@ pub this_qualifiers_there : (left : List ℕ) (s : State)
     → read_name (this_qualifiers false) left s ≡ read_name function_qualifiers left s
 unfolding grammar read read_by
 this_qualifiers_there left s = read_name-is (this_qualifiers false) left s
-
-pub ruleset this_qualifiers_is = (this_qualifiers_static, this_qualifiers_there)
 
 pub function_qualifiers_step : (left : List ℕ) (s : State) → read_name function_qualifiers left s
     ≡ and_then (read (optional pointer_sizes) left s) (λ size l t. and_then (read (optional restricts) l t)
@@ -56,16 +51,12 @@ pub function_qualifiers_step : (left : List ℕ) (s : State) → read_name funct
 unfolding grammar read read_by
 function_qualifiers_step left s = read_name-is function_qualifiers left s
 
-pub ruleset function_qualifiers_is = (function_qualifiers_step)
-
 pub signature_step : (member : Bool) (left : List ℕ) (s : State) → read_name (signature member) left s
     ≡ and_then (letter_here conventions left s) (λ c l t. and_then (read_name return_qualifiers l t)
     (λ q k u. and_then (read_name (returned member q) k u) (λ x j v. and_then (read_name function_parameters j v)
     (λ xs i w. Some ((c, (x, xs)), i, w)))))
 unfolding grammar read read_by
 signature_step member left s = read_name-is (signature member) left s
-
-pub ruleset signature_is = (signature_step)
 
 pub return_qualifiers_step : (left : List ℕ) (s : State) → read_name return_qualifiers left s
     ≡ chosen (after (codes "?") left) (λ rest. and_then (byte_here rest s)
@@ -75,8 +66,6 @@ return_qualifiers_step left s =
     read_name-is return_qualifiers left s
     ∙ literal_or-is {a = bits} (codes "?") (letter bits qualifiers_of_returns) (give 0) left s
     ∙ letter_following qualifiers_of_returns (after (codes "?") left) (Some (0, left, s)) s
-
-pub ruleset return_qualifiers_is = (return_qualifiers_step)
 
 pub returned_member : (q : ℕ) (left : List ℕ) (s : State) → read_name (returned true q) left s
     ≡ chosen (after (codes "@") left) (λ rest. in_node rest s (λ l t. Some (plain plain_kind.None, l, t)))
@@ -125,16 +114,12 @@ parameter_step (b ∷ bs) s =
         (cond z (entered_by (b ∷ bs) (read_name (type_ 0) (b ∷ bs) s)) None)) (h.1 i refl)
         ∙ or_none (type_noted (slice_get s.types i) (b ∷ bs) bs s)
 
-pub ruleset parameter_is = (parameter_step)
-
 -- Function types and member pointers
 
 pub pointed_return_qualifiers_step : (left : List ℕ) (s : State) → read pointed_return_qualifiers left s
     ≡ chosen (after (codes "?") left) (λ rest. read (optional storage_classes) rest s) (Some (0, left, s))
 unfolding read read_by
 pointed_return_qualifiers_step left s = literal_or-is {a = bits} (codes "?") (optional storage_classes) (give 0) left s
-
-pub ruleset pointed_return_qualifiers_is = (pointed_return_qualifiers_step)
 
 pub function_type_step : (bare : Bool) (left : List ℕ) (s : State) → read_name (function_type bare) left s
     ≡ in_node left s (λ m a. and_then (read_name (this_qualifiers bare) m a)
@@ -144,18 +129,6 @@ pub function_type_step : (bare : Bool) (left : List ℕ) (s : State) → read_na
     (λ xs h y. Some (function c (type_trees xs) on_this x, h, y)))))))
 unfolding grammar read read_by
 function_type_step bare left s = read_name-is (function_type bare) left s
-
-pub function_type_reads : (bare : Bool) (left h l k j i rest : List ℕ) (s r t u v w z : State) (on_this : ℕ)
-    (c : CallingConv) (q : ℕ) (x : TypeTree) (xs : List TypeTree)
-    → counting s.count.weight left s ≡ Some (tt, h, r)
-    → read_name (this_qualifiers bare) h r ≡ Some (on_this, l, t)
-    → letter_here conventions l t ≡ Some (c, k, u)
-    → read pointed_return_qualifiers k u ≡ Some (q, j, v)
-    → read_name (type_ q) j v ≡ Some (x, i, w)
-    → read_name function_parameters i w ≡ Some (xs, rest, z)
-    → read_name (function_type bare) left s ≡ Some (function c (type_trees xs) on_this x, rest, z)
-function_type_reads bare left h l k j i rest s r t u v w z on_this c q x xs n e f g o m =
-    function_type_step bare left s ∙ rw (n, e, f, g, o, m)
 
 pub member_pointer_step : (qualified : Bool) (left : List ℕ) (s : State)
     → read_name (member_pointer qualified) left s
@@ -170,18 +143,6 @@ pub member_pointer_step : (qualified : Bool) (left : List ℕ) (s : State)
 unfolding grammar read read_by
 member_pointer_step qualified left s = read_name-is (member_pointer qualified) left s
 
-pub member_pointer_reads : (qualified : Bool) (left i l k j rest : List ℕ) (s r t u v z : State) (n : NameTree)
-    (ns : List NameTree) (size class on_this : ℕ) (c : CallingConv) (x : TypeTree) (xs : List TypeTree)
-    → counting s.count.weight left s ≡ Some (tt, i, r)
-    → read_name (qualified_name true) i r ≡ Some ((n, ns), l, t)
-    → read (optional pointer_sizes) l t ≡ Some (size, k, u)
-    → read_name (class_part qualified) k u ≡ Some ((class, on_this), j, v)
-    → read_name (signature true) j v ≡ Some ((c, (x, xs)), rest, z)
-    → read_name (member_pointer qualified) left s
-    ≡ Some (tree.member_pointer n (name_trees ns) class c (type_trees xs) (bit_or size on_this) x, rest, z)
-member_pointer_reads qualified left i l k j rest s r t u v z n ns size class on_this c x xs m e f g h =
-    member_pointer_step qualified left s ∙ rw (m, e, f, g, h)
-
 pub class_part_qualified : (left : List ℕ) (s : State) → read_name (class_part true) left s
     ≡ and_then (read (optional qualifiers) left s) (λ q l t. Some ((0, q), l, t))
 unfolding grammar read read_by
@@ -193,4 +154,21 @@ pub class_part_of : (left : List ℕ) (s : State) → read_name (class_part fals
 unfolding grammar read read_by
 class_part_of left s = read_name-is (class_part false) left s
 
-pub ruleset class_part_is = (class_part_qualified, class_part_of)
+pub ruleset steps = (
+  thunk_number_there,
+  thunk_number_none,
+  this_qualifiers_static,
+  this_qualifiers_there,
+  function_qualifiers_step,
+  signature_step,
+  return_qualifiers_step,
+  returned_member,
+  returned_other,
+  function_parameters_step,
+  parameter_step,
+  pointed_return_qualifiers_step,
+  function_type_step,
+  member_pointer_step,
+  class_part_qualified,
+  class_part_of,
+)

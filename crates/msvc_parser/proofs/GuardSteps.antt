@@ -30,8 +30,6 @@ guard_marker_step left s = go (after (codes "4IA") left)
     go None = refl
     go (Some rest) = refl
 
-pub ruleset guard_marker_is = (guard_marker_step)
-
 pub guard_index_none : (left : List ℕ) (s : State) → read_name (guard_index false) left s ≡ Some (None, left, s)
 unfolding grammar read read_by
 guard_index_none left s = read_name-is (guard_index false) left s
@@ -75,8 +73,6 @@ guard_index_there left s =
         (λ z k u. and_then (read_name (unsigned z) k u) (λ i j v. Some (Some i, j, v))))
     go l t true = refl
     go l t false = refl
-
-pub ruleset guard_index_is = (guard_index_none, guard_index_there)
 
 -- no index after a name that is none of a guard
 other_name : (n : NameTree) (ns : List NameTree) (left : List ℕ) (s : State) → is_guard n ≡ false
@@ -218,4 +214,13 @@ kept n m = go (is_in_range n)
     go true e = cc
     go false e = absurd (cc)
 
-pub ruleset decimal_goes_on = (decimal_ends, decimal_rejected, decimal_too_large)
+pub ruleset decimal_steps = (decimal_ends, decimal_rejected, decimal_too_large)
+
+pub ruleset steps = (
+  guard_marker_step,
+  guard_index_none,
+  guard_index_there,
+  indexed_other,
+  indexed_guard,
+  numbered_guard_step,
+)

@@ -8,6 +8,7 @@ pub mod Nodes
 pub mod NumberSteps
 pub mod RowSteps
 pub mod SpecialSteps
+pub mod Steps
 pub mod StringSteps
 pub mod SymbolSteps
 pub mod TypeSteps

@@ -12,8 +12,8 @@ use Rattle.msvc_grammar.specs.State.{State, remember_name}
 use Rattle.msvc_grammar.specs.Sorts.{name_tree}
 use Rattle.msvc_grammar.specs.Rules.{symbol_body, parameters, qualified_name, unqualified_name, template_name, scope}
 use Rattle.msvc_grammar.specs.Rules.{nested_name, locally_scoped_name}
-use Rattle.msvc_grammar.specs.Rules.{anonymous_namespace, hexadecimal_digits, source_name}
-use Rattle.msvc_grammar.specs.Rules.{number, after, Rule, give, literal, known_name, call, literal_or, node, special_name}
+use Rattle.msvc_grammar.specs.Rules.{anonymous_namespace, hexadecimal_digits, source_name, special_name}
+use Rattle.msvc_grammar.specs.Rules.{number, after, Rule, give, literal, known_name, call, literal_or, node}
 use Rattle.msvc_grammar.specs.Grammar.{grammar, entering_name, nested_symbol, new_interface, new_source_name}
 use Rattle.msvc_grammar.specs.Grammar.{template_inside, template_kept}
 use Rattle.msvc_grammar.specs.Letters.{digits}
@@ -58,8 +58,6 @@ pub qualified_name_step : (of_symbol : Bool) (left : List ℕ) (s : State) → r
 unfolding grammar read read_by
 qualified_name_step of_symbol left s = read_name-is (qualified_name of_symbol) left s
 
-pub ruleset qualified_name_is = (qualified_name_step)
-
 pub source_name_step : (left : List ℕ) (s : State)
     → read_name source_name left s ≡ cut_at (name_length left) left s
 unfolding grammar read read_by
@@ -82,8 +80,6 @@ unqualified_name_step of_symbol left s =
   where
     special_or_new : Rule name_tree
     special_or_new = literal_or (codes "?") (call special_name) new_source_name
-
-pub ruleset unqualified_name_is = (unqualified_name_step)
 
 kept_or_not : (of_symbol : Bool) (left : List ℕ) (s : State) → read (template_kept of_symbol) left s
     ≡ and_then (read_name template_name left s) (λ n l t. Some (n, l, add_template_name of_symbol n t))
@@ -111,8 +107,6 @@ template_kept_step of_symbol left s =
     kept_or_not of_symbol left s
     ∙ ap (λ o. and_then o (λ n l t. Some (n, l, add_template_name of_symbol n t))) (template_name_step left s)
 
-pub ruleset template_kept_is = (template_kept_step)
-
 pub template_inside_step : (left : List ℕ) (s : State) → read template_inside left s
     ≡ in_node left s (λ j a. and_then (read_name (unqualified_name false) j a)
     (λ n l t. and_then (read_name parameters l t) (λ ts k u. Some (template n (type_trees ts), k, u))))
@@ -128,8 +122,6 @@ nested_name_step left s =
     ∙ letter_or-is digits (λ i. known_name i) (literal_or (codes "?") (call locally_scoped_name) new_source_name) left s
     ∙ ap (choose (letter_here digits left s) (λ i l t. name_known (slice_get t.names i) l t))
     (literal_or-is {a = name_tree} (codes "?") (call locally_scoped_name) new_source_name left s)
-
-pub ruleset nested_name_is = (nested_name_step)
 
 pub marked_name_step : (left : List ℕ) (s : State) → read_name locally_scoped_name left s
     ≡ chosen (after (codes "?") left) (λ rest. read nested_symbol rest s)
@@ -279,4 +271,15 @@ new_source_name_step left s =
         (λ n l t. Some (n, l, remember_name n t))) (source_name_step j a)
         ∙ go (cut_at (name_length j) j a)
 
-pub ruleset new_source_name_is = (new_source_name_step)
+pub ruleset steps = (
+  qualified_name_step,
+  unqualified_name_step,
+  template_kept_step,
+  template_inside_step,
+  nested_name_step,
+  marked_name_step,
+  nested_symbol_step,
+  new_interface_step,
+  anonymous_namespace_step,
+  new_source_name_step,
+)

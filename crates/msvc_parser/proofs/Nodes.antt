@@ -12,20 +12,12 @@ use Rattle.msvc_nodes.specs.NodeView.{typed_symbol_of, name_of, type_of}
 use Rattle.msvc_nodes.specs.declared.nodes.TypedSymbol.{TypedSymbol}
 use Rattle.msvc_nodes.proofs.NodeViews.{name_of-Template, name_of-Nested, type_of-Tagged, type_of-Function}
 use Rattle.msvc_nodes.proofs.NodeViews.{type_of-MemberFunction, type_of-MemberPointer, type_of-Table}
-use Rattle.msvc_parser.proofs.SpecialSteps.{base_class_step, guard_step, plain_operator_step, special_name_here}
 use Rattle.std.proofs.Common.{cond, ◌∙◌}
 use Rattle.std.specs.Prelude.{◌&&◌}
 use Rattle.std.specs.List.{list_all}
 use Rattle.std.proofs.lemmas.Option.{slice_get-map}
 use Rattle.msvc_grammar.specs.Rules.{every}
 use Rattle.msvc_parser.specs.Parser.{Frame}
-use Rattle.msvc_parser.proofs.Choices.{letter_step}
-use Rattle.msvc_parser.proofs.FunctionSteps.{class_part_is, returned_member, returned_other}
-use Rattle.msvc_parser.proofs.GuardSteps.{indexed_guard, indexed_other}
-use Rattle.msvc_parser.proofs.NameSteps.{marked_name_step, nested_symbol_step}
-use Rattle.msvc_parser.proofs.SymbolSteps.{encoding_step, type_information_step, untyped_step}
-use Rattle.msvc_parser.proofs.TypeSteps.{arrayed_step, indexed_step, named_step, points_step, plain_type_step}
-use Rattle.msvc_parser.proofs.TypeSteps.{referred_step}
 use Rattle.msvc_grammar.specs.Grammar.{arrays}
 
 -- trees as lists have them
@@ -79,25 +71,8 @@ pub ruleset views = (
   type_of-MemberFunction,
   type_of-MemberPointer,
   type_of-Table,
+  typed_symbol_of-is,
 )
-
-pub ruleset locally_scoped_split = (marked_name_step, nested_symbol_step)
-
-pub ruleset special_split = (special_name_here, plain_operator_step, guard_step)
-
-pub ruleset returned_split = (returned_member, returned_other)
-
-pub ruleset indexed_split = (indexed_other, indexed_guard)
-
-pub ruleset encoding_split = (encoding_step, untyped_step, type_information_step)
-
-pub ruleset plain_split = (plain_type_step, arrayed_step, indexed_step, named_step, points_step, referred_step)
-
-pub ruleset typed_symbol_split = (typed_symbol_of-is)
-
-pub ruleset arrays_nest = (arrays-last)
-
-pub ruleset class_part_split = (class_part_is, letter_step)
 
 pub ruleset entry_split = (slice_get-map, map_last)
 
@@ -181,5 +156,3 @@ frame_types {N} {E} a b d e before after new x kept h f g =
       listed_types = xs;
       types_before = kept;
     }) (sym (ap (λ (k : Frame N E). k.listed_types) g ∙ ap (λ (k : Frame N E). k.listed_types ++ x ∷ []) f))
-
-pub ruleset base_class_split = (base_class_step)

@@ -22,8 +22,6 @@ number_step left s =
     ∙ literal_or-is {a = integer} (codes "?") (do z ← call magnitude; give (int_wrapping_neg w32 z)) (call magnitude)
     left s
 
-pub ruleset number_is = (number_step)
-
 pub magnitude_step : (left : List ℕ) (s : State) → read_name magnitude left s
     ≡ choose (letter_here digits left s) (λ d l t. Some (cast_signed w32 (d + 1), l, t)) (read signed_letters left s)
 unfolding grammar read read_by
@@ -31,4 +29,4 @@ magnitude_step left s =
     read_name-is magnitude left s
     ∙ letter_or-is digits (λ d. give (cast_signed w32 (d + 1))) signed_letters left s
 
-pub ruleset magnitude_is = (magnitude_step)
+pub ruleset steps = (number_step, magnitude_step)

@@ -104,8 +104,6 @@ scope_more xs left l s t x e some =
     row_more (read_name scope) (read_name nested_name)
     (λ m. scope_stop (after (codes "@") m)) scope_step xs left l s t x (ap scope_stop e) some
 
-pub ruleset scope_goes_on = (scope_starts, scope_ends, scope_rejected)
-
 -- digits up to an @
 
 abbrev pub digits_stop : Option (List ℕ) → Option (List ℕ × List ℕ)
@@ -158,8 +156,6 @@ pub digits_more : (xs : List ℕ) (left l : List ℕ) (s t : State) (x : ℕ) �
 digits_more xs left l s t x e some =
     row_more (read_name hexadecimal_digits) (letter_here hexadecimal_codes)
     (λ m. digits_stop (after (codes "@") m)) hexadecimal_digits_step xs left l s t x (ap digits_stop e) some
-
-pub ruleset hexadecimal_digits_go_on = (digits_start, digits_end, digits_rejected)
 
 -- parameters up to their end
 
@@ -241,8 +237,6 @@ parameters_more xs left l s t x e some =
     ∙ ap (λ o. parameters_by None o s) some)
     ∙ front_first xs x (read_name parameters l t)
 
-pub ruleset parameters_go_on = (parameters_starts, parameters_ended, parameters_uncounted, parameters_rejected)
-
 -- as many numbers, each of which counts before it is read
 
 lengths_step : (n : ℕ) (left : List ℕ) (s : State) → read_name (lengths (suc n)) left s
@@ -292,4 +286,19 @@ lengths_more zs (suc n) m left j l s a t z h e some =
     ∙ front_first zs z (read_name (lengths n) l t)
     ∙ ap (λ k. with_front (zs ++ z ∷ []) (read_name (lengths k) l t)) (let same : n ≡ m = omega arith in same)
 
-pub ruleset lengths_go_on = (lengths_starts, lengths_ends, lengths_uncounted, lengths_rejected)
+pub ruleset steps = (
+  scope_starts,
+  scope_ends,
+  scope_rejected,
+  digits_start,
+  digits_end,
+  digits_rejected,
+  parameters_starts,
+  parameters_ended,
+  parameters_uncounted,
+  parameters_rejected,
+  lengths_starts,
+  lengths_ends,
+  lengths_uncounted,
+  lengths_rejected,
+)

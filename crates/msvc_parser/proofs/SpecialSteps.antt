@@ -205,3 +205,5 @@ pub base_class_reads : (left i l k j rest : List ℕ) (s r t u v w : State) (a b
     → read_name number k u ≡ Some (c, j, v) → read_name number j v ≡ Some (d, rest, w)
     → read_name (special_after special.BaseClass) left s ≡ Some (base_class_descriptor a b c d, rest, w)
 base_class_reads left i l k j rest s r t u v w a b c d n e f g h = base_class_step left s ∙ rw (n, e, f, g, h)
+
+pub ruleset steps = (special_name_here, plain_operator_step, guard_step, type_descriptor_step, base_class_step)

@@ -56,8 +56,6 @@ characters_more cs (suc n) m left l s t c h some =
     ∙ front_first cs c (read_name (characters n) l t)
     ∙ ap (λ k. with_front (cs ++ c ∷ []) (read_name (characters k) l t)) (let same : n ≡ m = omega arith in same)
 
-pub ruleset characters_go_on = (characters_start, characters_end, characters_rejected)
-
 -- a byte, and what follows one byte, or what a table has for another
 by_byte : {A : Type 0} (table : List (ℕ × A)) (first : ℕ) (f : List ℕ → State → Found A) (left : List ℕ) (s : State)
     → chosen (after (first ∷ []) left) (λ rest. f rest s) (letter_here table left s)
@@ -122,8 +120,12 @@ escaped_other b left l s t o e other g =
     ∙ ap (λ x. cond x (read halves l t) (with_value (lookup b escaped_characters) l t)) f
     ∙ ap (λ x. with_value x l t) g
 
-pub ruleset character_is = (character_step)
-
-pub ruleset escaped_is = (escaped_character_step)
-
-pub ruleset halves_is = (halves_step)
+pub ruleset steps = (
+  encoded_string_step,
+  characters_start,
+  characters_end,
+  characters_rejected,
+  character_step,
+  escaped_character_step,
+  halves_step,
+)

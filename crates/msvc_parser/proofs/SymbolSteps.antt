@@ -231,3 +231,18 @@ pub virtual_call_step : (left : List ℕ) (s : State) → read_name (encoding_af
     (λ c i w. Some (vcall_thunk z c, i, w))))))
 unfolding grammar read read_by
 virtual_call_step left s = read_name-is (encoding_after virtual_call) left s
+
+pub ruleset encoding_steps = (encoding_step, untyped_step, type_information_step)
+
+pub ruleset steps = (
+  symbol_step,
+  symbol_body_step,
+  template_symbol_step,
+  named_symbol_step,
+  hashed_symbol_step,
+  variable_step,
+  function_step,
+  member_step,
+  table_step,
+  virtual_call_step,
+)

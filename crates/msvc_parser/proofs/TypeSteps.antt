@@ -13,15 +13,16 @@ use Rattle.msvc_nodes.specs.declared.kinds.PlainType.TheVariants as plain_kind
 use Rattle.msvc_nodes.specs.Trees.{TypeTree, name_trees, numbered, plain, pointing, tagged}
 use Rattle.msvc_parser.specs.Parser.{byte_here, found_or, this_or, text_at}
 use Rattle.msvc_grammar.specs.State.{State}
-use Rattle.msvc_grammar.specs.Sorts.{Sort, bits, type_tree, TypeLetter, arrayed, based, extended, indexed, named, points}
-use Rattle.msvc_grammar.specs.Sorts.{referred}
+use Rattle.msvc_grammar.specs.Sorts.{Sort, bits, type_tree, TypeLetter, arrayed, based, extended, indexed, named}
+use Rattle.msvc_grammar.specs.Sorts.{points, referred}
 use Rattle.msvc_grammar.specs.Rules.{type_, plain_type, type_after, pointee, array, dimension, positive, lengths}
-use Rattle.msvc_grammar.specs.Rules.{qualified_name, number, some_of, begins, after, lookup, Rule, give, letter, literal}
+use Rattle.msvc_grammar.specs.Rules.{qualified_name, number, some_of, begins, after, lookup, Rule, give, letter}
+use Rattle.msvc_grammar.specs.Rules.{literal}
 use Rattle.msvc_grammar.specs.Rules.{call, literal_or, optional, function_type, member_pointer, prefixed_type, every}
 use Rattle.msvc_grammar.specs.Rules.{text_and, text_or, texts_of}
 use Rattle.msvc_grammar.specs.Grammar.{grammar, array_class, arrays}
-use Rattle.msvc_grammar.specs.Letters.{rows_of, digits, pointer_sizes, qualifiers, storage_classes, qualifiers_of_arrays}
-use Rattle.msvc_grammar.specs.Letters.{base_types, extended_types, compound_letters, type_texts}
+use Rattle.msvc_grammar.specs.Letters.{rows_of, digits, pointer_sizes, qualifiers, storage_classes}
+use Rattle.msvc_grammar.specs.Letters.{qualifiers_of_arrays, base_types, extended_types, compound_letters, type_texts}
 use Rattle.msvc_grammar.specs.Reads.{Found, read_name, read, read_by, letter_here, with_value, type_known}
 use Rattle.msvc_grammar.specs.Reads.{after_literal, and_then, in_node, or_else}
 use Rattle.msvc_grammar.proofs.FuelIndependence.{read_name-is}
@@ -121,8 +122,6 @@ type_step q left s =
     dropped : Rule type_tree
     dropped = literal_or (codes "$") (call (plain_type q)) (call (plain_type q))
 
-pub ruleset type_is = (type_step)
-
 -- Forms of a type, after its text
 
 pub enumeration_step : (q : ℕ) (left : List ℕ) (s : State) → read_name (prefixed_type q form.Enumeration) left s
@@ -215,24 +214,6 @@ pub member_form_step : (q : ℕ) (left : List ℕ) (s : State) → read_name (pr
 unfolding grammar read read_by
 member_form_step q left s = read_name-is (prefixed_type q form.MemberPointer) left s
 
-pub ruleset prefixed_type_is = (
-  enumeration_step,
-  alias_step,
-  reference_to_function_step,
-  pointer_to_function_step,
-  rvalue_reference_step,
-  constant_step,
-  template_parameter_step,
-  array_form_step,
-  empty_pack_step,
-  nullptr_step,
-  function_form_step,
-  qualified_function_step,
-  cv_type_step,
-  qualified_member_step,
-  member_form_step,
-)
-
 -- Plain types, and what follows their letters
 
 -- what is read after the first letter of a type
@@ -294,8 +275,6 @@ extended_step q left s =
     go [] t = refl
     go (b ∷ bs) t = found (lookup b extended_types) bs t
 
-pub ruleset extended_is = (extended_step)
-
 pub named_step : (q : ℕ) (tag : TagKind) (left : List ℕ) (s : State) → read_name (type_after q (named tag)) left s
     ≡ in_node left s (λ l t. and_then (read_name (qualified_name false) l t)
     (λ n k u. Some (tagged tag n.0 (name_trees n.1) q, k, u)))
@@ -340,8 +319,6 @@ pub pointee_step : (left : List ℕ) (s : State) → read_name pointee left s
 unfolding grammar read read_by
 pointee_step left s = read_name-is pointee left s
 
-pub ruleset pointee_is = (pointee_step)
-
 pub array_class_step : (left : List ℕ) (s : State) → read array_class left s
     ≡ chosen (after (codes "$$C") left) (λ rest. and_then (byte_here rest s)
     (λ b l t. with_value (lookup b qualifiers_of_arrays) l t)) (Some (0, left, s))
@@ -349,8 +326,6 @@ unfolding read read_by
 array_class_step left s =
     literal_or-is {a = bits} (codes "$$C") (letter bits qualifiers_of_arrays) (give 0) left s
     ∙ letter_following qualifiers_of_arrays (after (codes "$$C") left) (Some (0, left, s)) s
-
-pub ruleset array_class_is = (array_class_step)
 
 abbrev elements : List ℤ → ℕ → List ℕ → State → Found TypeTree
 elements zs q left s = and_then (read_name (type_ 0) left s) (λ x l t. Some (arrays zs x q, l, t))
@@ -374,8 +349,6 @@ array_step left s =
     go zs k u None = refl
     go zs k u (Some rest) = ap (λ o. and_then o (elements zs)) (letter_step qualifiers_of_arrays rest u)
 
-pub ruleset array_is = (array_step)
-
 abbrev pub dimension_by : ℤ → List ℕ → State → Found ℕ
 dimension_by (pos zero) left s = None
 dimension_by (pos (suc n)) left s = Some (suc n, left, s)
@@ -395,4 +368,28 @@ unfolding grammar read read_by
 dimension_step left s = read_name-is dimension left s
     ∙ λ i. and_then (read_name number left s) (λ z l t. positive_step z l t i)
 
-pub ruleset dimension_is = (dimension_step)
+pub ruleset plain_type_steps = (plain_type_step, arrayed_step, indexed_step, named_step, points_step, referred_step)
+
+pub ruleset steps = (
+  type_step,
+  enumeration_step,
+  alias_step,
+  reference_to_function_step,
+  pointer_to_function_step,
+  rvalue_reference_step,
+  constant_step,
+  template_parameter_step,
+  array_form_step,
+  empty_pack_step,
+  nullptr_step,
+  function_form_step,
+  qualified_function_step,
+  cv_type_step,
+  qualified_member_step,
+  member_form_step,
+  extended_step,
+  pointee_step,
+  array_class_step,
+  array_step,
+  dimension_step,
+)

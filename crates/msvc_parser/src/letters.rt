@@ -1,5 +1,6 @@
 //! Tables of letters: one function per table returns what a letter stands for. Below them stand the readers of base
 //! types.
+#![tactic(auto, using(crate::proofs::TypeSteps::extended_step), unfolding(msvc_nodes::specs::NodeView::type_of))]
 
 ghost use Rattle.std.specs.Option.{option_map};
 ghost use Rattle.std.specs.Prelude.{◌≡◌};
@@ -313,7 +314,6 @@ pub fn function_class(letter: u8) -> Option<FuncClass>
 impl<'a, 'b, L: NodeBudget, A: Allocator> Parser<'a, 'b, L, A> {
     /// Returns the type of a letter that needs no other: a base type with the given qualifiers, or the type that a
     /// digit refers to, as it was memorized. Fails at any other letter.
-    #[tactic(auto, unfolding(msvc_nodes::specs::NodeView::type_of))]
     pub fn type_of_letter(
         &mut self,
         letter: u8,
@@ -333,7 +333,6 @@ impl<'a, 'b, L: NodeBudget, A: Allocator> Parser<'a, 'b, L, A> {
     }
 
     /// Reads a base type by its second letter.
-    #[tactic(auto, using(crate::proofs::TypeSteps::extended_is), unfolding(msvc_nodes::specs::NodeView::type_of))]
     pub fn extended_type(&mut self, qualifiers: StorageClass) -> Result<&'b Type<'a, 'b>, Failed>
         ensures value { ReadsAs type_at self.old self.new result (read_name (type_after qualifiers.0 extended)) }
         ensures consumes { Consumes self.old self.new result }

@@ -1,4 +1,5 @@
 //! Numbers: a digit, or base 16 letters up to an `@`.
+#![tactic(auto, using(crate::proofs::NumberSteps::steps, msvc_grammar::proofs::Hexadecimal::letters_go_on), unfolding(msvc_grammar::proofs::Hexadecimal::letters_at))]
 
 ghost use Rattle.msvc_grammar.specs.Grammar.{signed_letters};
 ghost use Rattle.msvc_grammar.specs.Reads.{read, read_name};
@@ -16,7 +17,6 @@ const BASE: u32 = 16;
 
 impl<'a, 'b, L: NodeBudget, A: Allocator> Parser<'a, 'b, L, A> {
     /// Reads `NUMBER = ["?"] MAGNITUDE`: a `?` negates.
-    #[tactic(auto, using(crate::proofs::NumberSteps::number_is))]
     pub fn number(&mut self) -> Result<i32, Failed>
         ensures value { ReadsAs (λ z. z) self.old self.new result (read_name number) }
         ensures consumes { Consumes self.old self.new result }
@@ -29,7 +29,6 @@ impl<'a, 'b, L: NodeBudget, A: Allocator> Parser<'a, 'b, L, A> {
     }
 
     /// Reads `MAGNITUDE = digit | LETTERS`: the value of a digit is one more than the digit.
-    #[tactic(auto, using(crate::proofs::NumberSteps::magnitude_is))]
     fn magnitude(&mut self) -> Result<i32, Failed>
         ensures value { ReadsAs (λ z. z) self.old self.new result (read_name magnitude) }
         ensures consumes { Consumes self.old self.new result }
@@ -41,7 +40,6 @@ impl<'a, 'b, L: NodeBudget, A: Allocator> Parser<'a, 'b, L, A> {
     }
 
     /// Reads `LETTERS = {letter} "@"`: `A` to `P` are base 16 digits, and bits beyond the low 32 are dropped.
-    #[tactic(auto, using(msvc_grammar::proofs::Hexadecimal::letters_go_on), unfolding(msvc_grammar::proofs::Hexadecimal::letters_at))]
     fn hexadecimal(&mut self) -> Result<i32, Failed>
         ensures value { ReadsAs (λ z. z) self.old self.new result (read signed_letters) }
         ensures consumes { Consumes self.old self.new result }

@@ -5,6 +5,7 @@
 //! the parser, never a value of many words, and functions that memorize a name or a type, record an error or store a
 //! node of several parts are never inlined. None of their variables is in a reader's frame while a nested part is read.
 //! Names of the source, which nest nothing, are memorized inline, by `add_name_inline`.
+#![tactic(auto, unfolding(crate::specs::Parser::byte_here, msvc_grammar::specs::Reads::counting, msvc_grammar::specs::Reads::read, msvc_grammar::specs::Reads::read_by))]
 
 ghost use Rattle.std.specs.Option.{option_map};
 ghost use Rattle.std.specs.Prelude.{◌≡◌, ◌≤◌, ◌<◌, ◌+◌, ◌∷◌, [], IfErr, IfOk, IfSome, IsTrue, length, MatchOption};
@@ -131,7 +132,6 @@ impl<'a, 'b, L: NodeBudget, A: Allocator> Parser<'a, 'b, L, A> {
     }
 
     /// Counts a node before it is read, or fails if the limit is reached.
-    #[tactic(auto, unfolding(msvc_grammar::specs::Reads::counting))]
     pub fn count_node(&mut self) -> Result<(), Failed>
         ensures value { ReadsAs (λ _. tt) self.old self.new result (λ left s. counting s.count.weight left s) }
         ensures stays { Stays self.old self.new result }
@@ -143,7 +143,6 @@ impl<'a, 'b, L: NodeBudget, A: Allocator> Parser<'a, 'b, L, A> {
     }
 
     /// Counts the nodes of a table entry, or fails if they exceed the limit.
-    #[tactic(auto, unfolding(msvc_grammar::specs::Reads::counting))]
     pub fn count_nodes(&mut self, nodes: L) -> Result<(), Failed>
         ensures value { ReadsAs (λ _. tt) self.old self.new result (counting (L.used nodes)) }
         ensures stays { Stays self.old self.new result }
@@ -172,7 +171,6 @@ impl<'a, 'b, L: NodeBudget, A: Allocator> Parser<'a, 'b, L, A> {
     }
 
     /// Reads the next byte, if there is one.
-    #[tactic(auto, unfolding(crate::specs::Parser::byte_here))]
     pub fn next_byte(&mut self) -> Option<u8>
         ensures value { option_map (λ b. (b, self.new.rest.now, state_of self.new)) result
             ≡ byte_here self.old.rest.now (state_of self.old) }
@@ -269,7 +267,6 @@ impl<'a, 'b, L: NodeBudget, A: Allocator> Parser<'a, 'b, L, A> {
     }
 
     /// Reads a text, or fails if it is not next.
-    #[tactic(auto, unfolding(msvc_grammar::specs::Reads::read, msvc_grammar::specs::Reads::read_by))]
     pub fn expect(&mut self, text: &[u8], message: Message) -> Result<(), Failed>
         ensures value { ReadsAs (λ _. tt) self.old self.new result (read (literal text.now)) }
         ensures shorter { IfOk result (λ _. length text.now + length self.new.rest.now ≡ length self.old.rest.now) }
@@ -282,7 +279,6 @@ impl<'a, 'b, L: NodeBudget, A: Allocator> Parser<'a, 'b, L, A> {
     }
 
     /// Reads a letter of a table of qualifiers, and returns no qualifiers if the next byte is none.
-    #[tactic(auto, unfolding(msvc_grammar::specs::Reads::read, msvc_grammar::specs::Reads::read_by))]
     pub fn optional(&mut self, letters: OptionalLetters) -> StorageClass
         ensures value { read (optional (optional_letters letters)) self.old.rest.now (state_of self.old)
             ≡ Some (result.0, self.new.rest.now, state_of self.new) }
@@ -304,7 +300,6 @@ impl<'a, 'b, L: NodeBudget, A: Allocator> Parser<'a, 'b, L, A> {
     }
 
     /// Reads `letter` and returns `bits`, or returns no bits if another byte is next.
-    #[tactic(auto, unfolding(msvc_grammar::specs::Reads::read, msvc_grammar::specs::Reads::read_by))]
     pub fn optional_flag(&mut self, letter: u8, bits: StorageClass) -> StorageClass
         ensures value { read (optional ((letter, bits.0) ∷ [])) self.old.rest.now (state_of self.old)
             ≡ Some (result.0, self.new.rest.now, state_of self.new) }

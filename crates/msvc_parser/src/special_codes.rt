@@ -1,4 +1,5 @@
 //! The codes of special names.
+#![tactic(auto, unfolding(crate::specs::Parser::special_at, crate::specs::Parser::special_at_after_under))]
 
 ghost use Rattle.std.specs.Option.{option_map};
 ghost use Rattle.std.specs.Prelude.{◌≡◌, ◌<◌, length, IfSome};
@@ -14,7 +15,6 @@ use msvc_nodes::kinds::{Guard, PlainOperator};
 use msvc_nodes::plain_operators;
 
 /// Returns what the code stands for that the bytes begin with, and the bytes after it.
-#[tactic(auto, unfolding(crate::specs::Parser::special_at))]
 pub fn special_form<'a>(left: &'a [u8]) -> Option<(SpecialForm, &'a [u8])>
     ensures value { option_map (λ x. (x.0, x.1.now)) result ≡ special_at left.now }
     ensures shorter { IfSome result (λ x. length x.1.now < length left.now) }
@@ -27,7 +27,6 @@ pub fn special_form<'a>(left: &'a [u8]) -> Option<(SpecialForm, &'a [u8])>
 }
 
 /// Returns the same after a `_`.
-#[tactic(auto, unfolding(crate::specs::Parser::special_at_after_under))]
 fn special_form_after_under<'a>(left: &'a [u8]) -> Option<(SpecialForm, &'a [u8])>
     ensures value { option_map (λ x. (x.0, x.1.now)) result ≡ special_at_after_under left.now }
     ensures shorter { IfSome result (λ x. length x.1.now < length left.now) }

@@ -1,4 +1,5 @@
 //! String constants: a symbol has the first characters of one, each encoded as a byte.
+#![tactic(auto, using(crate::proofs::Choices::letter_step, crate::proofs::StringSteps::steps), unfolding(msvc_nodes::specs::NodeView::type_of))]
 
 ghost use Rattle.std.specs.Prelude.{◌≡◌, ◌<◌, IfOk, length};
 ghost use Rattle.msvc_nodes.specs.NodeView.{type_at};
@@ -26,7 +27,6 @@ const MAX_CHARACTERS: u32 = 32;
 
 impl<'a, 'b, L: NodeBudget, A: Allocator> Parser<'a, 'b, L, A> {
     /// Reads `ENCODED_STRING = character size NUMBER NUMBER CHARACTERS`: the second number is dropped.
-    #[tactic(auto, using(crate::proofs::StringSteps::encoded_string_step), unfolding(msvc_nodes::specs::NodeView::type_of))]
     pub fn encoded_string(&mut self) -> Result<&'b Type<'a, 'b>, Failed>
         ensures value { ReadsAs type_at self.old self.new result (read_name (encoding_after encoded_string)) }
         ensures consumes { MayConsume self.old self.new result }
@@ -40,7 +40,6 @@ impl<'a, 'b, L: NodeBudget, A: Allocator> Parser<'a, 'b, L, A> {
     }
 
     /// Reads how many bytes a character has.
-    #[tactic(auto, using(crate::proofs::Choices::letter_is))]
     fn character_size(&mut self) -> Result<u8, Failed>
         ensures value { ReadsAs (λ n. n) self.old self.new result (letter_here character_sizes) }
         ensures consumes { Consumes self.old self.new result }
@@ -53,7 +52,6 @@ impl<'a, 'b, L: NodeBudget, A: Allocator> Parser<'a, 'b, L, A> {
     }
 
     /// Reads exactly `count` characters.
-    #[tactic(auto, using(crate::proofs::StringSteps::characters_go_on))]
     fn characters(&mut self, count: u32) -> Result<Vec<u8, &'b Bump<A>>, Failed>
         ensures value { ReadsAs (λ v. v.items) self.old self.new result (read_name (characters count)) }
         ensures consumes { MayConsume self.old self.new result }
@@ -69,7 +67,6 @@ impl<'a, 'b, L: NodeBudget, A: Allocator> Parser<'a, 'b, L, A> {
     }
 
     /// Reads `CHARACTER = plain character | "?" ESCAPED_CHARACTER`.
-    #[tactic(auto, using(crate::proofs::StringSteps::character_is))]
     fn character(&mut self) -> Result<u8, Failed>
         ensures value { ReadsAs (λ n. n) self.old self.new result (read_name character) }
         ensures consumes { Consumes self.old self.new result }
@@ -85,7 +82,6 @@ impl<'a, 'b, L: NodeBudget, A: Allocator> Parser<'a, 'b, L, A> {
     }
 
     /// Reads `ESCAPED_CHARACTER = escaped character | "$" HALVES`.
-    #[tactic(auto, using(crate::proofs::StringSteps::escaped_is))]
     fn escaped_character(&mut self) -> Result<u8, Failed>
         ensures value { ReadsAs (λ n. n) self.old self.new result (read escaped_character) }
         ensures consumes { Consumes self.old self.new result }
@@ -101,7 +97,6 @@ impl<'a, 'b, L: NodeBudget, A: Allocator> Parser<'a, 'b, L, A> {
     }
 
     /// Reads `HALVES = hexadecimal hexadecimal`: the high half of a byte, then the low one.
-    #[tactic(auto, using(crate::proofs::StringSteps::halves_is))]
     fn halves(&mut self) -> Result<u8, Failed>
         ensures value { ReadsAs (λ n. n) self.old self.new result (read halves) }
         ensures consumes { Consumes self.old self.new result }
@@ -112,7 +107,6 @@ impl<'a, 'b, L: NodeBudget, A: Allocator> Parser<'a, 'b, L, A> {
     }
 
     /// Reads one digit of a byte.
-    #[tactic(auto, using(crate::proofs::Choices::letter_is))]
     fn half(&mut self) -> Result<u8, Failed>
         ensures value { ReadsAs (λ n. n) self.old self.new result (letter_here hexadecimal) }
         ensures consumes { Consumes self.old self.new result }

@@ -1,4 +1,5 @@
 //! Texts that introduce a form of type, and the form of each.
+#![tactic(auto, unfolding(crate::specs::Parser::text_at))]
 
 ghost use Rattle.std.specs.Option.{option_map};
 ghost use Rattle.std.specs.Prelude.{◌≡◌, ◌<◌, ◌≤◌, IfSome, length};
@@ -8,7 +9,6 @@ ghost use Rattle.msvc_parser.specs.Parser.{dollar_texts, double_dollar_texts, te
 use msvc_grammar::forms::TypePrefix;
 
 /// Returns the form whose text `left` begins with, and the bytes after that text.
-#[tactic(auto, unfolding(crate::specs::Parser::text_at))]
 #[inline(always)]
 pub fn type_prefix<'a>(left: &'a [u8]) -> Option<(TypePrefix, &'a [u8])>
     ensures value { option_map (λ x. (x.0, x.1.now)) result ≡ text_at type_texts left.now }
@@ -25,7 +25,6 @@ pub fn type_prefix<'a>(left: &'a [u8]) -> Option<(TypePrefix, &'a [u8])>
 }
 
 /// Returns the same after a `$`.
-#[tactic(auto, unfolding(crate::specs::Parser::text_at))]
 #[inline(always)]
 fn dollar_prefix<'a>(left: &'a [u8]) -> Option<(TypePrefix, &'a [u8])>
     ensures value { option_map (λ x. (x.0, x.1.now)) result ≡ text_at dollar_texts left.now }
@@ -42,7 +41,6 @@ fn dollar_prefix<'a>(left: &'a [u8]) -> Option<(TypePrefix, &'a [u8])>
 }
 
 /// Returns the same after `$$`.
-#[tactic(auto, unfolding(crate::specs::Parser::text_at))]
 #[inline(always)]
 fn double_dollar_prefix<'a>(left: &'a [u8]) -> Option<(TypePrefix, &'a [u8])>
     ensures value { option_map (λ x. (x.0, x.1.now)) result ≡ text_at double_dollar_texts left.now }

@@ -32,7 +32,6 @@ use std::alloc::Allocator;
 
 /// Reads `FUNCTION = SIGNATURE`: a function outside of any class.
 #[cycle(readers)]
-#[tactic(auto, using(msvc_parser::proofs::SymbolSteps::function_step, msvc_parser::proofs::Nodes::views))]
 pub fn function<'a, 'b, L: NodeBudget, A: Allocator>(
     parser: &mut Parser<'a, 'b, L, A>,
 ) -> Result<&'b Type<'a, 'b>, Failed>
@@ -51,7 +50,6 @@ pub fn function<'a, 'b, L: NodeBudget, A: Allocator>(
 
 /// Reads `MEMBER = [THUNK_NUMBER] [THIS_QUALIFIERS] SIGNATURE`.
 #[cycle(readers)]
-#[tactic(auto, using(msvc_parser::proofs::SymbolSteps::member_step, msvc_parser::proofs::Nodes::views))]
 pub fn member<'a, 'b, L: NodeBudget, A: Allocator>(
     parser: &mut Parser<'a, 'b, L, A>,
     class: FuncClass,
@@ -69,7 +67,6 @@ pub fn member<'a, 'b, L: NodeBudget, A: Allocator>(
 
 /// Reads `FUNCTION_TYPE = [THIS_QUALIFIERS] convention [class of what is returned] TYPE FUNCTION_PARAMETERS`.
 #[cycle(readers)]
-#[tactic(auto, using(msvc_parser::proofs::FunctionSteps::function_type_step))]
 pub fn function_type<'a, 'b, L: NodeBudget, A: Allocator>(
     parser: &mut Parser<'a, 'b, L, A>,
     qualifiers: ObjectQualifiers,
@@ -89,7 +86,6 @@ pub fn function_type<'a, 'b, L: NodeBudget, A: Allocator>(
 
 /// Reads `MEMBER_POINTER = QUALIFIED_NAME ["E"] CLASS_PART SIGNATURE`.
 #[cycle(readers)]
-#[tactic(auto, using(msvc_parser::proofs::FunctionSteps::member_pointer_step))]
 pub fn member_pointer<'a, 'b, L: NodeBudget, A: Allocator>(
     parser: &mut Parser<'a, 'b, L, A>,
     form: MemberPointerForm,
@@ -184,7 +180,6 @@ pub fn put_parts<'a, 'b, L: NodeBudget, A: Allocator>(
 }
 
 /// Reads the qualifiers of the return type of a function type.
-#[tactic(auto, using(msvc_parser::proofs::FunctionSteps::pointed_return_qualifiers_is))]
 pub fn pointed_return_qualifiers<'a, 'b, L: NodeBudget, A: Allocator>(
     parser: &mut Parser<'a, 'b, L, A>,
 ) -> StorageClass
@@ -201,7 +196,6 @@ pub fn pointed_return_qualifiers<'a, 'b, L: NodeBudget, A: Allocator>(
 
 /// Reads `CLASS_PART = [qualifier] | function class [THUNK_NUMBER]`: a pointer to a member function has qualifiers or a
 /// class.
-#[tactic(auto, using(msvc_parser::proofs::Nodes::class_part_split))]
 pub fn class_part<'a, 'b, L: NodeBudget, A: Allocator>(
     parser: &mut Parser<'a, 'b, L, A>,
     form: MemberPointerForm,
@@ -220,7 +214,6 @@ pub fn class_part<'a, 'b, L: NodeBudget, A: Allocator>(
 }
 
 /// Reads the class of the member function that a pointer refers to, and its number if it is a thunk.
-#[tactic(auto, using(msvc_parser::proofs::Nodes::class_part_split))]
 pub fn class_of_member<'a, 'b, L: NodeBudget, A: Allocator>(
     parser: &mut Parser<'a, 'b, L, A>,
 ) -> Result<FuncClass, Failed>
@@ -236,7 +229,6 @@ pub fn class_of_member<'a, 'b, L: NodeBudget, A: Allocator>(
 }
 
 /// Reads `THUNK_NUMBER = NUMBER`: the number of a thunk, which is dropped. Other functions have none.
-#[tactic(auto, using(msvc_parser::proofs::FunctionSteps::thunk_number_is))]
 pub fn thunk_number<'a, 'b, L: NodeBudget, A: Allocator>(
     parser: &mut Parser<'a, 'b, L, A>,
     class: FuncClass,
@@ -251,7 +243,6 @@ pub fn thunk_number<'a, 'b, L: NodeBudget, A: Allocator>(
 }
 
 /// Reads `THIS_QUALIFIERS = FUNCTION_QUALIFIERS`. A function without an object has none.
-#[tactic(auto, using(msvc_parser::proofs::FunctionSteps::this_qualifiers_is))]
 pub fn this_qualifiers<'a, 'b, L: NodeBudget, A: Allocator>(
     parser: &mut Parser<'a, 'b, L, A>,
     qualifiers: ObjectQualifiers,
@@ -269,7 +260,6 @@ pub fn this_qualifiers<'a, 'b, L: NodeBudget, A: Allocator>(
 
 /// Reads `SIGNATURE = convention RETURN_QUALIFIERS RETURNED FUNCTION_PARAMETERS`.
 #[cycle(readers)]
-#[tactic(auto, using(msvc_parser::proofs::FunctionSteps::signature_is))]
 pub fn signature<'a, 'b, L: NodeBudget, A: Allocator>(
     parser: &mut Parser<'a, 'b, L, A>,
     kind: FunctionKind,
@@ -295,7 +285,6 @@ pub fn signature<'a, 'b, L: NodeBudget, A: Allocator>(
 }
 
 /// Reads how a function is called.
-#[tactic(auto, using(msvc_parser::proofs::Choices::letter_is))]
 pub fn convention<'a, 'b, L: NodeBudget, A: Allocator>(
     parser: &mut Parser<'a, 'b, L, A>,
 ) -> Result<CallingConv, Failed>
@@ -310,7 +299,6 @@ pub fn convention<'a, 'b, L: NodeBudget, A: Allocator>(
 }
 
 /// Reads `RETURN_QUALIFIERS = ["?" qualifier of what is returned]`.
-#[tactic(auto, using(msvc_parser::proofs::FunctionSteps::return_qualifiers_is))]
 pub fn return_qualifiers<'a, 'b, L: NodeBudget, A: Allocator>(
     parser: &mut Parser<'a, 'b, L, A>,
 ) -> Result<StorageClass, Failed>
@@ -329,7 +317,6 @@ pub fn return_qualifiers<'a, 'b, L: NodeBudget, A: Allocator>(
 
 /// Reads `RETURNED = "@" | TYPE`: of a member function, an `@` means no return type, as of a constructor.
 #[cycle(readers)]
-#[tactic(auto, using(msvc_parser::proofs::Nodes::returned_split), unfolding(msvc_nodes::specs::NodeView::type_of))]
 pub fn returned<'a, 'b, L: NodeBudget, A: Allocator>(
     parser: &mut Parser<'a, 'b, L, A>,
     kind: FunctionKind,
@@ -348,7 +335,6 @@ pub fn returned<'a, 'b, L: NodeBudget, A: Allocator>(
 /// Reads the return type of a member function: an `@` means none, as of a constructor. It is a function apart from
 /// `returned`, so that the prover meets each case by itself.
 #[cycle(readers)]
-#[tactic(auto, using(msvc_parser::proofs::FunctionSteps::returned_member), unfolding(msvc_nodes::specs::NodeView::type_of))]
 pub fn member_returned<'a, 'b, L: NodeBudget, A: Allocator>(
     parser: &mut Parser<'a, 'b, L, A>,
     qualifiers: StorageClass,
@@ -363,7 +349,6 @@ pub fn member_returned<'a, 'b, L: NodeBudget, A: Allocator>(
 }
 
 /// Reads `FUNCTION_QUALIFIERS = ["E"] ["I"] ["F"] ["G" | "H"] [qualifier]`.
-#[tactic(auto, using(msvc_parser::proofs::FunctionSteps::function_qualifiers_is))]
 pub fn function_qualifiers<'a, 'b, L: NodeBudget, A: Allocator>(
     parser: &mut Parser<'a, 'b, L, A>,
 ) -> StorageClass

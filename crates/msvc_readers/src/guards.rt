@@ -30,7 +30,6 @@ const BASE: u64 = 10;
 const GREATEST_NUMBER: u64 = 2147483647;
 
 /// Reads the index of a guard if the symbol's name is one, and adds it to the name.
-#[tactic(auto, using(msvc_parser::proofs::Nodes::indexed_split), unfolding(msvc_nodes::specs::NodeView::name_of))]
 pub fn indexed_symbol<'a, 'b, L: NodeBudget, A: Allocator>(
     parser: &mut Parser<'a, 'b, L, A>,
     symbol: &'b Symbol<'a, 'b>,
@@ -51,7 +50,6 @@ pub fn indexed_symbol<'a, 'b, L: NodeBudget, A: Allocator>(
 }
 
 /// Reads `GUARD_INDEX = GUARD_MARKER end | GUARD_MARKER NUMBER`: the number is at least 0.
-#[tactic(auto, using(msvc_parser::proofs::GuardSteps::guard_index_is))]
 pub fn guard_index<'a, 'b, L: NodeBudget, A: Allocator>(
     parser: &mut Parser<'a, 'b, L, A>,
 ) -> Result<Option<u32>, Failed>
@@ -70,7 +68,6 @@ pub fn guard_index<'a, 'b, L: NodeBudget, A: Allocator>(
 }
 
 /// Reads `GUARD_MARKER = "4IA" | "5"`.
-#[tactic(auto, using(msvc_parser::proofs::GuardSteps::guard_marker_is))]
 pub fn guard_marker<'a, 'b, L: NodeBudget, A: Allocator>(
     parser: &mut Parser<'a, 'b, L, A>,
 ) -> Result<(), Failed>
@@ -85,7 +82,6 @@ pub fn guard_marker<'a, 'b, L: NodeBudget, A: Allocator>(
 
 /// Reads `NUMBERED_GUARD = GUARD_NUMBER NESTED_NAME SCOPE "4HA"`, after its `?$TSS`.
 #[cycle(readers)]
-#[tactic(auto, using(msvc_parser::proofs::GuardSteps::numbered_guard_step))]
 #[inline(never)]
 pub fn numbered_guard<'a, 'b, L: NodeBudget, A: Allocator>(
     parser: &mut Parser<'a, 'b, L, A>,
@@ -151,7 +147,7 @@ pub fn put_guard<'a, 'b, L: NodeBudget, A: Allocator>(
 }
 
 /// Reads `GUARD_NUMBER = digit {digit} "@"`: base 10, at most 2,147,483,647.
-#[tactic(auto, using(msvc_parser::proofs::GuardSteps::decimal_goes_on))]
+#[tactic(auto, using(msvc_parser::proofs::GuardSteps::decimal_steps))]
 pub fn guard_number<'a, 'b, L: NodeBudget, A: Allocator>(
     parser: &mut Parser<'a, 'b, L, A>,
 ) -> Result<u32, Failed>

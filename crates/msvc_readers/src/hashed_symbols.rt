@@ -17,7 +17,6 @@ use msvc_parser::refusal::{Failed, Message};
 use std::alloc::Allocator;
 
 /// Reads `HASHED_SYMBOL = 32 * hexadecimal digit "@"`, after its `??@`.
-#[tactic(auto, using(msvc_parser::proofs::SymbolSteps::hashed_symbol_step), unfolding(msvc_nodes::specs::NodeView::name_of))]
 #[inline(never)]
 pub fn hashed_symbol<'a, 'b, L: NodeBudget, A: Allocator>(
     parser: &mut Parser<'a, 'b, L, A>,

@@ -2,7 +2,7 @@
 //! other function here serves that cycle alone and calls none of it: it reads a part without recursion, or stores a
 //! node. Letters, numbers, strings, back references and the parser's state are in `msvc_parser`; whole texts are read
 //! in `msvc_read`. Nothing here prints.
-#![tactic(auto, using(msvc_parser::proofs::Nodes::views), unfolding(msvc_nodes::specs::NodeView::name_of, msvc_nodes::specs::NodeView::type_of))]
+#![tactic(auto, using(msvc_parser::proofs::Steps::steps), unfolding(msvc_grammar::specs::Grammar::arrays, msvc_nodes::specs::NodeView::name_of, msvc_nodes::specs::NodeView::type_of))]
 
 mod function_types;
 mod guards;

@@ -28,7 +28,6 @@ use std::alloc::Allocator;
 
 /// Reads `FUNCTION_PARAMETERS = ("X" | PARAMETERS) "Z"`: an `X` means one `void`.
 #[cycle(readers)]
-#[tactic(auto, using(msvc_parser::proofs::FunctionSteps::function_parameters_step))]
 pub fn function_parameters<'a, 'b, L: NodeBudget, A: Allocator>(
     parser: &mut Parser<'a, 'b, L, A>,
 ) -> Result<Checkpoint, Failed>
@@ -66,7 +65,6 @@ pub fn no_parameters<'a, 'b, L: NodeBudget, A: Allocator>(
 /// Reads `PARAMETERS = {PARAMETER} ("@" | "Z" | end)`: a `Z` adds an ellipsis. The types are on a new part of the
 /// parser's list, and the result ends that part.
 #[cycle(readers)]
-#[tactic(auto, using(msvc_parser::proofs::RowSteps::parameters_go_on))]
 pub fn parameters<'a, 'b, L: NodeBudget, A: Allocator>(
     parser: &mut Parser<'a, 'b, L, A>,
 ) -> Result<Checkpoint, Failed>
@@ -89,7 +87,6 @@ pub fn parameters<'a, 'b, L: NodeBudget, A: Allocator>(
 
 /// Reads `PARAMETER = digit | TYPE`.
 #[cycle(readers)]
-#[tactic(auto, using(msvc_parser::proofs::FunctionSteps::parameter_is))]
 pub fn parameter<'a, 'b, L: NodeBudget, A: Allocator>(
     parser: &mut Parser<'a, 'b, L, A>,
 ) -> Result<&'b Type<'a, 'b>, Failed>
@@ -127,7 +124,6 @@ pub fn list_type<'a, 'b, L: NodeBudget, A: Allocator>(
 }
 
 /// Appends an ellipsis to the list of parameters, if there is one, and counts it as a node.
-#[tactic(auto, using(msvc_parser::proofs::Nodes::map_last), unfolding(msvc_nodes::specs::NodeView::type_of))]
 #[inline(never)]
 pub fn list_ellipsis<'a, 'b, L: NodeBudget, A: Allocator>(
     parser: &mut Parser<'a, 'b, L, A>,

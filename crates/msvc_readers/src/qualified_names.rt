@@ -27,7 +27,6 @@ use msvc_parser::refusal::{Failed, Message};
 use std::alloc::Allocator;
 
 /// Reads a source name and memorizes it.
-#[tactic(auto, using(msvc_parser::proofs::NameSteps::new_source_name_is), unfolding(msvc_nodes::specs::NodeView::name_of))]
 pub fn new_source_name<'a, 'b, L: NodeBudget, A: Allocator>(
     parser: &mut Parser<'a, 'b, L, A>,
 ) -> Result<&'b Name<'a, 'b>, Failed>
@@ -62,7 +61,6 @@ pub fn add_template_name<'a, 'b, L: NodeBudget, A: Allocator>(
 
 /// Reads `UNQUALIFIED_NAME = digit | "?$" TEMPLATE_NAME | "?" SPECIAL_NAME | SOURCE_NAME`.
 #[cycle(readers)]
-#[tactic(auto, using(msvc_parser::proofs::NameSteps::unqualified_name_is))]
 #[inline(always)]
 pub fn unqualified_name<'a, 'b, L: NodeBudget, A: Allocator>(
     parser: &mut Parser<'a, 'b, L, A>,
@@ -86,7 +84,6 @@ pub fn unqualified_name<'a, 'b, L: NodeBudget, A: Allocator>(
 
 /// Reads `TEMPLATE_NAME = UNQUALIFIED_NAME PARAMETERS`, with separate tables of names and types.
 #[cycle(readers)]
-#[tactic(auto, using(msvc_parser::proofs::NameSteps::template_kept_is))]
 #[inline(never)]
 pub fn template_name<'a, 'b, L: NodeBudget, A: Allocator>(
     parser: &mut Parser<'a, 'b, L, A>,
@@ -105,7 +102,6 @@ pub fn template_name<'a, 'b, L: NodeBudget, A: Allocator>(
 
 /// Reads the name and the arguments of a template.
 #[cycle(readers)]
-#[tactic(auto, using(msvc_parser::proofs::NameSteps::template_inside_step))]
 pub fn template<'a, 'b, L: NodeBudget, A: Allocator>(
     parser: &mut Parser<'a, 'b, L, A>,
 ) -> Result<&'b Name<'a, 'b>, Failed>
@@ -143,7 +139,6 @@ pub fn put_template<'a, 'b, L: NodeBudget, A: Allocator>(
 
 /// Reads `NESTED_NAME = digit | "?" LOCALLY_SCOPED_NAME | SOURCE_NAME`.
 #[cycle(readers)]
-#[tactic(auto, using(msvc_parser::proofs::NameSteps::nested_name_is))]
 #[inline(always)]
 pub fn nested_name<'a, 'b, L: NodeBudget, A: Allocator>(
     parser: &mut Parser<'a, 'b, L, A>,
@@ -163,7 +158,6 @@ pub fn nested_name<'a, 'b, L: NodeBudget, A: Allocator>(
 /// Reads `LOCALLY_SCOPED_NAME = "?" SYMBOL_BODY | "$" TEMPLATE_NAME | "A" ANONYMOUS_NAMESPACE | "Q" SOURCE_NAME "@" |
 /// NUMBER`.
 #[cycle(readers)]
-#[tactic(auto, using(msvc_parser::proofs::Nodes::locally_scoped_split))]
 pub fn locally_scoped_name<'a, 'b, L: NodeBudget, A: Allocator>(
     parser: &mut Parser<'a, 'b, L, A>,
 ) -> Result<&'b Name<'a, 'b>, Failed>
@@ -217,7 +211,6 @@ pub fn put_nested<'a, 'b, L: NodeBudget, A: Allocator>(
 }
 
 /// Reads the name of an interface, after its `?Q`.
-#[tactic(auto, using(msvc_parser::proofs::NameSteps::new_interface_step), unfolding(msvc_nodes::specs::NodeView::name_of))]
 #[inline(never)]
 pub fn interface<'a, 'b, L: NodeBudget, A: Allocator>(
     parser: &mut Parser<'a, 'b, L, A>,
@@ -232,7 +225,6 @@ pub fn interface<'a, 'b, L: NodeBudget, A: Allocator>(
 }
 
 /// Reads `ANONYMOUS_NAMESPACE = ["0x" {hexadecimal digit}] "@"`, after its `?A`.
-#[tactic(auto, using(msvc_parser::proofs::NameSteps::anonymous_namespace_step), unfolding(msvc_nodes::specs::NodeView::name_of))]
 #[inline(never)]
 pub fn anonymous_namespace<'a, 'b, L: NodeBudget, A: Allocator>(
     parser: &mut Parser<'a, 'b, L, A>,
@@ -267,7 +259,6 @@ pub fn hexadecimal_digits<'a, 'b, L: NodeBudget, A: Allocator>(
 }
 
 /// Reads `HEXADECIMAL_DIGITS = {hexadecimal digit} "@"`, and returns `0x` and the digits.
-#[tactic(auto, using(msvc_parser::proofs::RowSteps::hexadecimal_digits_go_on))]
 pub fn hex_digit_string<'a, 'b, L: NodeBudget, A: Allocator>(
     parser: &mut Parser<'a, 'b, L, A>,
 ) -> Result<String<&'b Bump<A>>, Failed>
@@ -291,7 +282,6 @@ pub fn hex_digit_string<'a, 'b, L: NodeBudget, A: Allocator>(
 }
 
 /// Reads a base 16 digit, and returns its byte unchanged.
-#[tactic(auto, using(msvc_parser::proofs::Choices::letter_is))]
 pub fn hexadecimal_digit<'a, 'b, L: NodeBudget, A: Allocator>(
     parser: &mut Parser<'a, 'b, L, A>,
 ) -> Result<u8, Failed>
@@ -312,7 +302,6 @@ pub fn hexadecimal_digit<'a, 'b, L: NodeBudget, A: Allocator>(
 /// Reads `SCOPE = {NESTED_NAME} "@"`, the innermost name first. The names are on a new part of the parser's list, and
 /// the result ends that part.
 #[cycle(readers)]
-#[tactic(auto, using(msvc_parser::proofs::RowSteps::scope_goes_on))]
 pub fn scope<'a, 'b, L: NodeBudget, A: Allocator>(
     parser: &mut Parser<'a, 'b, L, A>,
 ) -> Result<Checkpoint, Failed>
@@ -335,7 +324,6 @@ pub fn scope<'a, 'b, L: NodeBudget, A: Allocator>(
 
 /// Reads `QUALIFIED_NAME = UNQUALIFIED_NAME SCOPE`.
 #[cycle(readers)]
-#[tactic(auto, using(msvc_parser::proofs::NameSteps::qualified_name_is))]
 pub fn qualified_name<'a, 'b, L: NodeBudget, A: Allocator>(
     parser: &mut Parser<'a, 'b, L, A>,
     templates: TemplateNames,

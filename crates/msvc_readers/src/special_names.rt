@@ -23,7 +23,6 @@ use std::alloc::Allocator;
 /// Reads `SPECIAL_NAME = code of special names, and what its row asks for`. Each case ends in a call, so that this
 /// frame is gone while the type of a descriptor is read.
 #[cycle(readers)]
-#[tactic(auto, using(msvc_parser::proofs::Nodes::special_split), unfolding(msvc_nodes::specs::NodeView::name_of))]
 pub fn special_name<'a, 'b, L: NodeBudget, A: Allocator>(
     parser: &mut Parser<'a, 'b, L, A>,
 ) -> Result<&'b Name<'a, 'b>, Failed>
@@ -84,7 +83,6 @@ pub fn new_guard<'a, 'b, L: NodeBudget, A: Allocator>(
 
 /// Reads `"?" [storage class] TYPE`: a type descriptor, after its code.
 #[cycle(readers)]
-#[tactic(auto, using(msvc_parser::proofs::SpecialSteps::type_descriptor_step), unfolding(msvc_nodes::specs::NodeView::name_of))]
 #[inline(never)]
 pub fn type_descriptor<'a, 'b, L: NodeBudget, A: Allocator>(
     parser: &mut Parser<'a, 'b, L, A>,
@@ -101,7 +99,6 @@ pub fn type_descriptor<'a, 'b, L: NodeBudget, A: Allocator>(
 }
 
 /// Reads four numbers: the place of a base class, after its code.
-#[tactic(auto, using(msvc_parser::proofs::SpecialSteps::base_class_step))]
 #[inline(never)]
 pub fn base_class_descriptor<'a, 'b, L: NodeBudget, A: Allocator>(
     parser: &mut Parser<'a, 'b, L, A>,

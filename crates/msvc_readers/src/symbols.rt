@@ -30,7 +30,6 @@ use msvc_parser::refusal::{Failed, Message, Refusal};
 use std::alloc::Allocator;
 
 /// Reads `SYMBOL = "?" SYMBOL_BODY`.
-#[tactic(auto, using(msvc_parser::proofs::SymbolSteps::symbol_step))]
 pub fn symbol<'a, 'b, L: NodeBudget, A: Allocator>(
     parser: &mut Parser<'a, 'b, L, A>,
 ) -> Result<TypedSymbol<'a, 'b>, Failed>
@@ -48,7 +47,6 @@ pub fn symbol<'a, 'b, L: NodeBudget, A: Allocator>(
 
 /// Reads `SYMBOL_BODY = "?@" HASHED_SYMBOL | "$TSS" NUMBERED_GUARD | "$" TEMPLATE_NAME | NAMED_SYMBOL`.
 #[cycle(readers)]
-#[tactic(auto, using(msvc_parser::proofs::SymbolSteps::symbol_body_step))]
 pub fn symbol_body<'a, 'b, L: NodeBudget, A: Allocator>(
     parser: &mut Parser<'a, 'b, L, A>,
 ) -> Result<&'b TypedSymbol<'a, 'b>, Failed>
@@ -69,7 +67,6 @@ pub fn symbol_body<'a, 'b, L: NodeBudget, A: Allocator>(
 
 /// Reads a symbol that is a template.
 #[cycle(readers)]
-#[tactic(auto, using(msvc_parser::proofs::SymbolSteps::template_symbol_step))]
 #[inline(never)]
 pub fn template_symbol<'a, 'b, L: NodeBudget, A: Allocator>(
     parser: &mut Parser<'a, 'b, L, A>,
@@ -106,7 +103,6 @@ pub fn untyped_symbol<'a, 'b, L: NodeBudget, A: Allocator>(
 
 /// Reads a name in its scope, the index of a guard, and an encoding.
 #[cycle(readers)]
-#[tactic(auto, using(msvc_parser::proofs::SymbolSteps::named_symbol_step))]
 #[inline(never)]
 pub fn named_symbol<'a, 'b, L: NodeBudget, A: Allocator>(
     parser: &mut Parser<'a, 'b, L, A>,
@@ -121,7 +117,6 @@ pub fn named_symbol<'a, 'b, L: NodeBudget, A: Allocator>(
 }
 
 /// Stores a symbol with its type.
-#[tactic(auto, using(msvc_parser::proofs::Nodes::typed_symbol_split))]
 #[inline(never)]
 pub fn put_typed_symbol<'a, 'b, L: NodeBudget, A: Allocator>(
     parser: &mut Parser<'a, 'b, L, A>,
@@ -144,7 +139,7 @@ pub fn put_typed_symbol<'a, 'b, L: NodeBudget, A: Allocator>(
 
 /// Reads `ENCODING = end | letter of encodings, and what its row asks for`.
 #[cycle(readers)]
-#[tactic(auto, using(msvc_parser::proofs::Nodes::encoding_split), unfolding(msvc_parser::proofs::SymbolSteps::encoding_by, msvc_nodes::specs::NodeView::type_of))]
+#[tactic(auto, using(msvc_parser::proofs::SymbolSteps::encoding_steps), unfolding(msvc_parser::proofs::SymbolSteps::encoding_by, msvc_nodes::specs::NodeView::type_of))]
 pub fn encoding<'a, 'b, L: NodeBudget, A: Allocator>(
     parser: &mut Parser<'a, 'b, L, A>,
 ) -> Result<&'b Type<'a, 'b>, Failed>
@@ -176,7 +171,6 @@ pub fn encoding<'a, 'b, L: NodeBudget, A: Allocator>(
 
 /// Reads `VARIABLE = TYPE [storage class]`.
 #[cycle(readers)]
-#[tactic(auto, using(msvc_parser::proofs::SymbolSteps::variable_step), unfolding(msvc_nodes::specs::NodeView::type_of))]
 pub fn variable<'a, 'b, L: NodeBudget, A: Allocator>(
     parser: &mut Parser<'a, 'b, L, A>,
     kind: VarStorageKind,
@@ -192,7 +186,6 @@ pub fn variable<'a, 'b, L: NodeBudget, A: Allocator>(
 
 /// Reads `[qualifier] SCOPE`: the table of a class, after its letter.
 #[cycle(readers)]
-#[tactic(auto, using(msvc_parser::proofs::SymbolSteps::table_step))]
 pub fn table<'a, 'b, L: NodeBudget, A: Allocator>(
     parser: &mut Parser<'a, 'b, L, A>,
     table: SpecialTableKind,
@@ -229,7 +222,6 @@ pub fn put_table<'a, 'b, L: NodeBudget, A: Allocator>(
 }
 
 /// Reads `VIRTUAL_CALL = "B" NUMBER "A" convention`: a thunk that calls a virtual function.
-#[tactic(auto, using(msvc_parser::proofs::SymbolSteps::virtual_call_step), unfolding(msvc_nodes::specs::NodeView::type_of))]
 pub fn virtual_call<'a, 'b, L: NodeBudget, A: Allocator>(
     parser: &mut Parser<'a, 'b, L, A>,
 ) -> Result<&'b Type<'a, 'b>, Failed>

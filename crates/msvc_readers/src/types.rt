@@ -29,7 +29,6 @@ use std::alloc::Allocator;
 
 /// Reads `TYPE = text of a form, and what the form asks for | ["$"] PLAIN_TYPE`.
 #[cycle(readers)]
-#[tactic(auto, using(msvc_parser::proofs::TypeSteps::type_is))]
 pub fn type_<'a, 'b, L: NodeBudget, A: Allocator>(
     parser: &mut Parser<'a, 'b, L, A>,
     qualifiers: StorageClass,
@@ -50,7 +49,6 @@ pub fn type_<'a, 'b, L: NodeBudget, A: Allocator>(
 
 /// Reads what follows the text of a form. Each case ends in a call, so that this frame is gone while parts are read.
 #[cycle(readers)]
-#[tactic(auto, using(msvc_parser::proofs::TypeSteps::prefixed_type_is), unfolding(msvc_nodes::specs::NodeView::type_of))]
 #[inline(never)]
 pub fn prefixed_type<'a, 'b, L: NodeBudget, A: Allocator>(
     parser: &mut Parser<'a, 'b, L, A>,
@@ -181,7 +179,6 @@ pub fn put_tagged<'a, 'b, L: NodeBudget, A: Allocator>(
 
 /// Reads `POINTEE = ["E"] [storage class] TYPE`, and stores a pointer or reference to it.
 #[cycle(readers)]
-#[tactic(auto, using(msvc_parser::proofs::TypeSteps::pointee_is), unfolding(msvc_nodes::specs::NodeView::type_of))]
 pub fn pointing_type<'a, 'b, L: NodeBudget, A: Allocator>(
     parser: &mut Parser<'a, 'b, L, A>,
     affinity: PointerAffinity,
@@ -233,7 +230,7 @@ pub fn numbered_type<'a, 'b, L: NodeBudget, A: Allocator>(
 
 /// Reads `PLAIN_TYPE = base letter | letter of types, and what its row asks for`.
 #[cycle(readers)]
-#[tactic(auto, using(msvc_parser::proofs::Nodes::plain_split), unfolding(msvc_parser::proofs::TypeSteps::type_by, msvc_nodes::specs::NodeView::type_of))]
+#[tactic(auto, using(msvc_parser::proofs::TypeSteps::plain_type_steps), unfolding(msvc_parser::proofs::TypeSteps::type_by, msvc_nodes::specs::NodeView::type_of))]
 #[inline(always)]
 pub fn plain_type<'a, 'b, L: NodeBudget, A: Allocator>(
     parser: &mut Parser<'a, 'b, L, A>,
@@ -269,7 +266,6 @@ pub fn plain_type<'a, 'b, L: NodeBudget, A: Allocator>(
 /// Reads `ARRAY = NUMBER {NUMBER} ["$$C" array qualifier] TYPE`: the first number is how many lengths follow. The
 /// functions that read the parts before the elements are not inlined, so that arrays of arrays take little stack.
 #[cycle(readers)]
-#[tactic(auto, using(msvc_parser::proofs::TypeSteps::array_is))]
 #[inline(never)]
 pub fn array<'a, 'b, L: NodeBudget, A: Allocator>(
     parser: &mut Parser<'a, 'b, L, A>,
@@ -285,7 +281,6 @@ pub fn array<'a, 'b, L: NodeBudget, A: Allocator>(
 }
 
 /// Reads a number greater than 0.
-#[tactic(auto, using(msvc_parser::proofs::TypeSteps::dimension_is))]
 #[inline(never)]
 pub fn dimension<'a, 'b, L: NodeBudget, A: Allocator>(
     parser: &mut Parser<'a, 'b, L, A>,
@@ -301,7 +296,6 @@ pub fn dimension<'a, 'b, L: NodeBudget, A: Allocator>(
 }
 
 /// Reads the qualifiers of each level of an array.
-#[tactic(auto, using(msvc_parser::proofs::TypeSteps::array_class_is))]
 #[inline(never)]
 pub fn array_class<'a, 'b, L: NodeBudget, A: Allocator>(
     parser: &mut Parser<'a, 'b, L, A>,
@@ -323,7 +317,6 @@ pub fn array_class<'a, 'b, L: NodeBudget, A: Allocator>(
 }
 
 /// Reads exactly `count` lengths of arrays, and counts each array as a node.
-#[tactic(auto, using(msvc_parser::proofs::RowSteps::lengths_go_on))]
 #[inline(never)]
 pub fn lengths<'a, 'b, L: NodeBudget, A: Allocator>(
     parser: &mut Parser<'a, 'b, L, A>,
@@ -345,7 +338,6 @@ pub fn lengths<'a, 'b, L: NodeBudget, A: Allocator>(
 
 /// Stores an array of these lengths, the outermost first, with qualifiers at each level. It is recursive, since the
 /// borrow checker rejects a reference that a loop reassigns.
-#[tactic(auto, unfolding(msvc_grammar::specs::Grammar::arrays, msvc_nodes::specs::NodeView::type_of))]
 pub fn nested_arrays<'a, 'b, L: NodeBudget, A: Allocator>(
     parser: &mut Parser<'a, 'b, L, A>,
     lengths: &[i32],

@@ -7,8 +7,8 @@ use Rattle.msvc_parser.proofs.refusal.format_message.Goals as goal
 pub returns : goal.returns
 returns g c =
     let at : c.saturating_sub.result ≡ length c.args.text.now - c.args.left = search rules in
-    subst (λ n. IfOk c.format_rejection.result (λ said. IsMessageAt c.args.message c.args.text.now n (string_bytes said)))
-    at
+    subst (λ n. IfOk c.format_rejection.result
+    (λ said. IsMessageAt c.args.message c.args.text.now n (string_bytes said))) at
     (message-at string_bytes c.args.message c.args.text.now c.as_str.result.now c.saturating_sub.result
     c.format_rejection.result (ap message_limit c.as_str.ensures ∙ c.in_ok-message.ensures)
     c.format_rejection.ensures)
