@@ -14,7 +14,7 @@ use crate::text::{Text, write_mark, write_qualifiers, write_text};
 use crate::types::write_array_prefix;
 use bumpalo::Bump;
 use msvc_nodes::flags::DemangleFlags;
-use msvc_nodes::nodes::TypedSymbol;
+use msvc_nodes::nodes::{MAX_ARENA_BYTES, TypedSymbol};
 use std::alloc::{AllocError, Allocator};
 
 /// Items to reserve for the stack: more than most symbols need.
@@ -29,9 +29,6 @@ const BYTES_PER_SYMBOL_BYTE: usize = 64;
 
 /// Most bytes that the stack takes of an arena for a node, where nodes are limited.
 const BYTES_PER_NODE: usize = 128;
-
-/// Most bytes that are asked for ahead of printing.
-const MAX_ARENA_BYTES: usize = 1 << 20;
 
 /// The state of the printer. Both parts are borrowed: of a struct that owns memory, the prover does not learn what a
 /// reference in it held at its end.

@@ -5,6 +5,6 @@ mod read;
 
 pub use msvc_parser::back_references::BackReference;
 pub use read::{
-    MAX_ARENA_BYTES, back_references, parse, parse_arena_bytes, parse_prefix, parse_within,
-    read_references, read_symbol, symbol_length, symbol_length_within,
+    back_references, parse, parse_arena_bytes, parse_prefix, parse_within, read_references,
+    read_symbol, symbol_length, symbol_length_within,
 };

@@ -17,7 +17,7 @@ ghost use Rattle.msvc_read.specs.Limits.{IsWithin, limit_of_number};
 use alloc_fuse::Fuse;
 use bumpalo::Bump;
 use msvc_nodes::error::Error;
-use msvc_nodes::nodes::TypedSymbol;
+use msvc_nodes::nodes::{MAX_ARENA_BYTES, TypedSymbol};
 use msvc_parser::back_references::BackReference;
 use msvc_parser::limit::{NodeBudget, NodeLimit, Unlimited};
 use msvc_parser::parser::Parser;
@@ -37,9 +37,6 @@ const BYTES_PER_NODE: usize = 384;
 
 /// Bytes that the lists and tables of a parser take at first.
 const BYTES_AT_FIRST: usize = 1024;
-
-/// The most bytes that an arena begins with.
-pub const MAX_ARENA_BYTES: usize = 1 << 20;
 
 /// Returns the tree of the symbol that `input` begins with.
 ///

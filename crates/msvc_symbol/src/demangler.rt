@@ -21,10 +21,10 @@ use bumpalo::Bump;
 use msvc_debug::write_tree;
 use msvc_nodes::error::Error;
 use msvc_nodes::flags::DemangleFlags;
-use msvc_nodes::nodes::TypedSymbol;
+use msvc_nodes::nodes::{MAX_ARENA_BYTES, TypedSymbol};
 use msvc_parser::refusal::Refusal;
 use msvc_print::{Text, print_arena_bytes, print_within};
-use msvc_read::{MAX_ARENA_BYTES, parse_arena_bytes, read_symbol};
+use msvc_read::{parse_arena_bytes, read_symbol};
 use std::alloc::{AllocError, Allocator, Global};
 use std::marker::Model;
 
