@@ -5,8 +5,9 @@ use Rattle.std.proofs.lemmas.Result.{on_ok_weaker}
 use Rattle.msvc_print.proofs.Longer.{added, spaced}
 use Rattle.msvc_print.specs.Limited.{add_all}
 use Rattle.msvc_print.specs.Pieces.{blank, is_written_after, last_byte, space, text}
+use Rattle.msvc_print.proofs.text.write_space.Given.{Over}
 use Rattle.msvc_print.proofs.text.write_space.Goals as goal
-use Rattle.msvc_print.proofs.text.write_space.Goals.{then-out-eq0, else-out-eq0}
+use Rattle.msvc_print.proofs.text.write_space.Goals.{After-is_written_after, then-out-eq0, else-out-eq0}
 
 -- the last of the bytes that were written
 last_taken : (written byte : ℕ) (bytes : List ℕ) → 0 < written → written ≤ length bytes →
@@ -16,17 +17,22 @@ last_taken written byte bytes some fits is =
     ∙ sym (get_or-take written bytes (written - 1) 0 (omega arith))
     ∙ ap (λ n. get_or (take written bytes) (n - 1) 0) (sym (length-take-le written bytes fits))
 
+-- the byte before the space
+last_is : (g : Over) (c : After-is_written_after g) → c.if-out-eq0.last
+    ≡ last_byte (take c.out.inside.written c.out.inside.bytes.items)
+last_is g c = elim c.if-out-eq0.branch [
+  | then-out-eq0 w ↦ search rules
+  | else-out-eq0 w ↦ w.last-is ∙ last_taken c.out.inside.written w.index.result.now c.out.inside.bytes.items
+      (omega (arith, w.if-out-eq0.false)) (omega (arith, c.out.invariant.0)) (search rules)
+]
+
 pub returns-then-not-is_written_after : goal.returns-then-not-is_written_after
 returns-then-not-is_written_after g c =
     let fields = c.out.inside in
     let before = take fields.written fields.bytes.items in
-    let last : c.if-out-eq0.last ≡ last_byte before = elim c.if-out-eq0.branch [
-      | then-out-eq0 w ↦ search rules
-      | else-out-eq0 w ↦ w.last-is ∙ last_taken fields.written w.index.result.now fields.bytes.items
-          (omega (arith, w.if-out-eq0.false)) (omega (arith, c.out.invariant.0)) (search rules)
-    ] in
-    let none : is_written_after c.args.kind (last_byte before) ≡ false
-    = ap (is_written_after c.args.kind) (sym last) ∙ search rules in
+    let last = last_is g (goal.at.returns-then-not-is_written_after g c).After-is_written_after in
+    let none : is_written_after c.args.kind (last_byte before) ≡ false =
+    ap (is_written_after c.args.kind) (sym last) ∙ search rules in
     sym c.out.view_is
     ∙ added fields.max fields.whole before before (space c.args.kind)
     (ap (λ b. cond b (before ++ blank ∷ []) before) none)
@@ -37,13 +43,9 @@ pub returns : goal.returns
 returns g c =
     let fields = c.out.inside in
     let before = take fields.written fields.bytes.items in
-    let last : c.if-out-eq0.last ≡ last_byte before = elim c.if-out-eq0.branch [
-      | then-out-eq0 w ↦ search rules
-      | else-out-eq0 w ↦ w.last-is ∙ last_taken fields.written w.index.result.now fields.bytes.items
-          (omega (arith, w.if-out-eq0.false)) (omega (arith, c.out.invariant.0)) (search rules)
-    ] in
-    let is : is_written_after c.args.kind (last_byte before) ≡ true
-    = ap (is_written_after c.args.kind) (sym last) ∙ search rules in
+    let last = last_is g (goal.at.returns g c).After-is_written_after in
+    let is : is_written_after c.args.kind (last_byte before) ≡ true =
+    ap (is_written_after c.args.kind) (sym last) ∙ search rules in
     on_ok_weaker c.write_text.result
     (λ after. after ∙ ap (λ t. add_all t (text (blank ∷ []) ∷ [])) (sym c.out.view_is)
     ∙ spaced fields.max fields.whole before c.args.kind is
