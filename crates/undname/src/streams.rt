@@ -13,11 +13,11 @@ pub(crate) struct Outputs {
 
 impl Write for Outputs {
     fn write(&mut self, bytes: &[u8]) -> Result<usize> {
-        let room = self
+        let free = self
             .answers
             .capacity()
             .saturating_sub(self.answers.buffer().len());
-        if bytes.len() >= room {
+        if bytes.len() >= free {
             self.remarks.flush()?;
         }
         self.answers.write(bytes)
