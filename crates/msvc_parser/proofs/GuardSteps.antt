@@ -214,7 +214,7 @@ kept n m = go (is_in_range n)
     go true e = cc
     go false e = absurd (cc)
 
-pub ruleset decimal_steps = (decimal_ends, decimal_rejected, decimal_too_large)
+pub ruleset decimal_steps = (decimal_ends, decimal_rejected)
 
 pub ruleset steps = (
   guard_marker_step,

@@ -84,6 +84,9 @@ impl<'a, 'b, L: NodeBudget, A: Allocator> Parser<'a, 'b, L, A> {
     #[inline(never)]
     pub fn no_memory(&mut self) -> Failed
         ensures last_error { self.new.last_error ≡ Refusal.Memory }
+        ensures rest { self.new.rest.now ≡ self.old.rest.now }
+        ensures state { state_of self.new ≡ state_of self.old }
+        ensures kept { frame_of self.new ≡ frame_of self.old }
     {
         self.last_error = Refusal::Memory;
         Failed
@@ -94,6 +97,9 @@ impl<'a, 'b, L: NodeBudget, A: Allocator> Parser<'a, 'b, L, A> {
     #[inline(never)]
     pub fn reject_at(&mut self, message: Message, left: usize) -> Failed
         ensures last_error { self.new.last_error ≡ Refusal.Unread message left }
+        ensures rest { self.new.rest.now ≡ self.old.rest.now }
+        ensures state { state_of self.new ≡ state_of self.old }
+        ensures kept { frame_of self.new ≡ frame_of self.old }
     {
         self.last_error = Refusal::Unread(message, left);
         Failed
@@ -158,6 +164,9 @@ impl<'a, 'b, L: NodeBudget, A: Allocator> Parser<'a, 'b, L, A> {
     #[inline(never)]
     pub fn reject(&mut self, message: Message) -> Failed
         ensures last_error { self.new.last_error ≡ Refusal.Unread message (length self.old.rest.now) }
+        ensures rest { self.new.rest.now ≡ self.old.rest.now }
+        ensures state { state_of self.new ≡ state_of self.old }
+        ensures kept { frame_of self.new ≡ frame_of self.old }
     {
         self.last_error = Refusal::Unread(message, self.rest.len());
         Failed
