@@ -90,7 +90,7 @@ abbrev pub Rejects : {Y : Type 0} → Refusal → Option Y → Type 0
 Rejects refusal.Memory read = Unit {0}
 Rejects (refusal.Unread message left) read = read ≡ None
 
--- the result of a reader, seen by view, is what its rule reads; on failure, why holds the reason
+-- the result of a reader, seen by view, is what its rule reads; on failure, last_error is the reason
 abbrev pub Gives : {X Y : Type 0} → (X → Y) → Refusal → Result X Failed → Option Y → Type 0
 Gives view last_error (Ok x) read = read ≡ Some (view x)
 Gives view last_error (Err e) read = Rejects last_error read

@@ -64,7 +64,7 @@ EachIsText-append : (xs ys : List Piece) → EachIsText xs → EachIsText ys →
 EachIsText-append [] ys h h' = h'
 EachIsText-append (x ∷ xs) ys h h' = (h.0, EachIsText-append xs ys h.1 h')
 
--- each piece of a list is a text, under a name of its of_symbol
+-- EachIsText as a record, which the lemmas below state
 record AreTexts (xs : List Piece) : Type 0 where
   each : EachIsText xs
 

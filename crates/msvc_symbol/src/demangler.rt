@@ -1,5 +1,5 @@
 //! Reads a symbol and prints its declaration, in memory that is kept from one symbol to the next or made for one. The
-//! sizes of this memory are here.
+//! size of an arena is computed by `msvc_read` and `msvc_print`, that of a text here.
 
 ghost use Rattle.std.specs.Prelude.{◌≡◌, ℕ, List, IfErr, IfOk, Some, true};
 ghost use Rattle.msvc_nodes.specs.NodeView.{typed_symbol_of};
