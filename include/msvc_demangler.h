@@ -77,7 +77,7 @@
 #define MSVC_DEMANGLER_HUG_TYPE 0x400000u          /**< prints int*x in place of int *x */
 #define MSVC_DEMANGLER_SPACE_BEFORE_POINTER 0x800000u /**< prints int *const x in place of int * const x */
 #define MSVC_DEMANGLER_WITH_PTR64 0x1000000u       /**< prints __ptr64 */
-#define MSVC_DEMANGLER_LLVM 0xE00400u              /**< prints as llvm-undname: four of the flags */
+#define MSVC_DEMANGLER_LLVM 0xE00400u              /**< four of these: spelling near llvm-undname's */
 /** @} */
 
 /**

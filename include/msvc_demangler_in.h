@@ -30,7 +30,8 @@
  * - A call takes all its memory from a workspace, which need not be aligned, and may hold any bytes. Nothing is kept in
  *   it between calls. It must not overlap the input or the output.
  * - OUT_OF_MEMORY means that the workspace is too small for the symbol. The bytes of the buffer after the NUL are
- *   unspecified then. Repeat the call with a larger workspace, or with lower limits.
+ *   unspecified then. Repeat the call with a larger workspace, or with lower limits. That a workspace can be used again
+ *   after OUT_OF_MEMORY is tested; after any other status it is proved.
  *
  * A workspace of MSVC_DEMANGLER_DEFAULT_WORKSPACE bytes suffices for each symbol within the default limits, and one of
  * MSVC_DEMANGLER_SMALL_WORKSPACE bytes for each symbol within the small ones. 12,288 bytes suffice for each of 676 real
@@ -96,8 +97,9 @@ extern "C" {
 
 /**
  * @name Calls of the library
- * Take all their memory from parts of a workspace, which the inline calls below make. The parts are the same after a
- * call, except with OUT_OF_MEMORY, which may set a part to null and 0.
+ * Take all their memory from parts of a workspace, which the inline calls below make. After a call each part has the
+ * address and the size that it had. With OUT_OF_MEMORY the size of a part may be 0 instead; then its address is
+ * unspecified, and its memory was not returned to the caller.
  * @{
  */
 /**
@@ -260,9 +262,10 @@ static inline struct msvc_demangler_result msvc_demangler_filter_in(const char *
 
 /**
  * Writes the tree of a symbol on one line, for a person to read, as `undname -v` prints it without the line feed; if
- * there is none, the text of the error. Nothing is promised of the tree's form. Statuses, offsets and the rules of the
- * buffer are those of msvc_demangler_demangle without a limit on bytes. The text is made in the workspace, so a tree
- * with long names may need a larger one than the sizes above.
+ * there is none, the text of the error. OK is proved to mean that the symbol has a tree within the limit; the text of
+ * the tree is only tested, and its form may change. Statuses, offsets and the rules of the buffer are those of
+ * msvc_demangler_demangle without a limit on bytes. The text is made in the workspace, so a tree with long names may
+ * need a larger one than the sizes above.
  */
 static inline struct msvc_demangler_result msvc_demangler_tree_in(const char *symbol, size_t length, size_t max_nodes,
                                                                   void *work, size_t work_size, char *out,
