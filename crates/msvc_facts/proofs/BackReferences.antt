@@ -2,7 +2,7 @@
 use Rattle.std.proofs.Common.{refl}
 use Rattle.msvc_facts.proofs.OnLiterals.{printing, reading}
 use Rattle.msvc_facts.proofs.Symbols.{is_refused, is_shown}
-use Rattle.msvc_facts.specs.BackReferences.{AreNameReferences, AreTypeReferences}
+use Rattle.msvc_facts.specs.BackReferences.{AreNameReferences, AreTypeReferences, AreWrittenOut}
 
 pub name_references : AreNameReferences
 unfolding reading printing
@@ -39,4 +39,11 @@ type_references = record {
   whole = is_shown refl;
   in_template = is_shown refl;
   outside = is_refused refl;
+}
+
+pub written_out : AreWrittenOut
+written_out = record {
+  pointer = refl;
+  function = refl;
+  last = refl;
 }

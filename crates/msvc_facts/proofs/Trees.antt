@@ -13,11 +13,18 @@ trees = record {
   arrays = is_tree refl;
   thunk = is_tree refl;
   descriptor = is_tree refl;
+  no_index = is_tree refl;
   guard = is_tree refl;
   numbered_guard = is_tree refl;
+  last_guard = is_tree refl;
   hash = is_tree refl;
   member_pointer = is_tree refl;
   string = is_tree refl;
+  long_string = is_tree refl;
+  wide_string = is_tree refl;
+  no_string = is_tree refl;
+  bytes = is_tree refl;
+  template = is_tree refl;
 }
 
 pub counts : AreCounted

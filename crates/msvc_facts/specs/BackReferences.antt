@@ -1,11 +1,12 @@
 -- What digits refer to: what enters the tables of names and of types, which begin with the entry 0.
-use Rattle.std.specs.Prelude.{List, ◌≡◌, codes, replicate}
+use Rattle.std.specs.Prelude.{ℕ, List, ◌≡◌, codes, replicate}
 use Prim.Native.String.{String}
 use Rattle.msvc_nodes.specs.Trees.{NameTree, base, spelled}
 use Rattle.msvc_nodes.specs.declared.kinds.PrimitiveKind.{PrimitiveKind}
 use Rattle.msvc_nodes.specs.declared.kinds.PrimitiveKind.TheVariants.{Char, Int}
 use Rattle.msvc_nodes.specs.declared.kinds.Spelling.TheVariants.{Source}
 use Rattle.msvc_grammar.specs.State.{Entry, with_name, with_type}
+use Rattle.msvc_grammar.specs.Written.{written_out}
 use Rattle.msvc_facts.specs.Symbols.{IsRefused, IsShown}
 
 abbrev Shows : String → String → Type 0
@@ -63,3 +64,13 @@ pub record AreTypeReferences : Type 0 where
   pub in_template : Shows "?f@@YAXPAHV?$A@PAD0@@01@Z"
       "void __cdecl f(int *,class A<char *,char *>,int *,class A<char *,char *>)"
   pub outside : IsRefused "?f@@YAXPAHV?$A@0@@@Z"
+
+-- the text in which the digit at a place is written out, by the bytes from start to end
+abbrev IsWrittenOut : (text : String) (at start end : ℕ) (written : String) → Type 0
+IsWrittenOut text at start end written =
+    written_out (codes text) (record { at = at; start = start; end = end }) ≡ codes written
+
+pub record AreWrittenOut : Type 0 where
+  pub pointer : IsWrittenOut "?f@@YAXPAH0@Z" 10 7 10 "?f@@YAXPAHPAH@Z"
+  pub function : IsWrittenOut "?x@@3P6AHP6AHM@Z0@ZEA" 16 9 16 "?x@@3P6AHP6AHM@ZP6AHM@Z@ZEA"
+  pub last : IsWrittenOut "?$f@PAH0" 7 4 7 "?$f@PAHPAH"

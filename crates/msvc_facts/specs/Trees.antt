@@ -1,8 +1,8 @@
 -- Trees of symbols, each with the bytes that are left after it and the digits that stand for whole parameters.
-use Rattle.std.specs.Prelude.{ℕ, pos, negsuc, List, [], ◌∷◌, Some, codes}
+use Rattle.std.specs.Prelude.{ℕ, pos, negsuc, List, [], ◌∷◌, None, Some, codes, replicate}
 use Prim.Native.String.{String}
 use Rattle.msvc_nodes.specs.Trees.{NameTree, SymbolTree, TypeTree, md5_symbol, name_trees, no_names, type_trees}
-use Rattle.msvc_nodes.specs.Trees.{base_class_descriptor, discriminator, guard, nested, operator, spelled}
+use Rattle.msvc_nodes.specs.Trees.{base_class_descriptor, discriminator, guard, nested, operator, spelled, template}
 use Rattle.msvc_nodes.specs.Trees.{array, base, constant_string, function, member_function, member_pointer, numbered}
 use Rattle.msvc_nodes.specs.Trees.{plain, pointing, variable}
 use Rattle.msvc_nodes.specs.declared.kinds.PrimitiveKind.TheVariants.{Int, Void}
@@ -28,6 +28,10 @@ pointer_to t = pointing Pointer t 0
 
 abbrev note_of : (at start end : ℕ) → Note
 note_of at start end = record { at = at; start = start; end = end }
+
+-- the symbol of a string of these bytes
+abbrev string_of : List ℕ → SymbolTree
+string_of bytes = symbol_of (operator plain_operator.String) [] (constant_string bytes)
 
 -- a function without parameters that returns nothing
 abbrev procedure : TypeTree
@@ -58,12 +62,17 @@ pub record AreTrees : Type 0 where
   pub descriptor : IsTree "??_R1A@?0A@EA@U@i@@8"
       (symbol_of (base_class_descriptor (pos 0) (negsuc 0) (pos 0) (pos 64)) (named "U" ∷ named "i" ∷ [])
       (plain plain_kind.Rtti)) "" []
-  -- the index of a guard stands after its marker
+  -- the index of a guard stands after its marker, and is absent at the end of the text
+  pub no_index : IsTree "??_B?1??f@@YAXXZ@4IA"
+      (symbol_of (guard Static None) (discriminator (pos 2) ∷ nested (named "f") no_names procedure ∷ [])
+      (plain plain_kind.None)) "" []
   pub guard : IsTree "??_B?1??f@@YAXXZ@51"
       (symbol_of (guard Static (Some 2)) (discriminator (pos 2) ∷ nested (named "f") no_names procedure ∷ [])
       (plain plain_kind.None)) "" []
   pub numbered_guard : IsTree "?$TSS0@x@ns@@4HA"
       (symbol_of (named "x") (named "ns" ∷ []) (numbered ThreadSafeGuard (pos 0))) "" []
+  pub last_guard : IsTree "?$TSS2147483647@x@@4HA"
+      (symbol_of (named "x") [] (numbered ThreadSafeGuard (pos 2147483647))) "" []
   pub hash : IsTree "??@8ba8d245c9eca390356129098dbe9f73@?x" (md5_symbol (codes "8ba8d245c9eca390356129098dbe9f73"))
       "?x" []
   -- a pointer to a member function has the size of the pointer among its qualifiers
@@ -72,8 +81,19 @@ pub record AreTrees : Type 0 where
       (variable (member_pointer (named "A") no_names 0 Cdecl (type_trees (base Void 0 ∷ [])) 65 (base Void 0))
       Global 0)) "" []
   -- so many characters are read as the first number says, and the second is dropped
-  pub string : IsTree "??_C@_02PCEFGMJL@hi?$AA@"
-      (symbol_of (operator plain_operator.String) [] (constant_string (104 ∷ 105 ∷ 0 ∷ []))) "@" []
+  pub string : IsTree "??_C@_02PCEFGMJL@hi?$AA@" (string_of (104 ∷ 105 ∷ 0 ∷ [])) "@" []
+  -- at most 32 of them, of one byte or of two
+  pub long_string : IsTree "??_C@_0CF@A@aaaaaaaaaaaaaaaaaaaaaaaaaaaaaaaaaaaaaaaaaaaaaaaaaaaaaaaaaaaaaaaa"
+      (string_of (replicate 32 97)) "aaaaaaaaaaaaaaaaaaaaaaaaaaaaaaaa" []
+  pub wide_string : IsTree "??_C@_1EK@A@aaaaaaaaaaaaaaaaaaaaaaaaaaaaaaaaaaaaaaaaaaaaaaaaaaaaaaaaaaaaaaaa"
+      (string_of (replicate 64 97)) "" []
+  pub no_string : IsTree "??_C@_0?0A@hi" (string_of []) "hi" []
+  -- two letters after ?$ are the halves of a byte
+  pub bytes : IsTree "??_C@_01A@?$OB?$AA@" (string_of (0xE1 ∷ 0 ∷ [])) "@" []
+  -- a template and nothing else is a symbol, and its parameters may end with the text
+  pub template : IsTree "?$f@PAH0"
+      (symbol_of (template (named "f") (type_trees (pointer_to (base Int 0) ∷ pointer_to (base Int 0) ∷ []))) []
+      (plain plain_kind.None)) "" (note_of 7 4 7 ∷ [])
 
 pub record AreCounted : Type 0 where
   pub no_type : IsCounted "?f@@" 2 ""

@@ -1,14 +1,16 @@
 //! Facts about the definitions to believe, which the prover computes on symbols, trees and texts that are written out.
-//! They pin the definitions themselves: a letter, a space or a case that is changed in one makes a fact false. No other
-//! crate uses this one, so a new fact proves nothing else anew.
+//! Tables of letters, codes, operators and words are pinned whole: a row that is changed, added or left out makes a
+//! fact false. Of each other definition a fact pins what it shows. No other crate uses this one, so a new fact proves
+//! nothing else anew.
 #![tactic(auto)]
 
-ghost use Rattle.msvc_facts.specs.BackReferences.{AreNameReferences, AreTypeReferences};
+ghost use Rattle.msvc_facts.specs.BackReferences.{AreNameReferences, AreTypeReferences, AreWrittenOut};
 ghost use Rattle.msvc_facts.specs.Declarations.{
   AreDeclarations,
   AreFlags,
   AreNames,
   AreSpaces,
+  AreTemplateArguments,
   AreTypes,
 };
 ghost use Rattle.msvc_facts.specs.Filtered.{AreCandidates, AreFiltered, AreFitting};
@@ -25,10 +27,12 @@ pub fn facts()
     ensures refusals { AreRefused }
     ensures name_references { AreNameReferences }
     ensures type_references { AreTypeReferences }
+    ensures written_out { AreWrittenOut }
     ensures spaces { AreSpaces }
     ensures declarations { AreDeclarations }
     ensures names { AreNames }
     ensures types { AreTypes }
+    ensures template_arguments { AreTemplateArguments }
     ensures flags { AreFlags }
     ensures lines { AreLines }
     ensures answers { AreAnswered }

@@ -1,5 +1,5 @@
-use Rattle.msvc_facts.proofs.BackReferences.{name_references, type_references}
-use Rattle.msvc_facts.proofs.Declarations.{declarations, flags, names, spaces, types}
+use Rattle.msvc_facts.proofs.BackReferences.{name_references, type_references, written_out}
+use Rattle.msvc_facts.proofs.Declarations.{declarations, flags, names, spaces, template_arguments, types}
 use Rattle.msvc_facts.proofs.Filtered.{candidates, filtered, fitted}
 use Rattle.msvc_facts.proofs.Letters.{tables}
 use Rattle.msvc_facts.proofs.Texts.{answers, arguments, lines, words}
@@ -24,6 +24,9 @@ returns-clause-name_references c = name_references
 pub returns-clause-type_references : goal.returns-clause-type_references
 returns-clause-type_references c = type_references
 
+pub returns-clause-written_out : goal.returns-clause-written_out
+returns-clause-written_out c = written_out
+
 pub returns-clause-spaces : goal.returns-clause-spaces
 returns-clause-spaces c = spaces
 
@@ -35,6 +38,9 @@ returns-clause-names c = names
 
 pub returns-clause-types : goal.returns-clause-types
 returns-clause-types c = types
+
+pub returns-clause-template_arguments : goal.returns-clause-template_arguments
+returns-clause-template_arguments c = template_arguments
 
 pub returns-clause-flags : goal.returns-clause-flags
 returns-clause-flags c = flags
