@@ -1,11 +1,14 @@
 pub mod Answering
 pub mod BackReferences
+pub mod Buffers
 pub mod Declarations
+pub mod Errors
 pub mod Filtered
 pub mod Filtering
 pub mod Letters
 pub mod OnLiterals
 pub mod Reading
+pub mod Runs
 pub mod Same
 pub mod Symbols
 pub mod Texts

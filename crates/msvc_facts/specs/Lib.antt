@@ -1,7 +1,10 @@
 pub mod BackReferences
+pub mod Buffers
 pub mod Declarations
+pub mod Errors
 pub mod Filtered
 pub mod Letters
+pub mod Runs
 pub mod Symbols
 pub mod Texts
 pub mod Trees

@@ -5,6 +5,7 @@
 #![tactic(auto)]
 
 ghost use Rattle.msvc_facts.specs.BackReferences.{AreNameReferences, AreTypeReferences, AreWrittenOut};
+ghost use Rattle.msvc_facts.specs.Buffers.{AreBuffers};
 ghost use Rattle.msvc_facts.specs.Declarations.{
   AreDeclarations,
   AreFlags,
@@ -13,8 +14,10 @@ ghost use Rattle.msvc_facts.specs.Declarations.{
   AreTemplateArguments,
   AreTypes,
 };
+ghost use Rattle.msvc_facts.specs.Errors.{AreErrors};
 ghost use Rattle.msvc_facts.specs.Filtered.{AreCandidates, AreFiltered, AreFitting};
 ghost use Rattle.msvc_facts.specs.Letters.{AreTables};
+ghost use Rattle.msvc_facts.specs.Runs.{AreFaults, AreLineRuns};
 ghost use Rattle.msvc_facts.specs.Texts.{AreAnswered, AreArguments, AreLines, AreWords};
 ghost use Rattle.msvc_facts.specs.Trees.{AreCounted, AreRefused, AreTrees};
 
@@ -34,6 +37,7 @@ pub fn facts()
     ensures types { AreTypes }
     ensures template_arguments { AreTemplateArguments }
     ensures flags { AreFlags }
+    ensures errors { AreErrors }
     ensures lines { AreLines }
     ensures answers { AreAnswered }
     ensures arguments { AreArguments }
@@ -41,4 +45,7 @@ pub fn facts()
     ensures candidates { AreCandidates }
     ensures filtered { AreFiltered }
     ensures fitted { AreFitting }
+    ensures faults { AreFaults }
+    ensures line_runs { AreLineRuns }
+    ensures buffers { AreBuffers }
 {}

@@ -1,7 +1,10 @@
 use Rattle.msvc_facts.proofs.BackReferences.{name_references, type_references, written_out}
+use Rattle.msvc_facts.proofs.Buffers.{buffers}
 use Rattle.msvc_facts.proofs.Declarations.{declarations, flags, names, spaces, template_arguments, types}
+use Rattle.msvc_facts.proofs.Errors.{errors}
 use Rattle.msvc_facts.proofs.Filtered.{candidates, filtered, fitted}
 use Rattle.msvc_facts.proofs.Letters.{tables}
+use Rattle.msvc_facts.proofs.Runs.{faults, line_runs}
 use Rattle.msvc_facts.proofs.Texts.{answers, arguments, lines, words}
 use Rattle.msvc_facts.proofs.Trees.{counts, refusals, trees}
 use Rattle.msvc_facts.proofs.facts.Goals as goal
@@ -45,6 +48,9 @@ returns-clause-template_arguments c = template_arguments
 pub returns-clause-flags : goal.returns-clause-flags
 returns-clause-flags c = flags
 
+pub returns-clause-errors : goal.returns-clause-errors
+returns-clause-errors c = errors
+
 pub returns-clause-lines : goal.returns-clause-lines
 returns-clause-lines c = lines
 
@@ -65,3 +71,12 @@ returns-clause-filtered c = filtered
 
 pub returns-clause-fitted : goal.returns-clause-fitted
 returns-clause-fitted c = fitted
+
+pub returns-clause-faults : goal.returns-clause-faults
+returns-clause-faults c = faults
+
+pub returns-clause-line_runs : goal.returns-clause-line_runs
+returns-clause-line_runs c = line_runs
+
+pub returns-clause-buffers : goal.returns-clause-buffers
+returns-clause-buffers c = buffers
