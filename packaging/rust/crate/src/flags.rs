@@ -72,7 +72,7 @@ flags! {
 }
 
 impl DemangleFlags {
-    /// Returns the flags under which declarations are those of `llvm-undname`: `MS_TYPENAMES`, `SPACE_AFTER_COMMA`,
+    /// Returns the flags whose spelling is near that of `llvm-undname`: `MS_TYPENAMES`, `SPACE_AFTER_COMMA`,
     /// `HUG_TYPE` and `SPACE_BEFORE_POINTER`.
     pub const fn llvm() -> DemangleFlags {
         DemangleFlags::MS_TYPENAMES
