@@ -2,9 +2,12 @@
 //! symbol of Microsoft's compiler, as `main` is none, stays as it came.
 //!
 //!     llvm-nm show.obj | object_names
+//!
+//! An object file is untrusted. So a symbol with more nodes, or a declaration with more bytes, than the default limits
+//! allow stays as it came too.
 #![tactic(auto)]
 
-use msvc_demangler::{DemangleFlags, demangle};
+use msvc_demangler::{DEFAULT_BYTE_LIMIT, DEFAULT_NODE_LIMIT, DemangleFlags, demangle_within};
 use std::alloc::{AllocError, Global};
 use std::io::{self, BufRead, BufReader, BufWriter, Write};
 
@@ -32,7 +35,8 @@ fn declared(alloc: Global, line: &str) -> Result<Option<(&str, String)>, AllocEr
     let Some((columns, symbol)) = line.rsplit_once(' ') else {
         return Ok(None);
     };
-    match demangle(alloc, symbol, DemangleFlags::llvm()) {
+    let flags = DemangleFlags::llvm();
+    match demangle_within(alloc, symbol, flags, DEFAULT_NODE_LIMIT, DEFAULT_BYTE_LIMIT) {
         Ok(declaration) => Ok(Some((columns, declaration))),
         Err(error) if error.is_out_of_memory() => Err(AllocError),
         Err(_) => Ok(None),
