@@ -1,12 +1,12 @@
 #!/usr/bin/env python3
 """Adds documents to a package, and checks those of a package.
 
-    python3 packaging/guides/documents.py add FOLDER PATH..
+    python3 packaging/guides/documents.py add FOLDER [SET..] [PATH..]
     python3 packaging/guides/documents.py check PACKAGE..
 
-`add` copies each file of the repository below a PATH to the same place below FOLDER, so that a document and the files
-that it names stand to each other as in the repository. In the documents of FOLDER a link to a file that is absent
-becomes its text.
+`add` copies each file of the repository below a PATH, or below those of a SET, to the same place below FOLDER, so that
+a document and the files that it names stand to each other as in the repository. In the documents of FOLDER a link to a
+file that is absent becomes its text.
 
 `check` reads unpacked packages. Each link of a document must lead to a file. A package must have the files that its
 documents, headers and examples name for readers, and a guide to each of its programs. It prints each fault, and ends
@@ -17,6 +17,14 @@ import re
 import shutil
 import subprocess
 import sys
+
+# Sets of guides, with the files that they name.
+SETS = {
+    "programs": ["docs/undname.md", "docs/msvcfilt.md", "docs/flags.md", "docs/limits.md", "docs/statuses.md"],
+    "jobs": ["docs/scale.md", "examples/dask"],
+    "library": ["docs/install.md", "docs/c.md", "examples/c", "packaging/rust/crate", "packaging/wheel/README.md",
+                "packaging/wheel/src"],
+}
 
 # Code, or a link to a file or a picture: its text, and the file.
 PART = re.compile(r"^```.*?^```$|`[^`\n]*`|!?\[([^][]*)\]\(([^():#]+)(?:#[^()]*)?\)", re.MULTILINE | re.DOTALL)
@@ -39,9 +47,10 @@ def is_there(document, link):
     return (document.parent / link[2]).exists()
 
 
-def add(folder, *paths):
-    """Adds the files below these paths to a folder."""
+def add(folder, *words):
+    """Adds the files below these paths, or those of sets, to a folder."""
     top = pathlib.Path(folder)
+    paths = [path for word in words for path in SETS.get(word, [word])]
     command = ["git", "ls-files", "-z", "--error-unmatch", "--", *paths]
     for name in subprocess.run(command, check=True, stdout=subprocess.PIPE, text=True).stdout.split("\0")[:-1]:
         (top / name).parent.mkdir(parents=True, exist_ok=True)
