@@ -21,7 +21,7 @@ import sys
 import tempfile
 import unittest
 import zipfile
-from typing import Dict, Iterator, List, Tuple
+from typing import Any, Dict, Iterator, List, Tuple
 
 import msvc_demangler
 from msvc_demangler import UNLIMITED, DemangleError, Flags, Status
@@ -63,7 +63,8 @@ class Module(unittest.TestCase):
         """Returns the message, after it has compared status and offset."""
         with self.assertRaises(DemangleError) as caught:
             msvc_demangler.demangle(symbol, **limits)
-        self.assertEqual((caught.exception.status, caught.exception.offset), (status, offset))
+        self.assertIs(caught.exception.status, status)
+        self.assertEqual(caught.exception.offset, offset)
         return str(caught.exception)
 
     def test_header(self) -> None:
@@ -96,7 +97,30 @@ class Module(unittest.TestCase):
         with self.assertRaises(ValueError) as invalid_value:
             msvc_demangler.demangle("?x@@3L")
         error = pickle.loads(pickle.dumps(invalid_value.exception))
-        self.assertEqual((str(error), error.status, error.offset), (invalid, Status.INVALID, 6))
+        self.assertEqual((str(error), error.offset), (invalid, 6))
+        self.assertIs(error.status, Status.INVALID)
+
+    def test_types(self) -> None:
+        for flags, symbol, wanted in rows():
+            for kind in (bytes, bytearray, memoryview):
+                self.assertEqual(msvc_demangler.demangle(kind(symbol.encode()), flags, max_nodes=UNLIMITED), wanted)
+        self.assertEqual(msvc_demangler.demangle(memoryview(b"AH3@@x?")[::-1]), "int x")
+        self.assertEqual(msvc_demangler.symbol_length(bytearray("?äö@@3HA and more".encode())), 10)
+        content: bytes = msvc_demangler.filter(memoryview(b"\xff ?x@ns@@3HA"))
+        self.assertEqual(content, b"\xff int ns::x")
+        self.assertIs(type(content), bytes)
+
+    def test_wrong_types(self) -> None:
+        calls: List[Any] = [msvc_demangler.demangle, msvc_demangler.filter, msvc_demangler.symbol_length]
+        for call in calls:
+            for wrong in (None, 3, 1.5, ["?x@@3HA"], object()):
+                message = f"^expected str, bytes, bytearray or memoryview, not {type(wrong).__name__}$"
+                with self.assertRaisesRegex(TypeError, message):
+                    call(wrong)
+        for wrong in (None, 1.5, "LLVM"):
+            for arguments in ({"flags": wrong}, {"max_nodes": wrong}, {"max_bytes": wrong}):
+                with self.assertRaisesRegex(TypeError, "as an integer$"):
+                    calls[0]("?x@@3HA", **arguments)
 
     def test_limits(self) -> None:
         for symbol in (DEEP, ENDLESS):

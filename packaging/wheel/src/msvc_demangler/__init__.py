@@ -6,7 +6,8 @@
     >>> msvc_demangler.filter(b"undefined: ?x@ns@@3HA")
     b'undefined: int ns::x'
 
-Symbols are str, or bytes in UTF-8. The calls keep nothing, release the GIL, and may run in any number of threads.
+Symbols are str, or bytes, bytearray or memoryview in UTF-8. The calls keep nothing, release the GIL, and may run in any
+number of threads.
 
 The wheel has the library libmsvc_demangler.so.0 beside this file. Without it the library is the file that the
 environment variable MSVC_DEMANGLER_LIBRARY names, or else what the system's loader finds under that name.
@@ -15,8 +16,9 @@ from __future__ import annotations
 
 import ctypes
 import enum
+import operator
 import os
-from typing import Any, AnyStr
+from typing import Any, Union, overload
 
 __all__ = ["DEFAULT_BYTES", "DEFAULT_NODES", "UNLIMITED", "DemangleError", "Flags", "Status", "__version__", "demangle",
            "filter", "symbol_length"]
@@ -24,6 +26,8 @@ __all__ = ["DEFAULT_BYTES", "DEFAULT_NODES", "UNLIMITED", "DemangleError", "Flag
 DEFAULT_NODES = 10_000
 DEFAULT_BYTES = 65_536
 UNLIMITED = ctypes.c_size_t(-1).value  # no limit: unsafe for symbols that are not trusted
+
+_Bytes = Union[bytes, bytearray, memoryview]
 
 
 class Flags(enum.IntFlag):
@@ -44,7 +48,7 @@ class Flags(enum.IntFlag):
     HUG_TYPE = 0x400000  # int*x, and not int *x
     SPACE_BEFORE_POINTER = 0x800000
     WITH_PTR64 = 0x1000000  # __ptr64
-    LLVM = 0xE00400  # as llvm-undname prints: four of them
+    LLVM = 0xE00400  # four of these: spelling near llvm-undname's
 
 
 class Status(enum.IntEnum):
@@ -65,7 +69,7 @@ class DemangleError(ValueError):
     NOT_UTF8 how much of it is UTF-8, for TOO_MANY_NODES where reading stopped, for TOO_LONG where it ends.
     """
 
-    def __init__(self, message: str, status: int, offset: int) -> None:
+    def __init__(self, message: str, status: Status, offset: int) -> None:
         super().__init__(message, status, offset)  # all three, so that the error can be pickled
         self.status = status
         self.offset = offset
@@ -98,12 +102,16 @@ _filter = _call("filter", _Result, *_input, ctypes.c_uint32, *_output)
 _version = _call("version", ctypes.c_size_t, *_output)
 
 
-def _bytes(text: str | bytes) -> bytes:
-    return text.encode("utf-8", "surrogatepass") if isinstance(text, str) else text
+def _bytes(text: str | _Bytes) -> bytes:
+    if isinstance(text, str):
+        return text.encode("utf-8", "surrogatepass")
+    if isinstance(text, (bytes, bytearray, memoryview)):
+        return bytes(text)
+    raise TypeError(f"expected str, bytes, bytearray or memoryview, not {type(text).__name__}")
 
 
 def _limit(value: int) -> int:
-    if not 0 <= value <= UNLIMITED:
+    if not 0 <= operator.index(value) <= UNLIMITED:
         raise OverflowError(f"a limit is between 0 and UNLIMITED, not {value}")
     return value
 
@@ -113,7 +121,7 @@ def _check(result: _Result, message: bytes) -> None:
     if result.status == Status.OUT_OF_MEMORY:
         raise MemoryError("out of memory")
     if result.status != Status.OK:
-        raise DemangleError(message.decode(), result.status, result.offset)
+        raise DemangleError(message.decode(), Status(result.status), result.offset)
 
 
 def _written(size: int, call: Any, *arguments: Any) -> bytes:
@@ -129,7 +137,7 @@ def _written(size: int, call: Any, *arguments: Any) -> bytes:
     return text
 
 
-def demangle(symbol: str | bytes, flags: int = Flags.LLVM, *, max_nodes: int = DEFAULT_NODES,
+def demangle(symbol: str | _Bytes, flags: int = Flags.LLVM, *, max_nodes: int = DEFAULT_NODES,
              max_bytes: int = DEFAULT_BYTES) -> str:
     """Returns the declaration of the symbol that the text begins with.
 
@@ -139,21 +147,31 @@ def demangle(symbol: str | bytes, flags: int = Flags.LLVM, *, max_nodes: int = D
     """
     given = _bytes(symbol)
     size = min(4 * len(given) + 128, DEFAULT_BYTES)
-    return _written(size, _demangle, given, len(given), flags, _limit(max_nodes), _limit(max_bytes)).decode()
+    return _written(size, _demangle, given, len(given), operator.index(flags), _limit(max_nodes),
+                    _limit(max_bytes)).decode()
 
 
-def filter(text: AnyStr, flags: int = Flags.LLVM) -> AnyStr:
-    """Returns the text, str or bytes, with each symbol in it replaced by its declaration; all else stays.
+@overload
+def filter(text: str, flags: int = Flags.LLVM) -> str: ...
 
-    The bytes need not be UTF-8. A symbol that exceeds a default limit stays. Raises MemoryError.
+
+@overload
+def filter(text: _Bytes, flags: int = Flags.LLVM) -> bytes: ...
+
+
+def filter(text: str | _Bytes, flags: int = Flags.LLVM) -> str | bytes:
+    """Returns the text with each symbol in it replaced by its declaration; all else stays.
+
+    The result is a str for a str, and else bytes, which need not be UTF-8. A symbol that exceeds a default limit stays.
+    Raises MemoryError.
     """
     given = _bytes(text)
-    filtered = _written(3 * len(given) + 256, _filter, given, len(given), flags)
+    filtered = _written(3 * len(given) + 256, _filter, given, len(given), operator.index(flags))
     return filtered.decode("utf-8", "surrogatepass") if isinstance(text, str) else filtered
 
 
-def symbol_length(text: str | bytes, *, max_nodes: int = DEFAULT_NODES) -> int:
-    """Returns how long the symbol is that the text begins with: in characters of a str, in bytes of bytes.
+def symbol_length(text: str | _Bytes, *, max_nodes: int = DEFAULT_NODES) -> int:
+    """Returns how long the symbol is that the text begins with: in characters of a str, else in bytes.
 
     Raises DemangleError if it begins with none, or with one of more than max_nodes nodes, and MemoryError.
     """
