@@ -28,6 +28,8 @@ DEFAULT_BYTES = 65_536
 UNLIMITED = ctypes.c_size_t(-1).value  # no limit: unsafe for symbols that are not trusted
 
 _Bytes = Union[bytes, bytearray, memoryview]
+_BUFFER_SIZE = 4_096  # bytes of the first buffer, enough for nearly all declarations
+_Buffer = ctypes.c_char * _BUFFER_SIZE  # made once, since it takes longer than a call to make a type of another size
 
 
 class Flags(enum.IntFlag):
@@ -125,14 +127,13 @@ def _check(result: _Result, message: bytes) -> None:
 
 
 def _written(size: int, call: Any, *arguments: Any) -> bytes:
-    """Returns the text that a call writes. The first buffer has this size; if it is too small, the second suffices."""
-    while True:
-        out = ctypes.create_string_buffer(size)
-        result = call(*arguments, out, size)
-        if result.length < size:
-            break
-        size = result.length + 1
-    text = ctypes.string_at(out, result.length)
+    """Returns the text that a call writes. If a buffer of this size is too small, the second suffices."""
+    out: Any = _Buffer() if size <= _BUFFER_SIZE else ctypes.create_string_buffer(size)
+    result = call(*arguments, out, len(out))
+    if result.length >= len(out):
+        out = ctypes.create_string_buffer(result.length + 1)
+        result = call(*arguments, out, len(out))
+    text: bytes = out[:result.length]
     _check(result, text)
     return text
 
