@@ -10,6 +10,7 @@ import contextlib
 import csv
 import doctest
 import hashlib
+import io
 import os
 import pathlib
 import pickle
@@ -32,7 +33,49 @@ VERSION = (TOP / "VERSION").read_text("utf-8").strip()
 DEEP = "?x@@3" + 100_000 * "PEA" + "HEA"
 # Each parameter has the one before twenty times: the declaration has more than 20 ** 9 bytes.
 ENDLESS = "?f@@YAXPAH" + "".join(f"P6AX{20 * str(level)}@Z" for level in range(9)) + "@Z"
+# Lengths with which a stream is read.
+PIECES = (1, 2, 7, 4096, 1_000_000)
 wheel = ""
+
+
+class Pieces(io.BytesIO):
+    """A stream that gives at most so many bytes at once."""
+
+    def __init__(self, content: bytes, length: int) -> None:
+        super().__init__(content)
+        self.length = length
+
+    def read1(self, size: "int | None" = -1) -> bytes:
+        return self.read(self.length)
+
+
+class Failing(Pieces):
+    """A stream that fails where another ends."""
+
+    def read1(self, size: "int | None" = -1) -> bytes:
+        piece = super().read1(size)
+        if not piece:
+            raise OSError("no more")
+        return piece
+
+
+class Digest(io.BytesIO):
+    """A stream that keeps the digest of its content alone."""
+
+    def __init__(self) -> None:
+        super().__init__()
+        self.hash = hashlib.sha256()
+
+    def write(self, content: Any) -> int:
+        self.hash.update(content)
+        return len(content)
+
+
+def filtered_text() -> Tuple[bytes, bytes]:
+    """Returns the documented text and what the filter makes of it."""
+    document = (TOP / "docs/msvcfilt.md").read_text("utf-8").partition("<!-- file: text -->\n")[2]
+    _, text, _, shown = document.split("```\n")[:4]
+    return text.encode(), shown.partition("$ msvcfilt text\n")[2].encode()
 
 
 def rows() -> List[Tuple[int, str, str]]:
@@ -147,6 +190,47 @@ class Module(unittest.TestCase):
         self.assertEqual(number, "")
         self.assertEqual(msvc_demangler.filter("\udcff\ud800 ?x@ns@@3HA"), "\udcff\ud800 int ns::x")
         self.assertEqual(msvc_demangler.filter("?x@ns@@3HA", Flags.NAME_ONLY), "ns::x")
+
+    def test_stream(self) -> None:
+        text, wanted = filtered_text()
+        for content, filtered in ((text, wanted), (text[:-1], wanted[:-1]), (text + b"\xff", wanted + b"\xff"),
+                                  (b"", b""), (3 * b"\n", 3 * b"\n")):
+            for length in PIECES:
+                out = io.BytesIO()
+                msvc_demangler.filter_stream(Pieces(content, length), out)
+                self.assertEqual(out.getvalue(), filtered)
+        out = io.BytesIO()
+        msvc_demangler.filter_stream(io.BytesIO(b"?x@ns@@3HA"), out, Flags.NAME_ONLY)
+        self.assertEqual(out.getvalue(), b"ns::x")
+
+    def test_stream_faults(self) -> None:
+        """The lines before a fault are written."""
+        for length in PIECES:
+            out = io.BytesIO()
+            with self.assertRaisesRegex(OSError, "^no more$"):
+                msvc_demangler.filter_stream(Failing(b"?x@ns@@3HA\n\n?x@@3HA", length), out)
+            self.assertEqual(out.getvalue(), b"int ns::x\n\n")
+        no_bytes: Any = io.StringIO("?x@@3HA")
+        with self.assertRaisesRegex(TypeError, "^expected a stream of bytes, not of str$"):
+            msvc_demangler.filter_stream(no_bytes, io.BytesIO())
+
+    def test_stream_memory(self) -> None:
+        """A text of 100 MB takes less than 64 MB, and so does one of lines of a megabyte."""
+        for fill, count in ((b"", 9_000_000), (1_000_000 * b"x", 100)):
+            out = Digest()
+            with tempfile.TemporaryFile() as text:
+                for _ in range(100):
+                    text.write(count // 100 * (fill + b" ?x@ns@@3HA\n"))
+                text.seek(0)
+                with little_memory():
+                    msvc_demangler.filter_stream(text, out)
+                    text.seek(0)
+                    with self.assertRaises(MemoryError):
+                        msvc_demangler.filter(text.read())
+            wanted = hashlib.sha256()
+            for _ in range(100):
+                wanted.update(count // 100 * (fill + b" int ns::x\n"))
+            self.assertEqual(out.hash.hexdigest(), wanted.hexdigest())
 
     def test_long(self) -> None:
         """A declaration needs a second buffer."""

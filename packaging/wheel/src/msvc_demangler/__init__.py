@@ -16,18 +16,21 @@ from __future__ import annotations
 
 import ctypes
 import enum
+import io
 import operator
 import os
-from typing import Any, Union, overload
+from typing import IO, Any, List, Union, overload
 
 __all__ = ["DEFAULT_BYTES", "DEFAULT_NODES", "UNLIMITED", "DemangleError", "Flags", "Status", "__version__", "demangle",
-           "filter", "symbol_length"]
+           "filter", "filter_stream", "symbol_length"]
 
 DEFAULT_NODES = 10_000
 DEFAULT_BYTES = 65_536
 UNLIMITED = ctypes.c_size_t(-1).value  # no limit: unsafe for symbols that are not trusted
 
 _Bytes = Union[bytes, bytearray, memoryview]
+_Stream = Union[IO[bytes], io.BufferedIOBase]
+_PIECE_SIZE = 65_536  # bytes of a stream that are read at once
 _BUFFER_SIZE = 4_096  # bytes of the first buffer, enough for nearly all declarations
 _Buffer = ctypes.c_char * _BUFFER_SIZE  # made once, since it takes longer than a call to make a type of another size
 
@@ -169,6 +172,27 @@ def filter(text: str | _Bytes, flags: int = Flags.LLVM) -> str | bytes:
     given = _bytes(text)
     filtered = _written(3 * len(given) + 256, _filter, given, len(given), operator.index(flags))
     return filtered.decode("utf-8", "surrogatepass") if isinstance(text, str) else filtered
+
+
+def filter_stream(reader: _Stream, writer: _Stream, flags: int = Flags.LLVM) -> None:
+    """Copies a stream of bytes to another, as sys.stdin.buffer to sys.stdout.buffer, and filters it as filter does.
+
+    Before it waits for more it writes all lines that have ended, and flushes the writer. Memory grows with the longest
+    line alone. Raises MemoryError, and what the streams raise.
+    """
+    read = getattr(reader, "read1", reader.read)  # read may wait for more than there is
+    line: List[bytes] = []  # the pieces of the line that has not ended
+    for piece in iter(lambda: read(_PIECE_SIZE), b""):
+        if not isinstance(piece, bytes):
+            raise TypeError(f"expected a stream of bytes, not of {type(piece).__name__}")
+        lines, feed, rest = piece.rpartition(b"\n")
+        if feed:
+            writer.write(filter(b"".join([*line, lines, feed]), flags))
+            writer.flush()
+            line = []
+        line.append(rest)
+    writer.write(filter(b"".join(line), flags))
+    writer.flush()
 
 
 def symbol_length(text: str | _Bytes, *, max_nodes: int = DEFAULT_NODES) -> int:
