@@ -33,6 +33,7 @@ VERSION = (TOP / "VERSION").read_text("utf-8").strip()
 DEEP = "?x@@3" + 100_000 * "PEA" + "HEA"
 # Each parameter has the one before twenty times: the declaration has more than 20 ** 9 bytes.
 ENDLESS = "?f@@YAXPAH" + "".join(f"P6AX{20 * str(level)}@Z" for level in range(9)) + "@Z"
+PROGRAM = (sys.executable, "-I", "-m", "msvc_demangler")
 # Lengths with which a stream is read.
 PIECES = (1, 2, 7, 4096, 1_000_000)
 wheel = ""
@@ -263,6 +264,46 @@ class Module(unittest.TestCase):
             program = "import msvc_demangler; print(msvc_demangler.__file__, msvc_demangler.demangle('?x@ns@@3HA'))"
             printed = subprocess.check_output([sys.executable, "-c", program], env=environment, text=True)
         self.assertEqual(printed, f"{folder}/msvc_demangler.py int ns::x\n")
+
+
+class Program(unittest.TestCase):
+    def runs(self, arguments: List[bytes], given: Any, out: bytes, errors: str, status: int, **streams: Any) -> None:
+        """Runs the module as a program, over bytes or an open file, and compares its outputs and its status."""
+        streams.setdefault("stdout", subprocess.PIPE)
+        streams["input" if isinstance(given, bytes) else "stdin"] = given
+        run = subprocess.run([*PROGRAM, *arguments], stderr=subprocess.PIPE, **streams)
+        self.assertEqual((run.stdout or b"", run.stderr.decode(), run.returncode), (out, errors, status))
+
+    def test_filter(self) -> None:
+        text, wanted = filtered_text()
+        self.runs([], text, wanted, "", 0)
+        self.runs([], b"", b"", "", 0)
+
+    def test_symbols(self) -> None:
+        self.runs([b"?x@ns@@3HA"], b"", b"int ns::x\n", "", 0)
+        self.runs([b"?x@ns@@3HA", b"?x@@3L", b"?x\xff@@3HA", b"?f@@"], b"", b"int ns::x\n?x@@3L\n?x\xff@@3HA\nf\n",
+                  'error: unknown primitive type (offset: 6, remaining: "")\nerror: not UTF-8\n', 1)
+
+    def test_streams(self) -> None:
+        """A stream that fails ends the program with a line and status 1."""
+        full = "msvc_demangler: No space left on device\n"
+        with open("/dev/full", "wb") as device:
+            self.runs([b"?x@ns@@3HA"], b"", b"", full, 1, stdout=device)
+            self.runs([], b"?x@ns@@3HA", b"", full, 1, stdout=device)
+            self.runs([], device, b"", "msvc_demangler: Bad file descriptor\n", 1)
+        closed, writes = os.pipe()
+        os.close(closed)
+        with open(writes, "wb") as pipe:
+            self.runs([], b"?x@ns@@3HA", b"", "", 1, stdout=pipe)
+
+    def test_lines(self) -> None:
+        """Each line is answered before the next is given."""
+        with subprocess.Popen(PROGRAM, stdin=subprocess.PIPE, stdout=subprocess.PIPE) as process:
+            assert process.stdin and process.stdout
+            for _ in range(3):
+                process.stdin.write(b"?x@ns@@3HA\n")
+                process.stdin.flush()
+                self.assertEqual(process.stdout.readline(), b"int ns::x\n")
 
 
 class Wheel(unittest.TestCase):
