@@ -9,6 +9,7 @@ import concurrent.futures
 import contextlib
 import csv
 import doctest
+import gzip
 import hashlib
 import io
 import os
@@ -161,6 +162,8 @@ class Module(unittest.TestCase):
                 message = f"^expected str, bytes, bytearray or memoryview, not {type(wrong).__name__}$"
                 with self.assertRaisesRegex(TypeError, message):
                     call(wrong)
+        with self.assertRaises(TypeError):
+            msvc_demangler.filter(None)  # type: ignore[call-overload]
         for wrong in (None, 1.5, "LLVM"):
             for arguments in ({"flags": wrong}, {"max_nodes": wrong}, {"max_bytes": wrong}):
                 with self.assertRaisesRegex(TypeError, "as an integer$"):
@@ -201,7 +204,8 @@ class Module(unittest.TestCase):
                 msvc_demangler.filter_stream(Pieces(content, length), out)
                 self.assertEqual(out.getvalue(), filtered)
         out = io.BytesIO()
-        msvc_demangler.filter_stream(io.BytesIO(b"?x@ns@@3HA"), out, Flags.NAME_ONLY)
+        msvc_demangler.filter_stream(gzip.GzipFile(fileobj=io.BytesIO(gzip.compress(b"?x@ns@@3HA"))), out,
+                                     Flags.NAME_ONLY)
         self.assertEqual(out.getvalue(), b"ns::x")
 
     def test_stream_faults(self) -> None:
