@@ -5,13 +5,15 @@
 //     node .ci/web.mjs FOLDER lines TEXT ERRORS < IN  symbols, and undname's output for them
 //     node .ci/web.mjs FOLDER trees ERRORS < IN       symbols, and the standard error of undname -v for them
 //     node .ci/web.mjs FOLDER filter FLAGS < IN       writes what the filter returns for bytes, and compares a string's
-//     node .ci/web.mjs FOLDER calls                   the edge cases of each call
+//     node .ci/web.mjs FOLDER calls                   the edge cases of each call, in the CommonJS module too
 //
 // FOLDER has the module that tools/web makes. The last line has the counts; the status is 1 if anything differs.
 import assert from 'node:assert/strict';
 import { readFileSync, writeSync } from 'node:fs';
+import { createRequire } from 'node:module';
 import { inspect } from 'node:util';
 import { pathToFileURL } from 'node:url';
+import { runInNewContext } from 'node:vm';
 import { resolve } from 'node:path';
 
 const [folder, command, ...words] = process.argv.slice(2);
@@ -63,6 +65,64 @@ function areReferences(symbol, listed) {
       (index === 0 || listed[index - 1].at < at) && demangle(written, Flags.LLVM, NO_LIMITS) === declaration &&
       written.length - symbolLength(written, NO_LIMITS) === rest;
   });
+}
+
+/** Returns the ES module with another library in it, whose call `demangle` consists of these instructions. */
+function withCode(...code) {
+  const section = (kind, ...bytes) => [kind, bytes.length, ...bytes];
+  const named = (name, kind) => [name.length, ...Buffer.from(name), kind, 0];
+  const library = Buffer.from([...Buffer.from('\0asm'), 1, 0, 0, 0, ...section(1, 1, 0x60, 0, 0), ...section(3, 1, 0),
+    ...section(5, 1, 0, 1), ...section(6, 1, 0x7E, 0, 0x42, 0, 0x0B), ...section(7, 3, ...named('memory', 2),
+      ...named('__heap_base', 3), ...named('msvc_demangler_demangle_in_parts', 0)),
+    ...section(10, 1, code.length + 2, 0, ...code, 0x0B)]);
+  const text = readFileSync(resolve(folder, 'index.mjs'), 'utf8').replace(/atob\('[^']*'\)/,
+    `atob('${library.toString('base64')}')`);
+  return import(`data:text/javascript,${encodeURIComponent(text)}`);
+}
+
+/** Checks which error a call throws where its memory can't grow, and where it traps. */
+async function checkTraps() {
+  const [UNREACHABLE, CALL_ITSELF, LOAD_FROM_THE_END] = [[0x00], [0x10, 0], [0x41, 0x7F, 0x28, 0, 0, 0x1A]];
+  const thrown = async (code) => outcome((await withCode(...code)).demangle, '?x@@3HA');
+  for (const code of [CALL_ITSELF, LOAD_FROM_THE_END]) {
+    const error = await thrown(code);
+    assert.deepEqual([error instanceof RangeError, error.message], [true, 'out of stack']);
+    assert.ok(error.cause instanceof Error);
+  }
+  const trapped = await thrown(UNREACHABLE);
+  assert.deepEqual([trapped.constructor, trapped.message], [Error, 'the module trapped: unreachable']);
+  const { grow } = WebAssembly.Memory.prototype;
+  WebAssembly.Memory.prototype.grow = () => { throw new RangeError('refused'); };
+  const refused = await thrown(UNREACHABLE);
+  WebAssembly.Memory.prototype.grow = grow;
+  assert.deepEqual([refused.constructor, refused.message], [RangeError, 'out of memory']);
+}
+
+/** Checks that each kind of bytes is taken, and nothing else. */
+function checkKinds({ demangle, filter, references, symbolLength, tree }) {
+  const bytes = Buffer.from('at ?x@ns@@3HA');
+  const wanted = Uint8Array.from(Buffer.from('at int ns::x'));
+  const buffer = Uint8Array.from(bytes).buffer;
+  const shared = new Uint8Array(new SharedArrayBuffer(bytes.length));
+  shared.set(bytes);
+  const within = new Uint8Array([1, 2, 3, ...bytes, 4, 5]).buffer;
+  const elsewhere = runInNewContext('Uint8Array.from(bytes).buffer', { bytes: [...bytes] });
+  for (const text of [bytes, buffer, shared, shared.buffer, elsewhere, new DataView(within, 3, bytes.length),
+    new Uint8ClampedArray(within, 3, bytes.length)]) {
+    assert.deepEqual(filter(text), wanted);
+  }
+  const wide = new Uint16Array(Uint8Array.from(Buffer.from('?x@ns@@3HA')).buffer);
+  assert.deepEqual([demangle(wide), symbolLength(wide), tree(wide)], ['int ns::x', 10, 'ns::x: Var(Global Int)']);
+  assert.deepEqual(filter(new ArrayBuffer(0)), new Uint8Array());
+  const rest = { Number: 3, Null: null, Undefined: undefined, Boolean: true, BigInt: 3n, Symbol: Symbol(), Array: [63],
+    Object: { length: 3 }, String: new String('?x@@3HA'), Function: demangle };
+  for (const call of [demangle, filter, references, symbolLength, tree]) {
+    for (const [kind, text] of Object.entries(rest)) {
+      assert.throws(() => call(text), { name: 'TypeError',
+        message: `a text must be a string, an ArrayBuffer or a view of one, not ${kind}` });
+    }
+  }
+  assert.throws(() => demangle('?x@@3HA', 3n), TypeError);
 }
 
 const commands = {
@@ -119,7 +179,14 @@ const commands = {
     for (let at = 0; at < filtered.length;) at += writeSync(1, filtered, at);
   },
 
-  calls() {
+  async calls() {
+    const common = createRequire(import.meta.url)(resolve(folder));
+    assert.deepEqual(Object.keys(common).sort(), Object.keys(module).sort());
+    assert.deepEqual([common.Flags, common.version], [Flags, version]);
+    assert.throws(() => common.demangle('?x@@3L'), common.DemangleError);
+    for (const one of [module, common]) checkKinds(one);
+    await checkTraps();
+
     const header = readFileSync(new URL('include/msvc_demangler.h', top), 'utf8');
     const constants = (pattern) => Object.fromEntries([...header.matchAll(pattern)].map(([, name, number]) =>
       [name, Number(number)]));
@@ -188,11 +255,11 @@ const commands = {
     for (const deep of ['PEA', 'V?$A@', 'P6AX', 'Y00']) {
       const symbol = `?x@@3${deep.repeat(1_000_000)}`;
       assert.equal(outcome(demangle, symbol, Flags.LLVM, { maxNodes: 1000 }).code, 'TOO_MANY_NODES');
-      assert.ok(outcome(demangle, symbol, Flags.LLVM, NO_LIMITS) instanceof RangeError);
+      assert.throws(() => demangle(symbol, Flags.LLVM, NO_LIMITS), { name: 'RangeError', message: 'out of stack' });
       assert.equal(demangle('?x@ns@@3HA'), 'int ns::x');
       assert.equal(filter(symbol), symbol);
     }
     console.log('calls: all results are right');
   },
 };
-commands[command](...words);
+await commands[command](...words);

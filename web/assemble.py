@@ -4,7 +4,7 @@
     python3 web/assemble.py MODULE OUT
 
 MODULE is the library as a WebAssembly module. OUT gets index.html, the page, and the folder msvc-demangler, which is
-what npm installs. Both depend on the module and on the sources alone.
+what npm installs: the ES module, and the same as a CommonJS module. All depend on the module and on the sources alone.
 """
 import base64
 import hashlib
@@ -54,18 +54,34 @@ onmessage = async ({{ data }}) => {{
 }};
 """
 
+# Before version 22 node can't require an ES module.
+COMMON = """'use strict';
+{library}
+module.exports = {{ {names} }};
+"""
+
+
+def script(library):
+    """Returns the library for a script, which exports nothing."""
+    return re.sub("^export ", "", library, flags=re.MULTILINE)
+
+
+def common(library):
+    """Returns the library as a CommonJS module."""
+    names = re.findall(r"^export (?:class|const|function) (\w+)", library, re.MULTILINE)
+    return COMMON.format(library=script(library), names=", ".join(names))
+
 
 def page(library, version):
     """Returns the page."""
-    library = re.sub("^export ", "", library, flags=re.MULTILINE)
-    worker = WORKER.format(library=library, worker=read(PAGE / "worker.mjs"))
-    script = read(PAGE / "page.mjs")
+    worker = WORKER.format(library=script(library), worker=read(PAGE / "worker.mjs"))
+    code = read(PAGE / "page.mjs")
     style = read(PAGE / "style.css")
-    for text in (worker, script, style):
+    for text in (worker, code, style):
         assert "</" not in text, "the text of an element would end early"
     icon = base64.b64encode((PAGE / "icon.svg").read_bytes()).decode()
-    return filled(read(PAGE / "index.html"), policy=POLICY.format(style=digest(style), script=digest(script)),
-                  icon=f"data:image/svg+xml;base64,{icon}", version=version, style=style, worker=worker, script=script)
+    return filled(read(PAGE / "index.html"), policy=POLICY.format(style=digest(style), script=digest(code)),
+                  icon=f"data:image/svg+xml;base64,{icon}", version=version, style=style, worker=worker, script=code)
 
 
 def main(module, out):
@@ -74,10 +90,13 @@ def main(module, out):
     version = read(HERE.parent / "VERSION").strip()
     encoded = base64.b64encode(pathlib.Path(module).read_bytes()).decode()
     library = filled(read(HERE / "msvc-demangler.mjs"), module=encoded, version=version)
+    types = read(HERE / "msvc-demangler.d.ts")
     files = {
         "index.html": page(library, version),
         "msvc-demangler/index.mjs": library,
-        "msvc-demangler/index.d.ts": read(HERE / "msvc-demangler.d.ts"),
+        "msvc-demangler/index.d.ts": types,
+        "msvc-demangler/index.cjs": common(library),
+        "msvc-demangler/index.d.cts": types,
         "msvc-demangler/package.json": filled(read(HERE / "package.json"), version=version),
         "msvc-demangler/README.md": read(HERE / "README.md"),
     }

@@ -54,38 +54,42 @@ export interface Limits {
   maxBytes?: number;
 }
 
+/** Bytes, as a call takes them. */
+export type Bytes = ArrayBufferLike | ArrayBufferView;
+
 /**
  * Returns the declaration of the symbol that the text begins with.
  *
  * @throws {DemangleError} if there is none
- * @throws {RangeError} if memory or the engine's stack runs out
+ * @throws {RangeError} if memory or the stack runs out
  */
-export declare function demangle(symbol: string | Uint8Array, flags?: number, limits?: Limits): string;
+export declare function demangle(symbol: string | Bytes, flags?: number, limits?: Limits): string;
 
 /**
  * Returns the text with each symbol in it replaced by its declaration; all else stays. Bytes need not be UTF-8. A
- * symbol that exceeds a default limit or the engine's stack stays.
+ * symbol that exceeds a default limit or the stack stays.
  *
  * @throws {RangeError} if memory runs out
  */
 export declare function filter(text: string, flags?: number): string;
-export declare function filter(text: Uint8Array, flags?: number): Uint8Array;
+export declare function filter(text: Bytes, flags?: number): Uint8Array;
+export declare function filter(text: string | Bytes, flags?: number): string | Uint8Array;
 
 /**
  * Returns how much of the text the symbol takes that it begins with: in code units of a string, or in bytes.
  *
  * @throws {DemangleError} if it begins with none
- * @throws {RangeError} if memory or the engine's stack runs out
+ * @throws {RangeError} if memory or the stack runs out
  */
-export declare function symbolLength(symbol: string | Uint8Array, limits?: Pick<Limits, 'maxNodes'>): number;
+export declare function symbolLength(symbol: string | Bytes, limits?: Pick<Limits, 'maxNodes'>): number;
 
 /**
  * Returns the tree of the symbol that the text begins with, on one line, for a person to read. Its form may change.
  *
  * @throws {DemangleError} if it begins with none
- * @throws {RangeError} if memory or the engine's stack runs out
+ * @throws {RangeError} if memory or the stack runs out
  */
-export declare function tree(symbol: string | Uint8Array, limits?: Pick<Limits, 'maxNodes'>): string;
+export declare function tree(symbol: string | Bytes, limits?: Pick<Limits, 'maxNodes'>): string;
 
 /** A digit that stands for a parameter before it. All are offsets, in code units of a string, or in bytes. */
 export interface Reference {
@@ -102,6 +106,6 @@ export interface Reference {
  * parameters.
  *
  * @throws {DemangleError} if it begins with none
- * @throws {RangeError} if memory or the engine's stack runs out
+ * @throws {RangeError} if memory or the stack runs out
  */
-export declare function references(symbol: string | Uint8Array, limits?: Pick<Limits, 'maxNodes'>): Reference[];
+export declare function references(symbol: string | Bytes, limits?: Pick<Limits, 'maxNodes'>): Reference[];

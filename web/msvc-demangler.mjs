@@ -5,7 +5,8 @@
  *     demangle('?x@ns@@3HA');  // 'int ns::x'
  *
  * This file has the proved library inside, as a WebAssembly module, and asks for nothing else. A symbol or a text is a
- * string, or bytes in UTF-8. In a string a surrogate without its other half counts as U+FFFD.
+ * string, or bytes in UTF-8: an ArrayBuffer or a view of one. Anything else is a TypeError. In a string a surrogate
+ * without its other half counts as U+FFFD.
  */
 
 /** The version of the library. */
@@ -42,8 +43,13 @@ export class DemangleError extends Error {
   }
 }
 
-/** A call has exhausted the engine's stack. */
+/** A call has exhausted the stack. */
 class OutOfStack extends RangeError {}
+
+// What V8, SpiderMonkey and JavaScriptCore say where the engine's stack is full, and where that of the module is, which
+// lies in its memory: it overflows below address 0, and a proved call accesses no other place out of bounds.
+const FULL_STACK = ['Maximum call stack size exceeded', 'too much recursion', 'memory access out of bounds',
+  'index out of bounds', 'Out of bounds memory access'];
 
 const CODES = ['OK', 'INVALID', 'NOT_UTF8', 'OUT_OF_MEMORY', 'TOO_MANY_NODES', 'TOO_LONG'];
 const DEFAULT_NODES = 10_000;
@@ -60,8 +66,8 @@ const SPACE = 32;
 
 const encoder = new TextEncoder();
 const decoder = new TextDecoder('utf-8', { ignoreBOM: true });
-const compiled = await WebAssembly.compile(Uint8Array.from(atob('@MODULE@'), (letter) => letter.charCodeAt(0)));
-let library = (await WebAssembly.instantiate(compiled)).exports;
+const compiled = new WebAssembly.Module(Uint8Array.from(atob('@MODULE@'), (letter) => letter.charCodeAt(0)));
+let library = new WebAssembly.Instance(compiled).exports;
 let memory = new Uint8Array(library.memory.buffer);
 let view = new DataView(memory.buffer);
 
@@ -73,7 +79,14 @@ const ARENA = RESULT + 32;
 const TEXT = ARENA + 16;
 const FREE = TEXT + 16;
 
-const bytesOf = (text) => (typeof text === 'string' ? encoder.encode(text) : text);
+/** Returns the bytes of a text. */
+function bytesOf(text) {
+  if (typeof text === 'string') return encoder.encode(text);
+  if (ArrayBuffer.isView(text)) return new Uint8Array(text.buffer, text.byteOffset, text.byteLength);
+  const kind = Object.prototype.toString.call(text).slice(8, -1);
+  if (kind === 'ArrayBuffer' || kind === 'SharedArrayBuffer') return new Uint8Array(text);
+  throw new TypeError(`a text must be a string, an ArrayBuffer or a view of one, not ${kind}`);
+}
 
 /** Returns a limit as the library takes it. */
 function limit(value) {
@@ -81,14 +94,17 @@ function limit(value) {
   return value <= Number.MAX_SAFE_INTEGER ? BigInt(Math.floor(value)) : 2n ** 64n - 1n;
 }
 
-/** Returns the number of code units of a string that the first bytes of its UTF-8 encode. */
-function units(bytes, end) {
-  let count = 0;
-  for (let at = 0; at < end; at++) count += (bytes[at] & 0xC0) === 0x80 ? 0 : bytes[at] < 0xF0 ? 1 : 2;
-  return count;
+/** Returns for each number of bytes how many code units of a string these first bytes of its UTF-8 encode. */
+function unitsOf(bytes) {
+  const units = new Uint32Array(bytes.length + 1);
+  for (let at = 0; at < bytes.length; at++) {
+    units[at + 1] = units[at] + ((bytes[at] & 0xC0) === 0x80 ? 0 : bytes[at] < 0xF0 ? 1 : 2);
+  }
+  return units;
 }
 
-const place = (text, bytes, offset) => (typeof text === 'string' ? units(bytes, offset) : offset);
+const place = (text, bytes, offset) => (
+  typeof text === 'string' ? unitsOf(bytes.subarray(0, offset))[offset] : offset);
 
 /** Takes an instance of the library, or its memory after that has grown. */
 function use(exports) {
@@ -104,26 +120,40 @@ function describe(part, begin, size) {
   return begin + size;
 }
 
+/** Has the memory grow to so many bytes, unless it is larger. */
+function grow(size) {
+  if (size > MOST_MEMORY) throw new RangeError('out of memory');
+  if (size <= memory.length) return;
+  try {
+    library.memory.grow(Math.ceil((size - memory.length) / PAGE));
+  } catch (cause) {
+    throw new RangeError('out of memory', { cause });
+  }
+  use(library);
+}
+
+/** Returns the error to throw for one that a call of the library has thrown. */
+function errorOf(cause) {
+  if (FULL_STACK.some((message) => cause.message.startsWith(message))) return new OutOfStack('out of stack', { cause });
+  if (!(cause instanceof WebAssembly.RuntimeError)) return cause;
+  return new Error(`the module trapped: ${cause.message}`, { cause });
+}
+
 /**
  * Makes one call of the library over an input. The last four arguments are the bytes of the arena, the text and the
- * output, each a multiple of 16, and those of an item of the output. A call that exhausts the engine's stack leaves its
- * instance unusable, and another replaces it.
+ * output, each a multiple of 16, and those of an item of the output. A call that traps leaves its instance unusable,
+ * and another replaces it.
  */
 function call(make, input, arena, text, size, item) {
-  const end = FREE + arena + text + size + input.length;
-  if (end > MOST_MEMORY) throw new RangeError('out of memory');
-  if (end > memory.length) {
-    library.memory.grow(Math.ceil((end - memory.length) / PAGE));
-    use(library);
-  }
+  grow(FREE + arena + text + size + input.length);
   const out = describe(TEXT, describe(ARENA, FREE, arena), text);
   const from = out + size;
   memory.set(input, from);
   try {
     make(...[RESULT, from, input.length, ARENA, TEXT, out, Math.floor(size / item)].map(BigInt));
-  } catch {
+  } catch (error) {
     use(new WebAssembly.Instance(compiled).exports);
-    throw new OutOfStack('out of stack');
+    throw errorOf(error);
   }
   const length = Number(view.getBigUint64(RESULT + 16, true));
   return {
@@ -154,7 +184,7 @@ function completed(make, input, size, item = 1) {
 /**
  * Returns the declaration of the symbol that the text begins with. maxNodes limits its tree, in which each name and
  * each type is a node, and maxBytes the declaration in UTF-8. Throws a DemangleError if there is none, and a RangeError
- * if memory or the engine's stack runs out.
+ * if memory or the stack runs out.
  */
 export function demangle(symbol, flags = Flags.LLVM, { maxNodes = DEFAULT_NODES, maxBytes = DEFAULT_BYTES } = {}) {
   const input = bytesOf(symbol);
@@ -213,7 +243,11 @@ export function references(symbol, { maxNodes = DEFAULT_NODES } = {}) {
   }, input, 64 * REFERENCE, REFERENCE);
   succeed(found, symbol, input);
   const numbers = new DataView(found.written.slice().buffer);
-  const offset = (at) => place(symbol, input, Number(numbers.getBigUint64(at, true)));
+  const units = typeof symbol === 'string' ? unitsOf(input) : undefined;
+  const offset = (at) => {
+    const bytes = Number(numbers.getBigUint64(at, true));
+    return units ? units[bytes] : bytes;
+  };
   return Array.from({ length: found.length }, (_, index) => {
     const [at, start, end] = [0, 8, 16].map((field) => offset(REFERENCE * index + field));
     return { at, start, end };
@@ -267,8 +301,8 @@ function joined(parts) {
 
 /**
  * Returns the text, a string or bytes, with each symbol in it replaced by its declaration; all else stays. Bytes need
- * not be UTF-8. A symbol that exceeds a default limit or the engine's stack stays. Throws a RangeError if memory runs
- * out.
+ * not be UTF-8, and come back as a Uint8Array. A symbol that exceeds a default limit or the stack stays. Throws a
+ * RangeError if memory runs out.
  */
 export function filter(text, flags = Flags.LLVM) {
   const input = bytesOf(text);
