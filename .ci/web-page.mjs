@@ -1,15 +1,16 @@
-// Uses the page in a headless Chromium: types, checks flags, shows trees and back references, drops a file, opens
-// links.
+// Uses the page in a headless Chromium: types, pastes, checks flags, searches, shows trees and back references, drops a
+// file, opens links, reloads, and measures what a finger touches. Calls the ES module beside the page in another page.
 //
 //     node .ci/web-page.mjs PAGE MAP WANTED [FOLDER]
 //
 // PAGE is the page's file. MAP is a large file to drop, WANTED what msvcfilt writes for it. Fails if the page makes a
 // request, or if a task of the page's thread takes more than LONGEST milliseconds of the processor (default 100, since
-// other checks slow it down). Writes screenshots to FOLDER: light.png, dark.png, phone.png and phone_dark.png.
+// other checks slow it down). Writes screenshots to FOLDER: light.png, dark.png, phone.png, phone_dark.png, and
+// web.png for docs.
 import assert from 'node:assert/strict';
 import { mkdirSync, mkdtempSync, readFileSync, rmSync, writeFileSync } from 'node:fs';
 import { tmpdir } from 'node:os';
-import { basename, join, resolve } from 'node:path';
+import { basename, dirname, join, resolve } from 'node:path';
 import { pathToFileURL } from 'node:url';
 import { openPage } from './web-chromium.mjs';
 
@@ -35,6 +36,7 @@ page.listen((method, params, session) => {
   if (method === 'Page.javascriptDialogOpening') faults.push('a dialog of a script');
 });
 await page.send('Target.setAutoAttach', { autoAttach: true, waitForDebuggerOnStart: false, flatten: true });
+await page.send('Browser.grantPermissions', { permissions: ['clipboardReadWrite', 'clipboardSanitizedWrite'] });
 await page.send('Browser.setDownloadBehavior', { behavior: 'allow', downloadPath: downloads, eventsEnabled: true });
 await page.send('Page.addScriptToEvaluateOnNewDocument', { source: `
   window.violations = [];
@@ -47,7 +49,8 @@ const resize = (width, height, scale) => page.send('Emulation.setDeviceMetricsOv
   { width, height, deviceScaleFactor: scale, mobile: width < 500 });
 const output = "document.getElementById('output')";
 const details = "document.getElementById('details-list')";
-const settled = () => page.until(`${output}.ariaBusy === 'false'`);
+const input = "document.getElementById('input')";
+const settled = () => page.until(`${output}?.ariaBusy === 'false'`);
 const shows = async (what) => {
   await page.until(`${output}.ariaBusy === 'false' && ${output}.textContent === ${JSON.stringify(what)}`);
 };
@@ -91,10 +94,37 @@ async function type(typed) {
   for (const letter of typed) await page.send('Input.insertText', { text: letter });
 }
 
+/** Puts a text into a field at once. */
+const put = (id, text) => page.value(`(() => {
+  const field = document.getElementById('${id}');
+  field.value = ${JSON.stringify(text)};
+  field.dispatchEvent(new Event('input', { bubbles: true }));
+})()`);
+
+/** Pastes a text into the field that has the focus, as the keyboard does. */
+async function paste(text) {
+  await page.value(`navigator.clipboard.writeText(${JSON.stringify(text)})`);
+  await page.send('Input.dispatchKeyEvent', { type: 'rawKeyDown', key: 'v', commands: ['paste'] });
+}
+
+/** Returns what a button copies. */
+async function copied(selector) {
+  await page.value("navigator.clipboard.writeText('')");
+  await click(selector);
+  await page.until("navigator.clipboard.readText().then((text) => text !== '')");
+  return page.value('navigator.clipboard.readText()');
+}
+
 async function open(url) {
   await page.send('Page.navigate', { url: 'about:blank' });
   await page.send('Page.navigate', { url });
-  await page.until("document.querySelector('#output .symbol') !== null");
+  await settled();
+}
+
+async function reload() {
+  await page.value('reloaded = false');
+  await page.send('Page.reload');
+  await page.until("typeof reloaded === 'undefined'");
   await settled();
 }
 
@@ -127,16 +157,68 @@ async function run() {
   await resize(1280, 900, 1);
   await page.send('Tracing.start', { traceConfig: { includedCategories: ['toplevel'] } });
   await open(address);
+  await see('the first view', async () => {
+    assert.deepEqual([await page.value(`${input}.value`), await text('output'), await text('state')], ['', '', '']);
+    assert.equal(await page.value('document.activeElement.id'), 'input');
+  });
+
   await see('the first example', async () => {
+    await click('#examples button');
+    await page.until("document.querySelector('#output .symbol') !== null");
+    await settled();
     assert.match(await text('output'), /^int ns::x\nvoid __cdecl f\([^]*\n\?x@@3L\n$/);
-    assert.match(await text('state'), /^5 symbols · 1 rejected · /);
+    assert.equal(await text('state'), '5 symbols · 1 rejected');
+    assert.match(await text('time'), /^[0-9.]+ ms$/);
     assert.equal(await page.value("document.querySelectorAll('#output .symbol').length"), 5);
+  });
+
+  await see('a paste, which replaces an example and nothing else', async () => {
+    await page.value(`${input}.focus()`);
+    await paste(SYMBOL);
+    await shows(DECLARATION);
+    await paste(' and ?x@ns@@3HA');
+    await shows(`${DECLARATION} and int ns::x`);
   });
 
   await see('typing', async () => {
     await type(`in foo!${SYMBOL}+0x12 [a.cpp]`);
     await shows(`in foo!${DECLARATION}+0x12 [a.cpp]`);
     assert.equal(await page.value("document.querySelector('#output .symbol').title"), SYMBOL);
+  });
+
+  await see('the live region', async () => {
+    await page.value(`(() => {
+      window.said = [];
+      new MutationObserver(() => said.push(document.getElementById('state').textContent)).observe(
+        document.getElementById('state'), { childList: true, characterData: true, subtree: true });
+    })()`);
+    await type(`${SYMBOL} and text`);
+    await shows(`${DECLARATION} and text`);
+    const said = await page.value('said');
+    assert.equal(said.at(-1), '1 symbol');
+    assert.ok(said.every((one, index) => one !== said[index - 1] && !one.includes('ms')), said.join(', '));
+  });
+
+  await see('a search', async () => {
+    const lines = Array.from({ length: 500 }, (_, index) => `?x${index}@ns@@3HA ?äx@@3LZ\n`);
+    await put('input', lines.join(''));
+    await shows(lines.join('').replace(/\?x(\d+)@ns@@3HA/g, 'int ns::x$1'));
+    assert.equal(await text('state'), '500 symbols · 500 rejected');
+    await click('#search');
+    for (const letter of 'NS::x33') await page.send('Input.insertText', { text: letter });
+    const found = [33, ...Array.from({ length: 10 }, (_, index) => 330 + index)];
+    await shows(found.map((index) => `int ns::x${index} ?äx@@3LZ\n`).join(''));
+    assert.equal(await text('state'), '11 of 500 lines: 11 symbols · 11 rejected');
+    assert.equal(await copied('#copy'), await text('output'));
+    await click('#output .symbol');
+    assert.ok((await text('details-list')).includes('?x33@ns@@3HA'));
+    await click('#details-close');
+    await put('search', 'nothing');
+    await shows('');
+    assert.equal(await text('state'), '0 of 500 lines: 0 symbols');
+    await type(SYMBOL);
+    await shows(DECLARATION);
+    assert.equal(await page.value("document.getElementById('search').value"), '');
   });
 
   await see('flags', async () => {
@@ -234,6 +316,19 @@ async function run() {
     await page.until("!document.getElementById('details').open");
   });
 
+  await see('thousands of back references', async () => {
+    await put('input', `?f@@YAXPAH${'0'.repeat(4000)}@Z`);
+    await settled();
+    await page.value("document.querySelector('#output .symbol').focus()");
+    await press('Enter', 13);
+    await page.until(`${details}.querySelectorAll('.reference').length === 4000`);
+    await page.value(`${details}.querySelectorAll('.reference')[3999].focus()`);
+    assert.equal(await text('tip'), 'stands for PAH, int *');
+    await press('Escape', 27);
+    await press('Escape', 27);
+    await page.until("!document.getElementById('details').open");
+  });
+
   await see('details of a hostile symbol', async () => {
     await type('?f@@YAXPAV<img/src=x/onerror=hurt=1>@@0@Z');
     await settled();
@@ -244,7 +339,7 @@ async function run() {
     assert.equal(await text('tip'), 'stands for PAV<img/src=x/onerror=hurt=1>@@');
     assert.ok((await text('details-list')).includes('Ptr(Class(<img/src=x/onerror=hurt=1>))'));
     assert.deepEqual((await all('#details-list *, #tip *', 'localName')).filter((name) =>
-      !['dt', 'dd', 'code', 'span', 'button', 'small'].includes(name)), []);
+      !['dt', 'dd', 'div', 'code', 'span', 'button', 'small'].includes(name)), []);
     await click('#details-close');
     await page.until("!document.getElementById('details').open");
   });
@@ -255,10 +350,7 @@ async function run() {
       `?f@@YAX${'P6AX'.repeat(680)}H${'@Z'.repeat(681)}`,
       `?x@${'?1???0?$A@Va@'.repeat(20)}${'@@@QEAA@XZ'.repeat(20)}@3HA`, '\u202E?x@@3HA'];
     for (const one of hostile) {
-      await page.value(`(() => {
-        document.getElementById('input').value = ${JSON.stringify(one)};
-        document.getElementById('input').dispatchEvent(new Event('input'));
-      })()`);
+      await put('input', one);
       await settled();
       assert.notEqual(await text('output'), '');
       assert.match(await text('state'), /symbol/);
@@ -267,6 +359,29 @@ async function run() {
     await shows('int <svg/onload=hurt=1>::<b>x</b>');
     assert.deepEqual(await all('#output *', 'localName'), ['div', 'span']);
     assert.equal(await page.value('typeof hurt'), 'undefined');
+  });
+
+  await see('hidden characters', async () => {
+    const hidden = ['\u0001', '\x7F', '\x9F', '\u00AD', '\u061C', '\u200B', '\u200E', '\u200F', '\u2028', '\u202A',
+      '\u202E', '\u2060', '\u2066', '\u2069', '\uFEFF', '\u{E0001}'];
+    const escapes = ['\\u0001', '\\u007F', '\\u009F', '\\u00AD', '\\u061C', '\\u200B', '\\u200E', '\\u200F',
+      '\\u2028', '\\u202A', '\\u202E', '\\u2060', '\\u2066', '\\u2069', '\\uFEFF', '\\u{E0001}'];
+    await put('input', `${hidden.join('')}\t\n`);
+    await shows(`${escapes.join('')}\t\n`);
+    assert.equal(await copied('#copy'), `${hidden.join('')}\t\n`);
+    await put('input', '?a\u202Eb@ns@@3HA ?x\u2067@@3L');
+    await shows('int ns::a\\u202Eb ?x\\u2067@@3L');
+    assert.deepEqual(await all('#output [title]', 'title'), ['?a\\u202Eb@ns@@3HA',
+      'unknown primitive type (offset: 9, remaining: "")']);
+    assert.deepEqual(await page.value(`[...document.querySelectorAll('#output [title]')].map((element) =>
+      getComputedStyle(element).unicodeBidi)`), ['isolate', 'isolate']);
+    await click('#output .symbol');
+    await page.until(`${details}.childElementCount === 8`);
+    assert.ok(!/\u202E/.test(await text('details-list')));
+    assert.equal(await text('details-list').then((shown) => shown.split('\\u202E').length), 5);
+    assert.equal(await copied('#details-list dt:nth-of-type(2) button'), 'int ns::a\u202Eb');
+    await click('#details-close');
+    await page.until("!document.getElementById('details').open");
   });
 
   await see('a link', async () => {
@@ -284,6 +399,49 @@ async function run() {
     await shows('int x <b>');
   });
 
+  await see('edits of a link, and a reload', async () => {
+    const link = `${address}#text=${encodeURIComponent('?x@@3HA')}&flags=0xE01400`;
+    await open(link);
+    await shows('x');
+    await reload();
+    await shows('x');
+    assert.equal(await page.value('location.href'), link);
+    await click('#input');
+    await page.value(`${input}.setSelectionRange(7, 7)`);
+    await page.send('Input.insertText', { text: ' edited' });
+    await shows('x edited');
+    assert.equal(await page.value('location.href'), address);
+    await click('#reset');
+    await shows('int x edited');
+    await reload();
+    await shows('int x edited');
+    await open(link);
+    await shows('x');
+    await click('#flags input[title=NAME_ONLY]');
+    await shows('int x');
+    await reload();
+    await shows('int x');
+    await open(address);
+    assert.equal(await page.value(`${input}.value`), '');
+  });
+
+  await see('a long text of a link, and a typed one', async () => {
+    const long = '?x@ns@@3HA\n'.repeat(10_000);
+    const isFile = async () => {
+      await page.until("!document.getElementById('save').hidden");
+      assert.match(await text('state'), /^The first lines: [0-9,]+ symbols$/);
+      assert.equal(await page.value(`${input}.value`), '');
+    };
+    await open(`${address}#text=${encodeURIComponent(long)}`);
+    await isFile();
+    await click('#close');
+    await shows('');
+    await put('input', long);
+    await isFile();
+    await click('#close');
+    await shows('');
+  });
+
   await see('a dropped file', async () => {
     await open(address);
     const began = Date.now();
@@ -294,6 +452,23 @@ async function run() {
     await page.until("!document.getElementById('save').hidden", 60);
     console.log(`the dropped file: ${await text('file-state')}, ${Date.now() - began} ms until it can be saved`);
     assert.match(await text('state'), /^The first lines: \d+ symbols/);
+    assert.match(await text('file-state'), /^[0-9.]+ MB filtered$/);
+    const lines = readFileSync(wanted, 'utf8').split(/(?<=\n)/);
+    for (const line of [lines[lines.length >> 1], lines.at(-2)]) {
+      const [search] = line.split(' ');
+      await put('search', search);
+      const found = lines.filter((line) => line.toLowerCase().includes(search.toLowerCase()));
+      assert.ok(found.length < 10);
+      await shows(found.join(''));
+      assert.match(await text('state'), new RegExp(`^${found.length} lines? of the file: `));
+    }
+    await put('search', '0001:');
+    await page.until("document.getElementById('state').textContent.startsWith('The first ')");
+    await settled();
+    const first = await text('output');
+    assert.ok(first.length > 20_000 && lines.join('').startsWith(first));
+    await put('search', '');
+    await page.until("document.getElementById('state').textContent.startsWith('The first lines: ')");
     const name = await page.value("document.getElementById('save').download");
     await click('#save');
     const saved = await new Promise((resume) => {
@@ -304,6 +479,26 @@ async function run() {
     assert.ok(readFileSync(saved).equals(readFileSync(wanted)), 'the saved file is not what msvcfilt writes');
     await click('#close');
     await page.until("!document.getElementById('input').hidden");
+  });
+
+  await see('what a finger touches', async () => {
+    await resize(390, 844, 2);
+    await open(`${address}#text=${encodeURIComponent('?g@@YAXPAHPAVx1@@010@Z')}`);
+    const touched = (within) => page.value(`[...document.querySelectorAll(
+      '${within} :is(button, .button, summary, label:has(input), input[type=search])')].map((element) => {
+        const { width, height } = element.getBoundingClientRect();
+        return [element.textContent || element.id, width, height];
+      }).filter(([, width]) => width > 0)`);
+    const small = (list) => list.filter(([, width, height]) => width < 44 || height < 44);
+    const found = await touched('body');
+    assert.ok(found.length > 20);
+    assert.deepEqual(small(found), []);
+    await click('#output .symbol');
+    await page.until(`${details}.querySelectorAll('.reference').length === 3`);
+    assert.deepEqual(small(await touched('#details')), []);
+    assert.ok(await page.value('document.documentElement.scrollWidth <= innerWidth'));
+    await press('Escape', 27);
+    await resize(1280, 900, 1);
   });
 
   await see('no request', async () => {
@@ -323,6 +518,13 @@ async function run() {
     assert.equal(await page.value('typeof hurt'), 'undefined');
   });
 
+  await see('the ES module on the thread of a page', async () => {
+    const module = readFileSync(join(dirname(resolve(file)), 'msvc-demangler/index.mjs'), 'base64');
+    await page.send('Page.navigate', { url: 'about:blank' });
+    assert.equal(await page.value(`import('data:text/javascript;base64,${module}').then(
+      ({ demangle }) => demangle('?x@ns@@3HA'))`), 'int ns::x');
+  });
+
   await see('long tasks', async () => {
     const tasks = (await traced()).sort((one, other) => other - one);
     console.log(`${tasks.length} tasks of the page, the longest of ${tasks[0].toFixed(0)} ms`);
@@ -330,12 +532,16 @@ async function run() {
   });
 }
 
-/** Writes a screenshot. */
-async function shot(name, width, height, scheme, scale = 1) {
-  await resize(width, height, scale);
+/** Writes a screenshot of the page with its first example, in this size. */
+async function shot(name, scheme, size, picture = {}) {
+  await resize(...size);
+  await page.send('Emulation.setScrollbarsHidden', { hidden: true });
   await page.send('Emulation.setEmulatedMedia', { features: [{ name: 'prefers-color-scheme', value: scheme }] });
   await open(address);
-  const { data } = await page.send('Page.captureScreenshot', { captureBeyondViewport: width < 500 });
+  await click('#examples button');
+  await settled();
+  await page.value('scrollTo(0, 0)');
+  const { data } = await page.send('Page.captureScreenshot', picture);
   writeFileSync(join(folder, `${name}.png`), Buffer.from(data, 'base64'));
 }
 
@@ -343,14 +549,15 @@ try {
   await run();
   if (folder) {
     mkdirSync(folder, { recursive: true });
+    await shot('web', 'light', [1200, 640, 1], { clip: { x: 0, y: 0, width: 1200, height: 400, scale: 1 } });
     for (const scheme of ['light', 'dark']) {
-      await shot(scheme, 1280, 900, scheme);
-      await shot(scheme === 'light' ? 'phone' : 'phone_dark', 390, 844, scheme, 2);
+      await shot(scheme, scheme, [1280, 900, 1]);
+      await shot(scheme === 'light' ? 'phone' : 'phone_dark', scheme, [390, 844, 2], { captureBeyondViewport: true });
     }
   }
   console.log(`${seen} tests of the page pass`);
 } catch (error) {
-  console.log(`${basename(file)}: ${error.message}`);
+  console.log(`${basename(file)}: ${error.message.slice(0, 2000)}`);
   if (faults.length) console.log(faults.join('\n'));
   process.exitCode = 1;
 } finally {

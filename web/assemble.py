@@ -38,20 +38,12 @@ def digest(text):
     return "sha256-" + base64.b64encode(hashlib.sha256(text.encode()).digest()).decode()
 
 
-# The worker is no module, since browsers start none for a page that is a file. It takes requests from the beginning on,
-# and compiles the library meanwhile.
-WORKER = """const started = (async () => {{
+# The worker is no module, since browsers start none for a page that is a file.
+WORKER = """'use strict';
+{{
 {library}
 {worker}
-return received;
-}})();
-onmessage = async ({{ data }}) => {{
-  try {{
-    await (await started)(data);
-  }} catch (error) {{
-    postMessage({{ kind: 'failed', id: data.id, message: String(error) }});
-  }}
-}};
+}}
 """
 
 # Before version 22 node can't require an ES module.

@@ -2,6 +2,7 @@
 const $ = (id) => document.getElementById(id);
 const input = $('input');
 const output = $('output');
+const search = $('search');
 
 // A longer text is treated as a file: filtered in slices, and shown by its beginning.
 const LONGEST_TEXT = 100_000;
@@ -9,6 +10,7 @@ const LONGEST_LINK = 30_000;
 // The page paints for so many milliseconds before it lets the browser work.
 const PAINTING = 8;
 const PARTS_OF_A_BLOCK = 20;
+const PIECES_OF_A_BLOCK = 200;
 
 const DEFAULT_FLAGS = 0xE00400;
 const FLAGS = {
@@ -57,11 +59,14 @@ const worker = new Worker(URL.createObjectURL(new Blob([$('worker').textContent]
 
 let file = null; // the file that replaces the text
 let latest = 0; // the number of the last request
-let painted = 0; // that of the parts that are shown
+let shown = []; // the parts that are shown
 let busy = false; // whether a text is being demangled
 let waiting = false; // whether it has changed meanwhile
 let saved = null; // the address of the filtered file
 const partsShown = new WeakMap();
+
+// Control characters, and those that show nothing or change the order of others; but not line ends and tabs.
+const HIDDEN = /(?!\r?\n|\t)[\p{Cc}\p{Cf}\p{Zl}\p{Zp}\p{DI}]/gu;
 
 const make = (tag, properties = {}, ...children) => {
   const element = Object.assign(document.createElement(tag), properties);
@@ -72,6 +77,20 @@ const nextFrame = () => new Promise((resume) => { requestAnimationFrame(() => re
 const megabytes = (bytes) => `${(bytes / 1e6).toFixed(1)} MB`;
 const milliseconds = (time) => (time < 10 ? `${time.toFixed(1)} ms` : `${Math.round(time).toLocaleString('en')} ms`);
 const counted = (count, what) => `${count.toLocaleString('en')} ${what}${count === 1 ? '' : 's'}`;
+
+/** Says something in a live region, which repeats all that is written into it. */
+function say(id, text) {
+  if ($(id).textContent !== text) $(id).textContent = text;
+}
+
+/** Returns the escape of a character. */
+function escapeOf(character) {
+  const code = character.codePointAt(0).toString(16).toUpperCase();
+  return code.length > 4 ? `\\u{${code}}` : `\\u${code.padStart(4, '0')}`;
+}
+
+/** Returns a text as it is shown: with escapes in place of hidden characters. */
+const visible = (text) => text.replace(HIDDEN, escapeOf);
 
 // Flags
 
@@ -102,18 +121,19 @@ function setFlags(word) {
 /** Returns a word that looks like a symbol and isn't one, with the place highlighted at which it is rejected. */
 function markedAt(text, offset) {
   const [letter = ''] = text.slice(offset);
-  return [text.slice(0, offset), make('mark', {}, letter), text.slice(offset + letter.length)];
+  const [before, after] = [text.slice(0, offset), text.slice(offset + letter.length)];
+  return [visible(before), make('mark', {}, visible(letter)), visible(after)];
 }
 
 /** Returns what shows a part of the output. */
-function element(part) {
+function shownPart(part) {
   let span;
   if (part.symbol !== undefined) {
-    span = make('span', { className: 'symbol', textContent: part.text, title: part.symbol });
+    span = make('span', { className: 'symbol', textContent: visible(part.text), title: visible(part.symbol) });
   } else if (part.message !== undefined) {
-    span = make('span', { className: 'rejected', title: part.message }, ...markedAt(part.text, part.offset));
+    span = make('span', { className: 'rejected', title: visible(part.message) }, ...markedAt(part.text, part.offset));
   } else {
-    return document.createTextNode(part.text);
+    return visible(part.text);
   }
   span.setAttribute('role', 'button');
   span.tabIndex = -1;
@@ -132,39 +152,49 @@ function blocksOf(parts) {
   return blocks;
 }
 
-/** Shows parts, as long as no others have come, in place of those that are there. */
-async function paint(parts, id) {
-  painted = id;
+/** Fills an element with what shows each item of some blocks, while they are wanted. Returns whether it has all. */
+async function fill(element, blocks, show, areWanted) {
   let began = performance.now();
-  for (const [at, block] of blocksOf(parts).entries()) {
+  element.replaceChildren();
+  for (const block of blocks) {
     if (performance.now() - began > PAINTING) {
       await nextFrame();
-      if (id !== painted) return;
+      if (!areWanted()) return false;
       began = performance.now();
     }
-    const shown = make('div', {}, ...block.map(element));
-    if (at === 0) output.replaceChildren(shown); else output.append(shown);
+    const filled = make('div', {}, ...block.map((one) => show(one)));
+    element.append(filled);
     // Has the block laid out, so that this counts as painting too.
-    void shown.offsetHeight;
+    void filled.offsetHeight;
   }
+  return true;
+}
+
+/** Shows parts, as long as no others have come, in place of those that are there. */
+async function paint(parts) {
+  shown = parts;
+  if (!await fill(output, blocksOf(parts), shownPart, () => shown === parts)) return;
   const first = output.querySelector('[role=button]');
   if (first) first.tabIndex = 0;
   output.setAttribute('aria-busy', String(busy));
 }
 
-function summary(parts, time) {
+/** Returns how many symbols are shown, and how many words that look like one. */
+function summary(parts) {
   const symbols = parts.filter((part) => part.symbol !== undefined).length;
   const rejected = parts.filter((part) => part.message !== undefined).length;
-  const counts = [counted(symbols, 'symbol')];
-  if (rejected) counts.push(`${rejected.toLocaleString('en')} rejected`);
-  if (time !== undefined) counts.push(milliseconds(time));
-  return counts.join(' · ');
+  return counted(symbols, 'symbol') + (rejected ? ` · ${rejected.toLocaleString('en')} rejected` : '');
+}
+
+/** Asks the worker for something, with what is searched. */
+function request(kind, content) {
+  output.setAttribute('aria-busy', 'true');
+  worker.postMessage({ kind, id: latest, flags: flags(), search: search.value, ...content });
 }
 
 /** Asks for what the text or the file is. While the worker is busy with a text, the last state alone is asked for. */
 function ask() {
   $('word').textContent = hexadecimal(flags());
-  output.setAttribute('aria-busy', 'true');
   if (busy && !file) {
     waiting = true;
     return;
@@ -172,7 +202,8 @@ function ask() {
   forget();
   $('progress').value = 0;
   busy = !file;
-  worker.postMessage({ id: ++latest, flags: flags(), ...(file ? { file } : { text: input.value }) });
+  latest++;
+  if (file) request('file', { file }); else request('text', { text: input.value });
 }
 
 /** Lets the next text be asked for, if it changed meanwhile. */
@@ -185,28 +216,35 @@ function free() {
 }
 
 const HANDLERS = {
-  text({ id, parts, time }) {
+  text({ parts, found, lines, time }) {
     free();
-    paint(parts, id);
-    $('state').textContent = summary(parts, time);
+    paint(parts);
+    const which = search.value ? `${found.toLocaleString('en')} of ${counted(lines, 'line')}: ` : '';
+    say('state', lines ? which + summary(parts) : '');
+    $('time').textContent = time && lines ? milliseconds(time) : '';
   },
-  beginning({ id, parts, whole }) {
-    paint(parts, id);
-    $('state').textContent = `${whole ? 'The whole file' : 'The first lines'}: ${summary(parts)}`;
+  lines({ parts, found, whole }) {
+    paint(parts);
+    const first = search.value ? `The first ${counted(found, 'line')} found` : 'The first lines';
+    const all = search.value ? `${counted(found, 'line')} of the file` : 'The whole file';
+    say('state', `${whole ? all : first}: ${summary(parts)}`);
+    $('time').textContent = '';
   },
   progress({ done, size }) {
     $('progress').value = done / size;
-    $('file-state').textContent = `${megabytes(done)} of ${megabytes(size)}`;
+    $('file-time').textContent = `${megabytes(done)} of ${megabytes(size)}`;
   },
   file({ blob, time }) {
     const [, stem, ending] = /^(.*?)(\.[^.]*)?$/s.exec(file.name ?? 'text.txt');
     saved = URL.createObjectURL(blob);
     Object.assign($('save'), { href: saved, download: `${stem}.demangled${ending ?? ''}`, hidden: false });
     $('progress').value = 1;
-    $('file-state').textContent = `${megabytes(file.size)} filtered in ${milliseconds(time)}`;
+    say('file-state', `${megabytes(file.size)} filtered`);
+    $('file-time').textContent = `in ${milliseconds(time)}`;
   },
   failed({ message }) {
-    $(file ? 'file-state' : 'state').textContent = `Failed: ${message}`;
+    say(file ? 'file-state' : 'state', `Failed: ${message}`);
+    $('time').textContent = '';
     output.setAttribute('aria-busy', 'false');
     free();
   },
@@ -220,7 +258,7 @@ worker.onmessage = ({ data }) => {
   }
 };
 worker.onerror = (event) => {
-  $('state').textContent = `This browser can’t run the library: ${event.message ?? 'it starts no worker'}`;
+  say('state', `This browser can’t run the library: ${event.message ?? 'it starts no worker'}`);
 };
 
 // Files
@@ -239,11 +277,20 @@ function choose(chosen) {
   $('file').hidden = !file;
   input.hidden = Boolean(file);
   $('link').disabled = Boolean(file);
+  search.value = '';
   if (file) {
-    $('file-name').textContent = file.name ?? 'Pasted text';
-    $('file-state').textContent = '';
+    $('file-name').textContent = visible(file.name ?? 'Pasted text');
+    say('file-state', '');
+    $('file-time').textContent = '';
   }
   ask();
+}
+
+/** Takes a text in place of what was there, and a longer one as a file. */
+function take(text) {
+  const isLong = text.length > LONGEST_TEXT;
+  input.value = isLong ? '' : text;
+  choose(isLong ? new Blob([text]) : null);
 }
 
 // Details of one symbol
@@ -252,7 +299,8 @@ let explaining = ''; // the symbol of which more is asked for
 
 function row(title, text, ...content) {
   const copy = make('button', { type: 'button', textContent: 'Copy', onclick: () => copied(text, copy) });
-  return [make('dt', {}, title, copy), make('dd', {}, make('code', {}, ...(content.length ? content : [text])))];
+  const code = make('code', {}, ...(content.length ? content : [visible(text)]));
+  return [make('dt', {}, title, copy), make('dd', {}, code)];
 }
 
 function open(part) {
@@ -264,7 +312,7 @@ function open(part) {
   } else {
     $('details-title').textContent = 'Symbol';
     list.replaceChildren(...row('Symbol', part.symbol), ...row('Declaration', part.text));
-    worker.postMessage({ id: 0, symbol: part.symbol, flags: flags() });
+    worker.postMessage({ kind: 'symbol', symbol: part.symbol, flags: flags() });
   }
   $('details').showModal();
 }
@@ -274,11 +322,11 @@ function explained({ symbol, name, length, references, tree }) {
   explaining = '';
   $('details-title').textContent = `Symbol of ${counted(length, 'character')}`;
   $('details-list').append(...row('Name', name));
-  if (tree) $('details-list').append(...row('Tree', tree, indented(tree)));
+  if (tree) $('details-list').append(...row('Tree', tree, visible(indented(tree))));
   if (references.length) {
-    const [, shown] = $('details-list').children;
-    shown.replaceChildren(make('code', {}, ...pieces(symbol, references)),
-      make('small', {}, 'A marked digit stands for a parameter before it.'));
+    const [, place] = $('details-list').children;
+    showPieces(place.firstChild, symbol, references);
+    place.append(make('small', {}, 'A marked digit stands for a parameter before it.'));
   }
 }
 
@@ -335,27 +383,40 @@ function indented(tree) {
 
 // Back references
 
-/** Returns the pieces of a symbol: its marked digits, and what stands between their places and those they refer to. */
-function pieces(symbol, references) {
+/** Returns a digit of a symbol, and has that shown which it stands for. */
+function digitOf(text, show) {
+  const digit = make('button', { type: 'button', className: 'reference', textContent: text });
+  digit.setAttribute('aria-label', `${text}, a back reference`);
+  for (const kind of ['pointerenter', 'focus', 'click']) digit.addEventListener(kind, () => show(digit));
+  digit.addEventListener('pointerleave', () => { if (document.activeElement !== digit) hideReference(); });
+  digit.addEventListener('blur', hideReference);
+  return digit;
+}
+
+/** Shows a symbol in pieces: its marked digits, and what stands between their places and those they refer to. */
+function showPieces(element, symbol, references) {
   const places = references.flatMap(({ at, start, end }) => [at, at + 1, start, end]);
   const cuts = [...new Set([0, ...places, symbol.length])].sort((one, other) => one - other);
+  const indices = new Map(cuts.map((cut, index) => [cut, index]));
   const digits = new Map(references.map((reference) => [reference.at, reference]));
-  const shown = cuts.slice(0, -1).map((at, index) => {
-    const text = symbol.slice(at, cuts[index + 1]);
-    return digits.has(at) ? make('button', { type: 'button', className: 'reference', textContent: text }) :
-      make('span', {}, text);
-  });
-  for (const [index, piece] of shown.entries()) {
-    const reference = digits.get(cuts[index]);
-    if (!reference) continue;
-    const meant = shown.filter((_, other) => cuts[other] >= reference.start && cuts[other] < reference.end);
-    const show = () => showReference(piece, meant, symbol.slice(reference.start, reference.end), reference.declaration);
-    piece.setAttribute('aria-label', `${piece.textContent}, a back reference`);
-    for (const kind of ['pointerenter', 'focus', 'click']) piece.addEventListener(kind, show);
-    piece.addEventListener('pointerleave', () => { if (document.activeElement !== piece) hideReference(); });
-    piece.addEventListener('blur', hideReference);
+  const pieces = [];
+  const pieceOf = (at) => {
+    const text = symbol.slice(at, cuts[indices.get(at) + 1]);
+    if (!digits.has(at)) return make('span', {}, visible(text));
+    const { start, end, declaration } = digits.get(at);
+    return digitOf(text, (digit) => {
+      const meant = pieces.slice(indices.get(start), indices.get(end));
+      showReference(digit, meant, symbol.slice(start, end), declaration);
+    });
+  };
+  const blocks = [];
+  for (let at = 0; at < cuts.length - 1; at += PIECES_OF_A_BLOCK) {
+    blocks.push(cuts.slice(at, Math.min(at + PIECES_OF_A_BLOCK, cuts.length - 1)));
   }
-  return shown;
+  fill(element, blocks, (at) => {
+    pieces.push(pieceOf(at));
+    return pieces.at(-1);
+  }, () => element.isConnected);
 }
 
 /** Marks what a digit stands for, and says it below the digit. */
@@ -363,8 +424,8 @@ function showReference(digit, meant, text, declaration) {
   hideReference();
   for (const piece of meant) piece.classList.add('meant');
   const tip = $('tip');
-  tip.replaceChildren('stands for ', make('code', {}, text));
-  if (declaration) tip.append(', ', make('code', {}, declaration));
+  tip.replaceChildren('stands for ', make('code', {}, visible(text)));
+  if (declaration) tip.append(', ', make('code', {}, visible(declaration)));
   tip.hidden = false;
   digit.setAttribute('aria-describedby', 'tip');
   const around = $('details').getBoundingClientRect();
@@ -388,14 +449,37 @@ function fragment() {
   return `#${words}`;
 }
 
-/** Takes text and flags from the address, if they are there. */
-function takeFragment() {
-  const words = new URLSearchParams(location.hash.slice(1));
+/** Takes text and flags from a fragment, if they are there. */
+function takeFragment(from) {
+  const words = new URLSearchParams(from.slice(1));
   if (!words.has('text')) return false;
-  input.value = words.get('text');
   setFlags(Number(words.get('flags') ?? DEFAULT_FLAGS) >>> 0);
-  choose(null);
+  take(words.get('text'));
   return true;
+}
+
+/** Takes the link off the address after an edit, since it has another text or other flags then. */
+function unlink() {
+  if (location.hash) history.replaceState(null, '', location.pathname + location.search);
+}
+
+/** Keeps text and flags for a reload, in this tab alone, if the browser allows that. */
+function keep() {
+  try {
+    sessionStorage.setItem('kept', fragment());
+  } catch {
+    // Then a reload begins without a text.
+  }
+}
+
+/** Returns the fragment with what was there before a reload, or ''. */
+function kept() {
+  if (performance.getEntriesByType('navigation')[0]?.type === 'navigate') return '';
+  try {
+    return sessionStorage.getItem('kept') ?? '';
+  } catch {
+    return '';
+  }
 }
 
 async function copied(text, button) {
@@ -412,13 +496,12 @@ async function copied(text, button) {
 // Events
 
 input.addEventListener('input', () => {
-  if (input.value.length > LONGEST_TEXT) {
-    choose(new Blob([input.value]));
-  } else {
-    ask();
-  }
+  unlink();
+  if (input.value.length > LONGEST_TEXT) take(input.value); else ask();
 });
 input.addEventListener('paste', (event) => {
+  // What is pasted replaces an example.
+  if (Object.values(EXAMPLES).includes(input.value)) input.select();
   const text = event.clipboardData.getData('text/plain');
   const pasted = text ? undefined : event.clipboardData.files[0];
   if (pasted || text.length > LONGEST_TEXT) {
@@ -426,14 +509,22 @@ input.addEventListener('paste', (event) => {
     choose(pasted ?? new Blob([text]));
   }
 });
-$('flags').addEventListener('input', ask);
+search.addEventListener('input', () => {
+  if (file) $('time').textContent = 'searching…';
+  request('search');
+});
+$('flags').addEventListener('input', () => {
+  unlink();
+  ask();
+});
 $('reset').addEventListener('click', () => {
+  unlink();
   setFlags(DEFAULT_FLAGS);
   ask();
 });
 $('clear').addEventListener('click', () => {
-  input.value = '';
-  choose(null);
+  unlink();
+  take('');
   input.focus();
 });
 $('close').addEventListener('click', () => choose(null));
@@ -442,17 +533,18 @@ $('chooser').addEventListener('change', (event) => {
   if (event.target.files[0]) choose(event.target.files[0]);
   event.target.value = '';
 });
-$('copy').addEventListener('click', (event) => copied(output.textContent, event.target));
+$('copy').addEventListener('click', (event) => copied(shown.map(({ text }) => text).join(''), event.target));
 $('link').addEventListener('click', (event) => {
   const link = fragment();
   if (link.length > LONGEST_LINK) {
-    $('state').textContent = 'The text is too long for a link';
+    say('state', 'The text is too long for a link');
     return;
   }
   history.replaceState(null, '', link);
   copied(location.href, event.target);
 });
-addEventListener('hashchange', takeFragment);
+addEventListener('hashchange', () => takeFragment(location.hash));
+document.addEventListener('visibilitychange', keep);
 
 for (const kind of ['dragenter', 'dragover', 'drop', 'dragleave']) {
   addEventListener(kind, (event) => {
@@ -506,17 +598,11 @@ for (const [name, text] of Object.entries(EXAMPLES)) {
     type: 'button',
     textContent: name,
     onclick: () => {
-      input.value = text;
-      choose(null);
+      unlink();
+      take(text);
     },
   }));
 }
-if (!takeFragment()) {
-  input.value = EXAMPLES.Symbols;
-  ask();
-}
-// Where there is no keyboard, the focus would open one.
-if (matchMedia('(pointer: fine)').matches) {
-  input.focus();
-  input.setSelectionRange(0, 0);
-}
+if (!takeFragment(location.hash) && !takeFragment(kept())) ask();
+// On a phone the focus would open the keyboard.
+if (!matchMedia('(pointer: coarse)').matches) input.focus();

@@ -1,19 +1,25 @@
 // The part of the page that calls the library, in a worker, so that the page itself never waits. web/assemble.py puts
-// it behind the library, within one function. A request has an id, and is dropped once a later one has come.
+// it behind the library, within one block. A request has a kind and an id. One for a text or a file is dropped once
+// another has come, and so is a search, which has the id of the request whose result it searches.
 Error.stackTraceLimit = 0;
 
-// A file is read in slices of so many bytes, and so much of its beginning is shown.
+// A file is read in slices of so many bytes, and so many characters of its lines are shown.
 const SLICE = 1 << 20;
 const SHOWN = 20_000;
+// So many characters of a longer line are shown around what is searched.
+const AROUND = 1_000;
 // So much of a tree is shown.
 const MOST_OF_A_TREE = 50_000;
+const LINE_FEED = 10;
 
 // What a name consists of, and after what no symbol starts: docs/msvcfilt.md.
 const WORD = /[A-Za-z0-9_$@?\x80-\uFFFF]*/y;
 const IN_NAME = /[A-Za-z0-9.]/;
 const CANDIDATE = /[^\0-\x20\x7F]{0,4096}/y;
 
-let latest = 0;
+let latest = {}; // the last request for a text or a file
+let searching = {}; // the last that tells which of its lines are shown
+let lines = []; // those of the text, in parts
 
 const matched = (pattern, text, at) => {
   pattern.lastIndex = at;
@@ -78,16 +84,19 @@ function parts(line, flags) {
   return list.map((part) => part.text).join('') === shown ? list : [{ text: shown }];
 }
 
-/** Returns the parts of each line of a text, with the line feeds. */
-function partsOf(text, flags) {
-  const lines = text.match(/[^\n]*\n|[^\n]+/g) ?? [];
-  return lines.flatMap((line) => (line.includes('?') ? parts(line, flags) : [{ text: line }]));
-}
+/** Returns the lines of a text, with their line feeds. */
+const linesOf = (text) => text.match(/[^\n]*\n|[^\n]+/g) ?? [];
 
-function showText({ id, text, flags }) {
-  const began = performance.now();
-  const list = partsOf(text, flags);
-  postMessage({ kind: 'text', id, parts: list, time: performance.now() - began });
+/** Returns the parts of a line. */
+const partsOf = (line, flags) => (line.includes('?') ? parts(line, flags) : [{ text: line }]);
+
+/** Returns where a text has another, in upper or lower case, or -1. */
+const placeOf = (text, search) => text.toLowerCase().indexOf(search.toLowerCase());
+
+/** Shows the lines of the text that have what is searched. */
+function showLines({ id, search }, time) {
+  const found = lines.filter((line) => placeOf(line.map(({ text }) => text).join(''), search) >= 0);
+  postMessage({ kind: 'text', id, parts: found.flat(), found: found.length, lines: lines.length, time });
 }
 
 /** Returns what a call returns, or what stands for nothing if it throws. */
@@ -114,47 +123,112 @@ function parameter(text) {
 function explain({ id, symbol, flags }) {
   const found = read(symbol, 0, flags);
   const name = read(symbol, 0, flags | Flags.NAME_ONLY);
-  const list = attempt(() => references(symbol), []).map((reference) => (
-    { ...reference, declaration: parameter(symbol.slice(reference.start, reference.end)) }));
+  const declarations = new Map();
+  const list = attempt(() => references(symbol), []).map((reference) => {
+    const text = symbol.slice(reference.start, reference.end);
+    if (!declarations.has(text)) declarations.set(text, parameter(text));
+    return { ...reference, declaration: declarations.get(text) };
+  });
   postMessage({ kind: 'symbol', id, symbol, name: name.declaration ?? '', length: found.length ?? 0, references: list,
     tree: attempt(() => beginning(tree(symbol)), '') });
 }
 
-/** Shows the first lines of a file. */
-async function showBeginning({ id, file, flags }) {
+/** Shows the first lines of the file. */
+async function showBeginning(request) {
+  const { id, file, flags } = latest;
+  const text = decoder.decode(await file.slice(0, SHOWN).arrayBuffer());
+  if (request !== searching) return;
   const whole = file.size <= SHOWN;
-  const text = new TextDecoder().decode(await file.slice(0, SHOWN).arrayBuffer());
-  const lines = whole ? text : text.slice(0, text.lastIndexOf('\n') + 1);
-  postMessage({ kind: 'beginning', id, parts: partsOf(lines, flags), whole });
+  const shown = linesOf(whole ? text : text.slice(0, text.lastIndexOf('\n') + 1));
+  postMessage({ kind: 'lines', id, parts: shown.flatMap((line) => partsOf(line, flags)), found: shown.length, whole });
 }
 
-/** Filters a file in slices, each up to its last space or control character, reports its progress, and sends a Blob. */
-async function filterFile({ id, file, flags }) {
-  const began = performance.now();
-  const filtered = [];
+/** Yields a file in pieces, each with the place where it ends: whole lines, or a part of a line longer than a slice. */
+async function* piecesOf(file) {
   let held = [];
-  await showBeginning({ id, file, flags });
-  for (let done = 0; done < file.size; done += SLICE) {
-    const slice = new Uint8Array(await file.slice(done, done + SLICE).arrayBuffer());
-    if (id !== latest) return;
-    const end = done + SLICE < file.size ? slice.findLastIndex((byte) => byte <= SPACE) + 1 : slice.length;
+  for (let begin = 0; begin < file.size; begin += SLICE) {
+    const slice = new Uint8Array(await file.slice(begin, begin + SLICE).arrayBuffer());
+    const last = slice.lastIndexOf(LINE_FEED) + 1 || slice.findLastIndex((byte) => byte <= SPACE) + 1;
+    const end = begin + SLICE < file.size ? last : slice.length;
     held.push(slice.subarray(0, end));
     if (end > 0) {
-      filtered.push(filter(joined(held), flags));
+      yield [joined(held), begin + end];
       held = [];
     }
     held.push(slice.subarray(end));
-    postMessage({ kind: 'progress', id, done: Math.min(done + SLICE, file.size), size: file.size });
+  }
+}
+
+/** Returns the parts of a line of a file, or as text what is around the search in a long one. */
+function partsAround(line, filtered, flags, search) {
+  if (filtered.length <= SHOWN) return partsOf(line, flags);
+  const at = placeOf(filtered, search);
+  return [{ text: `… ${filtered.slice(Math.max(0, at - AROUND), at + search.length + AROUND).trimEnd()} …\n` }];
+}
+
+/** Shows the first lines of the file that have what is searched. */
+async function searchFile(request) {
+  const { file, flags } = latest;
+  const { id, search } = request;
+  const shown = [];
+  let length = 0;
+  for await (const [piece] of piecesOf(file)) {
+    if (request !== searching) return;
+    const filtered = linesOf(decoder.decode(filter(piece, flags)));
+    for (const [at, line] of linesOf(decoder.decode(piece)).entries()) {
+      if (length > SHOWN) break;
+      if (placeOf(filtered[at], search) < 0) continue;
+      shown.push(partsAround(line, filtered[at], flags, search));
+      length += shown.at(-1).reduce((sum, { text }) => sum + text.length, 0);
+    }
+    if (length > SHOWN) break;
+  }
+  postMessage({ kind: 'lines', id, parts: shown.flat(), found: shown.length, whole: length <= SHOWN });
+}
+
+/** Shows lines of the file. */
+const showFile = (request) => (request.search ? searchFile : showBeginning)(request);
+
+/** Filters the file in pieces, reports the progress, and sends a Blob. */
+async function filterFile(request) {
+  const { id, file, flags } = request;
+  const began = performance.now();
+  const filtered = [];
+  for await (const [piece, done] of piecesOf(file)) {
+    if (request !== latest) return;
+    filtered.push(filter(piece, flags));
+    postMessage({ kind: 'progress', id, done, size: file.size });
   }
   postMessage({ kind: 'file', id, blob: new Blob(filtered), time: performance.now() - began });
 }
 
-/** Does what a request asks for. */
-async function received(request) {
-  if (request.symbol !== undefined) {
-    explain(request);
-    return;
+const REQUESTS = {
+  symbol: explain,
+
+  text(request) {
+    const began = performance.now();
+    latest = searching = request;
+    lines = linesOf(request.text).map((line) => partsOf(line, request.flags));
+    showLines(request, performance.now() - began);
+  },
+
+  async file(request) {
+    latest = searching = request;
+    await showFile(request);
+    await filterFile(request);
+  },
+
+  async search(request) {
+    if (request.id !== latest.id) return;
+    searching = request;
+    if (latest.file) await showFile(request); else showLines(request);
+  },
+};
+
+onmessage = async ({ data }) => {
+  try {
+    await REQUESTS[data.kind](data);
+  } catch (error) {
+    postMessage({ kind: 'failed', id: data.id, message: String(error) });
   }
-  latest = request.id;
-  await (request.file ? filterFile(request) : showText(request));
-}
+};
