@@ -1,8 +1,8 @@
-# Completes the words of undname in bash: options, which come first. Any other word is a symbol.
+# Completes the words of undname in bash: an option, which comes first. Any other word is a symbol.
 _undname() {
   COMPREPLY=()
   if [[ $COMP_CWORD == 1 ]]; then
-    COMPREPLY=($(compgen -W '-v --version' -- "$2"))
+    COMPREPLY=($(compgen -W -v -- "$2"))
   fi
 }
 complete -F _undname undname

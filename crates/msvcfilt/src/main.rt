@@ -14,11 +14,11 @@ use clap::Command;
 use msvc_demangler::{DemangleFlags, Fault, Watched, filter_text};
 use msvc_streams::{BUFFER_LENGTH, Input, Shared, arguments, ended, failure};
 use std::alloc::Global;
-use std::cell::RefCell;
+use std::cell::{Cell, RefCell};
 use std::fs::File;
-use std::io::{BufReader, BufWriter, ErrorKind, Read, Write};
+use std::io::{BufReader, BufWriter, Error, ErrorKind, Read, Write};
 use std::process::ExitCode;
-use streams::Output;
+use streams::{Output, Source};
 
 /// The program's name.
 const PROGRAM: &str = "msvcfilt";
@@ -96,13 +96,14 @@ fn filter_file(
     output: &RefCell<Output>,
     flags: DemangleFlags,
 ) -> Result<bool, Fault> {
+    let reason = Cell::new(None);
     let done = if name == options::STANDARD_INPUT {
         filter(rt.alloc(), rt.stdin(), output, flags)
     } else {
         match File::open(rt, name) {
-            Ok(file) => filter(rt.alloc(), file, output, flags),
+            Ok(file) => filter(rt.alloc(), Source::new(file, &reason), output, flags),
             Err(error) => {
-                let _ = eprintln!(rt; "{PROGRAM}: {name}: {error}");
+                report_open(rt, name, error);
                 return Ok(false);
             }
         }
@@ -110,7 +111,7 @@ fn filter_file(
     match done {
         Ok(()) => Ok(true),
         Err(Fault::Read) => {
-            report_read(rt, name);
+            report_read(rt, name, reason.get());
             Ok(false)
         }
         Err(fault) => Err(fault),
@@ -132,12 +133,20 @@ fn filter<R: Read + Drop>(
     ended(input, done)
 }
 
-/// Reports that a file can't be read to its end.
-fn report_read(rt: &HostRuntime, name: &str) {
-    let _ = if name == options::STANDARD_INPUT {
-        eprintln!(rt; "{PROGRAM}: read failed")
+/// Reports that a file can't be opened. If there is none, and its name may be a symbol, says which program takes those.
+fn report_open(rt: &HostRuntime, name: &str, error: Error) {
+    let _ = if error.kind() == ErrorKind::NotFound && name.starts_with('?') {
+        eprintln!(rt; "{PROGRAM}: {name}: {error}; arguments are files, undname takes symbols")
     } else {
-        eprintln!(rt; "{PROGRAM}: {name}: read failed")
+        eprintln!(rt; "{PROGRAM}: {name}: {error}")
+    };
+}
+
+/// Reports that a file, for this reason, or standard input, without one, can't be read to its end.
+fn report_read(rt: &HostRuntime, name: &str, reason: Option<Error>) {
+    let _ = match reason {
+        Some(error) => eprintln!(rt; "{PROGRAM}: {name}: {error}"),
+        None => eprintln!(rt; "{PROGRAM}: read failed"),
     };
 }
 

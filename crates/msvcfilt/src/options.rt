@@ -78,7 +78,11 @@ fn with_options<'a>(alloc: Global, program: Command<'a>) -> Result<Command<'a>, 
         .value_name("FILE")
         .action(ArgAction::Append);
     let word = Arg::new(alloc, "flags").long("flags").value_name("WORD");
-    let mut command = program.override_help(HELP).arg(file)?.arg(word)?;
+    let mut command = program
+        .override_help(HELP)
+        .args_override_self(true)
+        .arg(file)?
+        .arg(word)?;
     for (name, _) in FLAG_OPTIONS {
         let mut option = Arg::new(alloc, name).long(name).action(ArgAction::SetTrue);
         if name == "name-only" {

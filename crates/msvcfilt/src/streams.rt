@@ -1,6 +1,8 @@
-//! Standard output with a buffer, which knows whether its pipe is closed.
+//! Standard output with a buffer, which knows whether its pipe is closed, and a file that keeps its error.
 
-use std::io::{BufWriter, ErrorKind, Result, Stdout, Write};
+use std::cell::Cell;
+use std::fs::File;
+use std::io::{BufWriter, Error, ErrorKind, Read, Result, Stdout, Write};
 
 /// Standard output.
 #[derive(Drop)]
@@ -38,5 +40,29 @@ impl Write for Output {
         let flushed = self.held.flush();
         self.watch(&flushed);
         flushed
+    }
+}
+
+/// A file that is read, and keeps the error of a failed read.
+#[derive(Drop)]
+pub(crate) struct Source<'a> {
+    file: File,
+    reason: &'a Cell<Option<Error>>,
+}
+
+impl<'a> Source<'a> {
+    /// Makes a source that keeps its error in `reason`.
+    pub(crate) fn new(file: File, reason: &'a Cell<Option<Error>>) -> Source<'a> {
+        Source { file, reason }
+    }
+}
+
+impl Read for Source<'_> {
+    fn read(&mut self, bytes: &mut [u8]) -> Result<usize> {
+        let read = self.file.read(bytes);
+        if let Err(error) = &read {
+            self.reason.set(Some(*error));
+        }
+        read
     }
 }

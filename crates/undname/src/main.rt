@@ -1,8 +1,7 @@
 //! `undname [-v] [symbols]` prints the declaration of each symbol on a line, as `llvm-undname` spells it: `int ns::x`
 //! for `?x@ns@@3HA`. Without symbols it reads them from the lines of standard input, and prints the result of each line
 //! before it waits for the next. A rejected symbol is printed unchanged, and the error goes to standard error; `-v`, as
-//! the first argument, also prints each tree there. `--version`, as the first argument, prints the version, and no
-//! symbol.
+//! the first argument, also prints each tree there. Any other argument is a symbol.
 //!
 //! The exit status is 0, or 1 if standard input can't be read, a line can't be written, or an allocation fails, or 2 if
 //! an argument isn't UTF-8. Then standard error has a message, and the lines before are printed.
@@ -20,28 +19,15 @@ use streams::{Outputs, Remarks};
 /// The program's name.
 const PROGRAM: &str = "undname";
 
-/// The output of `--version`.
-const VERSION: &str = "undname 0.11.0";
-
 fn main(rt: HostRuntime) -> ExitCode {
     let words = match arguments(&rt, PROGRAM) {
         Ok(words) => words,
         Err(status) => return status,
     };
-    let words = words.get(1..).unwrap_or(&[]);
-    let done = match words.first() {
-        Some(word) if word.as_str() == "--version" => show_version(&rt),
-        _ => run(&rt, words),
-    };
-    match done {
+    match run(&rt, words.get(1..).unwrap_or(&[])) {
         Ok(()) => ExitCode::SUCCESS,
         Err(fault) => failure(&rt, PROGRAM, fault),
     }
-}
-
-/// Prints the version.
-fn show_version(rt: &HostRuntime) -> Result<(), Fault> {
-    println!(rt; "{VERSION}").map_err(|_| Fault::Write)
 }
 
 /// Runs over the standard streams, and flushes the outputs, also after a fault.
