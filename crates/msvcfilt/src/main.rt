@@ -1,6 +1,6 @@
 //! `msvcfilt [OPTIONS] [FILE..]` writes each file, or standard input if there is none, with each symbol in it replaced
-//! by its declaration, as `llvm-undname` spells it: `foo!void __cdecl crash(void)+0x12` for `foo!?crash@@YAXXZ+0x12`.
-//! With `-n` it prints names without types. It writes the text of each line before it waits for the next.
+//! by its declaration: `foo!void __cdecl crash(void)+0x12` for `foo!?crash@@YAXXZ+0x12`. With `-n` it prints names
+//! without types. It writes the text of each line before it waits for the next.
 //!
 //! The exit status is 0, or 1 if a file or standard input can't be read, the text can't be written, or an allocation
 //! fails, or 2 if the arguments are wrong. Then standard error has a message, unless the reader of the output pipe has
