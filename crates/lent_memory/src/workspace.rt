@@ -1,7 +1,7 @@
 //! The memory that a caller lends, as the caller passes it.
 
 ghost use Rattle.std.specs.Prelude.{◌≡◌, ℕ};
-ghost use Rattle.lent_memory.specs.Ownership.{IsSize, bytes_or_none};
+ghost use Rattle.lent_memory.specs.Ownership.{IsSize, bytes_or_none, no_memory};
 
 use std::marker::Model;
 use std::mem::{ManuallyDrop, replace};
@@ -20,9 +20,9 @@ impl Model for Workspace {
 }
 
 impl Workspace {
-    /// Makes a workspace of no bytes.
+    /// Makes a workspace of no bytes, with a null `ptr`.
     pub fn none() -> Workspace
-        ensures { result.size ≡ 0 }
+        ensures { (result.ptr, result.size) ≡ no_memory }
     {
         Workspace {
             ptr: null_mut(),
@@ -30,10 +30,10 @@ impl Workspace {
         }
     }
 
-    /// Moves the bytes out, and leaves none.
+    /// Moves the bytes out, and leaves `none`.
     pub fn take(&mut self) -> Workspace
         ensures taken { result ≡ self.old }
-        ensures none { self.new.size ≡ 0 }
+        ensures none { (self.new.ptr, self.new.size) ≡ no_memory }
     {
         replace(self, Workspace::none())
     }

@@ -19,6 +19,7 @@ use denote.Triple.Entry.{alive}
 use denote.Triple.Walked.{Stays, walk_of}
 use Rattle.std.proofs.raw_atomic.Walks.{proved_at, leaves}
 use Rattle.lent_memory.proofs.Values.{sized_val, sized_own, sized_made}
+use Rattle.lent_memory.specs.Ownership.{no_memory}
 use Rattle.lent_memory.specs.contracts.workspace.Workspace as workspace
 use Rattle.lent_memory.specs.contracts.workspace.Workspace.none.{ended, clauses}
 use Rattle.lent_memory.specs.contracts.workspace.Workspace.none.Key.{name as #self}
@@ -55,5 +56,6 @@ none_spec 𝓤 𝓛 𝓜 𝓡 wired =
     ) $
     returns ! (look_at ! 0 refl) $ free_all ! refl $
     nothing ! $ use0 𝓛 (‵ (sized_own null_ptr 0 (sized_val null_ptr 0 ∷ []))) (sized_made 𝓛 null_ptr 0 (lit< tt)) $
-    fjoin ! $ use0 𝓛 (raw (fact 𝓤 (0 ≡ 0))) (fact_i 𝓤 (0 ≡ 0) (emp 𝓤) refl) $ nothing ! $ move ! (3 ∷ 0 ∷ 2 ∷ 1 ∷ []) $
+    let Null : Type 0 = no_memory ≡ no_memory in
+    fjoin ! $ use0 𝓛 (raw (fact 𝓤 Null)) (fact_i 𝓤 Null (emp 𝓤) refl) $ nothing ! $ move ! (3 ∷ 0 ∷ 2 ∷ 1 ∷ []) $
     by ! (leaves 𝓛 En₀ stays c z (sized_val null_ptr 0) (w) tt tt)))
