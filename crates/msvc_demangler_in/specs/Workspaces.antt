@@ -1,13 +1,14 @@
 -- What becomes of lent memory, and what is written into a buffer where it may run out.
-use Rattle.std.specs.Prelude.{ℕ, List, ◌≡◌, ◌≢◌, ◌<◌, length}
-use denote.RawPtr.{Ptr}
+use Rattle.std.specs.Prelude.{ℕ, List, ◌≡◌, ◌≢◌, length}
+use denote.RawPtr.{Ptr, null_ptr}
 use Rattle.msvc_c_calls.specs.Buffers.{IsWritten}
 
--- After a call with this status a part of a workspace, which is an address and a size, is as before. If memory ran out,
--- it may have been lost: then its size is 0.
-pub record IsBack (status : ℕ) (old_ptr : Ptr) (old_size : ℕ) (ptr : Ptr) (size : ℕ) : Type 0 where
-  pub back : status ≢ 3 → (ptr ≡ old_ptr) × (size ≡ old_size)
-  pub no_other : 0 < size → (ptr ≡ old_ptr) × (size ≡ old_size)
+-- What a part of a workspace, an address and a size, is after a call with this status.
+pub data IsBack (status : ℕ) (old_ptr : Ptr) (old_size : ℕ) (ptr : Ptr) (size : ℕ) : Type 0 where
+  -- as before
+  back : ptr ≡ old_ptr → size ≡ old_size → IsBack status old_ptr old_size ptr size
+  -- null and 0: OUT_OF_MEMORY
+  lost : status ≡ 3 → ptr ≡ null_ptr → size ≡ 0 → IsBack status old_ptr old_size ptr size
 
 -- A text is written by the rules of `snprintf`. If memory ran out, the bytes after it and its NUL are any.
 abbrev pub IsWrittenUnless : ℕ → List ℕ → List ℕ → List ℕ → Type 0

@@ -1,6 +1,7 @@
 //! Lent memory, and a demangler over it.
 
-ghost use Rattle.std.specs.Prelude.{◌≡◌, ◌<◌, IsTrue};
+ghost use Rattle.std.specs.Prelude.{◌≡◌, IsFalse, IsTrue};
+ghost use Rattle.lent_memory.specs.Ownership.{no_memory};
 
 use bumpalo::Bump;
 use lent_memory::{Lent, Workspace};
@@ -18,16 +19,16 @@ const OVERHEAD: usize = 64;
 /// Takes the memory of a workspace, as an allocator.
 pub(crate) fn lend(workspace: &mut Workspace) -> Lent
     ensures lent { result.slot ≡ (workspace.old.ptr, workspace.old.size) }
-    ensures none { workspace.new.size ≡ 0 }
+    ensures none { (workspace.new.ptr, workspace.new.size) ≡ no_memory }
 {
     Lent::new(workspace.take())
 }
 
 /// Gives the memory back to its workspace, and returns whether all of it was there.
 pub(crate) fn give_back(lent: Lent, workspace: &mut Workspace) -> bool
-    requires { workspace.old.size ≡ 0 }
+    requires { (workspace.old.ptr, workspace.old.size) ≡ no_memory }
     ensures back { IsTrue result → (workspace.new.ptr, workspace.new.size) ≡ lent.slot }
-    ensures no_other { 0 < workspace.new.size → (workspace.new.ptr, workspace.new.size) ≡ lent.slot }
+    ensures lost { IsFalse result → (workspace.new.ptr, workspace.new.size) ≡ no_memory }
 {
     match lent.into_inner() {
         Some(memory) => {
