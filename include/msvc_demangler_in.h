@@ -98,8 +98,8 @@ extern "C" {
 /**
  * @name Calls of the library
  * Take all their memory from parts of a workspace, which the inline calls below make. After a call each part has the
- * address and the size that it had. With OUT_OF_MEMORY the size of a part may be 0 instead; then its address is
- * unspecified, and its memory was not returned to the caller.
+ * address and the size that it had. With OUT_OF_MEMORY a part may be null and 0 instead: then its memory was not
+ * returned to the caller.
  * @{
  */
 /**
