@@ -26,7 +26,7 @@ use msvc_nodes::flags::DemangleFlags;
 use msvc_symbol::{
     DEFAULT_BYTE_LIMIT, DEFAULT_NODE_LIMIT, Demangler, Limits, print_symbol, printed_bytes,
 };
-use msvc_watched::{Fault, Taken, Watched, consume, fail, fill_buf, line_end, write_all};
+use msvc_watched::{Fault, Polls, Taken, Watched, consume, fail, fill_buf, line_end, write_all};
 use std::alloc::{AllocError, Allocator, Global};
 use std::io::{BufRead, Write};
 
@@ -75,9 +75,11 @@ pub fn filter_text<R: BufRead, W: Write>(
     let mut text = Vec::new(alloc);
     let mut piece = Vec::new(alloc);
     let mut scan = WordState::new(b'\n');
-    'pieces: for _ in 0..u64::MAX {
-        let Ok(shown) = fill_buf(input) else {
-            return Err(fail(input));
+    let mut polls = Polls::none();
+    'pieces: loop {
+        let shown = match fill_buf(input, &mut polls) {
+            Ok(shown) => shown,
+            Err(failure) => return Err(fail(input, failure)),
         };
         let (end, taken) = line_end(shown);
         match taken {
@@ -107,7 +109,6 @@ pub fn filter_text<R: BufRead, W: Write>(
             Taken::End => return write_rest(&mut demangler, &mut text, &piece, scan, out, flags),
         }
     }
-    Err(fail(input))
 }
 
 /// Writes the decided bytes of a line whose end was not read, if more bytes of it are held than [`MAX_HELD`], and

@@ -14,7 +14,7 @@ use msvc_nodes::error::Error;
 use msvc_nodes::flags::DemangleFlags;
 use msvc_parser::refusal::Refusal;
 use msvc_symbol::{Demangler, print_with_tree, printed_bytes};
-use msvc_watched::{Fault, Taken, Watched, fail, read_piece, write_all, write_line};
+use msvc_watched::{Fault, Polls, Taken, Watched, read_piece, write_all, write_line};
 use std::alloc::{AllocError, Global};
 use std::io::{BufRead, Write};
 use std::str::from_utf8;
@@ -137,8 +137,9 @@ pub fn undname_lines<R: BufRead, W: Write, E: Write>(
 {
     let mut demangler = Demangler::new(alloc);
     let mut piece = Vec::new(alloc);
-    'pieces: for _ in 0..u64::MAX {
-        match read_piece(input, &mut piece)? {
+    let mut polls = Polls::none();
+    'pieces: loop {
+        match read_piece(input, &mut polls, &mut piece)? {
             Taken::Part => {}
             Taken::Line => {
                 undname_line(alloc, &mut demangler, &piece, out, err, verbose)?;
@@ -152,7 +153,6 @@ pub fn undname_lines<R: BufRead, W: Write, E: Write>(
             }
         }
     }
-    Err(fail(input))
 }
 
 /// Demangles one line, unless it is not UTF-8.

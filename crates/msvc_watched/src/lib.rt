@@ -5,4 +5,6 @@ mod output;
 mod watched;
 
 pub use output::{write_all, write_line};
-pub use watched::{Fault, Taken, Watched, consume, fail, fill_buf, line_end, read_piece};
+pub use watched::{
+    Fault, Polls, ReadFailure, Taken, Watched, consume, fail, fill_buf, line_end, read_piece,
+};

@@ -1,7 +1,7 @@
 //! Streams that are watched: whether a call on a reader or a writer has failed. Only `consume` and `write_some` move
 //! bytes, and only `fail` and `write_some` set the failure flag of a stream.
 
-ghost use Rattle.std.specs.Prelude.{◌≡◌, ◌+◌, ◌≤◌, ◌<◌, ◌++◌, ℕ, List, [], IfErr, IfOk, IfSome};
+ghost use Rattle.std.specs.Prelude.{◌≡◌, ◌+◌, ◌-◌, ◌^◌, ◌≤◌, ◌<◌, ◌++◌, ℕ, List, [], Err, IfErr, IfOk, IfSome, IsTrue, ◌↔◌};
 ghost use Rattle.std.specs.Prelude.{OnErr, OnSome, false, length, take, true};
 ghost use Rattle.std.specs.Borrow.{sem};
 ghost use Rattle.std.specs.Io.{StartsWith};
@@ -9,10 +9,11 @@ ghost use Rattle.std.specs.Io.BufRead.{DropsConsumable, FillKeeps, Rests};
 ghost use Rattle.std.specs.Io.KnownBytes.{Appends, Consumes, IsAtEnd, Keeps};
 ghost use Rattle.msvc_watched.specs.contracts.watched.Watched.{the_row};
 ghost use Rattle.msvc_watched.specs.Faults.{SetsFailureFlag, failure_flag, no_stream};
+ghost use Rattle.msvc_watched.specs.Polled.{Counts, is_at_limit, polled};
 ghost use Rattle.msvc_watched.specs.Taking.{IsCut, TakenAs};
 
 use msvc_parser::search::find_byte;
-use std::io::{self, BufRead, Write};
+use std::io::{BufRead, Write};
 use std::marker::Model;
 
 /// Reason why a run ended early.
@@ -31,6 +32,28 @@ pub enum Fault {
 pub struct Watched<T> {
     stream: T,
     failed: bool,
+}
+
+/// The number of times that a reader was polled in a run. Only `fill_buf` counts.
+#[derive(Drop)]
+pub struct Polls {
+    count: u64,
+}
+
+impl Polls {
+    /// Returns the number before the first poll.
+    pub fn none() -> Polls
+        ensures { polled result ≡ 0 }
+    {
+        Polls { count: 0 }
+    }
+}
+
+/// The failure of a reader. Only `fill_buf` makes one.
+#[derive(Clone, Copy)]
+pub struct ReadFailure {
+    /// Whether the reader was polled too often; else it failed itself.
+    at_limit: bool,
 }
 
 /// Bytes that were taken from a reader.
@@ -81,23 +104,39 @@ impl<T> Watched<T> {
 }
 
 /// Polls the reader once, and returns the bytes that it shows: none only at its end. Takes none of them.
+///
+/// Fails if the reader fails, also if it is interrupted, and if it was polled 2^64 - 1 times before.
 #[inline(always)]
-pub fn fill_buf<R: BufRead>(input: &mut Watched<R>) -> io::Result<&[u8]>
+pub fn fill_buf<'a, R: BufRead>(
+    input: &'a mut Watched<R>,
+    polls: &mut Polls,
+) -> Result<&'a [u8], ReadFailure>
     ensures front { IfSome (R.remaining input.old.stream) (λ xs. IfOk result (λ s. StartsWith xs s.now)) }
     ensures end { IfSome (R.remaining input.old.stream) (λ xs. IfOk result (λ s. length s.now ≡ 0 → xs ≡ [])) }
+    ensures counted { IfOk result (λ _. Counts polls.old polls.new) }
+    ensures limit { IfErr result (λ failure. IsTrue (is_at_limit failure) ↔ (polled polls.old ≡ 2 ^ 64 - 1)) }
+    ensures too_many { polled polls.old ≡ 2 ^ 64 - 1 → IfOk result (λ _. ⊥) }
     ensures* after_borrow { sem 𝓛 (Rests (the_row R.row) input.entry (λ new.
         FillKeeps (R.remaining input.old.stream) (R.remaining new.stream) (R.consumable_len new.stream) result
         × (new.failed ≡ input.old.failed))) }
 {
-    input.stream.fill_buf()
+    if polls.count == u64::MAX {
+        return Err(ReadFailure { at_limit: true });
+    }
+    polls.count += 1;
+    match input.stream.fill_buf() {
+        Ok(shown) => Ok(shown),
+        Err(_) => Err(ReadFailure { at_limit: false }),
+    }
 }
 
-/// Returns the fault of a reader that has failed.
-pub fn fail<R: BufRead>(input: &mut Watched<R>) -> Fault
+/// Records that a reader has failed, and returns its fault.
+pub fn fail<R: BufRead>(input: &mut Watched<R>, failure: ReadFailure) -> Fault
     ensures fault { result ≡ Fault.Read }
     ensures failed { input.new.failed ≡ true }
     ensures stream { input.new.stream ≡ input.old.stream }
 {
+    let ReadFailure { at_limit: _ } = failure;
     input.failed = true;
     Fault::Read
 }
@@ -117,15 +156,22 @@ pub fn consume<R: BufRead>(input: &mut Watched<R>, count: usize)
 ///
 /// Returns the fault of a failed call at once, also of an interrupted one, and takes nothing then. No clause states
 /// that the reader is polled no second time, since a reader's contract describes its bytes and counts no calls.
-pub fn read_piece<R: BufRead>(input: &mut Watched<R>, bytes: &mut Vec<u8>) -> Result<Taken, Fault>
+pub fn read_piece<R: BufRead>(
+    input: &mut Watched<R>,
+    polls: &mut Polls,
+    bytes: &mut Vec<u8>,
+) -> Result<Taken, Fault>
     ensures taken { (taken : List ℕ) × (bytes.new.items ≡ bytes.old.items ++ taken)
         × Consumes (R.remaining input.old.stream) (R.remaining input.new.stream) taken × TakenAs result taken }
     ensures end { IfOk result (λ t. t ≡ Taken.End →
         OnSome (R.remaining input.old.stream) (IsAtEnd (R.remaining input.new.stream))) }
     ensures sets_failed { SetsFailureFlag result (failure_flag input.old input.new) no_stream no_stream }
+    ensures counted { IfOk result (λ _. Counts polls.old polls.new) }
+    ensures too_many { polled polls.old ≡ 2 ^ 64 - 1 → result ≡ Err Fault.Read }
 {
-    let Ok(shown) = fill_buf(input) else {
-        return Err(fail(input));
+    let shown = match fill_buf(input, polls) {
+        Ok(shown) => shown,
+        Err(failure) => return Err(fail(input, failure)),
     };
     let (end, taken) = line_end(shown);
     if matches!(taken, Taken::End) {

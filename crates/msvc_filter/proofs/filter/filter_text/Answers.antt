@@ -19,18 +19,12 @@ use Rattle.msvc_filter.proofs.filter.filter_text.Goals as goal
 pub pieces-init : goal.pieces-init
 pieces-init g c = rw c.new-piece.ensures.items (Streaming-start c.args.flags.0 _ _ _ c.new-scan.ensures, refl, refl)
 
-pub returns-in_default-clause-text : goal.returns-in_default-clause-text
-returns-in_default-clause-text g c =
+pub returns-in-Err-clause-text : goal.returns-in-Err-clause-text
+returns-in-Err-clause-text g c =
     let none = Consumes-polled _ _ _ _ c.fill_buf.follows.holds-at-none.0 in
     Streaming-polled _ c.args.flags.0 c.pieces.scan _ _ _ _ _ _ [] c.pieces.invariant.0
     (subst (λ s. Consumes (g.R.Read.remaining c.pieces.input.stream) (g.R.Read.remaining s) [])
     (sym c.fail.ensures.stream) none) refl
-
-pub returns-clause-text : goal.returns-clause-text
-returns-clause-text g c =
-    Streaming-polled _ c.args.flags.0 c.pieces.scan _ _ _ _ _ _ [] c.pieces.invariant.0
-    (subst (λ s. Consumes (g.R.Read.remaining c.pieces.input.stream) (g.R.Read.remaining s) [])
-    (sym c.fail-2.ensures.stream) (Consumes-nil _)) refl
 
 pub returns-then-is_err-clause-text : goal.returns-then-is_err-clause-text
 returns-then-is_err-clause-text g c =

@@ -1,4 +1,5 @@
-use Rattle.std.proofs.Common.{◌≡◌}
+use Rattle.std.proofs.Common.{◌≡◌, ◌-◌, ◌^◌}
+use Rattle.msvc_watched.specs.Polled.{polled}
 use Rattle.msvc_filter.proofs.Streamed.{Streaming}
 use Rattle.msvc_filter.proofs.filter.filter_text.Given as goal
 
@@ -7,3 +8,6 @@ invariant-pieces g l =
     Streaming l.flags.0 (g.R.Read.remaining l.fn.input.stream) (g.R.Read.remaining l.input.stream)
     (g.W.Write.contents l.fn.out.stream) (g.W.Write.contents l.out.stream) l.piece.items l.scan
     × (l.input.failed ≡ l.fn.input.failed) × (l.out.failed ≡ l.fn.out.failed)
+
+abbrev pub decreases-pieces : goal.decreases-pieces
+decreases-pieces g l = 2 ^ 64 - polled l.polls

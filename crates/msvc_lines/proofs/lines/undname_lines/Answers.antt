@@ -88,12 +88,3 @@ pieces-preserved g c =
             w.in_ok-undname_line-in-Line.ensures.sets_failed.2 ∙ c.pieces.invariant.3,
           )
     ]
-
-pub returns-clause-text : goal.returns-clause-text
-returns-clause-text g c =
-    let flag = failure_flag c.pieces.input c.fail.new.input in
-    let taken = subst (λ s. Consumes (g.R.Read.remaining c.pieces.input.stream) (g.R.Read.remaining s) [])
-    (sym c.fail.ensures.stream) (Consumes-nil _) in
-    rw c.fail.ensures.fault
-    (LineRun-polled answers-joined Read flag _ _ _ _ _ _ [] c.pieces.invariant.0 taken refl
-    (c.fail.ensures.failed, refl, refl))

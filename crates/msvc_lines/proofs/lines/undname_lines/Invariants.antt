@@ -1,4 +1,5 @@
-use Rattle.std.proofs.Common.{◌≡◌}
+use Rattle.std.proofs.Common.{◌≡◌, ◌-◌, ◌^◌}
+use Rattle.msvc_watched.specs.Polled.{polled}
 use Rattle.msvc_lines.proofs.LineRun.{LineRun}
 use Rattle.msvc_lines.proofs.Texts.{AreAnswered}
 use Rattle.msvc_lines.proofs.lines.undname_lines.Given as goal
@@ -9,3 +10,6 @@ invariant-pieces g l =
     (g.W.Write.contents l.fn.out.stream)
     (g.W.Write.contents l.out.stream) l.piece.items
     × (l.input.failed ≡ l.fn.input.failed) × (l.out.failed ≡ l.fn.out.failed) × (l.err.failed ≡ l.fn.err.failed)
+
+abbrev pub decreases-pieces : goal.decreases-pieces
+decreases-pieces g l = 2 ^ 64 - polled l.polls
