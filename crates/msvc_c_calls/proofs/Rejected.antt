@@ -1,6 +1,6 @@
 -- A symbol that is not read has one of two statuses.
 use Rattle.std.proofs.Common.{◌≡◌, ◌≢◌, ℕ, List, Bool, true, false, Option, Some, None, refl, subst, sym}
-use Rattle.std.specs.Prelude.{◌==◌, if◌then◌else◌}
+use Rattle.std.specs.Prelude.{◌==◌, if◌then◌else◌, is_some}
 use Rattle.std.specs.Cmp.Lexicographic.{pointwise, same_text}
 use Rattle.std.specs.Str.{IsUtf8}
 use Rattle.msvc_demangler.specs.Errors as errors
@@ -8,7 +8,7 @@ use Rattle.msvc_demangler.specs.Errors.{message_limit}
 use Rattle.msvc_demangler.specs.Limit.{Limit}
 use Rattle.msvc_demangler.specs.Limit.TheVariants.{Bytes, Nodes}
 use Rattle.msvc_demangler.specs.Limits.{Limits}
-use Rattle.msvc_c_calls.specs.Calls.{IsNoSymbolUnder, IsNotRead, IsRejection, IsStatus, invalid, too_many_nodes}
+use Rattle.msvc_c_calls.specs.Calls.{IsNoSymbolUnder, IsNotRead, IsRejection, IsStatusOf, invalid, too_many_nodes}
 
 -- the message about the limit on nodes is one text
 nodes-first : (nodes bytes : Bool) → (if nodes then Some Nodes else if bytes then Some Bytes else None) ≡ Some Nodes
@@ -23,14 +23,20 @@ nodes-message message e =
     (nodes-first (pointwise (λ a b. a == b) message errors.too_many_nodes)
     (pointwise (λ a b. a == b) message errors.too_long) e)
 
+-- a message about nodes comes only with a limit on them
+set-nodes : (nodes : Option ℕ) → (nodes ≡ None → Some Nodes ≡ None) → is_some nodes ≡ true
+set-nodes None set = let no : Some Nodes ≡ None = set refl in absurd (cc)
+set-nodes (Some most) set = refl
+
 pub rejected : (limits : Limits) (symbol : List ℕ) (status offset : ℕ) (message text : List ℕ) (limit : Option Limit)
     → IsUtf8 symbol → IsNoSymbolUnder limits.nodes symbol → IsRejection symbol message offset text
-    → message_limit message ≡ limit → limit ≢ Some Bytes → IsStatus limits limit status
-    → IsNotRead limits symbol status offset text
-rejected limits symbol status offset message text None u none rejection about other is =
+    → message_limit message ≡ limit → limit ≢ Some Bytes → (limits.nodes ≡ None → limit ≡ None)
+    → IsStatusOf limit status → IsNotRead limits symbol status offset text
+rejected limits symbol status offset message text None u none rejection about other set is =
     subst (λ n. IsNotRead limits symbol n offset text) (sym is) (invalid u none about rejection)
-rejected limits symbol status offset message text (Some Nodes) u none rejection about other is =
+rejected limits symbol status offset message text (Some Nodes) u none rejection about other set is =
     let Of : List ℕ → Type 0 = λ m. IsRejection symbol m offset text in
-    subst (λ n. IsNotRead limits symbol n offset text) (sym is.0)
-    (too_many_nodes u none is.1 (subst Of (nodes-message message about) rejection))
-rejected limits symbol status offset message text (Some Bytes) u none rejection about other is = absurd (other refl)
+    subst (λ n. IsNotRead limits symbol n offset text) (sym is)
+    (too_many_nodes u none (set-nodes limits.nodes set) (subst Of (nodes-message message about) rejection))
+rejected limits symbol status offset message text (Some Bytes) u none rejection about other set is =
+    absurd (other refl)

@@ -24,17 +24,11 @@ not_utf8_text = codes "not UTF-8"
 abbrev pub out_of_memory_text : List ℕ
 out_of_memory_text = codes "out of memory"
 
--- The status of an error about no limit, INVALID, or about one that the caller has set, TOO_MANY_NODES or TOO_LONG.
-abbrev pub IsStatus : Limits → Option Limit → ℕ → Type 0
-IsStatus limits None status = status ≡ 1
-IsStatus limits (Some Nodes) status = (status ≡ 4) × (is_some limits.nodes ≡ true)
-IsStatus limits (Some Bytes) status = (status ≡ 5) × (is_some limits.bytes ≡ true)
-
--- The error is about a limit that the caller has not set.
-abbrev pub IsUnset : Limits → Option Limit → Type 0
-IsUnset limits None = ⊥
-IsUnset limits (Some Nodes) = limits.nodes ≡ None
-IsUnset limits (Some Bytes) = limits.bytes ≡ None
+-- The status of an error about no limit, INVALID, or about one, TOO_MANY_NODES or TOO_LONG.
+abbrev pub IsStatusOf : Option Limit → ℕ → Type 0
+IsStatusOf None status = status ≡ 1
+IsStatusOf (Some Nodes) status = status ≡ 4
+IsStatusOf (Some Bytes) status = status ≡ 5
 
 -- The grammar derives no tree from a beginning of the symbol, or none that is within the limit on nodes.
 abbrev pub IsNoSymbolUnder : Option ℕ → List ℕ → Type 0

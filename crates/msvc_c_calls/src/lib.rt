@@ -1,10 +1,9 @@
 //! Shared parts of the libraries for C: the result of a call, its statuses, and writing a text into a buffer.
 #![tactic(auto)]
 
-ghost use Rattle.std.specs.Prelude.{◌≡◌, IfErr, IfNone, IfOk, IfSome, length, set};
-ghost use Rattle.msvc_demangler.specs.Limits.{limits_of};
+ghost use Rattle.std.specs.Prelude.{◌≡◌, IfErr, IfOk, length, set};
 ghost use Rattle.msvc_c_calls.specs.Buffers.{IsWritten};
-ghost use Rattle.msvc_c_calls.specs.Calls.{IsStatus, IsUnset, out_of_memory_text};
+ghost use Rattle.msvc_c_calls.specs.Calls.{IsStatusOf, out_of_memory_text};
 
 use msvc_demangler::{Filtered, Limit};
 use std::alloc::AllocError;
@@ -45,17 +44,14 @@ pub struct CallResult {
     pub length: usize,
 }
 
-/// Returns the status of a rejected symbol by the limit that it exceeds, or `None` if that limit was not set: no memory
-/// holds that many nodes or bytes.
-pub fn status_of(limit: Option<Limit>, max_nodes: usize, max_bytes: usize) -> Option<u32>
-    ensures status { IfSome result (λ status. IsStatus (limits_of max_nodes max_bytes) limit status) }
-    ensures none { IfNone result (IsUnset (limits_of max_nodes max_bytes) limit) }
+/// Returns the status of a rejected symbol by the limit that it exceeds.
+pub fn status_of(limit: Option<Limit>) -> u32
+    ensures { IsStatusOf limit result }
 {
     match limit {
-        None => Some(INVALID),
-        Some(Limit::Nodes) if max_nodes != usize::MAX => Some(TOO_MANY_NODES),
-        Some(Limit::Bytes) if max_bytes != usize::MAX => Some(TOO_LONG),
-        Some(_) => None,
+        None => INVALID,
+        Some(Limit::Nodes) => TOO_MANY_NODES,
+        Some(Limit::Bytes) => TOO_LONG,
     }
 }
 

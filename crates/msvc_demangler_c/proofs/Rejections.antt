@@ -13,7 +13,7 @@ use Rattle.msvc_demangler.specs.Limit.TheVariants.{Bytes}
 use Rattle.msvc_demangler.specs.Limits.{IsRejectedUnder, IsTooLong, Limits}
 use Rattle.msvc_demangler.specs.Rejections.{begins_with}
 use Rattle.msvc_c_calls.proofs.Rejected.{rejected}
-use Rattle.msvc_c_calls.specs.Calls.{IsFound, IsMeasured, IsNoSymbolUnder, IsNotRead, IsRejection, IsStatus, Says}
+use Rattle.msvc_c_calls.specs.Calls.{IsFound, IsMeasured, IsNoSymbolUnder, IsNotRead, IsRejection, IsStatusOf, Says}
 use Rattle.msvc_c_calls.specs.Calls.{not_measured, not_read, too_long}
 
 -- an error has this offset in the symbol, and this text
@@ -34,21 +34,26 @@ IsUnread nodes symbol (error.ParseError message context offset) =
     (offset ≤ length symbol) × IsNoSymbolUnder nodes symbol
     × (IsAscii symbol → string_bytes context ≡ context_of symbol offset)
     × ((begins_with (codes "?") symbol → ⊥) → offset ≡ 0) × (message_limit (cow_str_bytes message) ≢ Some Bytes)
+    × (nodes ≡ None → message_limit (cow_str_bytes message) ≡ None)
 IsUnread nodes symbol _ = Unit {0}
 
 unread : (nodes : Option ℕ) (symbol : List ℕ) (e : ErrorRepr) → IsRejectedUnder nodes symbol e
     → IsUnread nodes symbol e
 unread None symbol (error.ParseError m c o) r =
-    (r.rejected.0, r.rejected.1, r.rejected.2, (λ no. (r.begins no).0), r.limit)
+    let none : message_limit (cow_str_bytes m) ≡ None = r.limit in
+    let other : message_limit (cow_str_bytes m) ≢ Some Bytes =
+    λ bytes. let no : None ≡ Some Bytes = sym none ∙ bytes in absurd (cc) in
+    (r.rejected.0, r.rejected.1, r.rejected.2, (λ no. (r.begins no).0), other, λ unlimited. none)
 unread (Some most) symbol (error.ParseError m c o) r =
-    (r.rejected.0, r.rejected.1, r.rejected.2, (λ no. (r.begins no).0), r.limit)
+    let set : Some most ≡ None → message_limit (cow_str_bytes m) ≡ None = λ no. absurd (cc) in
+    (r.rejected.0, r.rejected.1, r.rejected.2, (λ no. (r.begins no).0), r.limit, set)
 unread nodes symbol (error.FromUtf8 cause) r = tt
 unread nodes symbol (error.Utf8 cause) r = tt
 unread nodes symbol (error.Other message) r = tt
 unread nodes symbol error.Memory r = tt
 
 rejected-unread : (limits : Limits) (symbol : List ℕ) (status : ℕ) (e : ErrorRepr) (offset : ℕ) (text : List ℕ)
-    → IsUtf8 symbol → IsRejectedUnder limits.nodes symbol e → IsStatus limits (limit_of e) status
+    → IsUtf8 symbol → IsRejectedUnder limits.nodes symbol e → IsStatusOf (limit_of e) status
     → IsAt e offset text → IsNotRead limits symbol status offset text
 rejected-unread limits symbol status (error.FromUtf8 cause) offset text u r is a =
     let no : None ≡ Some offset = a.offset_is in absurd (cc)
@@ -69,10 +74,10 @@ rejected-unread limits symbol status (error.ParseError m c o) offset text u r is
     } in
     subst (λ n. IsNotRead limits symbol status n text) (some-injective o offset a.offset_is)
     (rejected limits symbol status o (cow_str_bytes m) text (message_limit (cow_str_bytes m)) u known.1 rejection refl
-    known.4 is)
+    known.4 known.5 is)
 
 found-too_long : (limits : Limits) (symbol : List ℕ) (flags status : ℕ) (e : ErrorRepr) (offset : ℕ) (text : List ℕ)
-    → IsUtf8 symbol → IsTooLong limits symbol flags e → IsStatus limits (limit_of e) status → IsAt e offset text
+    → IsUtf8 symbol → IsTooLong limits symbol flags e → IsStatusOf (limit_of e) status → IsAt e offset text
     → IsFound limits symbol flags status offset text
 found-too_long limits symbol flags status (error.FromUtf8 cause) offset text u long is a =
     let no : None ≡ Some offset = a.offset_is in absurd (cc)
@@ -84,7 +89,7 @@ found-too_long limits symbol flags status error.Memory offset text u long is a =
     let no : None ≡ Some offset = a.offset_is in absurd (cc)
 found-too_long limits symbol flags status (error.ParseError m c o) offset text u long is a =
     let at_end : long.read ≡ offset = sym long.error.2 ∙ some-injective o offset a.offset_is in
-    let About : List ℕ → Type 0 = λ message. IsStatus limits (message_limit message) status in
+    let About : List ℕ → Type 0 = λ message. IsStatusOf (message_limit message) status in
     let set = subst About long.error.0 is in
     let Shown : List ℕ → Type 0 = λ message. Says message (string_bytes c) o text in
     let Ends : List ℕ → Type 0 = λ context. Says errors.too_long context o text in
@@ -93,10 +98,10 @@ found-too_long limits symbol flags status (error.ParseError m c o) offset text u
     let Found : ℕ → ℕ → Type 0 = λ number place. IsFound limits symbol flags number place text in
     let found : Found 5 long.read =
     too_long u (long.tree, long.parsed, long.nodes, long.takes, long.longer) says in
-    subst (Found status) at_end (subst (λ n. Found n long.read) (sym set.0) found)
+    subst (Found status) at_end (subst (λ n. Found n long.read) (sym set) found)
 
 pub found : (limits : Limits) (symbol : List ℕ) (flags status : ℕ) (e : ErrorRepr) (offset : ℕ) (text : List ℕ)
-    → IsUtf8 symbol → IsErrorUnder limits symbol flags e → IsStatus limits (limit_of e) status → IsAt e offset text
+    → IsUtf8 symbol → IsErrorUnder limits symbol flags e → IsStatusOf (limit_of e) status → IsAt e offset text
     → IsFound limits symbol flags status offset text
 found limits symbol flags status e offset text u (inl r) is a =
     not_read (rejected-unread limits symbol status e offset text u r is a)
@@ -117,7 +122,7 @@ is_said None = tt
 is_said (Some text) = refl
 
 pub measured : (nodes : Option ℕ) (symbol : List ℕ) (status : ℕ) (e : ErrorRepr) (offset : ℕ) → IsUtf8 symbol
-    → IsRejectedUnder nodes symbol e → IsStatus (record { nodes = nodes; bytes = None }) (limit_of e) status
+    → IsRejectedUnder nodes symbol e → IsStatusOf (limit_of e) status
     → offset_of e ≡ Some offset → IsMeasured (record { nodes = nodes; bytes = None }) symbol status offset 0
 measured nodes symbol status e offset u r is o =
     let text = said (error_text e) in

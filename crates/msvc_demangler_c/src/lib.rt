@@ -7,7 +7,7 @@ ghost use Rattle.std.specs.Cow.{cow_str_bytes};
 ghost use Rattle.msvc_demangler.specs.Errors.{limit_of, offset_of};
 ghost use Rattle.msvc_demangler.specs.Limits.{IsRejectedUnder, limit_of_number, limits_of};
 ghost use Rattle.msvc_c_calls.specs.Buffers.{IsWritten};
-ghost use Rattle.msvc_c_calls.specs.Calls.{IsFilteredInto, IsFound, IsLength, IsMeasured, IsStatus};
+ghost use Rattle.msvc_c_calls.specs.Calls.{IsFilteredInto, IsFound, IsLength, IsMeasured, IsStatusOf};
 ghost use Rattle.msvc_demangler_c.specs.Version.{version};
 
 use msvc_c_calls::{
@@ -141,7 +141,7 @@ fn declare(
             text: CowStr::Owned(declaration),
         },
         Err(error) => match (
-            rejection(&error, max_nodes, max_bytes),
+            rejection(&error),
             format!(in alloc; "{error}"),
         ) {
             (Some((status, offset)), Ok(text)) => Reply {
@@ -168,7 +168,7 @@ fn measure(alloc: Global, symbol: &str, max_nodes: usize) -> CallResult
             offset: 0,
             length: bytes,
         },
-        Err(error) => match rejection(&error, max_nodes, usize::MAX) {
+        Err(error) => match rejection(&error) {
             Some((status, offset)) => CallResult {
                 status,
                 offset,
@@ -196,10 +196,10 @@ fn bytes_of(alloc: Global, symbol: &str, max_nodes: usize) -> Result<usize, Erro
 }
 
 /// Returns the status and the offset of an error that rejects a symbol, or `None` if memory ran out.
-fn rejection(error: &Error, max_nodes: usize, max_bytes: usize) -> Option<(u32, usize)>
-    ensures status { IfSome result (λ r. IsStatus (limits_of max_nodes max_bytes) (limit_of error.now) r.0) }
+fn rejection(error: &Error) -> Option<(u32, usize)>
+    ensures status { IfSome result (λ r. IsStatusOf (limit_of error.now) r.0) }
     ensures offset { IfSome result (λ r. offset_of error.now ≡ Some r.1) }
 {
-    let status = status_of(error.limit(), max_nodes, max_bytes)?;
-    Some((status, error.offset()?))
+    let offset = error.offset()?;
+    Some((status_of(error.limit()), offset))
 }

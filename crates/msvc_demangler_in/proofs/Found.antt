@@ -3,10 +3,10 @@ use Rattle.std.proofs.Common.{◌≡◌, ◌≢◌, ◌∙◌, ◌-◌, ℕ, Lis
 use Rattle.std.proofs.Common.{subst, sym}
 use Rattle.std.specs.Str.{IsAscii, IsUtf8}
 use Rattle.msvc_parser.specs.declared.refusal.Message.{Message}
-use Rattle.msvc_parser.specs.declared.refusal.Message.TheVariants as messages
 use Rattle.msvc_parser.specs.declared.refusal.Refusal.{Refusal}
 use Rattle.msvc_parser.specs.declared.refusal.Refusal.TheVariants as refusal
-use Rattle.msvc_parser.specs.Errors.{limit_of_message}
+use Rattle.msvc_parser.proofs.Messages.{not-bytes, words-limit}
+use Rattle.msvc_parser.specs.Messages.{limit_of_message, message_words}
 use Rattle.msvc_demangler.specs.Errors as errors
 use Rattle.msvc_demangler.specs.Errors.{context_of, message_limit, rejection_text}
 use Rattle.msvc_demangler.specs.Failures.{FailsUnder, IsFailure, IsFailureText, limit_of_failure, offset_of_failure}
@@ -17,43 +17,10 @@ use Rattle.msvc_demangler.specs.Rejections.{begins_with}
 use Rattle.msvc_demangler.specs.Failure.{Failure}
 use Rattle.msvc_demangler.specs.Failure.TheVariants.{Unread, TooLong}
 use Rattle.msvc_c_calls.proofs.Rejected.{rejected}
-use Rattle.msvc_c_calls.specs.Calls.{IsFound, IsMeasured, IsNoSymbolUnder, IsNotRead, IsRejection, IsStatus, Says}
+use Rattle.msvc_c_calls.specs.Calls.{IsFound, IsMeasured, IsNoSymbolUnder, IsNotRead, IsRejection, IsStatusOf, Says}
 use Rattle.msvc_c_calls.specs.Calls.{not_measured, not_read, out_of_memory, out_of_memory_text, too_long}
 use Rattle.msvc_c_calls.specs.Buffers.{IsWritten}
 use Rattle.msvc_demangler_in.specs.Shown.{IsReason, said, unsaid}
-
-none-not-bytes : (limit : Option Limit) → limit ≡ None → limit ≢ Some Bytes
-none-not-bytes limit none e = let no : None ≡ Some Bytes = sym none ∙ e in absurd (cc)
-
--- no reader's message is that of a declaration that is too long
-not-bytes : (message : Message) → limit_of_message message ≢ Some Bytes
-not-bytes messages.NoQuestionMark e = none-not-bytes _ refl e
-not-bytes messages.EndOfInput e = none-not-bytes _ refl e
-not-bytes messages.MissingAt e = none-not-bytes _ refl e
-not-bytes messages.BadNumber e = none-not-bytes _ refl e
-not-bytes messages.NameReferenceTooLarge e = none-not-bytes _ refl e
-not-bytes (messages.InvalidBackReference x) e = none-not-bytes _ refl e
-not-bytes (messages.InvalidArrayDimension x) e = none-not-bytes _ refl e
-not-bytes messages.UnknownStorageClass e = none-not-bytes _ refl e
-not-bytes messages.UnknownPrimitiveType e = none-not-bytes _ refl e
-not-bytes messages.UnknownCallingConv e = none-not-bytes _ refl e
-not-bytes messages.UnknownFuncClass e = none-not-bytes _ refl e
-not-bytes messages.ZExpected e = none-not-bytes _ refl e
-not-bytes messages.AtExpected e = none-not-bytes _ refl e
-not-bytes messages.QuestionMarkExpected e = none-not-bytes _ refl e
-not-bytes messages.AExpected e = none-not-bytes _ refl e
-not-bytes messages.BExpected e = none-not-bytes _ refl e
-not-bytes messages.GuardTypeExpected e = none-not-bytes _ refl e
-not-bytes messages.MissingDigit e = none-not-bytes _ refl e
-not-bytes messages.GuardNumberTooLarge e = none-not-bytes _ refl e
-not-bytes messages.UnexpectedLocalGuardMarker e = none-not-bytes _ refl e
-not-bytes messages.ExpectedUnsigned e = none-not-bytes _ refl e
-not-bytes messages.UnknownStringCharacterType e = none-not-bytes _ refl e
-not-bytes (messages.UnknownCharacter x) e = none-not-bytes _ refl e
-not-bytes messages.HashLength e = none-not-bytes _ refl e
-not-bytes messages.UnknownOperatorName e = none-not-bytes _ refl e
-not-bytes messages.UnknownRttiOperatorName e = none-not-bytes _ refl e
-not-bytes messages.TooManyNodes e = let no : Some Nodes ≡ Some Bytes = e in absurd (cc)
 
 no-symbol : (nodes : Option ℕ) (symbol : List ℕ) (message : Message) (left : ℕ)
     → FailsUnder nodes symbol (refusal.Unread message left) → IsNoSymbolUnder nodes symbol
@@ -66,35 +33,40 @@ begins : (nodes : Option ℕ) (symbol : List ℕ) (message : Message) (left : �
 begins None symbol message left fails = fails.begins
 begins (Some most) symbol message left fails = fails.begins
 
+unlimited : (nodes : Option ℕ) (symbol : List ℕ) (message : Message) (left : ℕ)
+    → FailsUnder nodes symbol (refusal.Unread message left) → nodes ≡ None → limit_of_message message ≡ None
+unlimited None symbol message left fails none = fails.unlimited
+unlimited (Some most) symbol message left fails none = absurd (cc)
+
 -- a reader's refusal, of which such a text is shown
-unread : (limits : Limits) (symbol : List ℕ) (status : ℕ) (message : Message) (left : ℕ) (words context text : List ℕ)
+unread : (limits : Limits) (symbol : List ℕ) (status : ℕ) (message : Message) (left : ℕ) (context text : List ℕ)
     → IsUtf8 symbol → FailsUnder limits.nodes symbol (refusal.Unread message left)
-    → IsStatus limits (limit_of_message message) status → message_limit words ≡ limit_of_message message
+    → IsStatusOf (limit_of_message message) status
     → (IsAscii symbol → context ≡ context_of symbol (length symbol - left))
-    → Says words context (length symbol - left) text
+    → Says (message_words message) context (length symbol - left) text
     → IsNotRead limits symbol status (length symbol - left) text
-unread limits symbol status message left words context text u fails is about shows says =
-    let rejection : IsRejection symbol words (length symbol - left) text = record {
+unread limits symbol status message left context text u fails is shows says =
+    let rejection : IsRejection symbol (message_words message) (length symbol - left) text = record {
       inside = omega arith;
       begins = begins limits.nodes symbol message left fails;
       context = context;
       shows = shows;
       says = says;
     } in
-    rejected limits symbol status (length symbol - left) words text (limit_of_message message) u
-    (no-symbol limits.nodes symbol message left fails) rejection about (not-bytes message) is
+    rejected limits symbol status (length symbol - left) (message_words message) text (limit_of_message message) u
+    (no-symbol limits.nodes symbol message left fails) rejection (words-limit message) (not-bytes message)
+    (unlimited limits.nodes symbol message left fails) is
 
 -- the same of a refusal that is no lack of memory
 rejected_for : (limits : Limits) (symbol : List ℕ) (status offset : ℕ) (reason : Refusal) (text : List ℕ)
     → IsUtf8 symbol
     → FailsUnder limits.nodes symbol reason → Unread reason ≢ Unread refusal.Memory
-    → IsStatus limits (limit_of_failure (Unread reason)) status → offset ≡ offset_of_failure symbol (Unread reason)
+    → IsStatusOf (limit_of_failure (Unread reason)) status → offset ≡ offset_of_failure symbol (Unread reason)
     → IsFailureText symbol (Unread reason) text → IsNotRead limits symbol status offset text
 rejected_for limits symbol status offset (refusal.Unread message left) text u fails other is at found =
     let At : ℕ → Type 0 = λ n. IsNotRead limits symbol status n text in
     subst At (sym at)
-    (unread limits symbol status message left found.words found.context text u fails is found.limit found.shows
-    found.says)
+    (unread limits symbol status message left found.context text u fails is found.shows found.says)
 rejected_for limits symbol status offset refusal.Memory text u fails other is at found = absurd (other refl)
 
 pub no_memory : (limits : Limits) (symbol : List ℕ) (status offset : ℕ) (text : List ℕ) → IsUtf8 symbol → status ≡ 3
@@ -108,7 +80,7 @@ no_memory limits symbol status offset text u is at same =
 -- a symbol that is not read, from why
 pub not_read_for : (limits : Limits) (symbol : List ℕ) (status offset : ℕ) (reason : Refusal) (text : List ℕ)
     → IsUtf8 symbol → FailsUnder limits.nodes symbol reason
-    → IsReason limits symbol (Unread reason) status offset text → IsNotRead limits symbol status offset text
+    → IsReason symbol (Unread reason) status offset text → IsNotRead limits symbol status offset text
 not_read_for limits symbol status offset reason text u fails (said other is at found) =
     rejected_for limits symbol status offset reason text u fails other is at found
 not_read_for limits symbol status offset reason text u fails (unsaid is at same) =
@@ -116,27 +88,16 @@ not_read_for limits symbol status offset reason text u fails (unsaid is at same)
 
 -- what is found of a symbol that has no declaration, from why
 pub found_for : (limits : Limits) (symbol : List ℕ) (flags status offset : ℕ) (failure : Failure) (text : List ℕ)
-    → IsUtf8 symbol → IsFailure limits symbol flags failure → IsReason limits symbol failure status offset text
+    → IsUtf8 symbol → IsFailure limits symbol flags failure → IsReason symbol failure status offset text
     → IsFound limits symbol flags status offset text
 found_for limits symbol flags status offset (Unread reason) text u fails why =
     not_read (not_read_for limits symbol status offset reason text u fails why)
 found_for limits symbol flags status offset (TooLong read) text u longer (said other is at found) =
     let At : ℕ → Type 0 = λ n. IsFound limits symbol flags status n text in
     let Status : ℕ → Type 0 = λ n. IsFound limits symbol flags n read text in
-    subst At (sym at) (subst Status (sym is.0) (too_long u longer found))
+    subst At (sym at) (subst Status (sym is) (too_long u longer found))
 found_for limits symbol flags status offset (TooLong read) text u longer (unsaid is at same) =
     not_read (no_memory limits symbol status offset text u is at same)
-
--- a message about a limit
-abbrev words_about : Option Limit → List ℕ
-words_about None = []
-words_about (Some Nodes) = errors.too_many_nodes
-words_about (Some Bytes) = errors.too_long
-
-about-words : (limit : Option Limit) → message_limit (words_about limit) ≡ limit
-about-words None = refl
-about-words (Some Nodes) = refl
-about-words (Some Bytes) = refl
 
 -- a text, if one is known
 abbrev said_of : Option (List ℕ) → List ℕ
@@ -150,17 +111,15 @@ is-said (Some text) = refl
 -- a symbol that is not read, where no text is written
 pub some_not_read : (limits : Limits) (symbol : List ℕ) (status offset : ℕ) (reason : Refusal) → IsUtf8 symbol
     → FailsUnder limits.nodes symbol reason → Unread reason ≢ Unread refusal.Memory
-    → IsStatus limits (limit_of_failure (Unread reason)) status → offset ≡ offset_of_failure symbol (Unread reason)
+    → IsStatusOf (limit_of_failure (Unread reason)) status → offset ≡ offset_of_failure symbol (Unread reason)
     → (text : List ℕ) × IsNotRead limits symbol status offset text
 some_not_read limits symbol status offset (refusal.Unread message left) u fails other is at =
-    let words = words_about (limit_of_message message) in
     let context = context_of symbol (length symbol - left) in
-    let text = rejection_text words context (length symbol - left) in
+    let text = rejection_text (message_words message) context (length symbol - left) in
     let At : ℕ → Type 0 = λ n. IsNotRead limits symbol status n (said_of text) in (
       said_of text,
       subst At (sym at)
-          (unread limits symbol status message left words context (said_of text) u fails is
-          (about-words (limit_of_message message)) (λ ascii. refl) (is-said text)),
+          (unread limits symbol status message left context (said_of text) u fails is (λ ascii. refl) (is-said text)),
     )
 some_not_read limits symbol status offset refusal.Memory u fails other is at = absurd (other refl)
 

@@ -10,7 +10,7 @@ use Rattle.msvc_demangler.specs.State.{Note}
 use Rattle.msvc_demangler.specs.Trees.{SymbolTree}
 use Rattle.msvc_demangler.specs.Failure.{Failure}
 use Rattle.msvc_demangler.specs.Failure.TheVariants.{Unread}
-use Rattle.msvc_c_calls.specs.Calls.{IsNotRead, IsStatus, out_of_memory_text}
+use Rattle.msvc_c_calls.specs.Calls.{IsNotRead, IsStatusOf, out_of_memory_text}
 use Rattle.msvc_demangler_in.specs.declared.references.Reference.{Reference}
 
 -- The status, the offset and the text of a tree that was read, of which nothing is said; or memory ran out.
@@ -47,9 +47,8 @@ pub data IsListed (limits : Limits) (symbol : List ℕ) (old new : List Referenc
       → (status ≢ 3 → new ≡ old) → IsListed limits symbol old new status offset 0
 
 -- The status, the offset and the text for a failure, unless memory runs out while the text is made.
-pub data IsReason (limits : Limits) (symbol : List ℕ) (failure : Failure) (status offset : ℕ) (text : List ℕ)
-    : Type 0 where
-  said : failure ≢ Unread refusal.Memory → IsStatus limits (limit_of_failure failure) status
+pub data IsReason (symbol : List ℕ) (failure : Failure) (status offset : ℕ) (text : List ℕ) : Type 0 where
+  said : failure ≢ Unread refusal.Memory → IsStatusOf (limit_of_failure failure) status
       → offset ≡ offset_of_failure symbol failure → IsFailureText symbol failure text
-      → IsReason limits symbol failure status offset text
-  unsaid : status ≡ 3 → offset ≡ 0 → text ≡ out_of_memory_text → IsReason limits symbol failure status offset text
+      → IsReason symbol failure status offset text
+  unsaid : status ≡ 3 → offset ≡ 0 → text ≡ out_of_memory_text → IsReason symbol failure status offset text

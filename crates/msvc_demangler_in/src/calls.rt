@@ -6,9 +6,9 @@ ghost use Rattle.msvc_demangler.specs.Failure.TheVariants.{Unread};
 ghost use Rattle.msvc_demangler.specs.Failures.{FailsUnder, IsFailureText, IsInside};
 ghost use Rattle.msvc_demangler.specs.Failures.{limit_of_failure, offset_of_failure};
 ghost use Rattle.msvc_demangler.specs.Filtered.{AreOnlyParts, Part, fitting, text_of_parts};
-ghost use Rattle.msvc_demangler.specs.Limits.{limit_of_number, limits_of};
+ghost use Rattle.msvc_demangler.specs.Limits.{Limits, limits_of};
 ghost use Rattle.msvc_c_calls.specs.Buffers.{IsWritten};
-ghost use Rattle.msvc_c_calls.specs.Calls.{IsFilteredInto, IsFound, IsMeasured, IsNotRead, IsStatus};
+ghost use Rattle.msvc_c_calls.specs.Calls.{IsFilteredInto, IsFound, IsMeasured, IsNotRead, IsStatusOf};
 ghost use Rattle.msvc_c_calls.specs.Calls.{out_of_memory_text};
 ghost use Rattle.msvc_demangler_in.specs.Shown.{IsListed, IsReason, IsShown, IsTreeText};
 
@@ -76,7 +76,7 @@ pub(crate) fn declare(
         Err(failure) => failure,
     };
     drop(demangler);
-    write_reason(arena, failure, symbol, max_nodes, max_bytes, out)
+    write_reason(arena, failure, symbol, out)
 }
 
 /// Writes the tree of a symbol, or why it has none, into `out`.
@@ -93,8 +93,7 @@ pub(crate) fn show(memory: &Lent, symbol: &str, max_nodes: usize, out: &mut [u8]
         Err(refusal) => refusal,
     };
     drop(arena);
-    let failure = Failure::Unread(refusal);
-    write_reason(memory, failure, symbol, max_nodes, usize::MAX, out)
+    write_reason(memory, Failure::Unread(refusal), symbol, out)
 }
 
 /// Writes the tree of a symbol, as a text that is made in the arena, or the message that memory ran out.
@@ -136,17 +135,16 @@ pub(crate) fn list(
             offset: 0,
             length: write_references(&found, out),
         },
-        Err(refusal) => unread(refusal, symbol, max_nodes),
+        Err(refusal) => unread(refusal, symbol),
     }
 }
 
 /// Returns why a symbol is not read.
-fn unread(refusal: Refusal, symbol: &str, max_nodes: usize) -> CallResult
-    requires { FailsUnder (limit_of_number max_nodes) symbol.now refusal }
-    ensures { (text : List ℕ) × IsNotRead (limits_of max_nodes usize.MAX) symbol.now result.status result.offset text
-        × (result.length ≡ 0) }
+fn unread(refusal: Refusal, symbol: &str) -> CallResult
+    ensures { (limits : Limits) → FailsUnder limits.nodes symbol.now refusal → (text : List ℕ)
+        × IsNotRead limits symbol.now result.status result.offset text × (result.length ≡ 0) }
 {
-    match rejection(Failure::Unread(refusal), symbol, max_nodes, usize::MAX) {
+    match rejection(Failure::Unread(refusal), symbol) {
         Some((status, offset)) => unmeasured(status, offset),
         None => unmeasured(OUT_OF_MEMORY, 0),
     }
@@ -157,19 +155,14 @@ fn write_reason(
     memory: &Lent,
     failure: Failure,
     symbol: &str,
-    max_nodes: usize,
-    max_bytes: usize,
     out: &mut [u8],
 ) -> CallResult
     requires { IsInside symbol.now failure }
     ensures { (shown : List ℕ)
-        × IsReason (limits_of max_nodes max_bytes) symbol.now failure result.status result.offset shown
+        × IsReason symbol.now failure result.status result.offset shown
         × (result.length ≡ length shown) × IsWritten shown out.old out.new }
 {
-    let (Some((status, offset)), Some(arena)) = (
-        rejection(failure, symbol, max_nodes, max_bytes),
-        arena_in(memory),
-    ) else {
+    let (Some((status, offset)), Some(arena)) = (rejection(failure, symbol), arena_in(memory)) else {
         return out_of_memory(out);
     };
     match write_failure(&arena, failure, symbol, out) {
@@ -213,7 +206,7 @@ pub(crate) fn measure(memory: &Lent, symbol: &str, max_nodes: usize) -> CallResu
             offset: 0,
             length,
         },
-        Err(refusal) => unread(refusal, symbol, max_nodes),
+        Err(refusal) => unread(refusal, symbol),
     }
 }
 
@@ -252,19 +245,13 @@ fn filter_into(
 }
 
 /// Returns the status and the offset of a failure that rejects a symbol, or `None` if memory ran out.
-fn rejection(
-    failure: Failure,
-    symbol: &str,
-    max_nodes: usize,
-    max_bytes: usize,
-) -> Option<(u32, usize)>
-    ensures status { IfSome result (λ r. IsStatus (limits_of max_nodes max_bytes) (limit_of_failure failure) r.0) }
+fn rejection(failure: Failure, symbol: &str) -> Option<(u32, usize)>
+    ensures status { IfSome result (λ r. IsStatusOf (limit_of_failure failure) r.0) }
     ensures offset { IfSome result (λ r. r.1 ≡ offset_of_failure symbol.now failure) }
     ensures memory { IfSome result (λ _. failure ≢ Unread refusal.Memory) }
 {
     if failure.is_out_of_memory() {
         return None;
     }
-    let status = status_of(failure.limit(), max_nodes, max_bytes)?;
-    Some((status, failure.offset(symbol)))
+    Some((status_of(failure.limit()), failure.offset(symbol)))
 }

@@ -1,6 +1,6 @@
 -- The contract of the calls that read a whole text: what holds of a tree that was read, of the grammar whatever a call
 -- returns, and of an error.
-use Rattle.std.specs.Prelude.{ℕ, List, ◌≢◌, Some, codes}
+use Rattle.std.specs.Prelude.{ℕ, List, ◌≡◌, ◌≢◌, Some, None, codes}
 use Rattle.std.specs.Str.{IsCharBoundary, IsUtf8}
 use Rattle.msvc_nodes.specs.EachName.{EachName}
 use Rattle.msvc_nodes.specs.Errors.{limit_of}
@@ -54,8 +54,8 @@ pub record IsRejected (text : List ℕ) (e : ErrorRepr) : Type 0 where
   pub begins : (begins_with (codes "?") text → ⊥) → IsRejectionAt text 0 e
   -- a text that begins with a hash is rejected only out of memory
   pub hashes : HashesAreRead text e
-  -- the message is not that of a declaration that is too long
-  pub limit : limit_of e ≢ Some Bytes
+  -- the message is about no limit
+  pub limit : limit_of e ≡ None
 
 -- Reading the text fails with this error, where at most so many nodes are allowed.
 pub record IsRejectedWithin (nodes : ℕ) (text : List ℕ) (e : ErrorRepr) : Type 0 where

@@ -1,6 +1,6 @@
 -- Step lemmas of strings.
 use Rattle.std.proofs.Common.{ℕ, zero, suc, List, [], ◌∷◌, ◌++◌, Option, Some, None, Bool, true, false, cond, ◌+◌}
-use Rattle.std.proofs.Common.{◌≡◌, ◌==◌, ◌<◌, refl, ap, ◌∙◌, arith, append-nil, ◌*◌}
+use Rattle.std.proofs.Common.{◌≡◌, ◌==◌, ◌<◌, ℤ, refl, sym, ap, ◌∙◌, arith, append-nil, ◌*◌}
 use Rattle.std.specs.Prelude.{codes}
 use Rattle.msvc_parser.specs.Parser.{byte_here}
 use Rattle.msvc_grammar.specs.State.{State}
@@ -8,7 +8,8 @@ use Rattle.msvc_grammar.specs.Sorts.{bits, encoded_string}
 use Rattle.msvc_grammar.specs.Rules.{encoding_after, number, after, lookup, letter, character, characters}
 use Rattle.msvc_grammar.specs.Grammar.{grammar, escaped_character, halves, string_length}
 use Rattle.msvc_grammar.specs.Letters.{character_sizes, escaped_characters, hexadecimal, plain_characters}
-use Rattle.msvc_grammar.specs.Reads.{Found, read_name, read, read_by, letter_here, with_value, and_then, in_node}
+use Rattle.msvc_grammar.specs.Reads.{Found, read_name, read, read_by, counting, letter_here, with_value, and_then}
+use Rattle.msvc_grammar.specs.Reads.{in_node}
 use Rattle.msvc_grammar.proofs.FuelIndependence.{read_name-is}
 use Rattle.std.proofs.lemmas.Bool.{eqb-true}
 use Rattle.msvc_nodes.specs.Trees.{constant_string}
@@ -21,6 +22,17 @@ pub encoded_string_step : (left : List ℕ) (s : State) → read_name (encoding_
     (λ cs i w. Some (constant_string cs, i, w))))))
 unfolding grammar read read_by
 encoded_string_step left s = read_name-is (encoding_after encoded_string) left s
+
+-- and what its parts give
+pub encoded_string_parts : (left l1 l2 l3 l4 l5 : List ℕ) (s s1 s2 s3 s4 s5 : State) (size count : ℕ)
+    (long dropped : ℤ) (text : List ℕ) → counting s.count.weight left s ≡ Some (tt, l1, s1)
+    → letter_here character_sizes l1 s1 ≡ Some (size, l2, s2) → read_name number l2 s2 ≡ Some (long, l3, s3)
+    → read_name number l3 s3 ≡ Some (dropped, l4, s4) → count ≡ string_length size long
+    → read_name (characters count) l4 s4 ≡ Some (text, l5, s5)
+    → read_name (encoding_after encoded_string) left s ≡ Some (constant_string text, l5, s5)
+encoded_string_parts left l1 l2 l3 l4 l5 s s1 s2 s3 s4 s5 size count long dropped text counted sized first second many
+    read =
+    encoded_string_step left s ∙ rw (counted, sized, first, second, sym many, read) refl
 
 characters_step : (n : ℕ) (left : List ℕ) (s : State) → read_name (characters (suc n)) left s
     ≡ and_then (read_name character left s)

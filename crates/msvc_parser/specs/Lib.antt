@@ -1,4 +1,5 @@
 pub mod Errors
+pub mod Messages
 pub mod Parser
 pub mod Rows
 pub mod NestedList

@@ -106,7 +106,7 @@ abbrev pub ReadsAs : {L A : Type 0} {g h : _} {X Y : Type 0} → (X → Y) → P
     Failed
     → (List ℕ → state.State → Found Y) → Type 0
 ReadsAs view before after result reading =
-    Gives (λ x. (view x, after.rest.now, state_of after)) after.last_error result (reading before.rest.now (state_of
+    Gives (λ x. (view x, after.rest.now, state_of after)) after.last_error.reason result (reading before.rest.now (state_of
     before))
 
 -- on success, a reader has read at least one byte and has left the frame unchanged

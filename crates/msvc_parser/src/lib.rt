@@ -7,6 +7,7 @@
 pub mod back_references;
 pub mod entries;
 pub mod forms;
+pub mod last_error;
 pub mod letters;
 pub mod limit;
 pub mod nested_list;

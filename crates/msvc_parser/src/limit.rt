@@ -1,6 +1,6 @@
 //! The limit on nodes.
 
-ghost use Rattle.std.specs.Prelude.{◌≡◌, ◌+◌, ◌≤◌, IsTrue, nat_lt, not, ℕ};
+ghost use Rattle.std.specs.Prelude.{◌≡◌, ◌+◌, ◌≤◌, IsTrue, nat_lt, not, true, ℕ};
 
 /// A limit on nodes, with the number of nodes made so far. A number of nodes has the same type. Without a limit nothing
 /// is counted, and the type has no size.
@@ -22,13 +22,15 @@ pub trait NodeBudget: Copy {
     fn count_node(&mut self) -> bool
         ensures allowed { result ≡ not (nat_lt (max self.old) (used self.old + weight)) }
         ensures used { IsTrue result → used self.new ≡ used self.old + weight }
-        ensures max { IsTrue result → max self.new ≡ max self.old };
+        ensures max { IsTrue result → max self.new ≡ max self.old }
+        ensures counts { (IsTrue result → ⊥) → nat_lt 0 weight ≡ true };
 
     /// Counts `nodes` nodes, or returns false if they exceed the limit.
     fn count_nodes(&mut self, nodes: Self) -> bool
         ensures allowed { result ≡ not (nat_lt (max self.old) (used self.old + used nodes)) }
         ensures used { IsTrue result → used self.new ≡ used self.old + used nodes }
-        ensures max { IsTrue result → max self.new ≡ max self.old };
+        ensures max { IsTrue result → max self.new ≡ max self.old }
+        ensures counts { (IsTrue result → ⊥) → nat_lt 0 weight ≡ true };
 
     /// Returns how many nodes were counted since `before`.
     fn since(self, before: Self) -> Self

@@ -9,18 +9,20 @@
 
 ghost use Rattle.std.specs.Option.{option_map};
 ghost use Rattle.std.specs.Prelude.{◌≡◌, ◌≤◌, ◌<◌, ◌+◌, ◌∷◌, [], IfErr, IfOk, IfSome, IsTrue, length, MatchOption};
-ghost use Rattle.std.specs.Prelude.{Some};
+ghost use Rattle.std.specs.Prelude.{None, Some, nat_lt, true};
 ghost use Rattle.msvc_nodes.specs.NodeView.{name_at, name_of, type_at, type_of};
 ghost use Rattle.msvc_grammar.specs.Letters.{digits};
 ghost use Rattle.msvc_grammar.specs.Reads.{counting, letter_here, read, with_value};
 ghost use Rattle.msvc_grammar.specs.Rules.{after, literal, optional};
 ghost use Rattle.msvc_grammar.specs.State.{beginning_with, place};
+ghost use Rattle.msvc_parser.specs.Messages.{limit_of_message};
 ghost use Rattle.msvc_parser.specs.Parser.{byte_here, consumed, Consumes};
 ghost use Rattle.msvc_parser.specs.Parser.{frame_of, optional_letters, ReadsAs, state_of};
 ghost use Rattle.msvc_parser.specs.Parser.{Stays};
 
 use crate::back_references::{BackReference, BackrefTables};
 use crate::letters::{self, OptionalLetters};
+use crate::last_error::LastError;
 use crate::limit::NodeBudget;
 use crate::nested_list::NestedList;
 use crate::refusal::{Failed, Message, Refusal};
@@ -29,6 +31,7 @@ use bumpalo::Bump;
 use msvc_nodes::flags::StorageClass;
 use msvc_nodes::nodes::{Name, Type};
 use std::alloc::Allocator;
+use std::marker::PhantomData;
 
 /// The state of the parser.
 #[derive(Drop)]
@@ -50,7 +53,7 @@ pub struct Parser<'a, 'b, L: NodeBudget, A: Allocator> {
     /// The limit on nodes.
     pub limit: L,
     /// The error of the last reader that failed.
-    pub last_error: Refusal,
+    pub last_error: LastError<L>,
 }
 
 impl<'a, 'b, L: NodeBudget, A: Allocator> Parser<'a, 'b, L, A> {
@@ -75,7 +78,10 @@ impl<'a, 'b, L: NodeBudget, A: Allocator> Parser<'a, 'b, L, A> {
             listed_types: NestedList::new(arena),
             back_references: Vec::new(arena),
             limit,
-            last_error: Refusal::Memory,
+            last_error: LastError {
+                reason: Refusal::Memory,
+                budget: PhantomData,
+            },
         }
     }
 
@@ -83,12 +89,15 @@ impl<'a, 'b, L: NodeBudget, A: Allocator> Parser<'a, 'b, L, A> {
     #[cold]
     #[inline(never)]
     pub fn no_memory(&mut self) -> Failed
-        ensures last_error { self.new.last_error ≡ Refusal.Memory }
+        ensures last_error { self.new.last_error.reason ≡ Refusal.Memory }
         ensures rest { self.new.rest.now ≡ self.old.rest.now }
         ensures state { state_of self.new ≡ state_of self.old }
         ensures kept { frame_of self.new ≡ frame_of self.old }
     {
-        self.last_error = Refusal::Memory;
+        self.last_error = LastError {
+            reason: Refusal::Memory,
+            budget: PhantomData,
+        };
         Failed
     }
 
@@ -96,12 +105,16 @@ impl<'a, 'b, L: NodeBudget, A: Allocator> Parser<'a, 'b, L, A> {
     #[cold]
     #[inline(never)]
     pub fn reject_at(&mut self, message: Message, left: usize) -> Failed
-        ensures last_error { self.new.last_error ≡ Refusal.Unread message left }
+        requires { limit_of_message message ≡ None }
+        ensures last_error { self.new.last_error.reason ≡ Refusal.Unread message left }
         ensures rest { self.new.rest.now ≡ self.old.rest.now }
         ensures state { state_of self.new ≡ state_of self.old }
         ensures kept { frame_of self.new ≡ frame_of self.old }
     {
-        self.last_error = Refusal::Unread(message, left);
+        self.last_error = LastError {
+            reason: Refusal::Unread(message, left),
+            budget: PhantomData,
+        };
         Failed
     }
 
@@ -111,7 +124,7 @@ impl<'a, 'b, L: NodeBudget, A: Allocator> Parser<'a, 'b, L, A> {
         ensures rest { IfOk result (λ _. self.new.rest.now ≡ self.old.rest.now) }
         ensures state { IfOk result (λ _. state_of self.new ≡ state_of self.old) }
         ensures kept { IfOk result (λ _. frame_of self.new ≡ frame_of self.old) }
-        ensures last_error { IfErr result (λ _. self.new.last_error ≡ Refusal.Memory) }
+        ensures last_error { IfErr result (λ _. self.new.last_error.reason ≡ Refusal.Memory) }
     {
         match self.arena.try_alloc(node) {
             Ok(node) => Ok(node),
@@ -143,7 +156,7 @@ impl<'a, 'b, L: NodeBudget, A: Allocator> Parser<'a, 'b, L, A> {
         ensures stays { Stays self.old self.new result }
     {
         if !self.limit.count_node() {
-            return Err(self.reject(Message::TooManyNodes));
+            return Err(self.reject_nodes());
         }
         Ok(())
     }
@@ -154,7 +167,7 @@ impl<'a, 'b, L: NodeBudget, A: Allocator> Parser<'a, 'b, L, A> {
         ensures stays { Stays self.old self.new result }
     {
         if !self.limit.count_nodes(nodes) {
-            return Err(self.reject(Message::TooManyNodes));
+            return Err(self.reject_nodes());
         }
         Ok(())
     }
@@ -163,12 +176,34 @@ impl<'a, 'b, L: NodeBudget, A: Allocator> Parser<'a, 'b, L, A> {
     #[cold]
     #[inline(never)]
     pub fn reject(&mut self, message: Message) -> Failed
-        ensures last_error { self.new.last_error ≡ Refusal.Unread message (length self.old.rest.now) }
+        requires { limit_of_message message ≡ None }
+        ensures last_error { self.new.last_error.reason ≡ Refusal.Unread message (length self.old.rest.now) }
         ensures rest { self.new.rest.now ≡ self.old.rest.now }
         ensures state { state_of self.new ≡ state_of self.old }
         ensures kept { frame_of self.new ≡ frame_of self.old }
     {
-        self.last_error = Refusal::Unread(message, self.rest.len());
+        self.last_error = LastError {
+            reason: Refusal::Unread(message, self.rest.len()),
+            budget: PhantomData,
+        };
+        Failed
+    }
+
+    /// Records at the first unread byte that the limit on nodes is reached.
+    #[cold]
+    #[inline(never)]
+    fn reject_nodes(&mut self) -> Failed
+        requires { nat_lt 0 L.weight ≡ true }
+        ensures last_error {
+            self.new.last_error.reason ≡ Refusal.Unread Message.TooManyNodes (length self.old.rest.now) }
+        ensures rest { self.new.rest.now ≡ self.old.rest.now }
+        ensures state { state_of self.new ≡ state_of self.old }
+        ensures kept { frame_of self.new ≡ frame_of self.old }
+    {
+        self.last_error = LastError {
+            reason: Refusal::Unread(Message::TooManyNodes, self.rest.len()),
+            budget: PhantomData,
+        };
         Failed
     }
 
@@ -277,6 +312,7 @@ impl<'a, 'b, L: NodeBudget, A: Allocator> Parser<'a, 'b, L, A> {
 
     /// Reads a text, or fails if it is not next.
     pub fn expect(&mut self, text: &[u8], message: Message) -> Result<(), Failed>
+        requires { limit_of_message message ≡ None }
         ensures value { ReadsAs (λ _. tt) self.old self.new result (read (literal text.now)) }
         ensures shorter { IfOk result (λ _. length text.now + length self.new.rest.now ≡ length self.old.rest.now) }
         ensures kept { IfOk result (λ _. frame_of self.new ≡ frame_of self.old) }

@@ -2,8 +2,8 @@
 
 ghost use Rattle.std.specs.Prelude.{◌≡◌, ◌-◌, IfOk, length, string_bytes};
 ghost use Rattle.std.specs.Cow.{cow_str_bytes};
-ghost use Rattle.msvc_nodes.specs.Errors.{message_limit};
-ghost use Rattle.msvc_parser.specs.Errors.{IsErrorOf, IsMessageAt, limit_of_message, message_bytes};
+ghost use Rattle.msvc_parser.specs.Errors.{IsErrorOf, IsMessageAt, message_bytes};
+ghost use Rattle.msvc_parser.specs.Messages.{limit_of_message, message_words};
 
 use msvc_nodes::error::{Error, Limit, TOO_MANY_NODES, format_rejection, parse_error};
 use std::alloc::{AllocError, Allocator, Global};
@@ -88,7 +88,7 @@ impl Message {
 
     /// Returns the text of the message. Only a text with a number in it is allocated.
     fn text<A: Allocator>(self, alloc: A) -> Result<MessageText<A>, AllocError>
-        ensures { IfOk result (λ text. message_limit (message_bytes text) ≡ limit_of_message self) }
+        ensures { IfOk result (λ text. message_bytes text ≡ message_words self) }
     {
         let text = match self {
             Message::NoQuestionMark => "does not start with b'?'",

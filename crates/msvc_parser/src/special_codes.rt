@@ -2,10 +2,11 @@
 #![tactic(auto, unfolding(crate::specs::Parser::special_at, crate::specs::Parser::special_at_after_under))]
 
 ghost use Rattle.std.specs.Option.{option_map};
-ghost use Rattle.std.specs.Prelude.{◌≡◌, ◌<◌, length, IfSome};
+ghost use Rattle.std.specs.Prelude.{◌≡◌, ◌<◌, length, IfSome, None};
 ghost use Rattle.msvc_grammar.specs.Letters.{under_special_letters};
 ghost use Rattle.msvc_grammar.specs.Letters.{basic_special_letters, double_under_special_letters};
 ghost use Rattle.msvc_grammar.specs.Letters.{type_information_letters};
+ghost use Rattle.msvc_parser.specs.Messages.{limit_of_message};
 ghost use Rattle.msvc_parser.specs.Parser.{at_rest, special_at_after_under, special_at};
 ghost use Rattle.msvc_grammar.specs.Rules.{lookup};
 
@@ -117,7 +118,9 @@ fn double_under_form(letter: u8) -> Option<SpecialForm>
 }
 
 /// Returns why the bytes begin with no code of a special name, and how many are left where that is seen.
-pub fn unknown_code(left: &[u8]) -> (Message, usize) {
+pub fn unknown_code(left: &[u8]) -> (Message, usize)
+    ensures { limit_of_message result.0 ≡ None }
+{
     match left {
         [] | [b'_'] | [b'_', b'R'] => (Message::EndOfInput, 0),
         [b'_', b'R', _, rest @ ..] => (Message::UnknownRttiOperatorName, rest.len()),

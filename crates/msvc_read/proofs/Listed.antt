@@ -12,6 +12,7 @@ use Rattle.msvc_grammar.specs.Parsed.{AreReferences}
 use Rattle.msvc_grammar.specs.Reads.{Derives, Found, read_name}
 use Rattle.msvc_grammar.specs.Rules.{after, symbol}
 use Rattle.msvc_grammar.specs.State.{State, Note, at_most, beginning, beginning_with}
+use Rattle.msvc_parser.specs.Messages.{limit_of_refusal}
 use Rattle.msvc_parser.specs.Parser.{IsRead, Rejects, with_length}
 use Rattle.msvc_parser.specs.declared.refusal.Message.TheVariants as message
 use Rattle.msvc_parser.specs.declared.refusal.Refusal.{Refusal}
@@ -84,8 +85,10 @@ under-listed (Some max) text view (Ok r) is = references-within max text (view r
 pub unlisted : {A : Type 0} (limit : Option ℕ) (text : List ℕ) (view : A → List Note) (result : Result A Refusal)
     → IsRead view result (notes_under limit text)
     → (after (codes "?") text ≡ None → result ≡ Err (refusal.Unread message.NoQuestionMark (length text)))
+    → (limit ≡ None → IfErr result (λ reason. limit_of_refusal reason ≡ None))
     → IfErr result (λ reason. FailsUnder limit text reason)
-unlisted limit text view (Ok r) is start = tt
-unlisted None text view (Err reason) is start = fails text reason (notes-rejected text reason _ is) start
-unlisted (Some max) text view (Err reason) is start =
+unlisted limit text view (Ok r) is start unlimited = tt
+unlisted None text view (Err reason) is start unlimited =
+    fails text reason (notes-rejected text reason _ is) start (unlimited refl)
+unlisted (Some max) text view (Err reason) is start unlimited =
     fails-within max text reason (notes-rejected text reason _ is) start

@@ -1,14 +1,15 @@
 -- Reads a whole text: what is read is the one tree that the grammar derives, and where nothing is read it derives none.
 use Rattle.std.proofs.Common.{ℕ, List, [], ◌++◌, length, length-append, take, Option, Some, None, Result, Ok, Err, ◌≡◌}
-use Rattle.std.proofs.Common.{◌≤◌, ◌-◌, ◌≢◌, ne_eqb, refl}
+use Rattle.std.proofs.Common.{◌≤◌, ◌-◌, ◌≢◌, ◌⊎◌, inl, inr, ne_eqb, refl}
 use Rattle.std.proofs.Common.{sym, ap, ◌∙◌, subst, arith}
 use Rattle.std.specs.Option.{option_map}
 use Rattle.std.specs.Prelude.{◌^◌, codes, if◌then◌else◌, IfErr, IfOk}
 use Rattle.std.specs.Str.{IsCharBoundary, IsUtf8}
-use Rattle.msvc_nodes.specs.Errors.{context_of, limit_of}
+use Rattle.msvc_nodes.specs.Errors.{context_of, limit_of, message_limit}
 use Rattle.msvc_nodes.specs.Trees.{SymbolTree}
 use Rattle.msvc_nodes.specs.declared.error.ErrorRepr.{ErrorRepr}
 use Rattle.msvc_nodes.specs.declared.error.ErrorRepr.TheVariants as error
+use Rattle.msvc_nodes.specs.declared.error.Limit.{Limit}
 use Rattle.msvc_nodes.specs.declared.error.Limit.TheVariants.{Bytes}
 use Rattle.std.proofs.lemmas.Str.{IsCharBoundary-at_seam}
 use Rattle.std.proofs.Math.Seq.{take-append_seam}
@@ -31,8 +32,11 @@ use Rattle.msvc_grammar.specs.Rules.{after, symbol, symbol_body}
 use Rattle.msvc_grammar.specs.State.{State, Note, at_most, beginning, beginning_with}
 use Rattle.msvc_parser.proofs.Choices.{chosen}
 use Rattle.msvc_parser.proofs.SymbolSteps.{symbol_step}
-use Rattle.msvc_parser.specs.Errors.{IsErrorOf}
+use Rattle.msvc_parser.proofs.Messages.{not-bytes, words-limit}
+use Rattle.msvc_parser.specs.Errors.{IsErrorOf, IsSaid}
+use Rattle.msvc_parser.specs.Messages.{limit_of_message, limit_of_refusal}
 use Rattle.msvc_parser.specs.Parser.{IsRead, Rejects, with_length}
+use Rattle.msvc_parser.specs.declared.refusal.Message.{Message}
 use Rattle.msvc_parser.specs.declared.refusal.Message.TheVariants as message
 use Rattle.msvc_parser.specs.declared.refusal.Refusal.{Refusal}
 use Rattle.msvc_parser.specs.declared.refusal.Refusal.TheVariants as refusal
@@ -178,10 +182,33 @@ error-rejected : (text : List ℕ) (r : Refusal) (e : ErrorRepr) → Rejects r (
 error-rejected text refusal.Memory e h is = subst (λ (x : ErrorRepr). IsRejectedRightly text x) (sym is) tt
 error-rejected text (refusal.Unread message left) e h is = at_rejected text left e (read-none text h) is.0
 
--- and its message is not that of a declaration that is too long
-error-limit : (text : List ℕ) (r : Refusal) (e : ErrorRepr) → IsErrorOf r text e → limit_of e ≢ Some Bytes
-error-limit text refusal.Memory e is = λ bytes. let no : None ≡ Some Bytes = sym (ap limit_of is) ∙ bytes in absurd (cc)
-error-limit text (refusal.Unread message left) e is = is.1
+-- what an error says is about the limit that the refusal is about
+said-limit : (m : Message) (e : ErrorRepr) → IsSaid m e → (limit_of e ≡ limit_of_message m) ⊎ (limit_of e ≡ None)
+said-limit m (error.ParseError said c at) is = inl (ap message_limit is ∙ words-limit m)
+said-limit m error.Memory is = inr refl
+said-limit m (error.Other said) is = inr refl
+said-limit m (error.Utf8 cause) is = inr refl
+said-limit m (error.FromUtf8 cause) is = inr refl
+
+error-limit : (text : List ℕ) (r : Refusal) (e : ErrorRepr) → IsErrorOf r text e
+    → (limit_of e ≡ limit_of_refusal r) ⊎ (limit_of e ≡ None)
+error-limit text refusal.Memory e is = inr (ap limit_of is)
+error-limit text (refusal.Unread message left) e is = said-limit message e is.1
+
+error-unlimited : (e : ErrorRepr) (limit : Option Limit) → limit ≡ None
+    → (limit_of e ≡ limit) ⊎ (limit_of e ≡ None) → limit_of e ≡ None
+error-unlimited e limit none (inl same) = same ∙ none
+error-unlimited e limit none (inr other) = other
+
+-- and never about the bytes of a declaration
+refusal-not-bytes : (r : Refusal) → limit_of_refusal r ≢ Some Bytes
+refusal-not-bytes refusal.Memory e = absurd (cc)
+refusal-not-bytes (refusal.Unread message left) e = not-bytes message e
+
+error-not-bytes : (e : ErrorRepr) (limit : Option Limit) → limit ≢ Some Bytes
+    → (limit_of e ≡ limit) ⊎ (limit_of e ≡ None) → limit_of e ≢ Some Bytes
+error-not-bytes e limit other (inl same) bytes = other (sym same ∙ bytes)
+error-not-bytes e limit other (inr none) bytes = let no : None ≡ Some Bytes = sym none ∙ bytes in absurd (cc)
 
 -- a text that doesn't begin with a question mark is rejected at its beginning
 rejected-at-once : {A : Type 0} (text : List ℕ) (r : Refusal) (e : ErrorRepr)
@@ -200,14 +227,14 @@ rejected-at-once text r e start is never = go (after (codes "?") text) refl
 pub rejected : {A : Type 0} (text : List ℕ) (r : Refusal) (e : ErrorRepr) → Rejects r (symbol_read text)
     → (after (codes "?") text ≡ None
     → ◌≡◌ {A = Result A Refusal} (Err r) (Err (refusal.Unread message.NoQuestionMark (length text))))
-    → IsErrorOf r text e → IsRejected text e
-rejected text r e h start is =
+    → limit_of_refusal r ≡ None → IsErrorOf r text e → IsRejected text e
+rejected text r e h start unlimited is =
     let rightly : IsRejectedRightly text e = error-rejected text r e h is in
     record {
       rejected = rightly;
       begins = rejected-at-once text r e start is;
       hashes = hashes-read text e rightly;
-      limit = error-limit text r e is;
+      limit = error-unlimited e (limit_of_refusal r) unlimited (error-limit text r e is);
     }
 
 -- where no symbol is read, none is derived, and a text without a question mark at its beginning is rejected there
@@ -234,12 +261,13 @@ unread-begins text (refusal.Unread m left) start = λ never. go never (after (co
 pub fails : {A : Type 0} (text : List ℕ) (r : Refusal) → Rejects r (symbol_read text)
     → (after (codes "?") text ≡ None
     → ◌≡◌ {A = Result A Refusal} (Err r) (Err (refusal.Unread message.NoQuestionMark (length text))))
-    → Fails text r
-fails text r h start =
+    → limit_of_refusal r ≡ None → Fails text r
+fails text r h start unlimited =
     record {
-      rejected = λ e is. rejected text r e h start is;
+      rejected = λ e is. rejected text r e h start unlimited is;
       none = unread-none text r h;
       begins = unread-begins text r start;
+      unlimited = unlimited;
     }
 
 -- With a limit
@@ -299,7 +327,7 @@ rejected-within max text r e h start is =
     record {
       rejected = error-rejected-within max text r e h is;
       begins = rejected-at-once text r e start is;
-      limit = error-limit text r e is;
+      limit = error-not-bytes e (limit_of_refusal r) (refusal-not-bytes r) (error-limit text r e is);
     }
 
 unread-none-within : (max : ℕ) (text : List ℕ) (r : Refusal) → Rejects r (symbol_within max text)
@@ -372,7 +400,8 @@ under-length (Some max) text view (Ok r) utf8 is = within-length max text (view 
 pub under-fails : {A : Type 0} (limit : Option ℕ) (text : List ℕ) (view : A → SymbolTree × ℕ)
     (result : Result A Refusal) → IsRead view result (symbol_under limit text)
     → (after (codes "?") text ≡ None → result ≡ Err (refusal.Unread message.NoQuestionMark (length text)))
+    → (limit ≡ None → IfErr result (λ reason. limit_of_refusal reason ≡ None))
     → IfErr result (λ reason. FailsUnder limit text reason)
-under-fails limit text view (Ok r) is start = tt
-under-fails None text view (Err reason) is start = fails text reason is start
-under-fails (Some max) text view (Err reason) is start = fails-within max text reason is start
+under-fails limit text view (Ok r) is start unlimited = tt
+under-fails None text view (Err reason) is start unlimited = fails text reason is start (unlimited refl)
+under-fails (Some max) text view (Err reason) is start unlimited = fails-within max text reason is start

@@ -4,6 +4,7 @@ use Rattle.msvc_nodes.specs.declared.error.ErrorRepr.{ErrorRepr}
 use Rattle.msvc_grammar.specs.Parsed.{IsRejected, IsRejectedWithin}
 use Rattle.msvc_grammar.specs.Rejections.{IsNoSymbol, IsNoSymbolWithin, begins_with}
 use Rattle.msvc_parser.specs.Errors.{IsErrorOf}
+use Rattle.msvc_parser.specs.Messages.{limit_of_refusal}
 use Rattle.msvc_parser.specs.declared.refusal.Refusal.{Refusal}
 use Rattle.msvc_parser.specs.declared.refusal.Refusal.TheVariants as refusal
 
@@ -20,6 +21,8 @@ pub record Fails (text : List ℕ) (reason : Refusal) : Type 0 where
   pub none : UnlessMemory text reason (λ offset. IsNoSymbol text)
   -- a text without a question mark at its beginning is rejected at offset 0
   pub begins : UnlessMemory text reason (λ offset. (begins_with (codes "?") text → ⊥) → offset ≡ 0)
+  -- the reason is no limit
+  pub unlimited : limit_of_refusal reason ≡ None
 
 -- Reading the text fails for this reason, where at most so many nodes are allowed.
 pub record FailsWithin (nodes : ℕ) (text : List ℕ) (reason : Refusal) : Type 0 where

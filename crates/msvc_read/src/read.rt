@@ -1,7 +1,7 @@
 //! Reads a whole text as a symbol.
 
 ghost use Rattle.std.specs.Option.{option_map};
-ghost use Rattle.std.specs.Prelude.{◌≡◌, ◌≤◌, ◌^◌, codes, length, map, IfOk, IfErr, None, Err};
+ghost use Rattle.std.specs.Prelude.{◌≡◌, ◌≤◌, ◌^◌, ℕ, codes, length, map, IfOk, IfErr, None, Err, true};
 ghost use Rattle.msvc_nodes.specs.NodeView.{typed_symbol_of};
 ghost use Rattle.msvc_nodes.specs.Trees.{SymbolTree};
 ghost use Rattle.msvc_tree.specs.View.{tree_of};
@@ -10,6 +10,7 @@ ghost use Rattle.msvc_grammar.specs.Parsed as spec;
 ghost use Rattle.msvc_grammar.specs.Reads.{read_name};
 ghost use Rattle.msvc_grammar.specs.Rules.{after, symbol};
 ghost use Rattle.msvc_grammar.specs.State.{Count, beginning, beginning_with};
+ghost use Rattle.msvc_parser.specs.Messages.{may_fail_for};
 ghost use Rattle.msvc_parser.specs.Parser.{IsRead, note_of, with_length, Rejects};
 ghost use Rattle.msvc_read.specs.Failures.{FailsUnder};
 ghost use Rattle.msvc_read.specs.Limits.{IsWithin, limit_of_number};
@@ -287,6 +288,7 @@ fn arena_for(alloc: Global, input: &str, nodes: usize) -> Result<Bump<Fuse>, Ref
         → Rejects e (read_name symbol input.now (beginning_with count input.now))) }
     ensures start { after (codes "?") input.now ≡ None
         → result ≡ Err (Refusal.Unread Message.NoQuestionMark (length input.now)) }
+    ensures counted { IfErr result (λ reason. (weight : ℕ) → may_fail_for weight reason ≡ true) }
 {
     let [b'?', ..] = input.as_bytes() else {
         return Err(Refusal::Unread(Message::NoQuestionMark, input.len()));
@@ -313,6 +315,7 @@ fn read_tree<'a, L: NodeBudget>(
         }) input.now))) }
     ensures start { after (codes "?") input.now ≡ None
         → result ≡ Err (Refusal.Unread Message.NoQuestionMark (length input.now)) }
+    ensures counted { IfErr result (λ reason. may_fail_for L.weight reason ≡ true) }
 {
     let arena = arena_for(alloc, input, nodes)?;
     let (symbol, bytes) = read_nodes(&arena, input, limit)?;
@@ -338,6 +341,7 @@ fn read_length<L: NodeBudget>(
         }) input.now)))) }
     ensures start { after (codes "?") input.now ≡ None
         → result ≡ Err (Refusal.Unread Message.NoQuestionMark (length input.now)) }
+    ensures counted { IfErr result (λ reason. may_fail_for L.weight reason ≡ true) }
 {
     let arena = arena_for(alloc, input, nodes)?;
     let (_, bytes) = read_nodes(&arena, input, limit)?;
@@ -359,11 +363,12 @@ fn read_nodes<'a, 'b, L: NodeBudget, A: Allocator>(
         }) input.now))) }
     ensures start { after (codes "?") input.now ≡ None
         → result ≡ Err (Refusal.Unread Message.NoQuestionMark (length input.now)) }
+    ensures counted { IfErr result (λ reason. may_fail_for L.weight reason ≡ true) }
 {
     let mut parser = Parser::new(arena, input.as_bytes(), limit);
     match symbol(&mut parser) {
         Ok(symbol) => Ok((symbol, input.len().saturating_sub(parser.rest.len()))),
-        Err(_) => Err(parser.last_error),
+        Err(_) => Err(parser.last_error.reason),
     }
 }
 
@@ -374,6 +379,7 @@ fn copy_references(alloc: Global, input: &str) -> Result<Vec<BackReference>, Ref
         (option_map (λ r. r.2.notes) (read_name symbol input.now (beginning input.now))) }
     ensures start { after (codes "?") input.now ≡ None
         → result ≡ Err (Refusal.Unread Message.NoQuestionMark (length input.now)) }
+    ensures counted { IfErr result (λ reason. may_fail_for 0 reason ≡ true) }
 {
     let arena = arena_for(alloc, input, usize::MAX)?;
     let references = read_notes(&arena, input, Unlimited)?;
@@ -398,10 +404,11 @@ fn read_notes<'b, L: NodeBudget, A: Allocator>(
         }) input.now))) }
     ensures start { after (codes "?") input.now ≡ None
         → result ≡ Err (Refusal.Unread Message.NoQuestionMark (length input.now)) }
+    ensures counted { IfErr result (λ reason. may_fail_for L.weight reason ≡ true) }
 {
     let mut parser = Parser::new(arena, input.as_bytes(), limit);
     match symbol(&mut parser) {
         Ok(_) => Ok(parser.back_references),
-        Err(_) => Err(parser.last_error),
+        Err(_) => Err(parser.last_error.reason),
     }
 }

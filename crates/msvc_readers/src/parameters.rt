@@ -115,7 +115,7 @@ pub fn list_type<'a, 'b, L: NodeBudget, A: Allocator>(
     ensures state { IfOk result (λ _. state_of parser.new ≡ state_of parser.old) }
     ensures kept { IfOk result (λ _. frame_of parser.new
         ≡ record (frame_of parser.old) { listed_types = current parser.old.listed_types ++ parameter.entry ∷ [] }) }
-    ensures last_error { IfErr result (λ _. parser.new.last_error ≡ Refusal.Memory) }
+    ensures last_error { IfErr result (λ _. parser.new.last_error.reason ≡ Refusal.Memory) }
 {
     if parser.listed_types.push(parameter).is_err() {
         return Err(parser.no_memory());

@@ -36,7 +36,7 @@ pub fn symbol<'a, 'b, L: NodeBudget, A: Allocator>(
     ensures value { ReadsAs typed_symbol_of parser.old parser.new result (read_name rules.symbol) }
     ensures start { rules.after (codes "?") parser.old.rest.now ≡ None
         → (IfOk result (λ _. ⊥))
-        × (parser.new.last_error ≡ Refusal.Unread Message.NoQuestionMark (length parser.old.rest.now)) }
+        × (parser.new.last_error.reason ≡ Refusal.Unread Message.NoQuestionMark (length parser.old.rest.now)) }
 {
     if !parser.consume(b"?") {
         return Err(parser.reject(Message::NoQuestionMark));

@@ -1,5 +1,5 @@
 -- Why a symbol has no declaration, before an error is made of it.
-use Rattle.std.specs.Prelude.{ℕ, List, ◌-◌, ◌≡◌, ◌≤◌, Option, Some, None, IfSome, codes, length}
+use Rattle.std.specs.Prelude.{ℕ, List, ◌-◌, ◌≡◌, ◌≤◌, Option, Some, IfSome, codes, length}
 use Rattle.msvc_nodes.specs.Errors.{IsRejectionOrMemory, context_text_of, rejection_text, too_long}
 use Rattle.msvc_nodes.specs.Trees.{SymbolTree}
 use Rattle.msvc_nodes.specs.declared.error.ErrorRepr.{ErrorRepr}
@@ -7,7 +7,8 @@ use Rattle.msvc_nodes.specs.declared.error.Limit.{Limit}
 use Rattle.msvc_nodes.specs.declared.error.Limit.TheVariants.{Bytes}
 use Rattle.msvc_grammar.specs.Counts.{node_count}
 use Rattle.msvc_grammar.specs.Parsed.{IsParsed, IsSymbolLength}
-use Rattle.msvc_parser.specs.Errors.{IsErrorOf, IsMessageAt, limit_of_message}
+use Rattle.msvc_parser.specs.Errors.{IsErrorOf, IsMessageAt}
+use Rattle.msvc_parser.specs.Messages.{limit_of_refusal}
 use Rattle.msvc_parser.specs.declared.refusal.Refusal.TheVariants as refusal
 use Rattle.msvc_print.specs.Declaration.{declaration}
 pub use Rattle.msvc_read.specs.Failures.{FailsUnder}
@@ -41,8 +42,7 @@ offset_of_failure input (TooLong read) = read
 
 -- the limit that the symbol exceeds
 abbrev pub limit_of_failure : Failure → Option Limit
-limit_of_failure (Unread (refusal.Unread message left)) = limit_of_message message
-limit_of_failure (Unread refusal.Memory) = None
+limit_of_failure (Unread reason) = limit_of_refusal reason
 limit_of_failure (TooLong read) = Some Bytes
 
 -- The text says why the call fails.

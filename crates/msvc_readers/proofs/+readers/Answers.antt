@@ -8,7 +8,7 @@ use Rattle.msvc_nodes.specs.NodeView.{name_at, type_at}
 use Rattle.msvc_grammar.proofs.NodesCounted.{template_made, type_made}
 use Rattle.msvc_parser.proofs.NameSteps.{template_kept_step}
 use Rattle.msvc_parser.proofs.Nodes.{frame_names, frame_types, map_last}
-use Rattle.msvc_parser.proofs.RowSteps.{parameters_more, scope_more, with_front}
+use Rattle.msvc_parser.proofs.RowSteps.{parameters_more, scope_ends, scope_more, with_front}
 use Rattle.msvc_parser.proofs.SymbolSteps.{encoding_first, member_letter, named_symbol_is, no_member_letter}
 use Rattle.msvc_parser.proofs.SymbolSteps.{encoding_by, symbol_of}
 use Rattle.msvc_parser.proofs.TypeSteps.{plain_letter, referred_step, type_by}
@@ -89,6 +89,20 @@ symbols::encoding-returns-in-None-clause-value g t c =
     rw c.reject.ensures.last_error read
 
 -- the new one goes after those so far
+pub qualified_names::scope-returns-then-consume-clause-value :
+    goal.qualified_names::scope-returns-then-consume-clause-value
+qualified_names::scope-returns-then-consume-clause-value g t c =
+    let end = c.consume.new.self in
+    let ends : after (64 ∷ []) c.names.parser.rest.now ≡ Some end.rest.now = search rules in
+    let same : current c.names.parser.listed_names ≡ current end.listed_names =
+    ap (λ (f : Frame _ _). f.listed_names) (sym c.consume.ensures.kept) in
+    let state : state_of c.names.parser ≡ state_of end = sym c.consume.ensures.state in
+    sym c.names.invariant.0
+    ∙ scope_ends (map name_at (current c.names.parser.listed_names)) c.names.parser.rest.now end.rest.now
+    (state_of c.names.parser) ends
+    ∙ ap (λ ns. Some (map name_at ns, end.rest.now, state_of c.names.parser)) same
+    ∙ ap (λ s. Some (map name_at (current end.listed_names), end.rest.now, s)) state
+
 pub qualified_names::scope-names-preserved : goal.qualified_names::scope-names-preserved
 qualified_names::scope-names-preserved g t c =
     let kept : frame_of c.nested_name.new.parser ≡ frame_of c.names.parser =

@@ -20,4 +20,4 @@ returns-in-Ok c =
     c.utf8.symbol found.0 found.1 c.write_references.ensures.written refl refl c.write_references.ensures.number
 
 pub returns : goal.returns
-returns c = unlisted _ c.args.symbol.now _ _ _ _ _ c.unread.ensures (λ no. refl)
+returns c = unlisted _ c.args.symbol.now _ _ _ _ _ (c.unread.ensures _ c.in-Err.ensures.fails) (λ no. refl)

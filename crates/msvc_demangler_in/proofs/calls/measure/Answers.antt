@@ -11,4 +11,4 @@ returns-in-Ok c =
     calls.measured c.utf8.symbol (parsed.0, parsed.1, parsed.2, c.in-Ok.ensures.length)
 
 pub returns : goal.returns
-returns c = unmeasured _ c.args.symbol.now _ _ _ c.unread.ensures
+returns c = unmeasured _ c.args.symbol.now _ _ _ (c.unread.ensures _ c.in-Err.ensures.fails)

@@ -3,10 +3,12 @@ use Rattle.msvc_demangler_in.proofs.calls.unread.Goals as goal
 
 pub returns-in-Some : goal.returns-in-Some
 returns-in-Some c =
+    λ limits fails.
     let rejected = c.in-Some.ensures in
-    as_some_not_read _ c.args.symbol.now _ _ _ c.in-Some.status c.in-Some.offset c.unmeasured.ensures
-    (some_not_read _ c.args.symbol.now c.in-Some.status c.in-Some.offset c.args.refusal c.utf8.symbol c.requires
+    as_some_not_read limits c.args.symbol.now _ _ _ c.in-Some.status c.in-Some.offset c.unmeasured.ensures
+    (some_not_read limits c.args.symbol.now c.in-Some.status c.in-Some.offset c.args.refusal c.utf8.symbol fails
     rejected.memory rejected.status rejected.offset)
 
 pub returns-in-None : goal.returns-in-None
-returns-in-None c = some_no_memory _ c.args.symbol.now _ _ _ c.utf8.symbol c.unmeasured-in-None.ensures
+returns-in-None c =
+    λ limits fails. some_no_memory limits c.args.symbol.now _ _ _ c.utf8.symbol c.unmeasured-in-None.ensures

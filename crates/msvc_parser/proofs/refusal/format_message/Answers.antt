@@ -1,5 +1,4 @@
-use Rattle.std.proofs.Common.{rules, ◌≡◌, ◌∙◌, ◌-◌, IfOk, ap, subst, length, string_bytes}
-use Rattle.msvc_nodes.specs.Errors.{message_limit}
+use Rattle.std.proofs.Common.{rules, ◌≡◌, ◌∙◌, ◌-◌, IfOk, subst, length, string_bytes}
 use Rattle.msvc_parser.specs.Errors.{IsMessageAt}
 use Rattle.msvc_parser.proofs.Messages.{message-at}
 use Rattle.msvc_parser.proofs.refusal.format_message.Goals as goal
@@ -10,5 +9,5 @@ returns g c =
     subst (λ n. IfOk c.format_rejection.result
     (λ said. IsMessageAt c.args.message c.args.text.now n (string_bytes said))) at
     (message-at string_bytes c.args.message c.args.text.now c.as_str.result.now c.saturating_sub.result
-    c.format_rejection.result (ap message_limit c.as_str.ensures ∙ c.in_ok-message.ensures)
+    c.format_rejection.result (c.as_str.ensures ∙ c.in_ok-message.ensures)
     c.format_rejection.ensures)

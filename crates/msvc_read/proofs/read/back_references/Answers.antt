@@ -1,3 +1,4 @@
+use Rattle.msvc_parser.proofs.Messages.{no-limit}
 use Rattle.std.specs.Prelude.{map}
 use Rattle.msvc_parser.specs.Parser.{note_of}
 use Rattle.msvc_read.proofs.Listed.{notes-rejected, references}
@@ -14,7 +15,7 @@ pub returns-in-Err-clause-rejected : goal.returns-in-Err-clause-rejected
 returns-in-Err-clause-rejected c =
     rejected c.args.input.now c.in-Err.refusal c.error.result
     (notes-rejected c.args.input.now c.in-Err.refusal _ c.in-Err.ensures.value) c.in-Err.ensures.start
-    (rw c.as_bytes.ensures.value at c.error.ensures)
+    (no-limit c.in-Err.refusal c.in-Err.ensures.counted) (rw c.as_bytes.ensures.value at c.error.ensures)
 
 pub returns-in-Err-clause-laws : goal.returns-in-Err-clause-laws
 returns-in-Err-clause-laws c = laws c.args.input.now

@@ -1,5 +1,6 @@
-use Rattle.std.proofs.Common.{None, Some}
+use Rattle.std.proofs.Common.{◌≡◌, None, Some}
 use Rattle.msvc_nodes.specs.NodeView.{typed_symbol_of}
+use Rattle.msvc_parser.proofs.Messages.{unlimited}
 use Rattle.msvc_read.proofs.WholeTexts.{a_limit, laws, no_limit, under-fails, under-length, under-nodes, under-parsed}
 use Rattle.msvc_read.proofs.read.read_symbol.Goals as goal
 
@@ -27,7 +28,7 @@ returns-then-nodes-eq18446744073709551615-clause-fails g c =
     let read = c.read_nodes in
     rw (no_limit c.args.nodes c.if-nodes-eq18446744073709551615.true)
     (under-fails None c.args.input.now (λ r. (typed_symbol_of r.0, r.1)) read.result read.ensures.value
-    read.ensures.start)
+    read.ensures.start (λ none. unlimited read.result read.ensures.counted))
 
 pub returns-then-nodes-eq18446744073709551615-clause-laws : goal.returns-then-nodes-eq18446744073709551615-clause-laws
 returns-then-nodes-eq18446744073709551615-clause-laws g c = laws c.args.input.now
@@ -58,7 +59,7 @@ returns-else-nodes-eq18446744073709551615-clause-fails g c =
     let read = c.read_nodes-else-nodes-eq18446744073709551615 in
     rw (a_limit c.args.nodes c.if-nodes-eq18446744073709551615.false)
     (under-fails (Some c.args.nodes) c.args.input.now (λ r. (typed_symbol_of r.0, r.1)) read.result read.ensures.value
-    read.ensures.start)
+    read.ensures.start (λ none. let no : Some c.args.nodes ≡ None = none in absurd (cc)))
 
 pub returns-else-nodes-eq18446744073709551615-clause-laws : goal.returns-else-nodes-eq18446744073709551615-clause-laws
 returns-else-nodes-eq18446744073709551615-clause-laws g c = laws c.args.input.now

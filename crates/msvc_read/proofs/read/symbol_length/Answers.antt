@@ -1,3 +1,4 @@
+use Rattle.msvc_parser.proofs.Messages.{no-limit}
 use Rattle.msvc_read.proofs.WholeTexts.{laws, length-of, length-rejected, read-length, read-parsed, rejected}
 use Rattle.msvc_read.proofs.WholeTexts.{symbol_read}
 use Rattle.msvc_read.proofs.read.symbol_length.Goals as goal
@@ -19,7 +20,7 @@ pub returns-in-Err-clause-rejected : goal.returns-in-Err-clause-rejected
 returns-in-Err-clause-rejected c =
     rejected c.args.input.now c.in-Err.refusal c.error.result
     (length-rejected c.in-Err.refusal (symbol_read c.args.input.now) c.in-Err.ensures.value) c.in-Err.ensures.start
-    (rw c.as_bytes.ensures.value at c.error.ensures)
+    (no-limit c.in-Err.refusal c.in-Err.ensures.counted) (rw c.as_bytes.ensures.value at c.error.ensures)
 
 pub returns-in-Err-clause-laws : goal.returns-in-Err-clause-laws
 returns-in-Err-clause-laws c = laws c.args.input.now
