@@ -1,5 +1,4 @@
 use Rattle.std.proofs.Common.{◌≡◌, ◌++◌, ◌∷◌, [], ◌∙◌, ap, refl, rules, subst, sym, take}
-use Rattle.std.proofs.KnownBytes.{Consumes-nil}
 use Rattle.std.specs.Prelude.{vec_len}
 use Rattle.std.proofs.lemmas.List.{nil_from_length}
 use Rattle.std.proofs.lemmas.Result.{err_from_is_err_and}
@@ -11,9 +10,6 @@ use Rattle.msvc_watched.specs.declared.watched.Taken.TheVariants.{Part}
 use Rattle.msvc_filter.proofs.Streamed.{Consumes-front, Consumes-polled, Streaming-end, Streaming-line}
 use Rattle.msvc_filter.proofs.Streamed.{Streaming-line_fault, Streaming-polled, Streaming-put}
 use Rattle.msvc_filter.proofs.Streamed.{Streaming-put_fault, Streaming-start}
-use Rattle.msvc_filter.proofs.filter.filter_text.Goals.{in-Line+in_ok-put-in-Line}
-use Rattle.msvc_filter.proofs.filter.filter_text.Goals.{in-Line-2+else-is_err+in_ok-write_rest-in-Line-2}
-use Rattle.msvc_filter.proofs.filter.filter_text.Goals.{in-Part+else-is_err-2+in_ok-write_decided-in-Part}
 use Rattle.msvc_filter.proofs.filter.filter_text.Goals as goal
 
 pub pieces-init : goal.pieces-init
@@ -97,58 +93,57 @@ returns-in-End-clause-text g c =
     (Consumes-polled _ _ _ _ c.fill_buf.follows.holds-at-none.0) refl text.1
     (subst (λ l. Writes r (IsRestText c.args.flags.0 c.pieces.scan l) text.0) c.deref-in-End.ensures.value text.2)
 
+pub pieces-preserved-then-is_empty : goal.pieces-preserved-then-is_empty
+pieces-preserved-then-is_empty g c =
+    let shown = c.in-Ok.shown in
+    let front = take c.line_end-end.result.0 shown.now in
+    let taken = Consumes-front _ _ _ _ c.line_end-end.result.0 _ shown c.in-Ok.is c.fill_buf.follows.holds-at-none.0
+    c.line_end-end.ensures.bound c.in-Ok.ensures.front c.in-Ok.ensures.end c.consume.ensures.bytes in
+    let cut : IsWithEnd front = subst (λ t. IsCut t front) c.in-Line.is c.line_end-end.ensures.taken in
+    let none : vec_len c.pieces.piece ≡ 0 = search rules in
+    let empty = nil_from_length c.pieces.piece.items (sym c.pieces.piece.ok.0 ∙ none) in
+    let text = c.in_ok-put-in-Line.ensures.text in
+    let joined = cut.2 ∙ ap (λ l. l ++ (cut.0 ++ 10 ∷ [])) (sym empty) in
+    rw empty (
+      Streaming-line c.args.flags.0 c.pieces.scan c.new-scan-in-Line.result _ _ _ _ _ _ c.pieces.piece.items cut.0 text.0
+          c.pieces.invariant.0 (subst (Consumes _ _) cut.2 taken) text.1
+          (subst (λ l. IsRestText c.args.flags.0 c.pieces.scan l text.0) joined text.2) c.new-scan-in-Line.ensures,
+      c.consume.ensures.failed ∙ c.fill_buf.follows.holds-at-none.1 ∙ c.pieces.invariant.1,
+      c.in_ok-put-in-Line.ensures.sets_failed.1 ∙ c.pieces.invariant.2,
+    )
+
+pub pieces-preserved-in-Line-2 : goal.pieces-preserved-in-Line-2
+pieces-preserved-in-Line-2 g c =
+    let shown = c.in-Ok.shown in
+    let front = take c.line_end-end.result.0 shown.now in
+    let taken = Consumes-front _ _ _ _ c.line_end-end.result.0 _ shown c.in-Ok.is c.fill_buf.follows.holds-at-none.0
+    c.line_end-end.ensures.bound c.in-Ok.ensures.front c.in-Ok.ensures.end c.consume-in-Line-2.ensures.bytes in
+    let cut : IsWithEnd front = subst (λ t. IsCut t front) c.in-Line-2.is c.line_end-end.ensures.taken in
+    let more : c.extend_from_slice.new.self.items ≡ c.pieces.piece.items ++ front = search rules in
+    let text = c.in_ok-write_rest-in-Line-2.ensures.text in
+    let line = c.deref.ensures.value ∙ more ∙ ap (λ l. c.pieces.piece.items ++ l) cut.2 in
+    rw c.clear.ensures.items (
+      Streaming-line c.args.flags.0 c.pieces.scan c.new-scan-in-Line-2.result _ _ _ _ _ _ c.pieces.piece.items cut.0
+          text.0 c.pieces.invariant.0 (subst (Consumes _ _) cut.2 taken) text.1
+          (subst (λ l. IsRestText c.args.flags.0 c.pieces.scan l text.0) line text.2) c.new-scan-in-Line-2.ensures,
+      c.consume-in-Line-2.ensures.failed ∙ c.fill_buf.follows.holds-at-none.1 ∙ c.pieces.invariant.1,
+      c.in_ok-write_rest-in-Line-2.ensures.sets_failed.1 ∙ c.pieces.invariant.2,
+    )
+
 pub pieces-preserved : goal.pieces-preserved
 pieces-preserved g c =
     let shown = c.in-Ok.shown in
-    let front = take c.line_end-end.result.0 shown.now in
-    elim c.match-taken.branch [
-      | in-Line+in_ok-put-in-Line w ↦
-          let taken = Consumes-front _ _ _ _ c.line_end-end.result.0 _ shown c.in-Ok.is
-          c.fill_buf.follows.holds-at-none.0
-          c.line_end-end.ensures.bound c.in-Ok.ensures.front c.in-Ok.ensures.end w.consume.ensures.bytes in
-          let cut : IsWithEnd front = subst (λ t. IsCut t front) w.in-Line.is c.line_end-end.ensures.taken in
-          let none : vec_len c.pieces.piece ≡ 0 = search rules in
-          let empty = nil_from_length c.pieces.piece.items (sym c.pieces.piece.ok.0 ∙ none) in
-          let text = w.in_ok-put-in-Line.ensures.text in
-          let joined = cut.2 ∙ ap (λ l. l ++ (cut.0 ++ 10 ∷ [])) (sym empty) in
-          rw (w.input-is, w.out-is, w.piece-is, w.scan-is, empty) (
-            Streaming-line c.args.flags.0 c.pieces.scan w.new-scan-in-Line.result _ _ _ _ _ _ c.pieces.piece.items
-                cut.0 text.0 c.pieces.invariant.0 (subst (Consumes _ _) cut.2 taken) text.1
-                (subst (λ l. IsRestText c.args.flags.0 c.pieces.scan l text.0) joined text.2)
-                w.new-scan-in-Line.ensures,
-            w.consume.ensures.failed ∙ c.fill_buf.follows.holds-at-none.1 ∙ c.pieces.invariant.1,
-            w.in_ok-put-in-Line.ensures.sets_failed.1 ∙ c.pieces.invariant.2,
-          )
-      | in-Line-2+else-is_err+in_ok-write_rest-in-Line-2 w ↦
-          let taken = Consumes-front _ _ _ _ c.line_end-end.result.0 _ shown c.in-Ok.is
-          c.fill_buf.follows.holds-at-none.0
-          c.line_end-end.ensures.bound c.in-Ok.ensures.front c.in-Ok.ensures.end w.consume-in-Line-2.ensures.bytes in
-          let cut : IsWithEnd front = subst (λ t. IsCut t front) w.in-Line-2.is c.line_end-end.ensures.taken in
-          let more : w.extend_from_slice.new.self.items ≡ c.pieces.piece.items ++ front = search rules in
-          let text = w.in_ok-write_rest-in-Line-2.ensures.text in
-          let line = w.deref.ensures.value ∙ more ∙ ap (λ l. c.pieces.piece.items ++ l) cut.2 in
-          rw (w.input-is, w.out-is, w.piece-is, w.scan-is, w.clear.ensures.items) (
-            Streaming-line c.args.flags.0 c.pieces.scan w.new-scan-in-Line-2.result _ _ _ _ _ _
-                c.pieces.piece.items cut.0 text.0 c.pieces.invariant.0 (subst (Consumes _ _) cut.2 taken) text.1
-                (subst (λ l. IsRestText c.args.flags.0 c.pieces.scan l text.0) line text.2)
-                w.new-scan-in-Line-2.ensures,
-            w.consume-in-Line-2.ensures.failed ∙ c.fill_buf.follows.holds-at-none.1 ∙ c.pieces.invariant.1,
-            w.in_ok-write_rest-in-Line-2.ensures.sets_failed.1 ∙ c.pieces.invariant.2,
-          )
-      | in-Part+else-is_err-2+in_ok-write_decided-in-Part w ↦
-          let taken = Consumes-front _ _ _ _ c.line_end-end.result.0 _ shown c.in-Ok.is
-          c.fill_buf.follows.holds-at-none.0
-          c.line_end-end.ensures.bound c.in-Ok.ensures.front c.in-Ok.ensures.end w.consume-in-Part.ensures.bytes in
-          let cut : IsCut Part front = subst (λ t. IsCut t front) w.in-Part.is c.line_end-end.ensures.taken in
-          let more : w.extend_from_slice-in-Part.new.self.items ≡ c.pieces.piece.items ++ front = search rules in
-          let text = w.in_ok-write_decided-in-Part.ensures.text in
-          let after = w.write_decided.new.scan in
-          let rest = w.write_decided.new.piece.items in
-          rw (w.input-is, w.out-is, w.piece-is, w.scan-is) (
-            Streaming-put c.args.flags.0 c.pieces.scan after _ _ _ _ _ _ c.pieces.piece.items front text.0 rest
-                c.pieces.invariant.0 taken cut.1 text.1
-                (subst (λ l. IsDecidedText c.args.flags.0 c.pieces.scan l text.0 after rest) more text.2),
-            w.consume-in-Part.ensures.failed ∙ c.fill_buf.follows.holds-at-none.1 ∙ c.pieces.invariant.1,
-            w.in_ok-write_decided-in-Part.ensures.sets_failed.1 ∙ c.pieces.invariant.2,
-          )
-    ]
+    let part = take c.line_end-end.result.0 shown.now in
+    let taken = Consumes-front _ _ _ _ c.line_end-end.result.0 _ shown c.in-Ok.is c.fill_buf.follows.holds-at-none.0
+    c.line_end-end.ensures.bound c.in-Ok.ensures.front c.in-Ok.ensures.end c.consume-in-Part.ensures.bytes in
+    let cut : IsCut Part part = subst (λ t. IsCut t part) c.in-Part.is c.line_end-end.ensures.taken in
+    let more : c.extend_from_slice-in-Part.new.self.items ≡ c.pieces.piece.items ++ part = search rules in
+    let text = c.in_ok-write_decided-in-Part.ensures.text in
+    let after = c.write_decided.new.scan in
+    let rest = c.write_decided.new.piece.items in (
+      Streaming-put c.args.flags.0 c.pieces.scan after _ _ _ _ _ _ c.pieces.piece.items part text.0 rest
+          c.pieces.invariant.0 taken cut.1 text.1
+          (subst (λ l. IsDecidedText c.args.flags.0 c.pieces.scan l text.0 after rest) more text.2),
+      c.consume-in-Part.ensures.failed ∙ c.fill_buf.follows.holds-at-none.1 ∙ c.pieces.invariant.1,
+      c.in_ok-write_decided-in-Part.ensures.sets_failed.1 ∙ c.pieces.invariant.2,
+    )

@@ -2,7 +2,6 @@ use Rattle.std.proofs.Common.{rules, ◌≡◌, ◌≢◌, ◌++◌, ◌∷◌, 
 use Rattle.std.specs.Prelude.{vec_len}
 use Rattle.std.proofs.lemmas.Result.{err_from_is_err_and}
 use Rattle.std.specs.Io.KnownBytes.{Consumes}
-use Rattle.std.proofs.KnownBytes.{Consumes-nil}
 use Rattle.msvc_lines.specs.Answers.{IsText}
 use Rattle.msvc_lines.specs.Lines.{line_of}
 use Rattle.msvc_watched.specs.Faults.{failure_flag}
@@ -13,7 +12,6 @@ use Rattle.msvc_watched.specs.declared.watched.Taken.TheVariants.{Part}
 use Rattle.msvc_lines.proofs.LineRun.{empty-of_length, LineRun-polled, LineRun-end, LineRun-fault, LineRun-line}
 use Rattle.msvc_lines.proofs.LineRun.{LineRun-part, LineRun-rest, LineRun-start}
 use Rattle.msvc_lines.proofs.Texts.{answers-joined}
-use Rattle.msvc_lines.proofs.lines.undname_lines.Goals.{in-Part, in-Line+in_ok-undname_line-in-Line}
 use Rattle.msvc_lines.proofs.lines.undname_lines.Goals as goal
 
 pub pieces-init : goal.pieces-init
@@ -63,28 +61,27 @@ returns-in-End-clause-text g c =
     (λ l. l ≢ []) part some)
     text.0 text.1 (subst (λ l. Writes r (IsText (line_of l ∷ [])) text.0) whole text.2)
 
+pub pieces-preserved-in-Part : goal.pieces-preserved-in-Part
+pieces-preserved-in-Part g c =
+    let e = c.in_ok-read_piece.ensures in
+    let cut : IsCut Part e.taken.0 = subst (λ t. IsCut t e.taken.0) c.in-Part.is e.taken.3 in
+    rw e.taken.1 (
+      LineRun-part _ _ _ _ _ _ _ c.pieces.invariant.0 e.taken.2 cut.1,
+      e.sets_failed.0 ∙ c.pieces.invariant.1,
+      c.pieces.invariant.2,
+      c.pieces.invariant.3,
+    )
+
 pub pieces-preserved : goal.pieces-preserved
 pieces-preserved g c =
     let e = c.in_ok-read_piece.ensures in
-    elim c.match-branch-2.branch [
-      | in-Part w ↦
-          let cut : IsCut Part e.taken.0 = subst (λ t. IsCut t e.taken.0) w.in-Part.is e.taken.3 in
-          rw (w.out-is, w.err-is, w.piece-is, e.taken.1) (
-            LineRun-part _ _ _ _ _ _ _ c.pieces.invariant.0 e.taken.2 cut.1,
-            e.sets_failed.0 ∙ c.pieces.invariant.1,
-            c.pieces.invariant.2,
-            c.pieces.invariant.3,
-          )
-      | in-Line+in_ok-undname_line-in-Line w ↦
-          let cut : IsWithEnd e.taken.0 = subst (λ t. IsCut t e.taken.0) w.in-Line.is e.taken.3 in
-          let text = w.in_ok-undname_line-in-Line.ensures.text in
-          let whole = w.deref.ensures.value ∙ e.taken.1 ∙ ap (λ l. c.pieces.piece.items ++ l) cut.2 in
-          rw (w.out-is, w.err-is, w.piece-is, w.clear.ensures.items) (
-            LineRun-line answers-joined _ _ _ _ _ _ _ cut.0 c.pieces.invariant.0 (subst
-                (Consumes _ _) cut.2 e.taken.2) cut.1 text.0
-                text.1 (subst (λ l. IsText (line_of l ∷ []) text.0) whole text.2),
-            e.sets_failed.0 ∙ c.pieces.invariant.1,
-            w.in_ok-undname_line-in-Line.ensures.sets_failed.1 ∙ c.pieces.invariant.2,
-            w.in_ok-undname_line-in-Line.ensures.sets_failed.2 ∙ c.pieces.invariant.3,
-          )
-    ]
+    let cut : IsWithEnd e.taken.0 = subst (λ t. IsCut t e.taken.0) c.in-Line.is e.taken.3 in
+    let line = c.in_ok-undname_line-in-Line.ensures in
+    let whole = c.deref.ensures.value ∙ e.taken.1 ∙ ap (λ l. c.pieces.piece.items ++ l) cut.2 in
+    rw c.clear.ensures.items (
+      LineRun-line answers-joined _ _ _ _ _ _ _ cut.0 c.pieces.invariant.0 (subst (Consumes _ _) cut.2 e.taken.2) cut.1
+          line.text.0 line.text.1 (subst (λ l. IsText (line_of l ∷ []) line.text.0) whole line.text.2),
+      e.sets_failed.0 ∙ c.pieces.invariant.1,
+      line.sets_failed.1 ∙ c.pieces.invariant.2,
+      line.sets_failed.2 ∙ c.pieces.invariant.3,
+    )
