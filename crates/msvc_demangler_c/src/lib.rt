@@ -140,10 +140,7 @@ fn declare(
             offset: 0,
             text: CowStr::Owned(declaration),
         },
-        Err(error) => match (
-            rejection(&error),
-            format!(in alloc; "{error}"),
-        ) {
+        Err(error) => match (rejection(&error), format!(in alloc; "{error}")) {
             (Some((status, offset)), Ok(text)) => Reply {
                 status,
                 offset,

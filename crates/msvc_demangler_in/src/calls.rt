@@ -151,18 +151,14 @@ fn unread(refusal: Refusal, symbol: &str) -> CallResult
 }
 
 /// Writes why a call fails.
-fn write_reason(
-    memory: &Lent,
-    failure: Failure,
-    symbol: &str,
-    out: &mut [u8],
-) -> CallResult
+fn write_reason(memory: &Lent, failure: Failure, symbol: &str, out: &mut [u8]) -> CallResult
     requires { IsInside symbol.now failure }
     ensures { (shown : List ℕ)
         × IsReason symbol.now failure result.status result.offset shown
         × (result.length ≡ length shown) × IsWritten shown out.old out.new }
 {
-    let (Some((status, offset)), Some(arena)) = (rejection(failure, symbol), arena_in(memory)) else {
+    let (Some((status, offset)), Some(arena)) = (rejection(failure, symbol), arena_in(memory))
+    else {
         return out_of_memory(out);
     };
     match write_failure(&arena, failure, symbol, out) {

@@ -21,8 +21,8 @@ ghost use Rattle.msvc_parser.specs.Parser.{frame_of, optional_letters, ReadsAs, 
 ghost use Rattle.msvc_parser.specs.Parser.{Stays};
 
 use crate::back_references::{BackReference, BackrefTables};
-use crate::letters::{self, OptionalLetters};
 use crate::last_error::LastError;
+use crate::letters::{self, OptionalLetters};
 use crate::limit::NodeBudget;
 use crate::nested_list::NestedList;
 use crate::refusal::{Failed, Message, Refusal};
@@ -194,8 +194,7 @@ impl<'a, 'b, L: NodeBudget, A: Allocator> Parser<'a, 'b, L, A> {
     #[inline(never)]
     fn reject_nodes(&mut self) -> Failed
         requires { nat_lt 0 L.weight ≡ true }
-        ensures last_error {
-            self.new.last_error.reason ≡ Refusal.Unread Message.TooManyNodes (length self.old.rest.now) }
+        ensures last_error { self.new.last_error.reason ≡ Refusal.Unread Message.TooManyNodes (length self.old.rest.now) }
         ensures rest { self.new.rest.now ≡ self.old.rest.now }
         ensures state { state_of self.new ≡ state_of self.old }
         ensures kept { frame_of self.new ≡ frame_of self.old }

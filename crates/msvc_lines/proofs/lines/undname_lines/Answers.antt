@@ -4,10 +4,8 @@ use Rattle.std.proofs.lemmas.Result.{err_from_is_err_and}
 use Rattle.std.specs.Io.KnownBytes.{Consumes}
 use Rattle.msvc_lines.specs.Answers.{IsText}
 use Rattle.msvc_lines.specs.Lines.{line_of}
-use Rattle.msvc_watched.specs.Faults.{failure_flag}
 use Rattle.msvc_watched.specs.Runs.{Writes, WritesPart}
 use Rattle.msvc_watched.specs.Taking.{IsCut, IsWithEnd}
-use Rattle.msvc_watched.specs.declared.watched.Fault.TheVariants.{Read}
 use Rattle.msvc_watched.specs.declared.watched.Taken.TheVariants.{Part}
 use Rattle.msvc_lines.proofs.LineRun.{empty-of_length, LineRun-polled, LineRun-end, LineRun-fault, LineRun-line}
 use Rattle.msvc_lines.proofs.LineRun.{LineRun-part, LineRun-rest, LineRun-start}

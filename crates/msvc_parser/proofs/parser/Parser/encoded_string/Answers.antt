@@ -1,4 +1,4 @@
-use Rattle.std.proofs.Common.{rules, ◌≡◌, List, ℕ, subst, sym}
+use Rattle.std.proofs.Common.{rules, ◌≡◌, subst, sym}
 use Rattle.msvc_nodes.specs.NodeView.{type_at, type_of}
 use Rattle.msvc_nodes.specs.Trees.{TypeTree}
 use Rattle.msvc_grammar.specs.Grammar.{string_length}
