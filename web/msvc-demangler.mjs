@@ -47,9 +47,10 @@ export class DemangleError extends Error {
 class OutOfStack extends RangeError {}
 
 // What V8, SpiderMonkey and JavaScriptCore say where the engine's stack is full, and where that of the module is, which
-// lies in its memory: it overflows below address 0, and a proved call accesses no other place out of bounds.
-const FULL_STACK = ['Maximum call stack size exceeded', 'too much recursion', 'memory access out of bounds',
-  'index out of bounds', 'Out of bounds memory access'];
+// lies in its memory: each function tests at its beginning that it has space, and a proved call reaches no other
+// instruction `unreachable`.
+const FULL_STACK = ['Maximum call stack size exceeded', 'too much recursion', 'unreachable',
+  'Unreachable code should not be executed'];
 
 const CODES = ['OK', 'INVALID', 'NOT_UTF8', 'OUT_OF_MEMORY', 'TOO_MANY_NODES', 'TOO_LONG'];
 const DEFAULT_NODES = 10_000;
