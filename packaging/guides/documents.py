@@ -20,7 +20,8 @@ import sys
 
 # Sets of guides, with the files that they name.
 SETS = {
-    "programs": ["docs/undname.md", "docs/msvcfilt.md", "docs/flags.md", "docs/limits.md", "docs/statuses.md"],
+    "programs": ["docs/undname.md", "docs/msvcfilt.md", "docs/flags.md", "docs/limits.md", "docs/statuses.md",
+                 "docs/DIFFERENCES.md", "docs/differences.txt"],
     "jobs": ["docs/scale.md", "examples/dask"],
     "library": ["docs/install.md", "docs/c.md", "examples/c", "packaging/rust/crate", "packaging/wheel/README.md",
                 "packaging/wheel/src"],
