@@ -116,6 +116,7 @@ flags = record {
   no_this = is_shown refl;
   no_access = is_shown refl;
   no_member_type = is_shown refl;
+  neither = is_shown refl;
   no_words_before = is_shown refl;
   of_a_variable = is_shown refl;
   decoding = is_shown refl;

@@ -147,6 +147,7 @@ pub record AreFlags : Type 0 where
   pub no_this : IsShown 0x60 "?foo@A@PR19361@@QIHAEXXZ" "public: void __thiscall PR19361::A::foo(void)"
   pub no_access : IsShown 0x80 "?f@A@@SAHXZ" "static int __cdecl A::f(void)"
   pub no_member_type : IsShown 0x200 "?f@A@@SAHXZ" "public: int __cdecl A::f(void)"
+  pub neither : IsShown 0x280 "?f@A@@SAHXZ" "int __cdecl A::f(void)"
   pub no_words_before : IsShown 0x82 "??0klass@@QEAA@XZ" " klass::klass(void)"
   pub of_a_variable : IsShown 0x280 "?x@A@@2HA" "public: static int A::x"
   pub decoding : IsShown 0x800 "?T@@4P6BNXZC" "double (__cdecl * volatile T)(void)"
