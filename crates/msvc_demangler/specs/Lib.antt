@@ -23,8 +23,8 @@ pub use Rattle.msvc_nodes.specs.Errors
 pub use Rattle.msvc_nodes.specs.Trees
 pub use Rattle.msvc_nodes.specs.declared.error.ErrorRepr
 pub use Rattle.msvc_nodes.specs.declared.error.Limit
-pub use Rattle.msvc_parser.specs.Errors as MessageTexts
-pub use Rattle.msvc_parser.specs.Parser
+pub use Rattle.msvc_cursor.specs.Errors as MessageTexts
+pub use Rattle.msvc_cursor.specs.Parser
 pub use Rattle.msvc_print.specs.Declaration
 pub use Rattle.msvc_print.specs.Laws as PrintLaws
 pub use Rattle.msvc_read.specs.Failures as ReadFailures
@@ -34,8 +34,8 @@ pub use Rattle.msvc_symbol.specs.Limits
 pub use Rattle.msvc_symbol.specs.declared.failure.Failure
 pub use Rattle.msvc_tree.specs.Equality
 pub use Rattle.msvc_tree.specs.View
-pub use Rattle.msvc_watched.specs.Faults
-pub use Rattle.msvc_watched.specs.Streams
-pub use Rattle.msvc_watched.specs.Taking
-pub use Rattle.msvc_watched.specs.declared.watched.Fault
+pub use Rattle.msvc_streams.specs.Faults
+pub use Rattle.msvc_streams.specs.Streams
+pub use Rattle.msvc_streams.specs.Taking
+pub use Rattle.msvc_streams.specs.declared.watched.Fault
 pub use Rattle.msvc_write.specs.Serialized

@@ -11,22 +11,22 @@ ghost use Rattle.msvc_symbol.specs.Limits.{limits_of};
 
 pub use alloc_fuse::Fuse;
 pub use bitflags::Flags;
+pub use msvc_cursor::refusal::{Message, Refusal};
 pub use msvc_filter::{Filtered, filter_slice, filter_slice_in, filter_text};
 pub use msvc_lines::{undname_lines, undname_one, undname_run};
 pub use msvc_nodes::error::{Error, ErrorRepr, Limit};
 pub use msvc_nodes::flags::{DemangleFlags, FuncClass, StorageClass};
-pub use msvc_parser::refusal::{Message, Refusal};
 pub use msvc_print::Text;
 pub use msvc_read::{
     BackReference, back_references, parse, parse_prefix, parse_within, symbol_length,
     symbol_length_within,
 };
+pub use msvc_streams::{Fault, Watched};
 pub use msvc_symbol::{DEFAULT_BYTE_LIMIT, DEFAULT_NODE_LIMIT, Demangler, Failure};
 use msvc_symbol::{Limits, demangle_once, error_of};
 pub use msvc_tree::tree::{
     CallingConv, Name, NameSequence, Operator, Params, ParseResult, Symbol, Type, VarStorageKind,
 };
-pub use msvc_watched::{Fault, Watched};
 pub use msvc_write::serialize;
 use std::alloc::Global;
 

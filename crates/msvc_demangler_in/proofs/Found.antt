@@ -2,11 +2,11 @@
 use Rattle.std.proofs.Common.{◌≡◌, ◌≢◌, ◌-◌, ℕ, List, [], Option, Some, None, IfSome, arith, codes, length, refl}
 use Rattle.std.proofs.Common.{subst, sym}
 use Rattle.std.specs.Str.{IsAscii, IsUtf8}
-use Rattle.msvc_parser.specs.declared.refusal.Message.{Message}
-use Rattle.msvc_parser.specs.declared.refusal.Refusal.{Refusal}
-use Rattle.msvc_parser.specs.declared.refusal.Refusal.TheVariants as refusal
-use Rattle.msvc_parser.proofs.Messages.{not-bytes, words-limit}
-use Rattle.msvc_parser.specs.Messages.{limit_of_message, message_words}
+use Rattle.msvc_cursor.specs.declared.refusal.Message.{Message}
+use Rattle.msvc_cursor.specs.declared.refusal.Refusal.{Refusal}
+use Rattle.msvc_cursor.specs.declared.refusal.Refusal.TheVariants as refusal
+use Rattle.msvc_cursor.proofs.Messages.{not-bytes, words-limit}
+use Rattle.msvc_cursor.specs.Messages.{limit_of_message, message_words}
 use Rattle.msvc_demangler.specs.Errors.{context_of, rejection_text}
 use Rattle.msvc_demangler.specs.Failures.{FailsUnder, IsFailure, IsFailureText, limit_of_failure, offset_of_failure}
 use Rattle.msvc_demangler.specs.Limits.{Limits}

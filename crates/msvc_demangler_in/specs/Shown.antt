@@ -1,7 +1,7 @@
 -- What the calls return and write that show a tree and list back references.
 use Rattle.std.specs.Prelude.{ℕ, List, ◌≡◌, ◌≢◌, ◌++◌, drop, length, map, take}
 use Rattle.std.specs.Str.{IsUtf8}
-use Rattle.msvc_parser.specs.declared.refusal.Refusal.TheVariants as refusal
+use Rattle.msvc_cursor.specs.declared.refusal.Refusal.TheVariants as refusal
 use Rattle.msvc_demangler.specs.Counts.{node_count}
 use Rattle.msvc_demangler.specs.Failures.{IsFailureText, limit_of_failure, offset_of_failure}
 use Rattle.msvc_demangler.specs.Limits.{IsWithin, Limits}

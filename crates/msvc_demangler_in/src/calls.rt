@@ -1,7 +1,7 @@
 //! The calls in lent memory.
 
 ghost use Rattle.std.specs.Prelude.{◌≡◌, ◌≢◌, ◌++◌, ℕ, IfNone, IfOk, IfSome, List, drop, length};
-ghost use Rattle.msvc_parser.specs.declared.refusal.Refusal.TheVariants as refusal;
+ghost use Rattle.msvc_cursor.specs.declared.refusal.Refusal.TheVariants as refusal;
 ghost use Rattle.msvc_demangler.specs.Failure.TheVariants.{Unread};
 ghost use Rattle.msvc_demangler.specs.Failures.{FailsUnder, IsFailureText, IsInside};
 ghost use Rattle.msvc_demangler.specs.Failures.{limit_of_failure, offset_of_failure};

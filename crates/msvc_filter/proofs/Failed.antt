@@ -1,6 +1,6 @@
 -- What holds of a candidate that has no declaration.
 use Rattle.std.proofs.Common.{◌≡◌, ℕ, List, inl, inr, refl}
-use Rattle.msvc_parser.specs.declared.refusal.Refusal.TheVariants as refusal
+use Rattle.msvc_cursor.specs.declared.refusal.Refusal.TheVariants as refusal
 use Rattle.msvc_symbol.specs.Failures.{IsFailure}
 use Rattle.msvc_symbol.specs.Limits.{limits_of}
 use Rattle.msvc_symbol.specs.declared.failure.Failure.{Failure}

@@ -18,7 +18,7 @@ use Rattle.msvc_print.specs.Declaration.{declaration}
 use Rattle.msvc_filter.specs.Filtered.{AreParts, IsFilteredFrom, IsFilteredText, IsNoSymbol, IsSymbol, Part}
 use Rattle.msvc_filter.specs.Filtered.{declared}
 use Rattle.msvc_filter.specs.Filtered.{kept, max_declared, max_nodes, nothing, replaced, stays, text_of_parts}
-use Rattle.msvc_watched.specs.Runs.{IsLines}
+use Rattle.msvc_streams.specs.Runs.{IsLines}
 use Rattle.msvc_filter.specs.WordStates.{AreRest, Keeps}
 use Rattle.msvc_filter.specs.SymbolBounds.{blocks_start, candidate, continues, is_word_byte, is_visible}
 use Rattle.msvc_filter.specs.SymbolBounds.{symbol_extent}

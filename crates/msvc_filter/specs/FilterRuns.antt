@@ -1,9 +1,9 @@
 -- What the filter has written when it ends.
 use Rattle.std.specs.Prelude.{ℕ, List, [], ◌++◌, ◌≡◌, ◌≢◌, ◌≤◌, Result, MatchResult, length}
-use Rattle.msvc_watched.specs.Runs.{IsLines, IsOfOneLine}
-use Rattle.msvc_watched.specs.Taking.{IsWithoutEnd}
-use Rattle.msvc_watched.specs.declared.watched.Fault.{Fault}
-use Rattle.msvc_watched.specs.declared.watched.Fault.TheVariants.{Read, Write}
+use Rattle.msvc_streams.specs.Runs.{IsLines, IsOfOneLine}
+use Rattle.msvc_streams.specs.Taking.{IsWithoutEnd}
+use Rattle.msvc_streams.specs.declared.watched.Fault.{Fault}
+use Rattle.msvc_streams.specs.declared.watched.Fault.TheVariants.{Read, Write}
 use Rattle.msvc_filter.specs.Filtered.{IsFiltered}
 
 -- a line of at most so many bytes is written whole, and a longer one in pieces

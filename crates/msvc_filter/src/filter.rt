@@ -8,11 +8,11 @@ ghost use Rattle.msvc_nodes.specs.Trees.{SymbolTree};
 ghost use Rattle.msvc_grammar.specs.Counts.{node_count};
 ghost use Rattle.msvc_grammar.specs.Parsed.{IsParsed, IsSymbolLength};
 ghost use Rattle.msvc_print.specs.Declaration.{declaration};
-ghost use Rattle.msvc_watched.specs.Faults.{SetsFailureFlag, failure_flag, no_stream};
+ghost use Rattle.msvc_streams.specs.Faults.{SetsFailureFlag, failure_flag, no_stream};
 ghost use Rattle.msvc_filter.specs.SliceWriters.{IsSliceWriter, space_after};
 ghost use Rattle.msvc_filter.specs.Filtered.{AreOnlyParts, IsNoSymbol, IsNoneWithin, Part, declared, fitting};
 ghost use Rattle.msvc_filter.specs.Filtered.{kept, max_declared, max_nodes, text_of_parts};
-ghost use Rattle.msvc_watched.specs.Runs.{Writes, WritesPart};
+ghost use Rattle.msvc_streams.specs.Runs.{Writes, WritesPart};
 ghost use Rattle.msvc_filter.specs.FilterRuns.{WritesFiltered};
 ghost use Rattle.msvc_filter.specs.WordStates.{ArePartsUpTo, IsFilteredUpTo, IsFound};
 ghost use Rattle.msvc_filter.specs.WordStates.{IsDecidedText, IsDecidedTextOf, IsRestText};
@@ -23,10 +23,10 @@ use crate::symbol_bounds::{
     MAX_LOOKED_AT, WordState, candidate, continues, plain_len, symbol_extent, utf8_front,
 };
 use msvc_nodes::flags::DemangleFlags;
+use msvc_streams::{Fault, Polls, Taken, Watched, consume, fail, fill_buf, line_end, write_all};
 use msvc_symbol::{
     DEFAULT_BYTE_LIMIT, DEFAULT_NODE_LIMIT, Demangler, Limits, print_symbol, printed_bytes,
 };
-use msvc_watched::{Fault, Polls, Taken, Watched, consume, fail, fill_buf, line_end, write_all};
 use std::alloc::{AllocError, Allocator, Global};
 use std::io::{BufRead, Write};
 

@@ -5,14 +5,14 @@ use Rattle.std.specs.declared.option.Option.{Option}
 use Rattle.std.specs.Io.KnownBytes.{Appends, Consumes}
 use Rattle.std.proofs.KnownBytes.{Appends-nil, Appends-trans, Consumes-nil, Consumes-trans}
 use Rattle.std.proofs.lemmas.List.Elements.{All-nil, All-append}
-use Rattle.msvc_watched.specs.Faults.{IsSet, FailureFlag, SetsFlagOf, Stays, no_stream}
+use Rattle.msvc_streams.specs.Faults.{IsSet, FailureFlag, SetsFlagOf, Stays, no_stream}
 use Rattle.msvc_lines.specs.LineRuns.{LeavesOff, WritesText}
-use Rattle.msvc_watched.specs.Runs.{IsLines, IsOfOneLine, Writes, WritesPart}
-use Rattle.msvc_watched.specs.Taking.{IsWithoutEnd}
-use Rattle.msvc_watched.specs.declared.watched.Fault.{Fault}
-use Rattle.msvc_watched.specs.declared.watched.Fault.TheVariants.{Read, Write, Memory}
+use Rattle.msvc_streams.specs.Runs.{IsLines, IsOfOneLine, Writes, WritesPart}
+use Rattle.msvc_streams.specs.Taking.{IsWithoutEnd}
+use Rattle.msvc_streams.specs.declared.watched.Fault.{Fault}
+use Rattle.msvc_streams.specs.declared.watched.Fault.TheVariants.{Read, Write, Memory}
 use Rattle.msvc_lines.proofs.LineTexts.{AreJoined, IsTheText, the_text}
-use Rattle.msvc_watched.proofs.WholeLines.{IsLines-append}
+use Rattle.msvc_streams.proofs.WholeLines.{IsLines-append}
 
 -- Some lines are finished and their text is written, and a part of the next was taken.
 pub record LineRun (T : List ℕ → List ℕ → Type 0) (reader reads writer writes : Option (List ℕ))

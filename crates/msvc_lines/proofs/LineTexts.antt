@@ -1,6 +1,6 @@
 -- Texts of lines: what is asked of a kind of text that is written line by line.
 use Rattle.std.proofs.Common.{◌≡◌, ◌≢◌, ◌++◌, [], ℕ, List}
-use Rattle.msvc_watched.specs.Runs.{IsLines, IsOfOneLine}
+use Rattle.msvc_streams.specs.Runs.{IsLines, IsOfOneLine}
 
 -- T says what the text of some bytes is, and P what that of one line is. The text of lines is that of the first ones
 -- and then that of the last, and there is one only.

@@ -6,8 +6,8 @@ use Rattle.std.specs.Prelude.{map}
 use Rattle.std.specs.declared.option.Option.{Option}
 use Rattle.std.specs.Io.KnownBytes.{Appends}
 use Rattle.std.proofs.KnownBytes.{Appends-trans}
-use Rattle.msvc_watched.specs.Runs.{WritesPart}
-use Rattle.msvc_watched.specs.declared.watched.Fault.{Fault}
+use Rattle.msvc_streams.specs.Runs.{WritesPart}
+use Rattle.msvc_streams.specs.declared.watched.Fault.{Fault}
 use Rattle.msvc_lines.specs.Answers.{IsLineText}
 use Rattle.msvc_lines.specs.Arguments.{IsSymbolsText, LeavesOffAt, WritesAnswers, WritesSymbols}
 use Rattle.msvc_lines.specs.Arguments.{answered, nothing}

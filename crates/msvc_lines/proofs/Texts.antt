@@ -4,8 +4,8 @@ use Rattle.std.proofs.Common.{inl, inr}
 use Rattle.std.specs.Str.{IsUtf8}
 use Rattle.msvc_nodes.specs.Trees.{SymbolTree}
 use Rattle.msvc_grammar.specs.Parsed.{IsParsed}
-use Rattle.msvc_parser.specs.declared.refusal.Refusal.{Refusal}
-use Rattle.msvc_parser.specs.declared.refusal.Refusal.TheVariants as refusal
+use Rattle.msvc_cursor.specs.declared.refusal.Refusal.{Refusal}
+use Rattle.msvc_cursor.specs.declared.refusal.Refusal.TheVariants as refusal
 use Rattle.msvc_print.specs.Declaration.{declaration}
 use Rattle.msvc_read.specs.Failures.{Fails}
 use Rattle.msvc_lines.specs.Lines.{line_of, lines_of}

@@ -1,7 +1,7 @@
 -- What is written for the arguments of `undname`.
 use Rattle.std.specs.Prelude.{ℕ, List, [], ◌∷◌, ◌++◌, ◌≡◌, Result, MatchResult, bytes_eq, codes, if◌then◌else◌}
-use Rattle.msvc_watched.specs.Runs.{WritesPart}
-use Rattle.msvc_watched.specs.declared.watched.Fault.{Fault}
+use Rattle.msvc_streams.specs.Runs.{WritesPart}
+use Rattle.msvc_streams.specs.declared.watched.Fault.{Fault}
 use Rattle.msvc_lines.specs.Answers.{IsLineText}
 use Rattle.msvc_lines.specs.LineRuns.{WritesLines}
 

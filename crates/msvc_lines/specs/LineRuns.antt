@@ -1,9 +1,9 @@
 -- What a run over lines has written when it ends.
 use Rattle.std.specs.Prelude.{ℕ, List, ◌++◌, ◌≡◌, Result, MatchResult}
-use Rattle.msvc_watched.specs.Runs.{IsLines, IsOfOneLine}
-use Rattle.msvc_watched.specs.Taking.{IsWithoutEnd}
-use Rattle.msvc_watched.specs.declared.watched.Fault.{Fault}
-use Rattle.msvc_watched.specs.declared.watched.Fault.TheVariants.{Read, Write, Memory}
+use Rattle.msvc_streams.specs.Runs.{IsLines, IsOfOneLine}
+use Rattle.msvc_streams.specs.Taking.{IsWithoutEnd}
+use Rattle.msvc_streams.specs.declared.watched.Fault.{Fault}
+use Rattle.msvc_streams.specs.declared.watched.Fault.TheVariants.{Read, Write, Memory}
 use Rattle.msvc_lines.specs.Answers.{IsFilterText}
 
 -- What a run over lines that failed has written of what it took from the reader, where P says what the text of some

@@ -2,12 +2,12 @@
 
 ghost use Rattle.std.specs.Prelude.{◌≡◌, [], ℕ, List, OnOk, OnSome, map, string_bytes};
 ghost use Rattle.std.specs.Io.KnownBytes.{Appends, Consumes, IsAtEnd};
-ghost use Rattle.msvc_watched.specs.Faults.{SetsFailureFlag, failure_flag, no_stream};
+ghost use Rattle.msvc_streams.specs.Faults.{SetsFailureFlag, failure_flag, no_stream};
 ghost use Rattle.msvc_lines.specs.Arguments.{WritesAnswers, WritesSymbols, symbols_of};
 
 use crate::lines::{undname_in, undname_lines};
+use msvc_streams::{Fault, Watched};
 use msvc_symbol::Demangler;
-use msvc_watched::{Fault, Watched};
 use std::alloc::Global;
 use std::io::{BufRead, Write};
 

@@ -12,11 +12,11 @@ use Rattle.msvc_grammar.specs.Parsed.{AreReferences}
 use Rattle.msvc_grammar.specs.Reads.{Derives, Found, read_name}
 use Rattle.msvc_grammar.specs.Rules.{after, symbol}
 use Rattle.msvc_grammar.specs.State.{State, Note, at_most, beginning, beginning_with}
-use Rattle.msvc_parser.specs.Messages.{limit_of_refusal}
-use Rattle.msvc_parser.specs.Parser.{IsRead, Rejects, with_length}
-use Rattle.msvc_parser.specs.declared.refusal.Message.TheVariants as message
-use Rattle.msvc_parser.specs.declared.refusal.Refusal.{Refusal}
-use Rattle.msvc_parser.specs.declared.refusal.Refusal.TheVariants as refusal
+use Rattle.msvc_cursor.specs.Messages.{limit_of_refusal}
+use Rattle.msvc_cursor.specs.Parser.{IsRead, Rejects, with_length}
+use Rattle.msvc_cursor.specs.declared.refusal.Message.TheVariants as message
+use Rattle.msvc_cursor.specs.declared.refusal.Refusal.{Refusal}
+use Rattle.msvc_cursor.specs.declared.refusal.Refusal.TheVariants as refusal
 use Rattle.msvc_read.proofs.WholeTexts.{begun, fails, fails-within}
 use Rattle.msvc_read.specs.Failures.{FailsUnder}
 use Rattle.msvc_read.specs.Limits.{IsWithin}

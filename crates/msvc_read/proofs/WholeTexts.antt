@@ -30,16 +30,16 @@ use Rattle.msvc_grammar.specs.Rejections.{IsRejectionAt, IsNoSymbol, IsNoSymbolW
 use Rattle.msvc_grammar.specs.Rejections.{IsRejectedRightlyWithin, begins_with}
 use Rattle.msvc_grammar.specs.Rules.{after, symbol, symbol_body}
 use Rattle.msvc_grammar.specs.State.{State, Note, at_most, beginning, beginning_with}
-use Rattle.msvc_parser.proofs.Choices.{chosen}
-use Rattle.msvc_parser.proofs.SymbolSteps.{symbol_step}
-use Rattle.msvc_parser.proofs.Messages.{not-bytes, words-limit}
-use Rattle.msvc_parser.specs.Errors.{IsErrorOf, IsSaid}
-use Rattle.msvc_parser.specs.Messages.{limit_of_message, limit_of_refusal}
-use Rattle.msvc_parser.specs.Parser.{IsRead, Rejects, with_length}
-use Rattle.msvc_parser.specs.declared.refusal.Message.{Message}
-use Rattle.msvc_parser.specs.declared.refusal.Message.TheVariants as message
-use Rattle.msvc_parser.specs.declared.refusal.Refusal.{Refusal}
-use Rattle.msvc_parser.specs.declared.refusal.Refusal.TheVariants as refusal
+use Rattle.msvc_cursor.proofs.Choices.{chosen}
+use Rattle.msvc_cursor.proofs.SymbolSteps.{symbol_step}
+use Rattle.msvc_cursor.proofs.Messages.{not-bytes, words-limit}
+use Rattle.msvc_cursor.specs.Errors.{IsErrorOf, IsSaid}
+use Rattle.msvc_cursor.specs.Messages.{limit_of_message, limit_of_refusal}
+use Rattle.msvc_cursor.specs.Parser.{IsRead, Rejects, with_length}
+use Rattle.msvc_cursor.specs.declared.refusal.Message.{Message}
+use Rattle.msvc_cursor.specs.declared.refusal.Message.TheVariants as message
+use Rattle.msvc_cursor.specs.declared.refusal.Refusal.{Refusal}
+use Rattle.msvc_cursor.specs.declared.refusal.Refusal.TheVariants as refusal
 use Rattle.msvc_read.specs.Failures.{Fails, FailsUnder, FailsWithin, UnlessMemory}
 use Rattle.msvc_read.specs.Limits.{IsWithin, limit_of_number}
 

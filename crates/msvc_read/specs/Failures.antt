@@ -3,10 +3,10 @@ use Rattle.std.specs.Prelude.{ℕ, List, ◌-◌, ◌≡◌, Option, Some, None,
 use Rattle.msvc_nodes.specs.declared.error.ErrorRepr.{ErrorRepr}
 use Rattle.msvc_grammar.specs.Parsed.{IsRejected, IsRejectedWithin}
 use Rattle.msvc_grammar.specs.Rejections.{IsNoSymbol, IsNoSymbolWithin, begins_with}
-use Rattle.msvc_parser.specs.Errors.{IsErrorOf}
-use Rattle.msvc_parser.specs.Messages.{limit_of_refusal}
-use Rattle.msvc_parser.specs.declared.refusal.Refusal.{Refusal}
-use Rattle.msvc_parser.specs.declared.refusal.Refusal.TheVariants as refusal
+use Rattle.msvc_cursor.specs.Errors.{IsErrorOf}
+use Rattle.msvc_cursor.specs.Messages.{limit_of_refusal}
+use Rattle.msvc_cursor.specs.declared.refusal.Refusal.{Refusal}
+use Rattle.msvc_cursor.specs.declared.refusal.Refusal.TheVariants as refusal
 
 -- no memory, or else this holds of the offset in the text
 abbrev pub UnlessMemory : List ℕ → Refusal → (ℕ → Type 0) → Type 0

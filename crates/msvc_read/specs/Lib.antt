@@ -11,7 +11,7 @@ pub use Rattle.msvc_grammar.specs.Written
 pub use Rattle.msvc_nodes.specs.EachName
 pub use Rattle.msvc_nodes.specs.NodeView
 pub use Rattle.msvc_nodes.specs.Trees
-pub use Rattle.msvc_parser.specs.Parser
+pub use Rattle.msvc_cursor.specs.Parser
 pub use Rattle.msvc_tree.specs.View
 pub mod Failures
 pub mod Limits

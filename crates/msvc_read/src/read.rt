@@ -10,20 +10,20 @@ ghost use Rattle.msvc_grammar.specs.Parsed as spec;
 ghost use Rattle.msvc_grammar.specs.Reads.{read_name};
 ghost use Rattle.msvc_grammar.specs.Rules.{after, symbol};
 ghost use Rattle.msvc_grammar.specs.State.{Count, beginning, beginning_with};
-ghost use Rattle.msvc_parser.specs.Messages.{may_fail_for};
-ghost use Rattle.msvc_parser.specs.Parser.{IsRead, note_of, with_length, Rejects};
+ghost use Rattle.msvc_cursor.specs.Messages.{may_fail_for};
+ghost use Rattle.msvc_cursor.specs.Parser.{IsRead, note_of, with_length, Rejects};
 ghost use Rattle.msvc_read.specs.Failures.{FailsUnder};
 ghost use Rattle.msvc_read.specs.Limits.{IsWithin, limit_of_number};
 
 use alloc_fuse::Fuse;
 use bumpalo::Bump;
+use msvc_cursor::back_references::BackReference;
+use msvc_cursor::limit::{NodeBudget, NodeLimit, Unlimited};
+use msvc_cursor::parser::Parser;
+use msvc_cursor::refusal::{Message, Refusal};
 use msvc_nodes::error::Error;
 use msvc_nodes::nodes::{MAX_ARENA_BYTES, TypedSymbol};
-use msvc_parser::back_references::BackReference;
-use msvc_parser::limit::{NodeBudget, NodeLimit, Unlimited};
-use msvc_parser::parser::Parser;
-use msvc_parser::refusal::{Message, Refusal};
-use msvc_readers::symbols::symbol;
+use msvc_productions::symbols::symbol;
 use msvc_tree::to_tree::nodes_to_tree;
 use msvc_tree::tree::ParseResult;
 use std::alloc::{Allocator, Global};
@@ -282,7 +282,7 @@ pub fn parse_arena_bytes(input: &str, nodes: usize) -> usize
 /// # Errors
 ///
 /// Fails if an allocation fails, and, before it requests memory, if `input` doesn't begin with a question mark.
-#[tactic(auto, using(msvc_parser::proofs::SymbolSteps::symbol_step))]
+#[tactic(auto, using(msvc_cursor::proofs::SymbolSteps::symbol_step))]
 fn arena_for(alloc: Global, input: &str, nodes: usize) -> Result<Bump<Fuse>, Refusal>
     ensures value { IfErr result (λ e. (count : Count)
         → Rejects e (read_name symbol input.now (beginning_with count input.now))) }

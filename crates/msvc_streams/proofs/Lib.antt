@@ -1,0 +1,3 @@
+pub mod CallSequence
+pub mod FirstByte
+pub mod WholeLines

@@ -1,0 +1,5 @@
+pub mod Faults
+pub mod Polled
+pub mod Runs
+pub mod Streams
+pub mod Taking

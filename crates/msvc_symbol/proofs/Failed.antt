@@ -1,8 +1,8 @@
 -- What holds of a call that fails for a reason.
 use Rattle.std.proofs.Common.{ℕ, List, Option, Some, None, inl, inr}
 use Rattle.msvc_nodes.specs.declared.error.ErrorRepr.{ErrorRepr}
-use Rattle.msvc_parser.specs.Errors.{IsErrorOf}
-use Rattle.msvc_parser.specs.declared.refusal.Refusal.{Refusal}
+use Rattle.msvc_cursor.specs.Errors.{IsErrorOf}
+use Rattle.msvc_cursor.specs.declared.refusal.Refusal.{Refusal}
 use Rattle.msvc_symbol.specs.Demangled.{IsErrorUnder}
 use Rattle.msvc_symbol.specs.Failures.{FailsUnder, IsErrorFor, IsFailure}
 use Rattle.msvc_symbol.specs.Limits.{IsRejectedUnder, Limits}

@@ -7,9 +7,9 @@ use Rattle.msvc_nodes.specs.declared.error.Limit.{Limit}
 use Rattle.msvc_nodes.specs.declared.error.Limit.TheVariants.{Bytes}
 use Rattle.msvc_grammar.specs.Counts.{node_count}
 use Rattle.msvc_grammar.specs.Parsed.{IsParsed, IsSymbolLength}
-use Rattle.msvc_parser.specs.Errors.{IsErrorOf, IsMessageAt}
-use Rattle.msvc_parser.specs.Messages.{limit_of_refusal}
-use Rattle.msvc_parser.specs.declared.refusal.Refusal.TheVariants as refusal
+use Rattle.msvc_cursor.specs.Errors.{IsErrorOf, IsMessageAt}
+use Rattle.msvc_cursor.specs.Messages.{limit_of_refusal}
+use Rattle.msvc_cursor.specs.declared.refusal.Refusal.TheVariants as refusal
 use Rattle.msvc_print.specs.Declaration.{declaration}
 pub use Rattle.msvc_read.specs.Failures.{FailsUnder}
 use Rattle.msvc_read.specs.Limits.{IsBeyond, IsWithin}

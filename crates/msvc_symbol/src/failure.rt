@@ -2,12 +2,12 @@
 //! where it leaves a public call.
 
 ghost use Rattle.std.specs.Prelude.{◌≡◌, ◌↔◌, IfOk, IsTrue, string_bytes};
-ghost use Rattle.msvc_parser.specs.declared.refusal.Refusal.TheVariants as refusal;
+ghost use Rattle.msvc_cursor.specs.declared.refusal.Refusal.TheVariants as refusal;
 ghost use Rattle.msvc_symbol.specs.Failures.{IsErrorFor, IsFailureText, IsInside, limit_of_failure, offset_of_failure};
 ghost use Rattle.msvc_symbol.specs.declared.failure.Failure.TheVariants.{Unread};
 
+use msvc_cursor::refusal::{Refusal, format_message};
 use msvc_nodes::error::{Error, Limit, TOO_LONG, format_rejection, parse_error};
-use msvc_parser::refusal::{Refusal, format_message};
 use std::alloc::{AllocError, Allocator, Global};
 use std::borrow::CowStr;
 

@@ -12,7 +12,7 @@ mod streams;
 
 use clap::Command;
 use msvc_demangler::{DemangleFlags, Fault, Watched, filter_text};
-use msvc_streams::{BUFFER_LENGTH, Input, Shared, arguments, ended, failure};
+use msvc_stdio::{BUFFER_LENGTH, Input, Shared, arguments, ended, failure};
 use std::alloc::Global;
 use std::cell::{Cell, RefCell};
 use std::fs::File;

@@ -10,7 +10,7 @@
 mod streams;
 
 use msvc_demangler::{Fault, Watched, undname_run};
-use msvc_streams::{BUFFER_LENGTH, Input, Shared, arguments, ended, failure};
+use msvc_stdio::{BUFFER_LENGTH, Input, Shared, arguments, ended, failure};
 use std::cell::RefCell;
 use std::io::{BufReader, BufWriter, Write};
 use std::process::ExitCode;

@@ -3,8 +3,8 @@ use Rattle.std.specs.Prelude.{List, map}
 use Rattle.msvc_demangler.specs.Counts.{node_count}
 use Rattle.msvc_demangler.specs.Limits.{IsWithin, limit_of_number}
 use Rattle.msvc_demangler.specs.Parsed.{AreReferences}
-use Rattle.msvc_parser.specs.Parser.{note_of}
-use Rattle.msvc_parser.specs.declared.back_references.BackReference.{BackReference}
+use Rattle.msvc_cursor.specs.Parser.{note_of}
+use Rattle.msvc_cursor.specs.declared.back_references.BackReference.{BackReference}
 use Rattle.msvc_demangler_in.proofs.Listed.{list_found, lost_list, unlisted}
 use Rattle.msvc_demangler_in.proofs.calls.list.Goals as goal
 

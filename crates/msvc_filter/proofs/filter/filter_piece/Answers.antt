@@ -2,7 +2,7 @@ use Rattle.std.proofs.Common.{◌≡◌, ◌+◌, ◌-◌, ◌++◌, ◌∷◌, 
 use Rattle.msvc_filter.specs.Filtered.{declared, kept}
 use Rattle.msvc_filter.specs.WordStates.{ArePartsUpTo}
 use Rattle.msvc_filter.proofs.ScanParts.{parts-further, text-further, text-stays}
-use Rattle.msvc_watched.proofs.CallSequence.{to_end}
+use Rattle.msvc_streams.proofs.CallSequence.{to_end}
 use Rattle.msvc_filter.proofs.filter.filter_piece.Goals as goal
 
 pub symbols-preserved-in-Some : goal.symbols-preserved-in-Some

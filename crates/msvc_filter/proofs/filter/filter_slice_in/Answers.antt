@@ -7,7 +7,7 @@ use Rattle.msvc_filter.proofs.Filled.{SliceWriter-end, SliceWriter-length, Slice
 use Rattle.msvc_filter.proofs.Replaced.{Keeps-fresh, fresh, parts-only}
 use Rattle.msvc_filter.proofs.Starts.{parts-kept}
 use Rattle.msvc_filter.proofs.ScanParts.{parts-all, parts-further}
-use Rattle.msvc_watched.proofs.CallSequence.{to_end}
+use Rattle.msvc_streams.proofs.CallSequence.{to_end}
 use Rattle.msvc_filter.proofs.filter.filter_slice_in.Goals as goal
 
 pub symbols-init : goal.symbols-init

@@ -1,5 +1,5 @@
 use Rattle.std.proofs.Common.{◌≡◌, ◌-◌, ◌^◌}
-use Rattle.msvc_watched.specs.Polled.{polled}
+use Rattle.msvc_streams.specs.Polled.{polled}
 use Rattle.msvc_filter.proofs.Streamed.{Streaming}
 use Rattle.msvc_filter.proofs.filter.filter_text.Given as goal
 

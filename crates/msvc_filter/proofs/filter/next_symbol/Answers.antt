@@ -1,6 +1,6 @@
 use Rattle.std.proofs.Common.{◌+◌, ◌-◌, arith, drop, length-take}
 use Rattle.msvc_filter.proofs.ScanParts.{first-of, parts-found, parts-plain, parts-stays, parts-start, plain-run}
-use Rattle.msvc_watched.proofs.CallSequence.{to_end}
+use Rattle.msvc_streams.proofs.CallSequence.{to_end}
 use Rattle.msvc_filter.proofs.filter.next_symbol.Goals as goal
 
 pub bytes-init : goal.bytes-init

@@ -2,7 +2,7 @@ use Rattle.std.proofs.Common.{◌≡◌, ◌∙◌, ℕ, List, length, map, subs
 use Rattle.msvc_filter.specs.Filtered.{kept}
 use Rattle.msvc_filter.specs.WordStates.{IsRestText}
 use Rattle.msvc_filter.proofs.ScanParts.{parts-all, text-kept, without_question_mark}
-use Rattle.msvc_watched.proofs.CallSequence.{Writes-map}
+use Rattle.msvc_streams.proofs.CallSequence.{Writes-map}
 use Rattle.msvc_filter.proofs.filter.write_rest.Goals as goal
 
 pub returns-in-Ok-clause-text : goal.returns-in-Ok-clause-text

@@ -2,7 +2,7 @@ use Rattle.std.proofs.Common.{rules, ◌≡◌, ◌∙◌, ◌++◌, ◌∷◌, 
 use Rattle.std.proofs.lemmas.Result.{err_from_is_err_and}
 use Rattle.std.proofs.KnownBytes.{Appends-nil}
 use Rattle.msvc_print.specs.Declaration.{declaration}
-use Rattle.msvc_watched.proofs.CallSequence.{Writes-map, WritesPart-nothing}
+use Rattle.msvc_streams.proofs.CallSequence.{Writes-map, WritesPart-nothing}
 use Rattle.msvc_lines.proofs.Texts.{answer_declared, answer_rejected}
 use Rattle.msvc_lines.specs.Answers.{IsLineText, line_flags}
 use Rattle.msvc_lines.proofs.lines.undname_in.Goals as goal

@@ -3,7 +3,7 @@ use Rattle.std.proofs.KnownBytes.{Appends-nil}
 use Rattle.std.specs.Str.{IsUtf8}
 use Rattle.msvc_lines.specs.Answers.{IsLineText, left_out, nothing}
 use Rattle.msvc_lines.proofs.Texts.{IsText-one}
-use Rattle.msvc_watched.proofs.CallSequence.{Writes-map}
+use Rattle.msvc_streams.proofs.CallSequence.{Writes-map}
 use Rattle.msvc_lines.proofs.lines.undname_line.Goals as goal
 
 pub returns-in-Ok-clause-text : goal.returns-in-Ok-clause-text

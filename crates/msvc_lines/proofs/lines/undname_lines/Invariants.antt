@@ -1,5 +1,5 @@
 use Rattle.std.proofs.Common.{◌≡◌, ◌-◌, ◌^◌}
-use Rattle.msvc_watched.specs.Polled.{polled}
+use Rattle.msvc_streams.specs.Polled.{polled}
 use Rattle.msvc_lines.proofs.LineRun.{LineRun}
 use Rattle.msvc_lines.proofs.Texts.{AreAnswered}
 use Rattle.msvc_lines.proofs.lines.undname_lines.Given as goal

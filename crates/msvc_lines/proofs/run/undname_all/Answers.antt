@@ -2,7 +2,7 @@ use Rattle.std.proofs.Common.{◌∙◌, [], ap, refl, subst}
 use Rattle.std.specs.Prelude.{string_bytes}
 use Rattle.std.proofs.lemmas.Result.{err_from_is_err_and}
 use Rattle.std.proofs.KnownBytes.{Appends-nil}
-use Rattle.msvc_watched.specs.Runs.{WritesPart}
+use Rattle.msvc_streams.specs.Runs.{WritesPart}
 use Rattle.msvc_lines.specs.Answers.{IsLineText}
 use Rattle.msvc_lines.specs.Arguments.{nothing}
 use Rattle.msvc_lines.proofs.SymbolRun.{SymbolRun-fault, SymbolRun-more}

@@ -1,6 +1,6 @@
-use Rattle.msvc_parser.proofs.Messages.{no-limit}
+use Rattle.msvc_cursor.proofs.Messages.{no-limit}
 use Rattle.std.specs.Prelude.{map}
-use Rattle.msvc_parser.specs.Parser.{note_of}
+use Rattle.msvc_cursor.specs.Parser.{note_of}
 use Rattle.msvc_read.proofs.Listed.{notes-rejected, references}
 use Rattle.msvc_read.proofs.WholeTexts.{laws, rejected}
 use Rattle.msvc_read.proofs.read.back_references.Goals as goal

@@ -1,4 +1,4 @@
-use Rattle.msvc_parser.proofs.Messages.{no-limit}
+use Rattle.msvc_cursor.proofs.Messages.{no-limit}
 use Rattle.msvc_tree.specs.View.{tree_of}
 use Rattle.msvc_read.proofs.WholeTexts.{laws, read-length, read-parsed, rejected}
 use Rattle.msvc_read.proofs.read.parse_prefix.Goals as goal

@@ -1,7 +1,7 @@
 use Rattle.std.proofs.Common.{◌≡◌, None, Some}
 use Rattle.std.specs.Prelude.{map}
-use Rattle.msvc_parser.proofs.Messages.{unlimited}
-use Rattle.msvc_parser.specs.Parser.{note_of}
+use Rattle.msvc_cursor.proofs.Messages.{unlimited}
+use Rattle.msvc_cursor.specs.Parser.{note_of}
 use Rattle.msvc_read.proofs.Listed.{under-listed, unlisted}
 use Rattle.msvc_read.proofs.WholeTexts.{a_limit, laws, no_limit}
 use Rattle.msvc_read.proofs.read.read_references.Goals as goal

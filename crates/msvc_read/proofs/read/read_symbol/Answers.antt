@@ -1,6 +1,6 @@
 use Rattle.std.proofs.Common.{◌≡◌, None, Some}
 use Rattle.msvc_nodes.specs.NodeView.{typed_symbol_of}
-use Rattle.msvc_parser.proofs.Messages.{unlimited}
+use Rattle.msvc_cursor.proofs.Messages.{unlimited}
 use Rattle.msvc_read.proofs.WholeTexts.{a_limit, laws, no_limit, under-fails, under-length, under-nodes, under-parsed}
 use Rattle.msvc_read.proofs.read.read_symbol.Goals as goal
 

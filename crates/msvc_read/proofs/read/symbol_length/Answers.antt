@@ -1,4 +1,4 @@
-use Rattle.msvc_parser.proofs.Messages.{no-limit}
+use Rattle.msvc_cursor.proofs.Messages.{no-limit}
 use Rattle.msvc_read.proofs.WholeTexts.{laws, length-of, length-rejected, read-length, read-parsed, rejected}
 use Rattle.msvc_read.proofs.WholeTexts.{symbol_read}
 use Rattle.msvc_read.proofs.read.symbol_length.Goals as goal

@@ -1,0 +1,104 @@
+-- The words of messages, the limit that they are about, and the text that says why an input is rejected.
+use Rattle.std.proofs.Common.{◌≡◌, ◌≢◌, ◌∙◌, ℕ, List, Option, Some, None, Result, Ok, Err, IfOk, refl, subst, sym}
+use Rattle.std.proofs.Common.{true}
+use Rattle.std.specs.Prelude.{IfErr, IfSome, is_none}
+use Rattle.msvc_nodes.proofs.Contexts.{context_text-IsAscii}
+use Rattle.msvc_nodes.specs.Errors.{context_text_of, message_limit, rejection_text}
+use Rattle.msvc_nodes.specs.declared.error.Limit.{Limit}
+use Rattle.msvc_nodes.specs.declared.error.Limit.TheVariants.{Bytes, Nodes}
+use Rattle.msvc_cursor.specs.Errors.{IsMessageAt}
+use Rattle.msvc_cursor.specs.Messages.{limit_of_message, limit_of_refusal, may_fail_for, message_words}
+use Rattle.msvc_cursor.specs.declared.refusal.Message.{Message}
+use Rattle.msvc_cursor.specs.declared.refusal.Message.TheVariants as messages
+use Rattle.msvc_cursor.specs.declared.refusal.Refusal.{Refusal}
+
+pub message-at : {S E : Type 0} (view : S → List ℕ) (message : Message) (input words : List ℕ) (offset : ℕ)
+    (made : Result S E)
+    → words ≡ message_words message
+    → IfOk made (λ text. IfSome (rejection_text words (context_text_of input offset) offset) (λ said. view text ≡ said))
+    → IfOk made (λ text. IsMessageAt message input offset (view text))
+message-at view message input words offset (Ok text) same says =
+    let context = context_text_of input offset in
+    let Says : List ℕ → Type 0 = λ w. IfSome (rejection_text w context offset) (λ said. view text ≡ said) in
+    record {
+      context = context;
+      shows = context_text-IsAscii input offset;
+      says = subst Says same says;
+    }
+message-at view message input words offset (Err e) same says = tt
+
+-- the words tell which limit a message is about
+pub words-limit : (message : Message) → message_limit (message_words message) ≡ limit_of_message message
+words-limit messages.NoQuestionMark = refl
+words-limit messages.EndOfInput = refl
+words-limit messages.MissingAt = refl
+words-limit messages.BadNumber = refl
+words-limit messages.NameReferenceTooLarge = refl
+words-limit (messages.InvalidBackReference index) = refl
+words-limit (messages.InvalidArrayDimension dimension) = refl
+words-limit messages.UnknownStorageClass = refl
+words-limit messages.UnknownPrimitiveType = refl
+words-limit messages.UnknownCallingConv = refl
+words-limit messages.UnknownFuncClass = refl
+words-limit messages.ZExpected = refl
+words-limit messages.AtExpected = refl
+words-limit messages.QuestionMarkExpected = refl
+words-limit messages.AExpected = refl
+words-limit messages.BExpected = refl
+words-limit messages.GuardTypeExpected = refl
+words-limit messages.MissingDigit = refl
+words-limit messages.GuardNumberTooLarge = refl
+words-limit messages.UnexpectedLocalGuardMarker = refl
+words-limit messages.ExpectedUnsigned = refl
+words-limit messages.UnknownStringCharacterType = refl
+words-limit (messages.UnknownCharacter byte) = refl
+words-limit messages.HashLength = refl
+words-limit messages.UnknownOperatorName = refl
+words-limit messages.UnknownRttiOperatorName = refl
+words-limit messages.TooManyNodes = refl
+
+none-not-bytes : (limit : Option Limit) → limit ≡ None → limit ≢ Some Bytes
+none-not-bytes limit none e = let no : None ≡ Some Bytes = sym none ∙ e in absurd (cc)
+
+-- no message is about the limit on bytes
+pub not-bytes : (message : Message) → limit_of_message message ≢ Some Bytes
+not-bytes messages.NoQuestionMark e = none-not-bytes _ refl e
+not-bytes messages.EndOfInput e = none-not-bytes _ refl e
+not-bytes messages.MissingAt e = none-not-bytes _ refl e
+not-bytes messages.BadNumber e = none-not-bytes _ refl e
+not-bytes messages.NameReferenceTooLarge e = none-not-bytes _ refl e
+not-bytes (messages.InvalidBackReference x) e = none-not-bytes _ refl e
+not-bytes (messages.InvalidArrayDimension x) e = none-not-bytes _ refl e
+not-bytes messages.UnknownStorageClass e = none-not-bytes _ refl e
+not-bytes messages.UnknownPrimitiveType e = none-not-bytes _ refl e
+not-bytes messages.UnknownCallingConv e = none-not-bytes _ refl e
+not-bytes messages.UnknownFuncClass e = none-not-bytes _ refl e
+not-bytes messages.ZExpected e = none-not-bytes _ refl e
+not-bytes messages.AtExpected e = none-not-bytes _ refl e
+not-bytes messages.QuestionMarkExpected e = none-not-bytes _ refl e
+not-bytes messages.AExpected e = none-not-bytes _ refl e
+not-bytes messages.BExpected e = none-not-bytes _ refl e
+not-bytes messages.GuardTypeExpected e = none-not-bytes _ refl e
+not-bytes messages.MissingDigit e = none-not-bytes _ refl e
+not-bytes messages.GuardNumberTooLarge e = none-not-bytes _ refl e
+not-bytes messages.UnexpectedLocalGuardMarker e = none-not-bytes _ refl e
+not-bytes messages.ExpectedUnsigned e = none-not-bytes _ refl e
+not-bytes messages.UnknownStringCharacterType e = none-not-bytes _ refl e
+not-bytes (messages.UnknownCharacter x) e = none-not-bytes _ refl e
+not-bytes messages.HashLength e = none-not-bytes _ refl e
+not-bytes messages.UnknownOperatorName e = none-not-bytes _ refl e
+not-bytes messages.UnknownRttiOperatorName e = none-not-bytes _ refl e
+not-bytes messages.TooManyNodes e = let no : Some Nodes ≡ Some Bytes = e in absurd (cc)
+
+is-none : (limit : Option Limit) → is_none limit ≡ true → limit ≡ None
+is-none None none = refl
+is-none (Some limit) none = absurd (cc)
+
+-- where a node weighs nothing, no reader fails for a limit
+pub no-limit : (reason : Refusal) → may_fail_for 0 reason ≡ true → limit_of_refusal reason ≡ None
+no-limit reason counted = is-none (limit_of_refusal reason) counted
+
+pub unlimited : {A : Type 0} (result : Result A Refusal) → IfErr result (λ reason. may_fail_for 0 reason ≡ true)
+    → IfErr result (λ reason. limit_of_refusal reason ≡ None)
+unlimited (Ok found) counted = tt
+unlimited (Err reason) counted = no-limit reason counted

@@ -1,0 +1,34 @@
+use Rattle.std.proofs.Common.{rules, ◌≡◌, ◌∷◌, ◌+◌, ◌-◌, suc, List, [], ◌++◌, Some, sym, ap, ◌∙◌, arith, length, ℤ}
+use Rattle.std.proofs.lemmas.Grind.{common_steps}
+use Rattle.msvc_cursor.proofs.RowSteps.{lengths_more, with_front}
+use Rattle.msvc_cursor.specs.Parser.{state_of}
+use Rattle.msvc_grammar.specs.Reads.{counting, read_name}
+use Rattle.msvc_grammar.specs.Rules.{lengths, number}
+use Rattle.msvc_productions.proofs.types.lengths.Goals as goal
+
+-- the new length goes after those so far
+pub loop-preserved : goal.loop-preserved
+loop-preserved g c =
+    let items : c.push.new.self.items ≡ c.loop.lengths.items ++ c.in_ok-length.length ∷ [] =
+    grind (arith, common_steps) in
+    let counts : counting (state_of c.loop.parser).count.weight c.loop.parser.rest.now (state_of c.loop.parser)
+    ≡ Some (tt, c.count_node.new.self.rest.now, state_of c.count_node.new.self) = c.in_ok-count_node.ensures.value in
+    let read : read_name number c.count_node.new.self.rest.now (state_of c.count_node.new.self)
+    ≡ Some (c.in_ok-length.length, c.number.new.self.rest.now, state_of c.number.new.self) = search rules in
+    let one_less : c.args.count - c.loop.counter ≡ suc (c.args.count - (c.loop.counter + 1)) = omega arith in (
+      ap (λ (zs : List ℤ). with_front zs
+          (read_name (lengths (c.args.count - (c.loop.counter + 1))) c.number.new.self.rest.now
+          (state_of c.number.new.self)))
+          items
+          ∙ sym (lengths_more c.loop.lengths.items (c.args.count - c.loop.counter) (c.args.count - (c.loop.counter + 1))
+          c.loop.parser.rest.now c.count_node.new.self.rest.now c.number.new.self.rest.now (state_of c.loop.parser)
+          (state_of c.count_node.new.self) (state_of c.number.new.self) c.in_ok-length.length one_less counts read)
+          ∙ c.loop.invariant.0,
+      omega (
+        arith,
+        c.in_ok-length.ensures.consumes.0,
+        ap length c.in_ok-count_node.ensures.stays.0,
+        c.loop.invariant.1,
+      ),
+      c.in_ok-length.ensures.consumes.1 ∙ c.in_ok-count_node.ensures.stays.1 ∙ c.loop.invariant.2,
+    )

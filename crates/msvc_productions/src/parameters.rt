@@ -1,0 +1,160 @@
+//! Parameters, and the table of types that they are added to.
+
+ghost use Rattle.std.specs.Option.{option_map};
+ghost use Rattle.std.specs.Prelude.{◌≡◌, ◌≤◌, ◌<◌, ◌-◌, ◌∷◌, ◌++◌, [], IfErr, IfOk, IfSome, length, map, Some};
+ghost use Rattle.msvc_nodes.specs.NodeView.{type_at};
+ghost use Rattle.msvc_nodes.specs.Trees.{base};
+ghost use Rattle.msvc_nodes.specs.declared.kinds.PrimitiveKind.TheVariants as base_kind;
+ghost use Rattle.msvc_grammar.specs.Reads.{read_name, with_value};
+ghost use Rattle.msvc_grammar.specs.Rules as rules;
+ghost use Rattle.msvc_cursor.specs.Parser.{counting_ellipsis, Consumes, ellipsis_types};
+ghost use Rattle.msvc_cursor.specs.Parser.{frame_of, parameters_stop, ReadsAs};
+ghost use Rattle.msvc_cursor.specs.Parser.{state_of};
+ghost use Rattle.msvc_cursor.specs.Rows.{ListsTypes};
+ghost use Rattle.msvc_cursor.specs.NestedList.{current};
+
+use crate::types::{new_plain, type_};
+use bitflags::Flags;
+use msvc_cursor::back_references::enters_table;
+use msvc_cursor::forms::Ellipsis;
+use msvc_cursor::limit::NodeBudget;
+use msvc_cursor::nested_list::Checkpoint;
+use msvc_cursor::parser::Parser;
+use msvc_cursor::refusal::{Failed, Message, Refusal};
+use msvc_nodes::flags::StorageClass;
+use msvc_nodes::kinds::{PlainType, PrimitiveKind};
+use msvc_nodes::nodes::Type;
+use std::alloc::Allocator;
+
+/// Reads `FUNCTION_PARAMETERS = ("X" | PARAMETERS) "Z"`: an `X` means one `void`.
+#[cycle(readers)]
+pub fn function_parameters<'a, 'b, L: NodeBudget, A: Allocator>(
+    parser: &mut Parser<'a, 'b, L, A>,
+) -> Result<Checkpoint, Failed>
+    ensures value { ReadsAs (λ _. map type_at (current parser.new.listed_types)) parser.old parser.new result
+        (read_name rules.function_parameters) }
+    ensures shorter { IfOk result (λ _. length parser.new.rest.now < length parser.old.rest.now) }
+    ensures lists { ListsTypes parser.old parser.new result }
+{
+    if parser.consume(b"X") {
+        parser.expect(b"Z", Message::ZExpected)?;
+        parser.count_node()?;
+        return no_parameters(parser);
+    }
+    let checkpoint = parameters(parser)?;
+    parser.expect(b"Z", Message::ZExpected)?;
+    Ok(checkpoint)
+}
+
+/// Puts one `void`, which is already counted, on a new part of the list. The result ends that part.
+#[inline(never)]
+pub fn no_parameters<'a, 'b, L: NodeBudget, A: Allocator>(
+    parser: &mut Parser<'a, 'b, L, A>,
+) -> Result<Checkpoint, Failed>
+    ensures value { ReadsAs (λ _. map type_at (current parser.new.listed_types)) parser.old parser.new result
+        (with_value (Some (base base_kind.Void 0 ∷ []))) }
+    ensures rest { IfOk result (λ _. parser.new.rest.now ≡ parser.old.rest.now) }
+    ensures lists { ListsTypes parser.old parser.new result }
+{
+    let checkpoint = parser.listed_types.begin();
+    let void = parser.put_type(Type::Base(PrimitiveKind::Void, StorageClass::empty()))?;
+    list_type(parser, void)?;
+    Ok(checkpoint)
+}
+
+/// Reads `PARAMETERS = {PARAMETER} ("@" | "Z" | end)`: a `Z` adds an ellipsis. The types are on a new part of the
+/// parser's list, and the result ends that part.
+#[cycle(readers)]
+pub fn parameters<'a, 'b, L: NodeBudget, A: Allocator>(
+    parser: &mut Parser<'a, 'b, L, A>,
+) -> Result<Checkpoint, Failed>
+    ensures value { ReadsAs (λ _. map type_at (current parser.new.listed_types)) parser.old parser.new result
+        (read_name rules.parameters) }
+    ensures shorter { IfOk result (λ _. length parser.new.rest.now ≤ length parser.old.rest.now) }
+    ensures lists { ListsTypes parser.old parser.new result }
+{
+    let checkpoint = parser.listed_types.begin();
+    'parameters: loop {
+        if let Some((ellipsis, rest)) = parameters_stop(parser.rest) {
+            parser.rest = rest;
+            list_ellipsis(parser, ellipsis)?;
+            return Ok(checkpoint);
+        }
+        let parameter = parameter(parser)?;
+        list_type(parser, parameter)?;
+    }
+}
+
+/// Reads `PARAMETER = digit | TYPE`.
+#[cycle(readers)]
+pub fn parameter<'a, 'b, L: NodeBudget, A: Allocator>(
+    parser: &mut Parser<'a, 'b, L, A>,
+) -> Result<&'b Type<'a, 'b>, Failed>
+    ensures value { ReadsAs type_at parser.old parser.new result (read_name rules.parameter) }
+    ensures consumes { Consumes parser.old parser.new result }
+{
+    let start = parser.rest;
+    if let Some(digit) = parser.digit() {
+        return parser.parameter_of_digit(digit, start);
+    }
+    let before = parser.limit;
+    let parameter = type_(parser, StorageClass::empty())?;
+    if enters_table(start, parser.rest) {
+        let nodes = parser.limit.since(before);
+        return parser.add_type(parameter, start, nodes);
+    }
+    Ok(parameter)
+}
+
+/// Appends a type to the list of parameters.
+pub fn list_type<'a, 'b, L: NodeBudget, A: Allocator>(
+    parser: &mut Parser<'a, 'b, L, A>,
+    parameter: &'b Type<'a, 'b>,
+) -> Result<(), Failed>
+    ensures rest { IfOk result (λ _. parser.new.rest.now ≡ parser.old.rest.now) }
+    ensures state { IfOk result (λ _. state_of parser.new ≡ state_of parser.old) }
+    ensures kept { IfOk result (λ _. frame_of parser.new
+        ≡ record (frame_of parser.old) { listed_types = current parser.old.listed_types ++ parameter.entry ∷ [] }) }
+    ensures last_error { IfErr result (λ _. parser.new.last_error.reason ≡ Refusal.Memory) }
+{
+    if parser.listed_types.push(parameter).is_err() {
+        return Err(parser.no_memory());
+    }
+    Ok(())
+}
+
+/// Appends an ellipsis to the list of parameters, if there is one, and counts it as a node.
+#[inline(never)]
+pub fn list_ellipsis<'a, 'b, L: NodeBudget, A: Allocator>(
+    parser: &mut Parser<'a, 'b, L, A>,
+    ellipsis: Ellipsis,
+) -> Result<(), Failed>
+    ensures value { ReadsAs (λ _. tt) parser.old parser.new result (counting_ellipsis ellipsis) }
+    ensures rest { IfOk result (λ _. parser.new.rest.now ≡ parser.old.rest.now) }
+    ensures seen { IfOk result (λ _. map type_at (current parser.new.listed_types)
+        ≡ map type_at (current parser.old.listed_types) ++ ellipsis_types ellipsis) }
+    ensures kept { IfOk result (λ _. frame_of parser.new
+        ≡ record (frame_of parser.old) { listed_types = current parser.new.listed_types }) }
+{
+    match ellipsis {
+        Ellipsis::Absent => Ok(()),
+        Ellipsis::Present => {
+            let dots = new_plain(parser, PlainType::Variadic)?;
+            list_type(parser, dots)
+        }
+    }
+}
+
+/// Returns whether an ellipsis is last and the bytes that follow, if the parameters end here.
+#[tactic(auto, unfolding(msvc_cursor::specs::Parser::parameters_stop))]
+fn parameters_stop<'a>(left: &'a [u8]) -> Option<(Ellipsis, &'a [u8])>
+    ensures value { option_map (λ stop. (stop.0, stop.1.now)) result ≡ parameters_stop left.now }
+    ensures shorter { IfSome result (λ stop. length stop.1.now ≤ length left.now) }
+{
+    match left {
+        [] => Some((Ellipsis::Absent, left)),
+        [b'@', rest @ ..] => Some((Ellipsis::Absent, rest)),
+        [b'Z', rest @ ..] => Some((Ellipsis::Present, rest)),
+        _ => None,
+    }
+}

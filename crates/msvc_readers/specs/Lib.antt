@@ -1,4 +1,0 @@
-pub use Rattle.msvc_nodes.specs.NodeView
-pub use Rattle.msvc_grammar.specs.Reads
-pub use Rattle.msvc_grammar.specs.Rules
-pub use Rattle.msvc_parser.specs.Parser

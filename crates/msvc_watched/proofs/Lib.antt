@@ -1,3 +1,0 @@
-pub mod CallSequence
-pub mod FirstByte
-pub mod WholeLines
