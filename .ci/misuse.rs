@@ -7,9 +7,3 @@ pub fn outlives<'a>(alloc: Global) -> Result<ParseResult<'a>, Error> {
     let text = String::from_str(alloc, "?x@@3HA")?;
     parse(alloc, text.as_str())
 }
-
-#[cfg(test)]
-mod tests {
-    #[test]
-    fn nothing() {}
-}

@@ -1,7 +1,7 @@
 //! The program of .ci/requests: a kept demangler reads as many of the symbols as standard input has bytes.
 #![tactic(auto)]
 
-use msvc_demangler::{DemangleFlags, Demangler};
+use msvc_demangler::{DemangleFlags, Demangler, Limits};
 use std::io::{self, Read};
 
 /// Symbols; the first needs at least as much memory as each other one.
@@ -21,7 +21,7 @@ fn main(rt: HostRuntime) -> io::Result<()> {
     let mut bytes = [0u8; 64];
     let count = rt.stdin().read(&mut bytes)?;
     for symbol in &SYMBOLS[..count.min(SYMBOLS.len())] {
-        let _ = demangler.try_demangle(symbol, DemangleFlags::llvm(), usize::MAX, usize::MAX).is_ok();
+        let _ = demangler.declaration(symbol, DemangleFlags::llvm(), Limits::none()).is_ok();
     }
     Ok(())
 }

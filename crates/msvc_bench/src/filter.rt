@@ -155,13 +155,22 @@ mod tests {
     fn longest_declarations(rt: HostRuntime) -> Result<(), Fail> {
         for (more, is_symbol) in [(20, true), (21, false)] {
             let mut symbol = around(rt.alloc(), b"?f@@YAXV", b'x', 3_000, b"@@")?;
+            let mut text = around(rt.alloc(), b"void __cdecl f(class ", b'x', 3_000, b"")?;
+            let parameter = around(rt.alloc(), b", class ", b'x', 3_000, b"")?;
             for _ in 0..more {
                 symbol.push(b'0')?;
+                text.extend_from_slice(&parameter)?;
             }
             symbol.extend_from_slice(b"@Z")?;
+            text.push(b')')?;
             let (out, done) = filtered(rt.alloc(), &symbol, DemangleFlags::llvm());
             assert_eq!(rt; done, Ok(()));
-            assert_eq!(rt; out == symbol, !is_symbol);
+            let wanted = if is_symbol { text } else { symbol };
+            let (shown, expected) = (out.len(), wanted.len());
+            assert!(rt;
+                out == wanted,
+                "with {more} digits: {shown} bytes, expected {expected}"
+            );
         }
         Ok(())
     }

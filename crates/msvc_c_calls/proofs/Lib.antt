@@ -1,3 +1,4 @@
 mod Cuts
 pub mod Filters
+pub mod Found
 pub mod Rejected

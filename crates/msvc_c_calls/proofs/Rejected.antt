@@ -3,12 +3,13 @@ use Rattle.std.proofs.Common.{◌≡◌, ◌≢◌, ℕ, List, Bool, true, false
 use Rattle.std.specs.Prelude.{◌==◌, if◌then◌else◌, is_some}
 use Rattle.std.specs.Cmp.Lexicographic.{pointwise, same_text}
 use Rattle.std.specs.Str.{IsUtf8}
+use Rattle.msvc_demangler.specs.CallLimits.{Limits}
 use Rattle.msvc_demangler.specs.Errors as errors
 use Rattle.msvc_demangler.specs.Errors.{message_limit}
 use Rattle.msvc_demangler.specs.Limit.{Limit}
 use Rattle.msvc_demangler.specs.Limit.TheVariants.{Bytes, Nodes}
-use Rattle.msvc_demangler.specs.Limits.{Limits}
-use Rattle.msvc_c_calls.specs.Calls.{IsNoSymbolUnder, IsNotRead, IsRejection, IsStatusOf, invalid, too_many_nodes}
+use Rattle.msvc_demangler.specs.Rejections.{IsNoSymbol}
+use Rattle.msvc_c_calls.specs.Calls.{IsNotRead, IsRejection, IsStatusOf, invalid, too_many_nodes}
 
 -- the message about the limit on nodes is one text
 nodes-first : (nodes bytes : Bool) → (if nodes then Some Nodes else if bytes then Some Bytes else None) ≡ Some Nodes
@@ -29,7 +30,7 @@ set-nodes None set = let no : Some Nodes ≡ None = set refl in absurd (cc)
 set-nodes (Some most) set = refl
 
 pub rejected : (limits : Limits) (symbol : List ℕ) (status offset : ℕ) (message text : List ℕ) (limit : Option Limit)
-    → IsUtf8 symbol → IsNoSymbolUnder limits.nodes symbol → IsRejection symbol message offset text
+    → IsUtf8 symbol → IsNoSymbol limits.nodes symbol → IsRejection symbol message offset text
     → message_limit message ≡ limit → limit ≢ Some Bytes → (limits.nodes ≡ None → limit ≡ None)
     → IsStatusOf limit status → IsNotRead limits symbol status offset text
 rejected limits symbol status offset message text None u none rejection about other set is =

@@ -1,20 +1,21 @@
 -- What the calls from C return and write, whatever makes it: definitions over bytes and numbers.
-use Rattle.std.specs.Prelude.{ℕ, List, ◌≡◌, ◌≤◌, length, codes}
+use Rattle.std.specs.Prelude.{ℕ, List, ◌≡◌, ◌≢◌, ◌≤◌, length, codes}
 use Rattle.std.specs.Prelude.{Option, Some, None, IfSome, is_some, true}
 use Rattle.std.specs.Str.{IsAscii, IsUtf8, IsValidUpTo}
 use Rattle.msvc_demangler.specs.Counts.{node_count}
 use Rattle.msvc_demangler.specs.Demangled.{IsDeclaredWithin}
 use Rattle.msvc_demangler.specs.Errors as errors
 use Rattle.msvc_demangler.specs.Errors.{context_of, context_text_of, message_limit, rejection_text}
-use Rattle.msvc_demangler.specs.Failures.{IsLonger}
+use Rattle.msvc_demangler.specs.CallLimits.{Limits}
+use Rattle.msvc_demangler.specs.Failure.{Failure}
+use Rattle.msvc_demangler.specs.Failure.TheVariants as why
+use Rattle.msvc_demangler.specs.Failures.{IsFailureText, IsLonger, limit_of_failure, offset_of_failure}
 use Rattle.msvc_demangler.specs.Filtered.{AreOnlyParts, Part, text_of_parts}
 use Rattle.msvc_demangler.specs.Limit.{Limit}
 use Rattle.msvc_demangler.specs.Limit.TheVariants.{Bytes, Nodes}
-use Rattle.msvc_demangler.specs.Limits.{IsBeyond, IsWithin, Limits}
+use Rattle.msvc_demangler.specs.Limits.{IsWithin}
 use Rattle.msvc_demangler.specs.Parsed.{IsParsed, IsSymbolLength}
-use Rattle.msvc_demangler.specs.Reads.{Derives}
-use Rattle.msvc_demangler.specs.Rejections.{begins_with}
-use Rattle.msvc_demangler.specs.State.{Note}
+use Rattle.msvc_demangler.specs.Rejections.{IsNoSymbol, begins_with}
 use Rattle.msvc_demangler.specs.Trees.{SymbolTree}
 use Rattle.msvc_c_calls.specs.Buffers.{ArePartsWritten, IsWritten}
 
@@ -29,11 +30,6 @@ abbrev pub IsStatusOf : Option Limit → ℕ → Type 0
 IsStatusOf None status = status ≡ 1
 IsStatusOf (Some Nodes) status = status ≡ 4
 IsStatusOf (Some Bytes) status = status ≡ 5
-
--- The grammar derives no tree from a beginning of the symbol, or none that is within the limit on nodes.
-abbrev pub IsNoSymbolUnder : Option ℕ → List ℕ → Type 0
-IsNoSymbolUnder nodes symbol = (tree : SymbolTree) (rest : List ℕ) (notes : List Note)
-    → Derives symbol tree rest notes → IsBeyond nodes (node_count tree)
 
 -- the text says why a symbol is rejected; nothing is said of a context that is not ASCII
 abbrev pub Says : (message context : List ℕ) (offset : ℕ) (text : List ℕ) → Type 0
@@ -54,7 +50,7 @@ pub record IsRejection (symbol message : List ℕ) (offset : ℕ) (text : List �
 -- A symbol is not read: the status, the offset, and the text that says why.
 pub data IsNotRead (limits : Limits) (symbol : List ℕ) : (status offset : ℕ) (text : List ℕ) → Type 0 where
   -- INVALID: with a message about no limit
-  invalid : {offset : ℕ} {message text : List ℕ} → IsUtf8 symbol → IsNoSymbolUnder limits.nodes symbol
+  invalid : {offset : ℕ} {message text : List ℕ} → IsUtf8 symbol → IsNoSymbol limits.nodes symbol
       → message_limit message ≡ None
       → IsRejection symbol message offset text
       → IsNotRead limits symbol 1 offset text
@@ -64,7 +60,7 @@ pub data IsNotRead (limits : Limits) (symbol : List ℕ) : (status offset : ℕ)
   -- OUT_OF_MEMORY
   out_of_memory : IsUtf8 symbol → IsNotRead limits symbol 3 0 out_of_memory_text
   -- TOO_MANY_NODES: nodes are limited, and the message is the one about their limit
-  too_many_nodes : {offset : ℕ} {text : List ℕ} → IsUtf8 symbol → IsNoSymbolUnder limits.nodes symbol
+  too_many_nodes : {offset : ℕ} {text : List ℕ} → IsUtf8 symbol → IsNoSymbol limits.nodes symbol
       → is_some limits.nodes ≡ true
       → IsRejection symbol errors.too_many_nodes offset text
       → IsNotRead limits symbol 4 offset text
@@ -102,3 +98,10 @@ pub data IsFilteredInto (flags : ℕ) (text old new : List ℕ) : (status length
   -- OUT_OF_MEMORY: the bytes after the text and its NUL are any
   not_filtered : (others : List ℕ) → length others ≡ length old → IsWritten out_of_memory_text others new
       → IsFilteredInto flags text old new 3 (length out_of_memory_text)
+
+-- The status, the offset and the text for a failure, unless memory runs out while the text is made.
+pub data IsReason (symbol : List ℕ) (reason : Failure) (status offset : ℕ) (text : List ℕ) : Type 0 where
+  said : reason ≢ why.Memory → IsStatusOf (limit_of_failure reason) status
+      → offset ≡ offset_of_failure symbol reason → IsFailureText symbol reason text
+      → IsReason symbol reason status offset text
+  unsaid : status ≡ 3 → offset ≡ 0 → text ≡ out_of_memory_text → IsReason symbol reason status offset text

@@ -1,10 +1,16 @@
-//! Shared parts of the libraries for C: the result of a call, its statuses, and writing a text into a buffer.
+//! The libraries for C, but for their symbols and their memory: the calls, over a demangler of any memory, their results
+//! and statuses, and writing a text into a buffer.
 #![tactic(auto)]
 
 ghost use Rattle.std.specs.Prelude.{◌≡◌, IfErr, IfOk, length, set};
 ghost use Rattle.msvc_c_calls.specs.Buffers.{IsWritten};
 ghost use Rattle.msvc_c_calls.specs.Calls.{IsStatusOf, out_of_memory_text};
 
+mod calls;
+
+pub use calls::{
+    declare, filter, measure, not_utf8, out_of_memory, unmeasured, unread, write_reason,
+};
 use msvc_demangler::{Filtered, Limit};
 use std::alloc::AllocError;
 
@@ -27,10 +33,10 @@ pub const TOO_MANY_NODES: u32 = 4;
 pub const TOO_LONG: u32 = 5;
 
 /// The text of a symbol that is not UTF-8.
-pub const NOT_UTF8_TEXT: &str = "not UTF-8";
+const NOT_UTF8_TEXT: &str = "not UTF-8";
 
 /// The text of a call that is out of memory.
-pub const OUT_OF_MEMORY_TEXT: &str = "out of memory";
+const OUT_OF_MEMORY_TEXT: &str = "out of memory";
 
 /// The result of a call: `struct msvc_demangler_result` of the header.
 #[repr(C)]
@@ -45,7 +51,7 @@ pub struct CallResult {
 }
 
 /// Returns the status of a rejected symbol by the limit that it exceeds.
-pub fn status_of(limit: Option<Limit>) -> u32
+fn status_of(limit: Option<Limit>) -> u32
     ensures { IsStatusOf limit result }
 {
     match limit {
@@ -73,7 +79,7 @@ pub fn write(text: &str, out: &mut [u8]) -> usize
 
 /// Writes a NUL after the bytes that the filter has written into a buffer without its last byte, and returns the result
 /// of the call. If memory ran out, writes that message instead.
-pub fn end_filtered(found: Result<Filtered, AllocError>, out: &mut [u8]) -> CallResult
+fn end_filtered(found: Result<Filtered, AllocError>, out: &mut [u8]) -> CallResult
     ensures offset { result.offset ≡ 0 }
     ensures filtered { IfOk found (λ f. (result.status ≡ 0) × (result.length ≡ f.length)
         × (out.new ≡ set out.old f.written 0)) }

@@ -1,5 +1,4 @@
 pub mod Choices
-pub mod FirstByte
 pub mod FunctionSteps
 pub mod GuardSteps
 pub mod Messages

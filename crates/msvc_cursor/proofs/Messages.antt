@@ -7,10 +7,10 @@ use Rattle.msvc_nodes.specs.Errors.{context_text_of, message_limit, rejection_te
 use Rattle.msvc_nodes.specs.declared.error.Limit.{Limit}
 use Rattle.msvc_nodes.specs.declared.error.Limit.TheVariants.{Bytes, Nodes}
 use Rattle.msvc_cursor.specs.Errors.{IsMessageAt}
-use Rattle.msvc_cursor.specs.Messages.{limit_of_message, limit_of_refusal, may_fail_for, message_words}
-use Rattle.msvc_cursor.specs.declared.refusal.Message.{Message}
-use Rattle.msvc_cursor.specs.declared.refusal.Message.TheVariants as messages
-use Rattle.msvc_cursor.specs.declared.refusal.Refusal.{Refusal}
+use Rattle.msvc_cursor.specs.Messages.{limit_of_message, limit_of_failure, may_fail_for, message_words}
+use Rattle.msvc_cursor.specs.declared.failure.Message.{Message}
+use Rattle.msvc_cursor.specs.declared.failure.Message.TheVariants as messages
+use Rattle.msvc_cursor.specs.declared.failure.Failure.{Failure}
 
 pub message-at : {S E : Type 0} (view : S → List ℕ) (message : Message) (input words : List ℕ) (offset : ℕ)
     (made : Result S E)
@@ -95,10 +95,10 @@ is-none None none = refl
 is-none (Some limit) none = absurd (cc)
 
 -- where a node weighs nothing, no reader fails for a limit
-pub no-limit : (reason : Refusal) → may_fail_for 0 reason ≡ true → limit_of_refusal reason ≡ None
-no-limit reason counted = is-none (limit_of_refusal reason) counted
+pub no-limit : (reason : Failure) → may_fail_for 0 reason ≡ true → limit_of_failure reason ≡ None
+no-limit reason counted = is-none (limit_of_failure reason) counted
 
-pub unlimited : {A : Type 0} (result : Result A Refusal) → IfErr result (λ reason. may_fail_for 0 reason ≡ true)
-    → IfErr result (λ reason. limit_of_refusal reason ≡ None)
+pub unlimited : {A : Type 0} (result : Result A Failure) → IfErr result (λ reason. may_fail_for 0 reason ≡ true)
+    → IfErr result (λ reason. limit_of_failure reason ≡ None)
 unlimited (Ok found) counted = tt
 unlimited (Err reason) counted = no-limit reason counted

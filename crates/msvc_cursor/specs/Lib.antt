@@ -1,4 +1,6 @@
 pub mod Errors
+pub mod Failures
+pub mod Limits
 pub mod Messages
 pub mod Parser
 pub mod Rows

@@ -4,11 +4,11 @@ use Rattle.std.specs.Char.{encode_utf8}
 use Rattle.std.specs.Fmt.{decimal, signed_decimal}
 use Rattle.msvc_nodes.specs.Errors.{too_many_nodes}
 use Rattle.msvc_nodes.specs.declared.error.Limit.{Limit}
-use Rattle.msvc_nodes.specs.declared.error.Limit.TheVariants.{Nodes}
-use Rattle.msvc_cursor.specs.declared.refusal.Message.{Message}
-use Rattle.msvc_cursor.specs.declared.refusal.Message.TheVariants as messages
-use Rattle.msvc_cursor.specs.declared.refusal.Refusal.{Refusal}
-use Rattle.msvc_cursor.specs.declared.refusal.Refusal.TheVariants as refusal
+use Rattle.msvc_nodes.specs.declared.error.Limit.TheVariants.{Bytes, Nodes}
+use Rattle.msvc_cursor.specs.declared.failure.Message.{Message}
+use Rattle.msvc_cursor.specs.declared.failure.Message.TheVariants as messages
+use Rattle.msvc_cursor.specs.declared.failure.Failure.{Failure}
+use Rattle.msvc_cursor.specs.declared.failure.Failure.TheVariants as failure
 
 -- the words of each message
 abbrev pub message_words : Message → List ℕ
@@ -48,11 +48,12 @@ abbrev pub limit_of_message : Message → Option Limit
 limit_of_message messages.TooManyNodes = Some Nodes
 limit_of_message _ = None
 
--- the limit that a reader failed for
-abbrev pub limit_of_refusal : Refusal → Option Limit
-limit_of_refusal refusal.Memory = None
-limit_of_refusal (refusal.Unread message left) = limit_of_message message
+-- the limit that a symbol exceeds
+abbrev pub limit_of_failure : Failure → Option Limit
+limit_of_failure failure.Memory = None
+limit_of_failure (failure.Rejected message left) = limit_of_message message
+limit_of_failure (failure.TooLong length) = Some Bytes
 
--- a reader fails for a limit only where a node weighs something
-abbrev pub may_fail_for : ℕ → Refusal → Bool
-may_fail_for weight reason = nat_lt 0 weight || is_none (limit_of_refusal reason)
+-- a reader fails for the limit on nodes only where a node weighs something
+abbrev pub may_fail_for : ℕ → Failure → Bool
+may_fail_for weight reason = nat_lt 0 weight || is_none (limit_of_failure reason)

@@ -37,9 +37,9 @@ use Rattle.msvc_cursor.specs.declared.forms.Ellipsis.TheVariants as ellipsis
 use Rattle.msvc_cursor.specs.declared.forms.TemplateNames.{TemplateNames}
 use Rattle.msvc_cursor.specs.declared.forms.TemplateNames.TheVariants as templates
 use Rattle.msvc_cursor.specs.declared.parser.Parser.{Parser}
-use Rattle.msvc_cursor.specs.declared.refusal.Refusal.{Refusal}
-use Rattle.msvc_cursor.specs.declared.refusal.Failed.{Failed}
-use Rattle.msvc_cursor.specs.declared.refusal.Refusal.TheVariants as refusal
+use Rattle.msvc_cursor.specs.declared.failure.Failure.{Failure}
+use Rattle.msvc_cursor.specs.declared.failure.Failed.{Failed}
+use Rattle.msvc_cursor.specs.declared.failure.Failure.TheVariants as failure
 
 abbrev pub known_name_of : {L : Type 0} {g : _} → MemorizedName L g → NameTree
 known_name_of e = name_at e.memorized
@@ -85,18 +85,19 @@ frame_of p =
       types_before = enclosing p.listed_types;
     }
 
--- an error other than an allocation failure means that the rule reads nothing
-abbrev pub Rejects : {Y : Type 0} → Refusal → Option Y → Type 0
-Rejects refusal.Memory read = Unit {0}
-Rejects (refusal.Unread message left) read = read ≡ None
+-- a rejection means that the rule reads nothing; no reader fails for the length of a declaration
+abbrev pub Rejects : {Y : Type 0} → Failure → Option Y → Type 0
+Rejects failure.Memory read = Unit {0}
+Rejects (failure.Rejected message left) read = read ≡ None
+Rejects (failure.TooLong length) read = ⊥
 
 -- the result of a reader, seen by view, is what its rule reads; on failure, last_error is the reason
-abbrev pub Gives : {X Y : Type 0} → (X → Y) → Refusal → Result X Failed → Option Y → Type 0
+abbrev pub Gives : {X Y : Type 0} → (X → Y) → Failure → Result X Failed → Option Y → Type 0
 Gives view last_error (Ok x) read = read ≡ Some (view x)
 Gives view last_error (Err e) read = Rejects last_error read
 
 -- the same for a function that returns the reason
-abbrev pub IsRead : {X Y : Type 0} → (X → Y) → Result X Refusal → Option Y → Type 0
+abbrev pub IsRead : {X Y : Type 0} → (X → Y) → Result X Failure → Option Y → Type 0
 IsRead view (Ok x) read = read ≡ Some (view x)
 IsRead view (Err e) read = Rejects e read
 
@@ -130,9 +131,9 @@ abbrev pub consumed : Bool → List ℕ → Option (List ℕ)
 consumed true rest = Some rest
 consumed false rest = None
 
--- the symbol at the start of a text, and its length in bytes
-abbrev pub with_length : List ℕ → Found SymbolTree → Option (SymbolTree × ℕ)
-with_length text found = option_map (λ r. (r.0, length text - length r.1)) found
+-- the symbol at the start of a text, its length in bytes, and the digits that were read as whole parameters
+abbrev pub with_length : List ℕ → Found SymbolTree → Option (SymbolTree × ℕ × List state.Note)
+with_length text found = option_map (λ r. (r.0, length text - length r.1, r.2.notes)) found
 
 -- the letters of a table of qualifiers, and the bits of each
 abbrev pub optional_letters : OptionalLetters → List (ℕ × ℕ)

@@ -11,7 +11,7 @@ use Rattle.msvc_cursor.specs.Parser.{frame_of}
 use Rattle.msvc_cursor.specs.NestedList.{current, enclosing}
 use Rattle.msvc_cursor.specs.declared.nested_list.Checkpoint.{Checkpoint}
 use Rattle.msvc_cursor.specs.declared.parser.Parser.{Parser}
-use Rattle.msvc_cursor.specs.declared.refusal.Failed.{Failed}
+use Rattle.msvc_cursor.specs.declared.failure.Failed.{Failed}
 
 -- a reader of names leaves them on a new part of the list, and returns the checkpoint that ends that part
 abbrev pub ListsNames : {L A : Type 0} {g h : _} → Parser L A g h → Parser L A g h → Result Checkpoint Failed → Type 0

@@ -12,10 +12,10 @@ ghost use Rattle.msvc_cursor.specs.Parser.{known_name_of, memorized_of, ReadsAs,
 ghost use Rattle.msvc_cursor.specs.NestedList.{current, enclosing};
 
 use crate::entries::{MemorizedName, MemorizedType};
+use crate::failure::{Failed, Message};
 use crate::limit::NodeBudget;
 use crate::nested_list::{Checkpoint, NestedList};
 use crate::parser::Parser;
-use crate::refusal::{Failed, Message};
 use msvc_nodes::nodes::{Name, Type};
 use msvc_nodes::same::{is_same_name, is_same_type};
 use std::alloc::Allocator;

@@ -4,14 +4,14 @@
 ghost use Rattle.std.specs.Prelude.{◌≡◌, true};
 ghost use Rattle.msvc_cursor.specs.Messages.{may_fail_for};
 
+use crate::failure::Failure;
 use crate::limit::NodeBudget;
-use crate::refusal::Refusal;
 use std::marker::PhantomData;
 
 /// The reason why the last reader failed. It is the limit on nodes only if nodes are counted.
 #[derive(Drop)]
 pub struct LastError<L: NodeBudget> {
-    pub reason: Refusal,
+    pub reason: Failure,
     pub budget: PhantomData<L>,
     ghost counted: { may_fail_for L.weight reason ≡ true },
 }

@@ -1,20 +1,20 @@
 //! The parser's state, and what is read without recursion: letters, texts of tables, numbers, strings, memorized names
 //! and types. Lists, the limit on nodes and rejections are here too. A reader that calls one of the cycle in
-//! `msvc_productions` belongs there; small readers that only that cycle calls, and functions that store nodes, stand beside
-//! it.
+//! `msvc_productions` belongs there; small readers that only that cycle calls, and functions that store nodes, stand
+//! beside it.
 #![tactic(auto)]
 
 pub mod back_references;
 pub mod entries;
+pub mod failure;
 pub mod forms;
 pub mod last_error;
 pub mod letters;
 pub mod limit;
+pub mod limits;
 pub mod nested_list;
 pub mod numbers;
 pub mod parser;
-pub mod refusal;
-pub mod search;
 pub mod source_names;
 pub mod special_codes;
 pub mod strings;

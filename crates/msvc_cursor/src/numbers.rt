@@ -6,10 +6,10 @@ ghost use Rattle.msvc_grammar.specs.Reads.{read, read_name};
 ghost use Rattle.msvc_grammar.specs.Rules.{magnitude, number};
 ghost use Rattle.msvc_cursor.specs.Parser.{Consumes, ReadsAs};
 
+use crate::failure::{Failed, Message};
 use crate::letters;
 use crate::limit::NodeBudget;
 use crate::parser::Parser;
-use crate::refusal::{Failed, Message};
 use std::alloc::Allocator;
 
 /// Base of a number's letters.

@@ -21,11 +21,11 @@ ghost use Rattle.msvc_cursor.specs.Parser.{frame_of, optional_letters, ReadsAs, 
 ghost use Rattle.msvc_cursor.specs.Parser.{Stays};
 
 use crate::back_references::{BackReference, BackrefTables};
+use crate::failure::{Failed, Failure, Message};
 use crate::last_error::LastError;
 use crate::letters::{self, OptionalLetters};
 use crate::limit::NodeBudget;
 use crate::nested_list::NestedList;
-use crate::refusal::{Failed, Message, Refusal};
 use bitflags::Flags;
 use bumpalo::Bump;
 use msvc_nodes::flags::StorageClass;
@@ -79,7 +79,7 @@ impl<'a, 'b, L: NodeBudget, A: Allocator> Parser<'a, 'b, L, A> {
             back_references: Vec::new(arena),
             limit,
             last_error: LastError {
-                reason: Refusal::Memory,
+                reason: Failure::Memory,
                 budget: PhantomData,
             },
         }
@@ -89,13 +89,13 @@ impl<'a, 'b, L: NodeBudget, A: Allocator> Parser<'a, 'b, L, A> {
     #[cold]
     #[inline(never)]
     pub fn no_memory(&mut self) -> Failed
-        ensures last_error { self.new.last_error.reason ≡ Refusal.Memory }
+        ensures last_error { self.new.last_error.reason ≡ Failure.Memory }
         ensures rest { self.new.rest.now ≡ self.old.rest.now }
         ensures state { state_of self.new ≡ state_of self.old }
         ensures kept { frame_of self.new ≡ frame_of self.old }
     {
         self.last_error = LastError {
-            reason: Refusal::Memory,
+            reason: Failure::Memory,
             budget: PhantomData,
         };
         Failed
@@ -106,13 +106,13 @@ impl<'a, 'b, L: NodeBudget, A: Allocator> Parser<'a, 'b, L, A> {
     #[inline(never)]
     pub fn reject_at(&mut self, message: Message, left: usize) -> Failed
         requires { limit_of_message message ≡ None }
-        ensures last_error { self.new.last_error.reason ≡ Refusal.Unread message left }
+        ensures last_error { self.new.last_error.reason ≡ Failure.Rejected message left }
         ensures rest { self.new.rest.now ≡ self.old.rest.now }
         ensures state { state_of self.new ≡ state_of self.old }
         ensures kept { frame_of self.new ≡ frame_of self.old }
     {
         self.last_error = LastError {
-            reason: Refusal::Unread(message, left),
+            reason: Failure::Rejected(message, left),
             budget: PhantomData,
         };
         Failed
@@ -124,7 +124,7 @@ impl<'a, 'b, L: NodeBudget, A: Allocator> Parser<'a, 'b, L, A> {
         ensures rest { IfOk result (λ _. self.new.rest.now ≡ self.old.rest.now) }
         ensures state { IfOk result (λ _. state_of self.new ≡ state_of self.old) }
         ensures kept { IfOk result (λ _. frame_of self.new ≡ frame_of self.old) }
-        ensures last_error { IfErr result (λ _. self.new.last_error.reason ≡ Refusal.Memory) }
+        ensures last_error { IfErr result (λ _. self.new.last_error.reason ≡ Failure.Memory) }
     {
         match self.arena.try_alloc(node) {
             Ok(node) => Ok(node),
@@ -177,13 +177,13 @@ impl<'a, 'b, L: NodeBudget, A: Allocator> Parser<'a, 'b, L, A> {
     #[inline(never)]
     pub fn reject(&mut self, message: Message) -> Failed
         requires { limit_of_message message ≡ None }
-        ensures last_error { self.new.last_error.reason ≡ Refusal.Unread message (length self.old.rest.now) }
+        ensures last_error { self.new.last_error.reason ≡ Failure.Rejected message (length self.old.rest.now) }
         ensures rest { self.new.rest.now ≡ self.old.rest.now }
         ensures state { state_of self.new ≡ state_of self.old }
         ensures kept { frame_of self.new ≡ frame_of self.old }
     {
         self.last_error = LastError {
-            reason: Refusal::Unread(message, self.rest.len()),
+            reason: Failure::Rejected(message, self.rest.len()),
             budget: PhantomData,
         };
         Failed
@@ -194,13 +194,13 @@ impl<'a, 'b, L: NodeBudget, A: Allocator> Parser<'a, 'b, L, A> {
     #[inline(never)]
     fn reject_nodes(&mut self) -> Failed
         requires { nat_lt 0 L.weight ≡ true }
-        ensures last_error { self.new.last_error.reason ≡ Refusal.Unread Message.TooManyNodes (length self.old.rest.now) }
+        ensures last_error { self.new.last_error.reason ≡ Failure.Rejected Message.TooManyNodes (length self.old.rest.now) }
         ensures rest { self.new.rest.now ≡ self.old.rest.now }
         ensures state { state_of self.new ≡ state_of self.old }
         ensures kept { frame_of self.new ≡ frame_of self.old }
     {
         self.last_error = LastError {
-            reason: Refusal::Unread(Message::TooManyNodes, self.rest.len()),
+            reason: Failure::Rejected(Message::TooManyNodes, self.rest.len()),
             budget: PhantomData,
         };
         Failed

@@ -3,10 +3,10 @@
 ghost use Rattle.std.specs.Prelude.{◌≡◌, IfErr, None};
 ghost use Rattle.msvc_cursor.specs.Parser.{Consumes, cut_at, name_length, ReadsAs};
 
+use crate::failure::{Failed, Message};
 use crate::limit::NodeBudget;
 use crate::parser::Parser;
-use crate::refusal::{Failed, Message};
-use crate::search::find_byte;
+use byte_search::find_byte;
 use std::alloc::Allocator;
 
 impl<'a, 'b, L: NodeBudget, A: Allocator> Parser<'a, 'b, L, A> {

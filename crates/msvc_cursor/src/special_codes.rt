@@ -10,7 +10,7 @@ ghost use Rattle.msvc_cursor.specs.Messages.{limit_of_message};
 ghost use Rattle.msvc_cursor.specs.Parser.{at_rest, special_at_after_under, special_at};
 ghost use Rattle.msvc_grammar.specs.Rules.{lookup};
 
-use crate::refusal::Message;
+use crate::failure::Message;
 use msvc_grammar::forms::SpecialForm;
 use msvc_nodes::kinds::{Guard, PlainOperator};
 use msvc_nodes::plain_operators;

@@ -24,14 +24,16 @@ pub use Rattle.msvc_nodes.specs.Trees
 pub use Rattle.msvc_nodes.specs.declared.error.ErrorRepr
 pub use Rattle.msvc_nodes.specs.declared.error.Limit
 pub use Rattle.msvc_cursor.specs.Errors as MessageTexts
+pub use Rattle.msvc_cursor.specs.Failures as ReadFailures
+pub use Rattle.msvc_cursor.specs.Limits
+pub use Rattle.msvc_cursor.specs.Messages
 pub use Rattle.msvc_cursor.specs.Parser
+pub use Rattle.msvc_cursor.specs.declared.failure.Failure
+pub use Rattle.msvc_cursor.specs.declared.limits.Limits as CallLimits
 pub use Rattle.msvc_print.specs.Declaration
 pub use Rattle.msvc_print.specs.Laws as PrintLaws
-pub use Rattle.msvc_read.specs.Failures as ReadFailures
 pub use Rattle.msvc_symbol.specs.Demangled
 pub use Rattle.msvc_symbol.specs.Failures
-pub use Rattle.msvc_symbol.specs.Limits
-pub use Rattle.msvc_symbol.specs.declared.failure.Failure
 pub use Rattle.msvc_tree.specs.Equality
 pub use Rattle.msvc_tree.specs.View
 pub use Rattle.msvc_streams.specs.Faults

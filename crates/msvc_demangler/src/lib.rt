@@ -3,27 +3,28 @@
 //! [`parse`] reads a symbol into a tree, [`serialize`] prints a tree, and [`demangle`] does both.
 #![tactic(auto)]
 
-ghost use Rattle.std.specs.Prelude.{IfErr, IfOk, string_bytes};
+ghost use Rattle.std.specs.Prelude.{IfErr, IfOk, None, string_bytes};
 ghost use Rattle.msvc_nodes.specs.Trees.{SymbolTree};
 ghost use Rattle.msvc_grammar.specs.Parsed.{GrammarLaws, IsRejected};
+ghost use Rattle.msvc_cursor.specs.Limits.{limits_of};
 ghost use Rattle.msvc_symbol.specs.Demangled.{HashesAreShown, IsDeclared, IsDeclaredWithin, IsErrorUnder};
-ghost use Rattle.msvc_symbol.specs.Limits.{limits_of};
 
 pub use alloc_fuse::Fuse;
 pub use bitflags::Flags;
-pub use msvc_cursor::refusal::{Message, Refusal};
+pub use msvc_cursor::back_references::BackReference;
+pub use msvc_cursor::failure::{Failure, Message};
+pub use msvc_cursor::limits::{DEFAULT_BYTE_LIMIT, DEFAULT_NODE_LIMIT, Limits};
 pub use msvc_filter::{Filtered, filter_slice, filter_slice_in, filter_text};
 pub use msvc_lines::{undname_lines, undname_one, undname_run};
 pub use msvc_nodes::error::{Error, ErrorRepr, Limit};
 pub use msvc_nodes::flags::{DemangleFlags, FuncClass, StorageClass};
 pub use msvc_print::Text;
 pub use msvc_read::{
-    BackReference, back_references, parse, parse_prefix, parse_within, symbol_length,
-    symbol_length_within,
+    back_references, parse, parse_prefix, parse_within, symbol_length, symbol_length_within,
 };
 pub use msvc_streams::{Fault, Watched};
-pub use msvc_symbol::{DEFAULT_BYTE_LIMIT, DEFAULT_NODE_LIMIT, Demangler, Failure};
-use msvc_symbol::{Limits, demangle_once, error_of};
+pub use msvc_symbol::Demangler;
+use msvc_symbol::declare_once;
 pub use msvc_tree::tree::{
     CallingConv, Name, NameSequence, Operator, Params, ParseResult, Symbol, Type, VarStorageKind,
 };
@@ -53,7 +54,7 @@ use std::alloc::Global;
 pub fn demangle(alloc: Global, input: &str, flags: DemangleFlags) -> Result<String, Error>
     ensures declared { IfOk result (λ text. (tree : SymbolTree)
         × IsDeclared input.now tree flags.0 (string_bytes text)) }
-    ensures rejected { IfErr result (λ e. IsRejected input.now e) }
+    ensures rejected { IfErr result (λ e. IsRejected None input.now e) }
     ensures laws { GrammarLaws input.now }
     ensures hashes { IfOk result (λ text. HashesAreShown input.now (string_bytes text)) }
 {
@@ -95,8 +96,8 @@ pub fn demangle_within(
     ensures hashes { IfOk result (λ text. HashesAreShown input.now (string_bytes text)) }
 {
     let mut text = Text::new(alloc);
-    match demangle_once(alloc, &mut text, input, flags, Limits { nodes, bytes }) {
+    match declare_once(alloc, input, flags, Limits::new(nodes, bytes), &mut text) {
         Ok(_) => Ok(text.into_string()),
-        Err(failure) => Err(error_of(failure, alloc, input)),
+        Err(failure) => Err(failure.error(alloc, input)),
     }
 }

@@ -1,17 +1,18 @@
 -- What C sees of a symbol's tree and of its back references.
-use Rattle.std.proofs.Common.{◌≡◌, ◌≢◌, ◌≤◌, ◌<◌, ◌-◌, ◌∙◌, ◌++◌, ℕ, zero, suc, List, [], ◌∷◌, ap}
+use Rattle.std.proofs.Common.{◌≡◌, ◌≢◌, ◌≤◌, ◌<◌, ◌∙◌, ◌++◌, ℕ, zero, suc, List, [], ◌∷◌, ap}
 use Rattle.std.proofs.Common.{arith, drop, get_or, length, map, refl, set, subst, sym, take}
-use Rattle.std.specs.Str.{IsUtf8}
+use Rattle.std.specs.Str.{IsUtf8, IsValidUpTo}
 use Rattle.msvc_cursor.specs.Parser.{note_of}
 use Rattle.msvc_cursor.specs.declared.back_references.BackReference.{BackReference}
+use Rattle.msvc_demangler.specs.CallLimits.{Limits}
 use Rattle.msvc_demangler.specs.Counts.{node_count}
-use Rattle.msvc_demangler.specs.Limits.{IsWithin, Limits}
+use Rattle.msvc_demangler.specs.Limits.{IsWithin}
 use Rattle.msvc_demangler.specs.Parsed.{AreReferences, IsParsed}
 use Rattle.msvc_demangler.specs.State.{Note}
 use Rattle.msvc_demangler.specs.Trees.{SymbolTree}
 use Rattle.msvc_c_calls.specs.Buffers.{IsWritten}
-use Rattle.msvc_c_calls.specs.Calls.{IsNotRead, out_of_memory_text}
-use Rattle.msvc_demangler_in.proofs.Found.{no_memory}
+use Rattle.msvc_c_calls.specs.Calls.{IsNotRead, not_utf8, not_utf8_text, out_of_memory_text}
+use Rattle.msvc_c_calls.proofs.Found.{no_memory}
 use Rattle.msvc_demangler_in.specs.Shown.{AreListed, IsListed, IsShown, IsTreeText, listed, made, not_listed, not_shown}
 use Rattle.msvc_demangler_in.specs.Shown.{reference_of, shown, unmade}
 use Rattle.msvc_demangler_in.specs.declared.references.Reference.{Reference}
@@ -38,6 +39,16 @@ lost_tree limits symbol status offset count old new u is written = (
   is.2,
   written,
 )
+
+-- what is written of a symbol that is not UTF-8
+pub not_valid_tree : (limits : Limits) (symbol : List ℕ) (status offset count at : ℕ) (old new : List ℕ)
+    → ¬ (IsUtf8 symbol) → IsValidUpTo symbol at → (status ≡ 2) × (offset ≡ at) × (count ≡ length not_utf8_text)
+    → IsWritten not_utf8_text old new
+    → (text : List ℕ) × IsShown limits symbol status offset text × (count ≡ length text) × IsWritten text old new
+not_valid_tree limits symbol status offset count at old new not valid is written =
+    let Status : ℕ → Type 0 = λ n. IsShown limits symbol n offset not_utf8_text in
+    let At : ℕ → Type 0 = λ n. IsShown limits symbol 2 n not_utf8_text in
+    (not_utf8_text, subst Status (sym is.0) (subst At (sym is.1) (not_shown (not_utf8 not valid))), is.2, written)
 
 -- The list
 

@@ -1,16 +1,13 @@
 -- What the calls return and write that show a tree and list back references.
 use Rattle.std.specs.Prelude.{ℕ, List, ◌≡◌, ◌≢◌, ◌++◌, drop, length, map, take}
 use Rattle.std.specs.Str.{IsUtf8}
-use Rattle.msvc_cursor.specs.declared.refusal.Refusal.TheVariants as refusal
+use Rattle.msvc_demangler.specs.CallLimits.{Limits}
 use Rattle.msvc_demangler.specs.Counts.{node_count}
-use Rattle.msvc_demangler.specs.Failures.{IsFailureText, limit_of_failure, offset_of_failure}
-use Rattle.msvc_demangler.specs.Limits.{IsWithin, Limits}
+use Rattle.msvc_demangler.specs.Limits.{IsWithin}
 use Rattle.msvc_demangler.specs.Parsed.{AreReferences, IsParsed}
 use Rattle.msvc_demangler.specs.State.{Note}
 use Rattle.msvc_demangler.specs.Trees.{SymbolTree}
-use Rattle.msvc_demangler.specs.Failure.{Failure}
-use Rattle.msvc_demangler.specs.Failure.TheVariants.{Unread}
-use Rattle.msvc_c_calls.specs.Calls.{IsNotRead, IsStatusOf, out_of_memory_text}
+use Rattle.msvc_c_calls.specs.Calls.{IsNotRead, out_of_memory_text}
 use Rattle.msvc_demangler_in.specs.declared.references.Reference.{Reference}
 
 -- The status, the offset and the text of a tree that was read, of which nothing is said; or memory ran out.
@@ -45,10 +42,3 @@ pub data IsListed (limits : Limits) (symbol : List ℕ) (old new : List Referenc
   -- as of `IsShown`, where no text is written; if memory ran out, the entries are any
   not_listed : {status offset : ℕ} {text : List ℕ} → IsNotRead limits symbol status offset text
       → (status ≢ 3 → new ≡ old) → IsListed limits symbol old new status offset 0
-
--- The status, the offset and the text for a failure, unless memory runs out while the text is made.
-pub data IsReason (symbol : List ℕ) (failure : Failure) (status offset : ℕ) (text : List ℕ) : Type 0 where
-  said : failure ≢ Unread refusal.Memory → IsStatusOf (limit_of_failure failure) status
-      → offset ≡ offset_of_failure symbol failure → IsFailureText symbol failure text
-      → IsReason symbol failure status offset text
-  unsaid : status ≡ 3 → offset ≡ 0 → text ≡ out_of_memory_text → IsReason symbol failure status offset text

@@ -12,11 +12,11 @@ mod calls;
 mod memory;
 mod references;
 
-use calls::{declare, filter, list, measure, out_of_memory, show, unmeasured};
+use calls::{declare, filter, list, measure, show};
 use lent_memory::Workspace;
 use memory::{give_back, lend};
-use msvc_c_calls::{CallResult, NOT_UTF8, NOT_UTF8_TEXT, OUT_OF_MEMORY, write};
-use msvc_demangler::{DemangleFlags, Flags};
+use msvc_c_calls::{CallResult, NOT_UTF8, OUT_OF_MEMORY, not_utf8, out_of_memory, unmeasured};
+use msvc_demangler::{DemangleFlags, Flags, Limits};
 use references::Reference;
 use std::str::from_utf8;
 
@@ -38,12 +38,12 @@ pub extern "C" fn msvc_demangler_demangle_in_parts(
     ensures text { IsBack result.status text.old.ptr text.old.size text.new.ptr text.new.size }
 {
     match from_utf8(symbol) {
-        Ok(symbol) => demangle_in(symbol, flags, max_nodes, max_bytes, arena, text, out),
-        Err(fault) => CallResult {
-            status: NOT_UTF8,
-            offset: fault.valid_up_to(),
-            length: write(NOT_UTF8_TEXT, out),
-        },
+        Ok(symbol) => {
+            let flags = DemangleFlags::from_bits_retain(flags);
+            let limits = Limits::new(max_nodes, max_bytes);
+            demangle_in(symbol, flags, limits, arena, text, out)
+        }
+        Err(fault) => not_utf8(fault.valid_up_to(), out),
     }
 }
 
@@ -59,7 +59,7 @@ pub extern "C" fn msvc_demangler_prefix_in_parts(
     ensures arena { IsBack result.status arena.old.ptr arena.old.size arena.new.ptr arena.new.size }
 {
     match from_utf8(symbol) {
-        Ok(symbol) => measure_in(symbol, max_nodes, arena),
+        Ok(symbol) => measure_in(symbol, Limits::new(max_nodes, usize::MAX), arena),
         Err(fault) => unmeasured(NOT_UTF8, fault.valid_up_to()),
     }
 }
@@ -105,12 +105,8 @@ pub extern "C" fn msvc_demangler_tree_in_parts(
     ensures arena { IsBack result.status arena.old.ptr arena.old.size arena.new.ptr arena.new.size }
 {
     match from_utf8(symbol) {
-        Ok(symbol) => show_in(symbol, max_nodes, arena, out),
-        Err(fault) => CallResult {
-            status: NOT_UTF8,
-            offset: fault.valid_up_to(),
-            length: write(NOT_UTF8_TEXT, out),
-        },
+        Ok(symbol) => show_in(symbol, Limits::new(max_nodes, usize::MAX), arena, out),
+        Err(fault) => not_utf8(fault.valid_up_to(), out),
     }
 }
 
@@ -127,7 +123,7 @@ pub extern "C" fn msvc_demangler_references_in_parts(
     ensures arena { IsBack result.status arena.old.ptr arena.old.size arena.new.ptr arena.new.size }
 {
     match from_utf8(symbol) {
-        Ok(symbol) => list_in(symbol, max_nodes, arena, out),
+        Ok(symbol) => list_in(symbol, Limits::new(max_nodes, usize::MAX), arena, out),
         Err(fault) => unmeasured(NOT_UTF8, fault.valid_up_to()),
     }
 }
@@ -135,31 +131,21 @@ pub extern "C" fn msvc_demangler_references_in_parts(
 /// Writes the declaration of a symbol that is UTF-8, or why it has none.
 fn demangle_in(
     symbol: &str,
-    flags: u32,
-    max_nodes: usize,
-    max_bytes: usize,
+    flags: DemangleFlags,
+    limits: Limits,
     arena: &mut Workspace,
     text: &mut Workspace,
     out: &mut [u8],
 ) -> CallResult
     ensures found { (shown : List ℕ)
-        × IsFound (limits_of max_nodes max_bytes) symbol.now flags result.status result.offset shown
+        × IsFound limits symbol.now flags.0 result.status result.offset shown
         × (result.length ≡ length shown) × IsWrittenUnless result.status shown out.old out.new }
     ensures arena { IsBack result.status arena.old.ptr arena.old.size arena.new.ptr arena.new.size }
     ensures text { IsBack result.status text.old.ptr text.old.size text.new.ptr text.new.size }
 {
-    let flags = DemangleFlags::from_bits_retain(flags);
     let arena_memory = lend(arena);
     let text_memory = lend(text);
-    let found = declare(
-        &arena_memory,
-        &text_memory,
-        symbol,
-        flags,
-        max_nodes,
-        max_bytes,
-        out,
-    );
+    let found = declare(&arena_memory, &text_memory, symbol, flags, limits, out);
     let has_arena = give_back(arena_memory, arena);
     let has_text = give_back(text_memory, text);
     if has_arena && has_text {
@@ -170,13 +156,13 @@ fn demangle_in(
 }
 
 /// Measures how many bytes a symbol takes that is UTF-8.
-fn measure_in(symbol: &str, max_nodes: usize, arena: &mut Workspace) -> CallResult
-    ensures measured { IsMeasured (limits_of max_nodes usize.MAX) symbol.now
+fn measure_in(symbol: &str, limits: Limits, arena: &mut Workspace) -> CallResult
+    ensures measured { IsMeasured limits symbol.now
         result.status result.offset result.length }
     ensures arena { IsBack result.status arena.old.ptr arena.old.size arena.new.ptr arena.new.size }
 {
     let memory = lend(arena);
-    let found = measure(&memory, symbol, max_nodes);
+    let found = measure(&memory, symbol, limits);
     if give_back(memory, arena) {
         found
     } else {
@@ -185,31 +171,26 @@ fn measure_in(symbol: &str, max_nodes: usize, arena: &mut Workspace) -> CallResu
 }
 
 /// Writes the tree of a symbol that is UTF-8, or why it has none.
-fn show_in(symbol: &str, max_nodes: usize, arena: &mut Workspace, out: &mut [u8]) -> CallResult
+fn show_in(symbol: &str, limits: Limits, arena: &mut Workspace, out: &mut [u8]) -> CallResult
     ensures shown { (shown : List ℕ)
-        × IsShown (limits_of max_nodes usize.MAX) symbol.now result.status result.offset shown
+        × IsShown limits symbol.now result.status result.offset shown
         × (result.length ≡ length shown) × IsWrittenUnless result.status shown out.old out.new }
     ensures arena { IsBack result.status arena.old.ptr arena.old.size arena.new.ptr arena.new.size }
 {
     let memory = lend(arena);
-    let found = show(&memory, symbol, max_nodes, out);
+    let found = show(&memory, symbol, limits, out);
     let has_arena = give_back(memory, arena);
     if has_arena { found } else { out_of_memory(out) }
 }
 
 /// Lists the back references of a symbol that is UTF-8.
-fn list_in(
-    symbol: &str,
-    max_nodes: usize,
-    arena: &mut Workspace,
-    out: &mut [Reference],
-) -> CallResult
-    ensures listed { IsListed (limits_of max_nodes usize.MAX) symbol.now out.old out.new
+fn list_in(symbol: &str, limits: Limits, arena: &mut Workspace, out: &mut [Reference]) -> CallResult
+    ensures listed { IsListed limits symbol.now out.old out.new
         result.status result.offset result.length }
     ensures arena { IsBack result.status arena.old.ptr arena.old.size arena.new.ptr arena.new.size }
 {
     let memory = lend(arena);
-    let found = list(&memory, symbol, max_nodes, out);
+    let found = list(&memory, symbol, limits, out);
     let has_arena = give_back(memory, arena);
     if has_arena {
         found

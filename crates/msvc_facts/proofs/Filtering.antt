@@ -5,7 +5,7 @@ use Rattle.std.proofs.lemmas.Bool.{leb-false, leb-true}
 use Rattle.msvc_grammar.specs.Counts.{node_count}
 use Rattle.msvc_grammar.specs.Reads.{Derives}
 use Rattle.msvc_print.specs.Declaration.{declaration}
-use Rattle.msvc_demangler.specs.Filtered.{AreOnlyParts, IsFilteredFrom, IsFilteredText, IsNoSymbol}
+use Rattle.msvc_demangler.specs.Filtered.{AreOnlyParts, IsFilteredFrom, IsFilteredText, IsNoStart}
 use Rattle.msvc_demangler.specs.Filtered.{IsSymbol, Part, declared, kept, max_declared, max_nodes, nothing, replaced}
 use Rattle.msvc_demangler.specs.Filtered.{stays, text_of_parts}
 use Rattle.msvc_demangler.specs.SymbolBounds.{candidate, continues, is_start, symbol_extent}
@@ -43,7 +43,7 @@ symbol_at flags left = if_read flags left (read_of (candidate left))
 
 -- what it is, and that there is none
 abbrev IsFound : (flags : ℕ) (left : List ℕ) → Found → Type 0
-IsFound flags left None = IsNoSymbol flags left
+IsFound flags left None = IsNoStart flags left
 IsFound flags left (Some s) = IsSymbol flags left s.0 s.1
 
 if_fits-is : (flags : ℕ) (left : List ℕ) (x : Reading) → Derives (candidate left) x.0 x.1 x.2.notes

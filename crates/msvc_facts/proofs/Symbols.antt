@@ -30,7 +30,7 @@ pub read-derived : (text : List ℕ) (x : Reading) → read_of text ≡ Some x �
 read-derived text x found =
     symbol-derived text x.0 x.1 x.2 (sym (reading_name-is symbol text (beginning text)) ∙ found)
 
-pub read-rejected : (text : List ℕ) → read_of text ≡ None → IsNoSymbol text
+pub read-rejected : (text : List ℕ) → read_of text ≡ None → IsNoSymbol None text
 read-rejected text none = symbol-rejected text (sym (reading_name-is symbol text (beginning text)) ∙ none)
 
 -- what holds of each reading that is derived holds of the one that is computed

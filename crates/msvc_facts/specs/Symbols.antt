@@ -1,5 +1,5 @@
 -- What a fact says of a symbol.
-use Rattle.std.specs.Prelude.{ℕ, List, ◌≡◌, codes}
+use Rattle.std.specs.Prelude.{ℕ, List, ◌≡◌, None, codes}
 use Prim.Native.String.{String}
 use Rattle.msvc_nodes.specs.Trees.{SymbolTree}
 use Rattle.msvc_grammar.specs.Counts.{node_count}
@@ -21,7 +21,7 @@ pub record IsCounted (text : String) (nodes : ℕ) (rest : String) : Type 0 wher
 
 -- the text begins with no symbol
 pub record IsRefused (text : String) : Type 0 where
-  pub none : IsNoSymbol (codes text)
+  pub none : IsNoSymbol None (codes text)
 
 -- the text begins with a symbol whose tree has this declaration under these flags
 pub record IsShown (flags : ℕ) (text declared : String) : Type 0 where

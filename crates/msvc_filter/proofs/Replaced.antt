@@ -15,7 +15,7 @@ use Rattle.msvc_grammar.specs.Rules.{symbol}
 use Rattle.msvc_grammar.specs.State.{State, beginning}
 use Rattle.msvc_grammar.proofs.Laws.{symbol-derived, symbol-rejected}
 use Rattle.msvc_print.specs.Declaration.{declaration}
-use Rattle.msvc_filter.specs.Filtered.{AreParts, IsFilteredFrom, IsFilteredText, IsNoSymbol, IsSymbol, Part}
+use Rattle.msvc_filter.specs.Filtered.{AreParts, IsFilteredFrom, IsFilteredText, IsNoStart, IsSymbol, Part}
 use Rattle.msvc_filter.specs.Filtered.{declared}
 use Rattle.msvc_filter.specs.Filtered.{kept, max_declared, max_nodes, nothing, replaced, stays, text_of_parts}
 use Rattle.msvc_streams.specs.Runs.{IsLines}
@@ -47,14 +47,14 @@ parts-only flags _ _ _ _ _
 
 -- whether a symbol begins at a start can be computed
 symbol-decided : (flags : ℕ) (left : List ℕ)
-    → ((bytes : ℕ) × (text : List ℕ) × IsSymbol flags left bytes text) ⊎ IsNoSymbol flags left
+    → ((bytes : ℕ) × (text : List ℕ) × IsSymbol flags left bytes text) ⊎ IsNoStart flags left
 symbol-decided flags left =
     at (read_name symbol (candidate left) (beginning (candidate left))) refl
   where
     by-end : (tree : SymbolTree) (rest : List ℕ) (s : State) → Derives (candidate left) tree rest s.notes
         → node_count tree ≤ max_nodes → length (declaration tree flags) ≤ max_declared
         → (on : Bool) → continues (drop (symbol_extent left (length (candidate left) - length rest)) left) ≡ on
-        → ((bytes : ℕ) × (text : List ℕ) × IsSymbol flags left bytes text) ⊎ IsNoSymbol flags left
+        → ((bytes : ℕ) × (text : List ℕ) × IsSymbol flags left bytes text) ⊎ IsNoStart flags left
     by-end tree rest s d few short false ends =
         inl (
           symbol_extent left (length (candidate left) - length rest),
@@ -78,7 +78,7 @@ symbol-decided flags left =
     by-length : (tree : SymbolTree) (rest : List ℕ) (s : State) → Derives (candidate left) tree rest s.notes
         → node_count tree ≤ max_nodes
         → (short : Bool) → nat_le (length (declaration tree flags)) max_declared ≡ short
-        → ((bytes : ℕ) × (text : List ℕ) × IsSymbol flags left bytes text) ⊎ IsNoSymbol flags left
+        → ((bytes : ℕ) × (text : List ℕ) × IsSymbol flags left bytes text) ⊎ IsNoStart flags left
     by-length tree rest s d few true e = by-end tree rest s d few (leb-true _ _ e) _ refl
     by-length tree rest s d few false e = inr (λ bytes text other.
         let one = symbol-of flags left bytes text tree rest s.notes d other in
@@ -87,7 +87,7 @@ symbol-decided flags left =
 
     by-nodes : (tree : SymbolTree) (rest : List ℕ) (s : State) → Derives (candidate left) tree rest s.notes
         → (few : Bool) → nat_le (node_count tree) max_nodes ≡ few
-        → ((bytes : ℕ) × (text : List ℕ) × IsSymbol flags left bytes text) ⊎ IsNoSymbol flags left
+        → ((bytes : ℕ) × (text : List ℕ) × IsSymbol flags left bytes text) ⊎ IsNoStart flags left
     by-nodes tree rest s d true e = by-length tree rest s d (leb-true _ _ e) _ refl
     by-nodes tree rest s d false e = inr (λ bytes text other.
         let one = symbol-of flags left bytes text tree rest s.notes d other in
@@ -96,7 +96,7 @@ symbol-decided flags left =
 
     at : (found : Option (SymbolTree × List ℕ × State))
         → read_name symbol (candidate left) (beginning (candidate left)) ≡ found
-        → ((bytes : ℕ) × (text : List ℕ) × IsSymbol flags left bytes text) ⊎ IsNoSymbol flags left
+        → ((bytes : ℕ) × (text : List ℕ) × IsSymbol flags left bytes text) ⊎ IsNoStart flags left
     at None e = inr (λ bytes text other.
         symbol-rejected (candidate left) e other.tree other.rest other.notes other.derived)
     at (Some x) e = by-nodes x.0 x.1 x.2 (symbol-derived (candidate left) x.0 x.1 x.2 e) _ refl
@@ -124,7 +124,7 @@ rest-exists flags (suc most) scan (b ∷ left) short =
     at (b == 63 && not (scan.seen_question_mark || blocks_start scan.last)) refl
     (rest-exists flags most (next scan b) left (omega arith)) (λ last l h. rest-exists flags most (fresh last) l h)
   where
-    keep : (b == 63 && not (scan.seen_question_mark || blocks_start scan.last) ≡ true → IsNoSymbol flags (b ∷ left))
+    keep : (b == 63 && not (scan.seen_question_mark || blocks_start scan.last) ≡ true → IsNoStart flags (b ∷ left))
         → (parts : List Part) × AreRest flags (next scan b) left parts
         → (parts : List Part) × AreRest flags scan (b ∷ left) parts
     keep none rest = (
@@ -135,7 +135,7 @@ rest-exists flags (suc most) scan (b ∷ left) short =
     )
 
     decided : b == 63 && not (scan.seen_question_mark || blocks_start scan.last) ≡ true
-        → ((bytes : ℕ) × (text : List ℕ) × IsSymbol flags (b ∷ left) bytes text) ⊎ IsNoSymbol flags (b ∷ left)
+        → ((bytes : ℕ) × (text : List ℕ) × IsSymbol flags (b ∷ left) bytes text) ⊎ IsNoStart flags (b ∷ left)
         → (parts : List Part) × AreRest flags (next scan b) left parts
         → ((last : ℕ) (l : List ℕ) → length l ≤ most → (parts : List Part) × AreRest flags (fresh last) l parts)
         → (parts : List Part) × AreRest flags scan (b ∷ left) parts

@@ -11,7 +11,7 @@ use Rattle.std.proofs.lemmas.List.Elements.{All-head, All-tail}
 use Rattle.std.proofs.lemmas.Simd.{chunk-drop}
 use Rattle.std.specs.List.{list_any}
 use Rattle.std.specs.Prelude.{◌==◌, ◌&&◌, ◌||◌, not}
-use Rattle.msvc_filter.specs.Filtered.{IsFilteredFrom, IsNoSymbol, IsSymbol, Part, declared, kept}
+use Rattle.msvc_filter.specs.Filtered.{IsFilteredFrom, IsNoStart, IsSymbol, Part, declared, kept}
 use Rattle.msvc_filter.specs.Filtered.{nothing, replaced, stays, text_of_parts}
 use Rattle.msvc_filter.specs.WordStates.{ArePartsUpTo, AreRest, IsDecided, IsFound, IsPlain, IsSymbolShown, Keeps}
 use Rattle.msvc_filter.specs.WordStates.{max_looked_at, past}
@@ -26,9 +26,9 @@ enough : (left : List ℕ) (at until : ℕ) → at < until → until + max_looke
 enough left at until below far = omega (arith, length-drop at left)
 
 no_symbol-decided : (flags : ℕ) (left : List ℕ) (at until : ℕ) (more : List ℕ) → at < until → IsDecided left until more
-    → IsNoSymbol flags (drop at left) → IsNoSymbol flags (drop at left ++ more)
+    → IsNoStart flags (drop at left) → IsNoStart flags (drop at left ++ more)
 no_symbol-decided flags left at until more below (inl e) none =
-    subst (IsNoSymbol flags) (sym (append-nil (drop at left)) ∙ ap (λ l. drop at left ++ l) (sym e)) none
+    subst (IsNoStart flags) (sym (append-nil (drop at left)) ∙ ap (λ l. drop at left ++ l) (sym e)) none
 no_symbol-decided flags left at until more below (inr far) none =
     no_symbol-more flags (drop at left) more (inl (enough left at until below far)) none
 
@@ -113,7 +113,7 @@ plain-run left at count until within plain =
 pub parts-stays : (flags : ℕ) (scan now after : WordState) (left : List ℕ) (until at : ℕ)
     → ArePartsUpTo flags scan left until (map kept (take at left)) at now → at < until → until ≤ length left
     → ((last : ℕ) (passed : List ℕ) → Keeps now last passed → is_start last passed (get_or left at 0) ≡ true
-    → IsNoSymbol flags (drop at left))
+    → IsNoStart flags (drop at left))
     → ((last : ℕ) (passed : List ℕ) → Keeps now last passed → Keeps after last (get_or left at 0 ∷ passed))
     → ArePartsUpTo flags scan left until (map kept (take (at + 1) left)) (at + 1) after
 parts-stays flags scan now after left until at so below within none keeps more rest decided h =
@@ -123,7 +123,7 @@ parts-stays flags scan now after left until at so below within none keeps more r
     subst (AreRest flags scan (left ++ more)) (kept-more left at rest inside)
     (so more (kept b ∷ rest) decided (λ last passed k.
     subst (λ l. IsFilteredFrom flags last passed l (kept b ∷ rest)) (sym whole)
-    (stays (λ start. subst (IsNoSymbol flags) whole
+    (stays (λ start. subst (IsNoStart flags) whole
     (no_symbol-decided flags left at until more below decided (none last passed k start)))
     (h last (b ∷ passed) (keeps last passed k)))))
 

@@ -12,7 +12,7 @@ use Rattle.std.proofs.lemmas.Bool.Decides.{nat_tests}
 use Rattle.std.proofs.lemmas.List.{drop-append-le, take-append-le, take-take}
 use Rattle.std.proofs.lemmas.List.Sums.{prefix_len_stops}
 use Rattle.msvc_grammar.specs.Reads.{Derives}
-use Rattle.msvc_filter.specs.Filtered.{IsNoSymbol, IsSymbol}
+use Rattle.msvc_filter.specs.Filtered.{IsNoStart, IsSymbol}
 use Rattle.msvc_filter.specs.WordStates.{max_looked_at}
 use Rattle.msvc_filter.specs.SymbolBounds.{candidate, continues, ends_word, is_trailing_byte, is_visible, max_bytes}
 use Rattle.msvc_filter.specs.SymbolBounds.{symbol_extent, utf8_front}
@@ -193,8 +193,8 @@ symbol-less flags left more bytes text enough s =
       ends = sym (continues-some left more bytes inside) ∙ s.ends;
     }
 
-pub no_symbol-more : (flags : ℕ) (left more : List ℕ) → AreEnough left → IsNoSymbol flags left
-    → IsNoSymbol flags (left ++ more)
+pub no_symbol-more : (flags : ℕ) (left more : List ℕ) → AreEnough left → IsNoStart flags left
+    → IsNoStart flags (left ++ more)
 no_symbol-more flags left more enough none bytes text s =
     none bytes text (symbol-less flags left more bytes text enough s)
 

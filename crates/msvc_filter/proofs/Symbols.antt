@@ -1,20 +1,20 @@
 -- Symbols at the starts of a text.
 use Rattle.std.proofs.Common.{◌≡◌, ◌≤◌, ◌<◌, ◌+◌, ◌-◌, ◌∙◌, ⊎_elim, ℕ, List, drop, length, take, refl, sym, ap, subst}
-use Rattle.std.proofs.Common.{Bool, cond, arith, false, length-take, true}
+use Rattle.std.proofs.Common.{Bool, Some, cond, arith, false, length-take, true}
 use Rattle.std.specs.List.{prefix_len, take_while}
 use Rattle.std.specs.Str.Lossy.{utf8_valid_len}
 use Rattle.msvc_nodes.specs.Trees.{SymbolTree}
 use Rattle.msvc_grammar.specs.Counts.{node_count}
 use Rattle.msvc_grammar.specs.Parsed.{IsParsed, IsSymbolLength}
 use Rattle.msvc_grammar.specs.Reads.{Derives, ranks}
-use Rattle.msvc_grammar.specs.Rejections.{IsNoSymbolWithin}
+use Rattle.msvc_grammar.specs.Rejections.{IsNoSymbol}
 use Rattle.msvc_grammar.specs.Rules.{call, symbol}
 use Rattle.msvc_grammar.specs.State.{Note}
 use Rattle.msvc_grammar.proofs.Checks.{Fine, consumer, consumes, rank}
 use Rattle.msvc_grammar.proofs.Progress.{Less, shorter}
 use Rattle.msvc_grammar.proofs.Laws.{derived-only}
 use Rattle.msvc_print.specs.Declaration.{declaration}
-use Rattle.msvc_filter.specs.Filtered.{IsNoSymbol, IsNoneWithin, IsSymbol, max_declared, max_nodes}
+use Rattle.msvc_filter.specs.Filtered.{IsNoStart, IsNoneWithin, IsSymbol, max_declared, max_nodes}
 use Rattle.msvc_filter.specs.SymbolBounds.{candidate, continues, is_trailing_byte}
 use Rattle.msvc_filter.specs.SymbolBounds.{is_visible, max_bytes, symbol_extent}
 
@@ -71,7 +71,7 @@ symbol-read flags read left input same tree is nodes read_length short ends =
 -- no symbol where it continues after what was read
 pub no_symbol-continues : (flags read : ℕ) (left input : List ℕ) → input ≡ candidate left → (tree : SymbolTree)
     → IsParsed input tree → IsSymbolLength read input
-    → continues (drop (symbol_extent left read) left) ≡ true → IsNoSymbol flags left
+    → continues (drop (symbol_extent left read) left) ≡ true → IsNoStart flags left
 no_symbol-continues flags read left input same tree is read_length on bytes other s =
     let here = subst (λ l. Derives l tree is.rest is.notes) same is.derived in
     let to = (read_length.read_to tree is.rest is.notes is.derived).0 in
@@ -83,7 +83,7 @@ no_symbol-continues flags read left input same tree is read_length on bytes othe
 
 -- no symbol where the declaration is too long
 no_symbol-long : (flags : ℕ) (left input : List ℕ) → input ≡ candidate left → (tree : SymbolTree)
-    → IsParsed input tree → max_declared < length (declaration tree flags) → IsNoSymbol flags left
+    → IsParsed input tree → max_declared < length (declaration tree flags) → IsNoStart flags left
 no_symbol-long flags left input same tree is long bytes other s =
     let here = subst (λ l. Derives l tree is.rest is.notes) same is.derived in
     let one = derived-only (candidate left) s.tree tree s.rest is.rest s.notes is.notes s.derived here in
@@ -103,8 +103,8 @@ read-within read left input same tree is read_length =
     )
 
 -- and none where no tree of so few nodes is derived from the candidate
-no_symbol-many : (flags : ℕ) (left input : List ℕ) → input ≡ candidate left → IsNoSymbolWithin max_nodes input
-    → IsNoSymbol flags left
+no_symbol-many : (flags : ℕ) (left input : List ℕ) → input ≡ candidate left → IsNoSymbol (Some max_nodes) input
+    → IsNoStart flags left
 no_symbol-many flags left input same none bytes text s =
     let here = subst (λ l. Derives l s.tree s.rest s.notes) (sym same) s.derived in
     let many : max_nodes < node_count s.tree = none s.tree s.rest s.notes here in
@@ -112,7 +112,7 @@ no_symbol-many flags left input same none bytes text s =
 
 -- none where the candidate has no declaration
 pub no_symbol-none : (flags : ℕ) (left input : List ℕ) → input ≡ candidate left → IsNoneWithin flags input
-    → IsNoSymbol flags left
+    → IsNoStart flags left
 no_symbol-none flags left input same none =
     ⊎_elim (no_symbol-many flags left input same)
     (λ long. no_symbol-long flags left input same long.0 long.1 long.2) none

@@ -1,11 +1,11 @@
 -- The filter's text: that of some bytes in which each symbol is replaced by its declaration.
 use Rattle.std.specs.Prelude.{ℕ, List, [], ◌∷◌, ◌++◌, ◌-◌, ◌≡◌, ◌≤◌, ◌==◌, true, false, length, drop, slice_index, take}
-use Rattle.std.specs.Prelude.{◌<◌, ◌⊎◌, nat_le, if◌then◌else◌}
+use Rattle.std.specs.Prelude.{◌<◌, ◌⊎◌, Some, nat_le, if◌then◌else◌}
 use Rattle.msvc_nodes.specs.Trees.{SymbolTree}
 use Rattle.msvc_grammar.specs.Counts.{node_count}
 use Rattle.msvc_grammar.specs.Parsed.{IsParsed}
 use Rattle.msvc_grammar.specs.Reads.{Derives}
-use Rattle.msvc_grammar.specs.Rejections.{IsNoSymbolWithin}
+use Rattle.msvc_grammar.specs.Rejections.{IsNoSymbol}
 use Rattle.msvc_grammar.specs.State.{Note}
 use Rattle.msvc_print.specs.Declaration.{declaration}
 use Rattle.msvc_filter.specs.SymbolBounds.{candidate, continues, is_start, symbol_extent, utf8_front}
@@ -30,12 +30,12 @@ pub record IsSymbol (flags : ℕ) (left : List ℕ) (bytes : ℕ) (text : List �
   pub takes : bytes ≡ symbol_extent left (length (candidate left) - length rest)
   pub ends : continues (drop bytes left) ≡ false
 
-abbrev pub IsNoSymbol : (flags : ℕ) (left : List ℕ) → Type 0
-IsNoSymbol flags left = (bytes : ℕ) (text : List ℕ) → IsSymbol flags left bytes text → ⊥
+abbrev pub IsNoStart : (flags : ℕ) (left : List ℕ) → Type 0
+IsNoStart flags left = (bytes : ℕ) (text : List ℕ) → IsSymbol flags left bytes text → ⊥
 
 -- A candidate has no declaration: no beginning of it is a symbol of so few nodes, or its declaration is too long.
 abbrev pub IsNoneWithin : (flags : ℕ) (input : List ℕ) → Type 0
-IsNoneWithin flags input = IsNoSymbolWithin max_nodes input
+IsNoneWithin flags input = IsNoSymbol (Some max_nodes) input
     ⊎ ((tree : SymbolTree) × IsParsed input tree × (max_declared < length (declaration tree flags)))
 
 -- A part of what the filter writes: a byte that stays, or the declaration that replaces a symbol.
@@ -55,7 +55,7 @@ text_of_parts (declared text ∷ parts) = text ++ text_of_parts parts
 pub data IsFilteredFrom (flags : ℕ) : (last : ℕ) (passed left : List ℕ) → List Part → Type 0 where
   nothing : {last : ℕ} {passed : List ℕ} → IsFilteredFrom flags last passed [] []
   stays : {last b : ℕ} {passed left : List ℕ} {parts : List Part}
-      → (is_start last passed b ≡ true → IsNoSymbol flags (b ∷ left))
+      → (is_start last passed b ≡ true → IsNoStart flags (b ∷ left))
       → IsFilteredFrom flags last (b ∷ passed) left parts
       → IsFilteredFrom flags last passed (b ∷ left) (kept b ∷ parts)
   replaced : {last b bytes : ℕ} {passed left text : List ℕ} {parts : List Part}

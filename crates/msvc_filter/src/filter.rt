@@ -10,7 +10,7 @@ ghost use Rattle.msvc_grammar.specs.Parsed.{IsParsed, IsSymbolLength};
 ghost use Rattle.msvc_print.specs.Declaration.{declaration};
 ghost use Rattle.msvc_streams.specs.Faults.{SetsFailureFlag, failure_flag, no_stream};
 ghost use Rattle.msvc_filter.specs.SliceWriters.{IsSliceWriter, space_after};
-ghost use Rattle.msvc_filter.specs.Filtered.{AreOnlyParts, IsNoSymbol, IsNoneWithin, Part, declared, fitting};
+ghost use Rattle.msvc_filter.specs.Filtered.{AreOnlyParts, IsNoStart, IsNoneWithin, Part, declared, fitting};
 ghost use Rattle.msvc_filter.specs.Filtered.{kept, max_declared, max_nodes, text_of_parts};
 ghost use Rattle.msvc_streams.specs.Runs.{Writes, WritesPart};
 ghost use Rattle.msvc_filter.specs.FilterRuns.{WritesFiltered};
@@ -22,11 +22,10 @@ ghost use Rattle.msvc_filter.specs.SymbolBounds.{is_start};
 use crate::symbol_bounds::{
     MAX_LOOKED_AT, WordState, candidate, continues, plain_len, symbol_extent, utf8_front,
 };
+use msvc_cursor::limits::{DEFAULT_BYTE_LIMIT, DEFAULT_NODE_LIMIT, Limits};
 use msvc_nodes::flags::DemangleFlags;
 use msvc_streams::{Fault, Polls, Taken, Watched, consume, fail, fill_buf, line_end, write_all};
-use msvc_symbol::{
-    DEFAULT_BYTE_LIMIT, DEFAULT_NODE_LIMIT, Demangler, Limits, print_symbol, printed_bytes,
-};
+use msvc_symbol::Demangler;
 use std::alloc::{AllocError, Allocator, Global};
 use std::io::{BufRead, Write};
 
@@ -242,7 +241,7 @@ pub fn filter_slice_in<A: Allocator + Copy>(
         match next_symbol(demangler, &text[at..], text.len() - at, &mut scan, flags)? {
             Some(found) => {
                 writer = write_verbatim(out, writer, &text[at..at + found.before])?;
-                writer = write_declaration(out, writer, printed_bytes(demangler))?;
+                writer = write_declaration(out, writer, demangler.declared())?;
                 at += found.before + found.bytes;
             }
             None => {
@@ -368,7 +367,7 @@ fn filter_piece(
         match next_symbol(demangler, &piece[at..], until - at, scan, flags)? {
             Some(found) => {
                 text.extend_from_slice(&piece[at..at + found.before])?;
-                text.extend_from_slice(printed_bytes(demangler))?;
+                text.extend_from_slice(demangler.declared())?;
                 at += found.before + found.bytes;
             }
             None => {
@@ -436,7 +435,7 @@ fn symbol_at<A: Allocator + Copy>(
     flags: DemangleFlags,
 ) -> Result<Option<usize>, AllocError>
     ensures none { IfOk result (λ found. IfNone found ((last : ℕ) (passed : List ℕ) → Keeps scan last passed
-        → is_start last passed (slice_index left.now 0) ≡ true → IsNoSymbol flags.0 left.now)) }
+        → is_start last passed (slice_index left.now 0) ≡ true → IsNoStart flags.0 left.now)) }
     ensures some { IfOk result (λ found. IfSome found (λ bytes. ((last : ℕ) (passed : List ℕ) → Keeps scan last passed
         → is_start last passed (slice_index left.now 0) ≡ true)
         × IsSymbolShown flags.0 left.now bytes demangler.new.text)) }
@@ -454,7 +453,7 @@ fn match_symbol<A: Allocator + Copy>(
     left: &[u8],
     flags: DemangleFlags,
 ) -> Result<Option<usize>, AllocError>
-    ensures none { IfOk result (λ found. IfNone found (IsNoSymbol flags.0 left.now)) }
+    ensures none { IfOk result (λ found. IfNone found (IsNoStart flags.0 left.now)) }
     ensures some { IfOk result (λ found. IfSome found (λ bytes.
         IsSymbolShown flags.0 left.now bytes demangler.new.text)) }
 {
@@ -484,11 +483,11 @@ fn demangle_candidate<A: Allocator + Copy>(
     ensures none { IfOk result (λ found. IfNone found (IsNoneWithin flags.0 input.now)) }
 {
     let limits = Limits {
-        nodes: DEFAULT_NODE_LIMIT,
-        bytes: DEFAULT_BYTE_LIMIT,
+        nodes: Some(DEFAULT_NODE_LIMIT),
+        bytes: Some(DEFAULT_BYTE_LIMIT),
     };
-    match print_symbol(demangler, input, flags, limits) {
-        Ok(read) => Ok(Some(read)),
+    match demangler.declare(input, flags, limits) {
+        Ok(length) => Ok(Some(length)),
         Err(failure) => {
             if failure.is_out_of_memory() {
                 Err(AllocError)

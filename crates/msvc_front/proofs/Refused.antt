@@ -1,16 +1,16 @@
 -- A name that is rejected, and not for want of memory, has no declaration within the default limits.
-use Rattle.std.proofs.Common.{ℕ, List, ◌≡◌, inl, inr, refl, subst}
+use Rattle.std.proofs.Common.{ℕ, List, Some, ◌≡◌, inl, inr, refl, subst}
 use Rattle.msvc_demangler.specs.ErrorRepr.{ErrorRepr}
 use Rattle.msvc_demangler.specs.ErrorRepr.TheVariants as error
 use Rattle.msvc_demangler.specs.Answers.{line_flags}
 use Rattle.msvc_demangler.specs.Demangled.{IsErrorUnder}
 use Rattle.msvc_demangler.specs.Filtered.{IsNoneWithin, max_declared, max_nodes}
 use Rattle.msvc_demangler.specs.Limits.{limits_of}
-use Rattle.msvc_demangler.specs.Rejections.{IsNoSymbolWithin, IsRejectedRightlyWithin}
+use Rattle.msvc_demangler.specs.Rejections.{IsNoSymbol, IsRejectedRightly}
 use Rattle.msvc_front.specs.Readable.{IsReadable}
 
-no_symbol : (name : List ℕ) (e : ErrorRepr) → (e ≡ error.Memory → ⊥) → IsRejectedRightlyWithin max_nodes name e
-    → IsNoSymbolWithin max_nodes name
+no_symbol : (name : List ℕ) (e : ErrorRepr) → (e ≡ error.Memory → ⊥) → IsRejectedRightly (Some max_nodes) name e
+    → IsNoSymbol (Some max_nodes) name
 no_symbol name (error.ParseError message context at) other refused = refused.1
 no_symbol name error.Memory other refused = absurd (other refl)
 no_symbol name (error.Utf8 cause) other refused = absurd refused

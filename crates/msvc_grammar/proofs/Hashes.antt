@@ -1,7 +1,7 @@
 -- The symbol of a hash: of ??@, the digits, an @ and any bytes, the part up to that @ is derived as a name, and nothing
 -- else is.
 use Rattle.std.proofs.Common.{ℕ, List, [], ◌∷◌, ◌++◌, Bool, true, false, not, ◌≡◌, ◌==◌, length, refl, sym, ap}
-use Rattle.std.proofs.Common.{◌∙◌, subst}
+use Rattle.std.proofs.Common.{◌∙◌, None, subst}
 use Rattle.std.proofs.lemmas.Bool.{eqb-true}
 use Rattle.std.specs.Prelude.{is_some}
 use Rattle.msvc_nodes.specs.Trees.{SymbolTree}
@@ -75,13 +75,13 @@ hashes-stand text tree rest notes d digits remaining h same =
     (hash_only digits remaining h tree rest notes (subst (λ z. Derives z tree rest notes) same d)).0
 
 -- a text that begins with a hash is rejected for memory alone, if it is rejected rightly
-pub hashes-read : (text : List ℕ) (e : ErrorRepr) → IsRejectedRightly text e → HashesAreRead text e
+pub hashes-read : (text : List ℕ) (e : ErrorRepr) → IsRejectedRightly None text e → HashesAreRead text e
 hashes-read text e rejected digits rest hash begins = go e rejected
   where
     derived : Derives text (md5_symbol digits) rest []
     derived = subst (λ z. Derives z (md5_symbol digits) rest []) (sym begins) (hash_derived digits rest hash)
 
-    go : (e : ErrorRepr) → IsRejectedRightly text e → e ≡ error.Memory
+    go : (e : ErrorRepr) → IsRejectedRightly None text e → e ≡ error.Memory
     go (error.ParseError message context at) h = absurd (h.1 (md5_symbol digits) rest [] derived)
     go error.Memory h = refl
     go (error.Other m) h = absurd h

@@ -7,6 +7,7 @@ pub mod Grammar
 pub mod Hashes
 pub mod Laws
 pub mod Letters
+pub mod Limits
 pub mod Parsed
 pub mod Parts
 pub mod Prefix

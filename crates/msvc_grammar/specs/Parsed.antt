@@ -1,18 +1,18 @@
 -- The contract of the calls that read a whole text: what holds of a tree that was read, of the grammar whatever a call
 -- returns, and of an error.
-use Rattle.std.specs.Prelude.{ℕ, List, ◌≡◌, ◌≢◌, Some, None, codes}
+use Rattle.std.specs.Prelude.{ℕ, List, ◌≡◌, Option, None, codes}
 use Rattle.std.specs.Str.{IsCharBoundary, IsUtf8}
 use Rattle.msvc_nodes.specs.EachName.{EachName}
 use Rattle.msvc_nodes.specs.Errors.{limit_of}
 use Rattle.msvc_nodes.specs.Trees.{SymbolTree}
 use Rattle.msvc_nodes.specs.declared.error.ErrorRepr.{ErrorRepr}
-use Rattle.msvc_nodes.specs.declared.error.Limit.TheVariants.{Bytes}
 use Rattle.msvc_grammar.specs.Hashes.{HashesAreRead, HashesStand}
 use Rattle.msvc_grammar.specs.Laws.{HasOneTree, TablesAreHandedBack, TypesAreLocal}
+use Rattle.msvc_grammar.specs.Limits.{MayBeAbout}
 use Rattle.msvc_grammar.specs.Parts.{NamesAreParts}
 use Rattle.msvc_grammar.specs.Prefix.{IsReadTo}
 use Rattle.msvc_grammar.specs.Reads.{Derives, IsOnly}
-use Rattle.msvc_grammar.specs.Rejections.{IsRejectionAt, IsRejectedRightly, IsRejectedRightlyWithin, begins_with}
+use Rattle.msvc_grammar.specs.Rejections.{IsRejectionAt, IsRejectedRightly, begins_with}
 use Rattle.msvc_grammar.specs.State.{Note}
 use Rattle.msvc_grammar.specs.Written.{AreRising, CanBeWrittenOut, DigitsCanBeWrittenOut}
 
@@ -46,25 +46,16 @@ pub record GrammarLaws (text : List ℕ) : Type 0 where
   -- each digit that was read as a whole parameter can be written out
   pub written_out : DigitsCanBeWrittenOut text
 
--- Reading the text fails with this error.
-pub record IsRejected (text : List ℕ) (e : ErrorRepr) : Type 0 where
-  -- out of memory, or the text begins with no symbol: then the error has an offset in the text
-  pub rejected : IsRejectedRightly text e
+-- Reading the text fails with this error, under a limit on nodes or without one.
+pub record IsRejected (nodes : Option ℕ) (text : List ℕ) (e : ErrorRepr) : Type 0 where
+  -- out of memory, or the text begins with no symbol within the limit: then the error has an offset in the text
+  pub rejected : IsRejectedRightly nodes text e
   -- a text without a question mark at its beginning is rejected at offset 0
   pub begins : (begins_with (codes "?") text → ⊥) → IsRejectionAt text 0 e
-  -- a text that begins with a hash is rejected only out of memory
-  pub hashes : HashesAreRead text e
-  -- the message is about no limit
-  pub limit : limit_of e ≡ None
-
--- Reading the text fails with this error, where at most so many nodes are allowed.
-pub record IsRejectedWithin (nodes : ℕ) (text : List ℕ) (e : ErrorRepr) : Type 0 where
-  -- out of memory, or the text begins with no symbol of so few nodes: then the error has an offset in the text
-  pub rejected : IsRejectedRightlyWithin nodes text e
-  -- a text without a question mark at its beginning is rejected at offset 0
-  pub begins : (begins_with (codes "?") text → ⊥) → IsRejectionAt text 0 e
-  -- the message is not that of a declaration that is too long
-  pub limit : limit_of e ≢ Some Bytes
+  -- a text that begins with a hash is rejected only out of memory, if there is no limit
+  pub hashes : nodes ≡ None → HashesAreRead text e
+  -- the message is about no limit, if there is none, and never about the bytes of a declaration
+  pub limit : MayBeAbout nodes (limit_of e)
 
 -- The symbol at the beginning of the text takes this many bytes.
 pub record IsSymbolLength (bytes : ℕ) (text : List ℕ) : Type 0 where

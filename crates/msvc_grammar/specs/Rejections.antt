@@ -1,11 +1,12 @@
 -- What a rejection is to those who call.
-use Rattle.std.specs.Prelude.{ℕ, List, ◌++◌, ◌<◌, ◌≤◌, ◌≡◌, length, string_bytes}
+use Rattle.std.specs.Prelude.{ℕ, List, ◌++◌, ◌≤◌, ◌≡◌, Option, length, string_bytes}
 use Rattle.std.specs.Str.{IsAscii}
 use Rattle.msvc_nodes.specs.Errors.{context_of}
 use Rattle.msvc_nodes.specs.Trees.{SymbolTree}
 use Rattle.msvc_nodes.specs.declared.error.ErrorRepr.{ErrorRepr}
 use Rattle.msvc_nodes.specs.declared.error.ErrorRepr.TheVariants as error
 use Rattle.msvc_grammar.specs.Counts.{node_count}
+use Rattle.msvc_grammar.specs.Limits.{IsBeyond}
 use Rattle.msvc_grammar.specs.Reads.{Derives}
 use Rattle.msvc_grammar.specs.State.{Note}
 
@@ -19,26 +20,15 @@ IsRejectionAt text offset (error.ParseError message context at) =
 IsRejectionAt text offset error.Memory = Unit {0}
 IsRejectionAt text offset _ = ⊥
 
--- no beginning of the text is a symbol
-abbrev pub IsNoSymbol : List ℕ → Type 0
-IsNoSymbol text = (tree : SymbolTree) (rest : List ℕ) (notes : List Note) → Derives text tree rest notes → ⊥
+-- no beginning of the text is a symbol whose tree is within the limit on nodes
+abbrev pub IsNoSymbol : (nodes : Option ℕ) → List ℕ → Type 0
+IsNoSymbol nodes text = (tree : SymbolTree) (rest : List ℕ) (notes : List Note) → Derives text tree rest notes
+    → IsBeyond nodes (node_count tree)
 
--- A text is rejected out of memory, or at a place in it, because no beginning of it is a symbol; of an ASCII text
--- the rejection shows what stands there.
-abbrev pub IsRejectedRightly : List ℕ → ErrorRepr → Type 0
-IsRejectedRightly text (error.ParseError message context at) =
-    (at ≤ length text) × IsNoSymbol text × (IsAscii text → string_bytes context ≡ context_of text at)
-IsRejectedRightly text error.Memory = Unit {0}
-IsRejectedRightly text _ = ⊥
-
--- no beginning of the text is a symbol of at most so many nodes
-abbrev pub IsNoSymbolWithin : ℕ → List ℕ → Type 0
-IsNoSymbolWithin max text =
-    (tree : SymbolTree) (rest : List ℕ) (notes : List Note) → Derives text tree rest notes → max < node_count tree
-
--- likewise where there is a limit: because no beginning of the text is a symbol of at most so many nodes
-abbrev pub IsRejectedRightlyWithin : ℕ → List ℕ → ErrorRepr → Type 0
-IsRejectedRightlyWithin max text (error.ParseError message context at) =
-    (at ≤ length text) × IsNoSymbolWithin max text × (IsAscii text → string_bytes context ≡ context_of text at)
-IsRejectedRightlyWithin max text error.Memory = Unit {0}
-IsRejectedRightlyWithin max text _ = ⊥
+-- A text is rejected out of memory, or at a place in it, because no beginning of it is a symbol within the limit on
+-- nodes; of an ASCII text the rejection shows what stands there.
+abbrev pub IsRejectedRightly : (nodes : Option ℕ) → List ℕ → ErrorRepr → Type 0
+IsRejectedRightly nodes text (error.ParseError message context at) =
+    (at ≤ length text) × IsNoSymbol nodes text × (IsAscii text → string_bytes context ≡ context_of text at)
+IsRejectedRightly nodes text error.Memory = Unit {0}
+IsRejectedRightly nodes text _ = ⊥

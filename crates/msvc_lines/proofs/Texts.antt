@@ -1,13 +1,13 @@
 -- Lines, and the text of lines that follow one another.
 use Rattle.std.proofs.Common.{◌≡◌, ◌≢◌, ◌++◌, ◌∷◌, [], ℕ, List, ap, sym, subst, refl, ◌∙◌, append_assoc, append-nil}
-use Rattle.std.proofs.Common.{inl, inr}
+use Rattle.std.proofs.Common.{None, inl, inr}
 use Rattle.std.specs.Str.{IsUtf8}
 use Rattle.msvc_nodes.specs.Trees.{SymbolTree}
 use Rattle.msvc_grammar.specs.Parsed.{IsParsed}
-use Rattle.msvc_cursor.specs.declared.refusal.Refusal.{Refusal}
-use Rattle.msvc_cursor.specs.declared.refusal.Refusal.TheVariants as refusal
+use Rattle.msvc_cursor.specs.Failures.{Fails}
+use Rattle.msvc_cursor.specs.declared.failure.Failure.{Failure}
+use Rattle.msvc_cursor.specs.declared.failure.Failure.TheVariants as failure
 use Rattle.msvc_print.specs.Declaration.{declaration}
-use Rattle.msvc_read.specs.Failures.{Fails}
 use Rattle.msvc_lines.specs.Lines.{line_of, lines_of}
 use Rattle.msvc_lines.specs.Answers.{IsAnswer, IsLineText, IsText, line_flags, nothing, left_out}
 use Rattle.msvc_lines.specs.Answers.{answered}
@@ -20,10 +20,11 @@ pub answer_declared : (symbol : List ℕ) (tree : SymbolTree) → IsParsed symbo
 answer_declared symbol tree is = inl (tree, (is.rest, is.notes, is.derived, is.only), refl)
 
 -- and the symbol itself, if it is rejected
-pub answer_rejected : (symbol : List ℕ) (reason : Refusal) → Fails symbol reason → reason ≢ refusal.Memory
-    → IsAnswer symbol symbol
-answer_rejected symbol refusal.Memory fails other = absurd (other refl)
-answer_rejected symbol (refusal.Unread message left) fails other = inr (fails.none, refl)
+pub answer_rejected : (symbol : List ℕ) (reason : Failure) → Fails None symbol reason
+    → reason ≢ failure.Memory → IsAnswer symbol symbol
+answer_rejected symbol failure.Memory fails other = absurd (other refl)
+answer_rejected symbol (failure.Rejected message left) fails other = inr (fails.none, refl)
+answer_rejected symbol (failure.TooLong read) fails other = absurd fails.none
 
 -- the text of one line
 pub IsText-one : (line text : List ℕ) → IsUtf8 line → IsLineText line text → IsText (line ∷ []) text

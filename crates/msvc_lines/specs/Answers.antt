@@ -1,5 +1,5 @@
 -- What is answered to symbols and to lines.
-use Rattle.std.specs.Prelude.{ℕ, List, [], ◌∷◌, ◌++◌, ◌≡◌, ◌⊎◌}
+use Rattle.std.specs.Prelude.{ℕ, List, [], ◌∷◌, ◌++◌, ◌≡◌, ◌⊎◌, None}
 use Rattle.std.specs.Str.{IsUtf8}
 use Rattle.msvc_nodes.specs.Trees.{SymbolTree}
 use Rattle.msvc_grammar.specs.Reads.{Derives, IsOnly}
@@ -20,7 +20,7 @@ IsTreeOf symbol tree =
 -- a symbol's answer: the declaration of its tree, or, where there is none, the symbol itself
 abbrev pub IsAnswer : List ℕ → List ℕ → Type 0
 IsAnswer symbol text = ((tree : SymbolTree) × IsTreeOf symbol tree × (text ≡ declaration tree line_flags))
-    ⊎ (IsNoSymbol symbol × (text ≡ symbol))
+    ⊎ (IsNoSymbol None symbol × (text ≡ symbol))
 
 -- the answer and a line feed
 abbrev pub IsLineText : List ℕ → List ℕ → Type 0

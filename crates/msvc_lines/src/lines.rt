@@ -1,20 +1,29 @@
 //! `undname` over one symbol and over lines, from a reader to writers.
 
-ghost use Rattle.std.specs.Prelude.{◌≡◌, ◌∷◌, ◌++◌, ℕ, List, [], IfOk, IfSome, OnOk, OnSome, codes};
+ghost use Rattle.std.specs.Prelude.{◌≡◌, ◌∷◌, ◌++◌, ℕ, List, [], IfErr, IfOk, IfSome, None, OnOk, OnSome, Some, codes};
 ghost use Rattle.std.specs.Prelude.{string_bytes};
 ghost use Rattle.std.specs.Io.KnownBytes.{Appends, Consumes, IsAtEnd};
 ghost use Rattle.msvc_nodes.specs.Errors.{error_text};
-ghost use Rattle.msvc_lines.specs.Answers.{IsLineText, IsText};
+ghost use Rattle.msvc_nodes.specs.Trees.{SymbolTree};
+ghost use Rattle.msvc_grammar.specs.Parsed.{IsParsed};
+ghost use Rattle.msvc_cursor.specs.Errors.{IsInside};
+ghost use Rattle.msvc_cursor.specs.Failures.{Fails};
+ghost use Rattle.msvc_print.specs.Declaration.{declaration};
+ghost use Rattle.msvc_lines.specs.Answers.{IsLineText, IsText, line_flags};
 ghost use Rattle.msvc_lines.specs.Lines.{line_of};
 ghost use Rattle.msvc_streams.specs.Faults.{SetsFailureFlag, failure_flag, no_stream};
 ghost use Rattle.msvc_streams.specs.Runs.{Writes};
 ghost use Rattle.msvc_lines.specs.LineRuns.{WritesLines};
 
-use msvc_cursor::refusal::Refusal;
+use msvc_cursor::failure::Failure;
+use msvc_cursor::limits::Limits;
+use msvc_debug::write_tree;
 use msvc_nodes::error::Error;
 use msvc_nodes::flags::DemangleFlags;
+use msvc_print::Text;
+use msvc_productions::{SymbolRead, read};
 use msvc_streams::{Fault, Polls, Taken, Watched, read_piece, write_all, write_line};
-use msvc_symbol::{Demangler, print_with_tree, printed_bytes};
+use msvc_symbol::{Arena, print};
 use std::alloc::{AllocError, Global};
 use std::io::{BufRead, Write};
 use std::str::from_utf8;
@@ -42,14 +51,16 @@ pub fn undname_one<W: Write, E: Write>(
     ensures sets_failed { SetsFailureFlag result no_stream (failure_flag out.old out.new)
         (failure_flag err.old err.new) }
 {
-    let mut demangler = Demangler::new(alloc);
-    undname_in(alloc, &mut demangler, symbol, out, err, verbose)
+    let mut arena = Arena::new(alloc);
+    let mut text = Text::new(alloc);
+    undname_in(alloc, &mut arena, &mut text, symbol, out, err, verbose)
 }
 
-/// Demangles one symbol, as [`undname_one`] does, with a demangler that is kept for the next.
+/// Demangles one symbol, as [`undname_one`] does, with memory that is kept for the next.
 pub(crate) fn undname_in<W: Write, E: Write>(
     alloc: Global,
-    demangler: &mut Demangler,
+    arena: &mut Arena,
+    text: &mut Text,
     symbol: &str,
     out: &mut Watched<W>,
     err: &mut Watched<E>,
@@ -61,29 +72,63 @@ pub(crate) fn undname_in<W: Write, E: Write>(
         (failure_flag err.old err.new) }
 {
     let mut tree = String::new(alloc);
-    match print_with_tree(demangler, symbol, DemangleFlags::llvm(), verbose, &mut tree) {
+    match declare(alloc, arena, symbol, verbose, &mut tree, text) {
         Ok(()) => {
             write_all(err, tree.as_bytes())?;
-            write_line(out, printed_bytes(demangler))
+            write_line(out, text.as_bytes())
         }
-        Err(Refusal::Memory) => Err(Fault::Memory),
-        Err(refusal) => {
-            report(alloc, refusal, symbol, err)?;
+        Err(Failure::Memory) => Err(Fault::Memory),
+        Err(failure) => {
+            report(alloc, failure, symbol, err)?;
             write_line(out, symbol.as_bytes())
         }
     }
 }
 
+/// Reads a symbol, and prints its declaration to `text`. If `verbose`, appends its tree and a line feed to `tree` in
+/// between.
+///
+/// # Errors
+///
+/// Fails if the symbol is rejected, or if an allocation fails. After a failed allocation the arena can't be used again.
+fn declare(
+    alloc: Global,
+    arena: &mut Arena,
+    symbol: &str,
+    verbose: bool,
+    tree: &mut String,
+    text: &mut Text,
+) -> Result<(), Failure>
+    ensures declared { IfOk result (λ _. (tree : SymbolTree) × IsParsed symbol.now tree
+        × (text.new.text ≡ Some (declaration tree line_flags))) }
+    ensures fails { IfErr result (λ failure. Fails None symbol.now failure) }
+    ensures inside { IfErr result (λ failure. IsInside symbol.now failure) }
+{
+    let limits = Limits::none();
+    let arena = arena.prepared(symbol, limits)?;
+    let SymbolRead {
+        symbol: nodes,
+        length,
+        ..
+    } = read(arena, symbol, limits)?;
+    if verbose {
+        write_tree(alloc, &nodes, tree)?;
+        tree.push('\n')?;
+    }
+    print(arena, &nodes, length, DemangleFlags::llvm(), limits, text)
+}
+
 /// Writes the error of a symbol that is rejected for this reason.
 fn report<E: Write>(
     alloc: Global,
-    refusal: Refusal,
+    failure: Failure,
     symbol: &str,
     err: &mut Watched<E>,
 ) -> Result<(), Fault>
+    requires { IsInside symbol.now failure }
     ensures sets_failed { SetsFailureFlag result no_stream no_stream (failure_flag err.old err.new) }
 {
-    let error = refusal.error(alloc, symbol.as_bytes());
+    let error = failure.error(alloc, symbol);
     if error.is_out_of_memory() {
         return Err(Fault::Memory);
     }
@@ -135,21 +180,22 @@ pub fn undname_lines<R: BufRead, W: Write, E: Write>(
     ensures sets_failed { SetsFailureFlag result (failure_flag input.old input.new) (failure_flag out.old out.new)
         (failure_flag err.old err.new) }
 {
-    let mut demangler = Demangler::new(alloc);
+    let mut arena = Arena::new(alloc);
+    let mut text = Text::new(alloc);
     let mut piece = Vec::new(alloc);
     let mut polls = Polls::none();
     'pieces: loop {
         match read_piece(input, &mut polls, &mut piece)? {
             Taken::Part => {}
             Taken::Line => {
-                undname_line(alloc, &mut demangler, &piece, out, err, verbose)?;
+                undname_line(alloc, &mut arena, &mut text, &piece, out, err, verbose)?;
                 piece.clear();
             }
             Taken::End => {
                 if piece.is_empty() {
                     return Ok(());
                 }
-                return undname_line(alloc, &mut demangler, &piece, out, err, verbose);
+                return undname_line(alloc, &mut arena, &mut text, &piece, out, err, verbose);
             }
         }
     }
@@ -158,7 +204,8 @@ pub fn undname_lines<R: BufRead, W: Write, E: Write>(
 /// Demangles one line, unless it is not UTF-8.
 fn undname_line<W: Write, E: Write>(
     alloc: Global,
-    demangler: &mut Demangler,
+    arena: &mut Arena,
+    text: &mut Text,
     piece: &[u8],
     out: &mut Watched<W>,
     err: &mut Watched<E>,
@@ -170,7 +217,7 @@ fn undname_line<W: Write, E: Write>(
         (failure_flag err.old err.new) }
 {
     match from_utf8(without_end(piece)) {
-        Ok(line) => undname_in(alloc, demangler, line, out, err, verbose),
+        Ok(line) => undname_in(alloc, arena, text, line, out, err, verbose),
         Err(_) => Ok(()),
     }
 }

@@ -6,8 +6,9 @@ ghost use Rattle.msvc_streams.specs.Faults.{SetsFailureFlag, failure_flag, no_st
 ghost use Rattle.msvc_lines.specs.Arguments.{WritesAnswers, WritesSymbols, symbols_of};
 
 use crate::lines::{undname_in, undname_lines};
+use msvc_print::Text;
 use msvc_streams::{Fault, Watched};
-use msvc_symbol::Demangler;
+use msvc_symbol::Arena;
 use std::alloc::Global;
 use std::io::{BufRead, Write};
 
@@ -63,9 +64,18 @@ fn undname_all<W: Write, E: Write>(
     ensures sets_failed { SetsFailureFlag result no_stream (failure_flag out.old out.new)
         (failure_flag err.old err.new) }
 {
-    let mut demangler = Demangler::new(alloc);
+    let mut arena = Arena::new(alloc);
+    let mut text = Text::new(alloc);
     for symbol in symbols {
-        undname_in(alloc, &mut demangler, symbol.as_str(), out, err, verbose)?;
+        undname_in(
+            alloc,
+            &mut arena,
+            &mut text,
+            symbol.as_str(),
+            out,
+            err,
+            verbose,
+        )?;
     }
     Ok(())
 }

@@ -10,3 +10,4 @@ pub mod kinds;
 pub mod list;
 pub mod nodes;
 pub mod same;
+pub mod sizes;

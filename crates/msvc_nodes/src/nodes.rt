@@ -7,10 +7,6 @@ use crate::kinds::{
     SpecialTableKind, TagKind, VarStorageKind,
 };
 
-/// The most bytes that are requested ahead for an arena: of a longer symbol, readers and printers request the rest as
-/// they go.
-pub const MAX_ARENA_BYTES: usize = 1 << 20;
-
 /// The name of a symbol, or one name of a scope.
 #[derive(Clone, Copy)]
 #[cycle(nodes)]

@@ -1,4 +1,4 @@
-//! The printer: writes the declaration of a symbol's nodes under flags, and returns how many bytes its stack takes.
+//! The printer: writes the declaration of a symbol's nodes under flags.
 //!
 //! All words and all rules of printing live here, over nodes in an arena. Nothing here knows mangled texts, their
 //! grammar or owned trees.
@@ -18,5 +18,5 @@ mod text;
 mod types;
 mod words;
 
-pub use printer::{print, print_arena_bytes, print_within};
+pub use printer::{print, print_within};
 pub use text::{Text, into_string_lossy};

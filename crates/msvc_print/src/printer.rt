@@ -1,6 +1,6 @@
-//! The printer: its state, its loop over the stack, one step for each item, and the bytes that the stack takes.
+//! The printer: its state, its loop over the stack, and one step for each item.
 
-ghost use Rattle.std.specs.Prelude.{◌≡◌, ◌≤◌, ◌^◌, OnOk, IfOk, Some, true};
+ghost use Rattle.std.specs.Prelude.{◌≡◌, OnOk, IfOk, Some, true};
 ghost use Rattle.msvc_nodes.specs.NodeView.{typed_symbol_of};
 ghost use Rattle.msvc_print.specs.Declaration.{declaration};
 ghost use Rattle.msvc_print.specs.Within.{IsPrintedWithin};
@@ -14,21 +14,9 @@ use crate::text::{Text, write_mark, write_qualifiers, write_text};
 use crate::types::write_array_prefix;
 use bumpalo::Bump;
 use msvc_nodes::flags::DemangleFlags;
-use msvc_nodes::nodes::{MAX_ARENA_BYTES, TypedSymbol};
+use msvc_nodes::nodes::TypedSymbol;
+use msvc_nodes::sizes::FIRST_ITEMS;
 use std::alloc::{AllocError, Allocator};
-
-/// Items to reserve for the stack: more than most symbols need.
-const FIRST_ITEMS: usize = 32;
-
-/// Bytes that the stack takes of an arena at first.
-const BYTES_AT_FIRST: usize = 1024;
-
-/// Most bytes that the stack takes of an arena for a byte of a symbol. The stack has at most one item for two bytes,
-/// and has grown by doubling.
-const BYTES_PER_SYMBOL_BYTE: usize = 64;
-
-/// Most bytes that the stack takes of an arena for a node, where nodes are limited.
-const BYTES_PER_NODE: usize = 128;
 
 /// The state of the printer. Both parts are borrowed: of a struct that owns memory, the prover does not learn what a
 /// reference in it held at its end.
@@ -42,20 +30,6 @@ pub struct Printer<'a, 'b, 't, S: Allocator, A: Allocator> {
     pub flags: DemangleFlags,
 }
 
-/// Returns how many bytes of an arena the stack takes while a symbol of `symbol_bytes` bytes and at most `nodes` nodes
-/// is printed, at most a megabyte. `usize::MAX` nodes are no limit. An arena that has these bytes makes no further
-/// request for memory. Of a longer symbol, the stack asks for the rest as it grows.
-pub fn print_arena_bytes(symbol_bytes: usize, nodes: usize) -> usize
-    ensures max { result ≤ 2 ^ 20 }
-{
-    let by_text = symbol_bytes.saturating_mul(BYTES_PER_SYMBOL_BYTE);
-    let by_nodes = nodes.saturating_mul(BYTES_PER_NODE);
-    by_text
-        .min(by_nodes)
-        .saturating_add(BYTES_AT_FIRST)
-        .min(MAX_ARENA_BYTES)
-}
-
 impl<'a, 'b, 't, S: Allocator, A: Allocator> Printer<'a, 'b, 't, S, A> {
     /// Prints one item of the stack.
     fn print_item(&mut self, item: Item<'a, 'b>) -> Result<(), AllocError>
@@ -67,7 +41,7 @@ impl<'a, 'b, 't, S: Allocator, A: Allocator> Printer<'a, 'b, 't, S, A> {
             Item::Text(bytes) => write_text(self.out, bytes),
             Item::Name(name, of_symbol) => self.print_name(name, of_symbol),
             Item::Scope(scope) => self.print_scope(scope.names),
-            Item::Symbol(symbol, symbol_type) => self.print_symbol(symbol, symbol_type),
+            Item::Symbol(symbol, symbol_type) => self.print_qualified_name(symbol, symbol_type),
             Item::Class(class) => self.print_member_pointer_class(class),
             Item::Spaced(word) => write_spaced_word(self.out, word),
             Item::Qualifiers(qualifiers) => write_qualifiers(self.out, qualifiers, self.flags),

@@ -305,7 +305,7 @@ impl<'a, 'b, 't, S: Allocator, A: Allocator> Printer<'a, 'b, 't, S, A> {
     }
 
     /// Prints a symbol's name in its scope, by the kind of the name.
-    pub fn print_symbol(
+    pub fn print_qualified_name(
         &mut self,
         symbol: &'b Symbol<'a, 'b>,
         symbol_type: Option<&'b Type<'a, 'b>>,
@@ -353,7 +353,7 @@ impl<'a, 'b, 't, S: Allocator, A: Allocator> Printer<'a, 'b, 't, S, A> {
     {
         write_space(self.out, Space::AfterPointer)?;
         push(self.stack, Item::Text(b"::*"))?;
-        self.print_symbol(class, None)
+        self.print_qualified_name(class, None)
     }
 }
 

@@ -44,6 +44,8 @@ pub struct Text<A: Allocator = Global> {
     /// were changed as one value of 16 bytes, and a write waited until the one before had stored both halves.
     ready: usize,
     whole: bool,
+    /// Whether memory was requested ahead.
+    reserved: bool,
 }
 
 impl<A: Allocator> Model for Text<A> {
@@ -68,6 +70,7 @@ impl<A: Allocator> Text<A> {
             ready: 0,
             max: usize::MAX,
             whole: true,
+            reserved: false,
         }
     }
 
@@ -77,8 +80,22 @@ impl<A: Allocator> Text<A> {
     pub fn try_reserve(&mut self, additional: usize) -> Result<(), AllocError>
         ensures { self.new ≡ self.old }
     {
+        self.reserved = true;
         let filled = self.bytes.len() - self.written;
         self.bytes.reserve(additional.saturating_sub(filled))
+    }
+
+    /// Requests memory for `bytes` bytes ahead, unless that was done before. Changes no byte.
+    ///
+    /// Fails only if an allocation fails.
+    #[inline(always)]
+    pub fn try_reserve_once(&mut self, bytes: usize) -> Result<(), AllocError>
+        ensures { self.new ≡ self.old }
+    {
+        if self.reserved {
+            return Ok(());
+        }
+        self.try_reserve(bytes)
     }
 
     /// Makes the text empty and whole, with a limit of `max` bytes. Keeps its memory.

@@ -350,7 +350,7 @@ impl<'a, 'b, 't, S: Allocator, A: Allocator> Printer<'a, 'b, 't, S, A> {
     {
         write_text(self.out, word)?;
         push_qualifiers(self.stack, qualifiers, self.flags)?;
-        self.print_symbol(symbol, None)
+        self.print_qualified_name(symbol, None)
     }
 }
 

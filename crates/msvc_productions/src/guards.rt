@@ -15,10 +15,10 @@ ghost use Rattle.msvc_cursor.specs.NestedList.{current, enclosing};
 
 use crate::qualified_names::{nested_name, put_symbol, scope};
 use crate::symbols::put_typed_symbol;
+use msvc_cursor::failure::{Failed, Message};
 use msvc_cursor::limit::NodeBudget;
 use msvc_cursor::nested_list::Checkpoint;
 use msvc_cursor::parser::Parser;
-use msvc_cursor::refusal::{Failed, Message};
 use msvc_nodes::kinds::NumberedType;
 use msvc_nodes::nodes::{Name, Symbol, Type, TypedSymbol};
 use std::alloc::Allocator;

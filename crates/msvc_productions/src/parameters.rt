@@ -16,11 +16,11 @@ ghost use Rattle.msvc_cursor.specs.NestedList.{current};
 use crate::types::{new_plain, type_};
 use bitflags::Flags;
 use msvc_cursor::back_references::enters_table;
+use msvc_cursor::failure::{Failed, Failure, Message};
 use msvc_cursor::forms::Ellipsis;
 use msvc_cursor::limit::NodeBudget;
 use msvc_cursor::nested_list::Checkpoint;
 use msvc_cursor::parser::Parser;
-use msvc_cursor::refusal::{Failed, Message, Refusal};
 use msvc_nodes::flags::StorageClass;
 use msvc_nodes::kinds::{PlainType, PrimitiveKind};
 use msvc_nodes::nodes::Type;
@@ -115,7 +115,7 @@ pub fn list_type<'a, 'b, L: NodeBudget, A: Allocator>(
     ensures state { IfOk result (λ _. state_of parser.new ≡ state_of parser.old) }
     ensures kept { IfOk result (λ _. frame_of parser.new
         ≡ record (frame_of parser.old) { listed_types = current parser.old.listed_types ++ parameter.entry ∷ [] }) }
-    ensures last_error { IfErr result (λ _. parser.new.last_error.reason ≡ Refusal.Memory) }
+    ensures last_error { IfErr result (λ _. parser.new.last_error.reason ≡ Failure.Memory) }
 {
     if parser.listed_types.push(parameter).is_err() {
         return Err(parser.no_memory());

@@ -17,12 +17,12 @@ use crate::parameters::parameters;
 use crate::special_names::special_name;
 use crate::symbols::symbol_body;
 use bumpalo::Bump;
+use msvc_cursor::failure::{Failed, Message};
 use msvc_cursor::forms::TemplateNames;
 use msvc_cursor::letters;
 use msvc_cursor::limit::NodeBudget;
 use msvc_cursor::nested_list::Checkpoint;
 use msvc_cursor::parser::Parser;
-use msvc_cursor::refusal::{Failed, Message};
 use msvc_nodes::nodes::{Name, Symbol, Template, TypedSymbol};
 use std::alloc::Allocator;
 

@@ -18,12 +18,12 @@ use crate::hashed_symbols::hashed_symbol;
 use crate::qualified_names::{qualified_name, scope, template_name};
 use crate::types::{new_plain, type_};
 use bitflags::Flags;
+use msvc_cursor::failure::{Failed, Failure, Message};
 use msvc_cursor::forms::TemplateNames;
 use msvc_cursor::letters::{self, OptionalLetters};
 use msvc_cursor::limit::NodeBudget;
 use msvc_cursor::nested_list::Checkpoint;
 use msvc_cursor::parser::Parser;
-use msvc_cursor::refusal::{Failed, Message, Refusal};
 use msvc_nodes::flags::StorageClass;
 use msvc_nodes::kinds::{PlainType, SpecialTableKind, VarStorageKind};
 use msvc_nodes::nodes::{Name, Scope, Symbol, Type, TypedSymbol};
@@ -36,7 +36,7 @@ pub fn symbol<'a, 'b, L: NodeBudget, A: Allocator>(
     ensures value { ReadsAs typed_symbol_of parser.old parser.new result (read_name rules.symbol) }
     ensures start { rules.after (codes "?") parser.old.rest.now ≡ None
         → (IfOk result (λ _. ⊥))
-        × (parser.new.last_error.reason ≡ Refusal.Unread Message.NoQuestionMark (length parser.old.rest.now)) }
+        × (parser.new.last_error.reason ≡ Failure.Rejected Message.NoQuestionMark (length parser.old.rest.now)) }
 {
     if !parser.consume(b"?") {
         return Err(parser.reject(Message::NoQuestionMark));

@@ -1,6 +1,7 @@
 pub use Rattle.msvc_grammar.specs.Counts
 pub use Rattle.msvc_grammar.specs.Hashes
 pub use Rattle.msvc_grammar.specs.Laws
+pub use Rattle.msvc_grammar.specs.Limits
 pub use Rattle.msvc_grammar.specs.Parsed
 pub use Rattle.msvc_grammar.specs.Parts
 pub use Rattle.msvc_grammar.specs.Prefix
@@ -13,5 +14,3 @@ pub use Rattle.msvc_nodes.specs.NodeView
 pub use Rattle.msvc_nodes.specs.Trees
 pub use Rattle.msvc_cursor.specs.Parser
 pub use Rattle.msvc_tree.specs.View
-pub mod Failures
-pub mod Limits

@@ -1,10 +1,8 @@
-//! Reads a whole text as a symbol, into nodes of an arena or into an owned tree.
+//! The calls that read a symbol and print nothing.
 #![tactic(auto)]
 
-mod read;
+mod calls;
 
-pub use msvc_cursor::back_references::BackReference;
-pub use read::{
-    back_references, parse, parse_arena_bytes, parse_prefix, parse_within, read_references,
-    read_symbol, symbol_length, symbol_length_within,
+pub use calls::{
+    back_references, parse, parse_prefix, parse_within, symbol_length, symbol_length_within,
 };

@@ -12,7 +12,7 @@ ghost use Rattle.msvc_streams.specs.Faults.{SetsFailureFlag, failure_flag, no_st
 ghost use Rattle.msvc_streams.specs.Polled.{Counts, is_at_limit, polled};
 ghost use Rattle.msvc_streams.specs.Taking.{IsCut, TakenAs};
 
-use msvc_cursor::search::find_byte;
+use byte_search::find_byte;
 use std::io::{BufRead, Write};
 use std::marker::Model;
 

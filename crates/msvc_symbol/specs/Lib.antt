@@ -1,3 +1,2 @@
 pub mod Demangled
 pub mod Failures
-pub mod Limits

@@ -1,10 +1,10 @@
 //! One symbol: reads it and prints its declaration, or returns why it has none.
 #![tactic(auto)]
 
+mod arena;
 mod demangler;
-mod failure;
-mod limits;
+mod steps;
 
-pub use demangler::{Demangler, demangle_once, print_symbol, print_with_tree, printed_bytes};
-pub use failure::{Failure, error_of};
-pub use limits::{DEFAULT_BYTE_LIMIT, DEFAULT_NODE_LIMIT, Limits};
+pub use arena::Arena;
+pub use demangler::Demangler;
+pub use steps::{declare_once, print};

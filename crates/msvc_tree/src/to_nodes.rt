@@ -21,15 +21,12 @@ use msvc_nodes::flags::FuncClass;
 use msvc_nodes::kinds::Spelling;
 use msvc_nodes::list::List;
 use msvc_nodes::nodes::{self, Function, Scope, Template, TypedSymbol};
+use msvc_nodes::sizes::TREE_ARENA;
 use std::alloc::{AllocError, Global};
-
-/// The size in bytes of an arena's first block: more than the nodes of most trees and the text printed of them take.
-/// Memory that is not written to costs nothing.
-const FIRST_ROOM: usize = 1 << 15;
 
 /// Makes an arena for the nodes of most trees. Fails only when it is out of memory.
 pub fn arena_for_nodes(alloc: Global) -> Result<Bump<Fuse>, AllocError> {
-    Bump::try_with_capacity(Fuse::new(alloc), FIRST_ROOM)
+    Bump::try_with_capacity(Fuse::new(alloc), TREE_ARENA)
 }
 
 /// Converts the tree of a symbol to nodes in `arena`. Fails only when it is out of memory.

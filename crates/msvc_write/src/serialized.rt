@@ -8,13 +8,11 @@ ghost use Rattle.msvc_write.specs.Serialized.{IsTextOf};
 
 use msvc_nodes::error::Error;
 use msvc_nodes::flags::DemangleFlags;
+use msvc_nodes::sizes::TREE_TEXT;
 use msvc_print::{Text, into_string_lossy, print};
 use msvc_tree::to_nodes::{arena_for_nodes, tree_to_nodes};
 use msvc_tree::tree::ParseResult;
 use std::alloc::{AllocError, Global};
-
-/// Bytes to reserve for a declaration: more than most need.
-const FIRST_BYTES: usize = 128;
 
 /// Prints the declaration of a tree to a text without a limit.
 fn declared(
@@ -27,7 +25,7 @@ fn declared(
     let arena = arena_for_nodes(alloc)?;
     let symbol = tree_to_nodes(&arena, input)?;
     let mut out = Text::new(alloc);
-    out.try_reserve(FIRST_BYTES)?;
+    out.try_reserve(TREE_TEXT)?;
     print(&arena, &symbol, flags, &mut out)?;
     Ok(out)
 }

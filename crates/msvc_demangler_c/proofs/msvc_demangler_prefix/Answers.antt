@@ -1,5 +1,6 @@
 use Rattle.std.proofs.Common.{ℕ, subst, sym}
 use Rattle.std.specs.Str.{IsValidUpTo}
+use Rattle.msvc_c_calls.proofs.Found.{as_measured}
 use Rattle.msvc_c_calls.specs.Calls.{not_measured, not_utf8}
 use Rattle.msvc_demangler_c.proofs.msvc_demangler_prefix.Goals as goal
 
@@ -7,4 +8,5 @@ pub returns-in-Err : goal.returns-in-Err
 returns-in-Err c =
     let cases = c.in-Err.ensures.cases in
     let UpTo : ℕ → Type 0 = λ n. IsValidUpTo c.args.symbol.now n in
-    not_measured (not_utf8 cases.0 (subst UpTo (sym c.valid_up_to.ensures) cases.1))
+    as_measured _ c.args.symbol.now _ _ _ 2 c.valid_up_to.result c.unmeasured.ensures
+    (not_measured (not_utf8 cases.0 (subst UpTo (sym c.valid_up_to.ensures) cases.1)))

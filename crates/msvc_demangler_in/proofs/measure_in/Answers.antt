@@ -1,4 +1,4 @@
-use Rattle.msvc_demangler_in.proofs.Found.{unknown}
+use Rattle.msvc_c_calls.proofs.Found.{unknown}
 use Rattle.msvc_demangler_in.proofs.measure_in.Goals as goal
 
 pub returns-else-give_back-clause-measured : goal.returns-else-give_back-clause-measured

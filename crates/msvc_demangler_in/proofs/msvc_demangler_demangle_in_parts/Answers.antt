@@ -1,14 +1,12 @@
 use Rattle.std.proofs.Common.{ℕ, refl, subst, sym}
 use Rattle.std.specs.Str.{IsValidUpTo}
-use Rattle.msvc_c_calls.specs.Calls.{not_read, not_utf8, not_utf8_text}
+use Rattle.msvc_c_calls.proofs.Found.{not_valid}
 use Rattle.msvc_demangler_in.proofs.msvc_demangler_demangle_in_parts.Goals as goal
 
 pub returns-in-Err-clause-found : goal.returns-in-Err-clause-found
 returns-in-Err-clause-found c =
     let cases = c.in-Err.ensures.cases in
-    let UpTo : ℕ → Type 0 = λ n. IsValidUpTo c.args.symbol.now n in (
-      not_utf8_text,
-      not_read (not_utf8 cases.0 (subst UpTo (sym c.valid_up_to.ensures) cases.1)),
-      c.write.ensures.length,
-      (c.args.out.now, refl, c.write.ensures.written, λ no. refl),
-    )
+    let UpTo : ℕ → Type 0 = λ n. IsValidUpTo c.args.symbol.now n in
+    let shown = not_valid _ c.args.symbol.now c.args.flags _ _ _ c.valid_up_to.result c.args.out.now c.not_utf8.new.out
+    cases.0 (subst UpTo (sym c.valid_up_to.ensures) cases.1) c.not_utf8.ensures.result c.not_utf8.ensures.written in
+    (shown.0, shown.1, shown.2, (c.args.out.now, refl, shown.3, λ no. refl))

@@ -1,7 +1,7 @@
 use Rattle.std.proofs.Common.{ℕ, subst, sym}
 use Rattle.std.specs.Str.{IsValidUpTo}
 use Rattle.msvc_c_calls.specs.Calls.{not_measured, not_utf8}
-use Rattle.msvc_demangler_in.proofs.Found.{as_measured}
+use Rattle.msvc_c_calls.proofs.Found.{as_measured}
 use Rattle.msvc_demangler_in.proofs.msvc_demangler_prefix_in_parts.Goals as goal
 
 pub returns-in-Err-clause-measured : goal.returns-in-Err-clause-measured

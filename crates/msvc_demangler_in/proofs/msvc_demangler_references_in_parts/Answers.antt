@@ -1,7 +1,7 @@
 use Rattle.std.proofs.Common.{ℕ, refl, subst, sym}
 use Rattle.std.specs.Str.{IsValidUpTo}
 use Rattle.msvc_c_calls.specs.Calls.{not_utf8, not_utf8_text}
-use Rattle.msvc_demangler_in.proofs.Found.{as_some_not_read}
+use Rattle.msvc_c_calls.proofs.Found.{as_some_not_read}
 use Rattle.msvc_demangler_in.proofs.Listed.{unlisted}
 use Rattle.msvc_demangler_in.proofs.msvc_demangler_references_in_parts.Goals as goal
 

@@ -1,11 +1,9 @@
 use Rattle.std.proofs.Common.{refl}
-use Rattle.msvc_c_calls.proofs.Filters.{filtered_call}
+use Rattle.msvc_c_calls.proofs.Filters.{filter_lost}
 use Rattle.msvc_demangler_in.proofs.calls.filter.Goals as goal
 
-pub returns-clause-filtered : goal.returns-clause-filtered
-returns-clause-filtered c =
-    filtered_call (λ f. f.length) (λ f. f.written) c.filter_into-found.result c.args.flags.0 c.args.flags.0
-    c.args.input.now c.args.out.now c.filter_into-found.new.out c.end_filtered.new.out c.saturating_sub-room.result
-    c.end_filtered.result.status c.end_filtered.result.length refl c.saturating_sub-room.ensures
-    c.filter_into-found.auto.out c.filter_into-found.ensures c.end_filtered.ensures.filtered
-    c.end_filtered.ensures.not_filtered
+pub returns-in-None-clause-filtered : goal.returns-in-None-clause-filtered
+returns-in-None-clause-filtered c =
+    let is = c.out_of_memory.ensures.result in
+    filter_lost c.args.flags.0 c.args.input.now c.args.out.now c.args.out.now _ _ _ refl is.0 is.2
+    c.out_of_memory.ensures.written

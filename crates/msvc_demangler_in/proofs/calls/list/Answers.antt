@@ -1,10 +1,10 @@
 use Rattle.std.proofs.Common.{refl, subst, sym}
 use Rattle.std.specs.Prelude.{List, map}
-use Rattle.msvc_demangler.specs.Counts.{node_count}
-use Rattle.msvc_demangler.specs.Limits.{IsWithin, limit_of_number}
-use Rattle.msvc_demangler.specs.Parsed.{AreReferences}
 use Rattle.msvc_cursor.specs.Parser.{note_of}
 use Rattle.msvc_cursor.specs.declared.back_references.BackReference.{BackReference}
+use Rattle.msvc_demangler.specs.Counts.{node_count}
+use Rattle.msvc_demangler.specs.Limits.{IsWithin}
+use Rattle.msvc_demangler.specs.Parsed.{AreReferences}
 use Rattle.msvc_demangler_in.proofs.Listed.{list_found, lost_list, unlisted}
 use Rattle.msvc_demangler_in.proofs.calls.list.Goals as goal
 
@@ -13,9 +13,12 @@ returns-in_default c = lost_list _ c.args.symbol.now _ _ _ _ _ c.utf8.symbol c.u
 
 pub returns-in-Ok : goal.returns-in-Ok
 returns-in-Ok c =
+    let read = c.in-Ok.ensures.read in
     let Are : List BackReference → Type 0 = λ xs. (are : AreReferences c.args.symbol.now (map note_of xs))
-    × IsWithin (limit_of_number c.args.max_nodes) (node_count are.tree) in
-    let found = subst Are (sym c.deref.ensures.value) c.in-Ok.ensures.listed in
+    × IsWithin c.args.limits.nodes (node_count are.tree) in
+    let of : IsWithin c.args.limits.nodes (node_count read.references.tree) =
+    subst (λ tree. IsWithin c.args.limits.nodes (node_count tree)) (sym read.same) read.within in
+    let found = subst Are (sym c.deref.ensures.value) (read.references, of) in
     list_found _ c.args.symbol.now c.args.out.now c.write_references.new.out (map note_of c.deref.result.now) _ _ _
     c.utf8.symbol found.0 found.1 c.write_references.ensures.written refl refl c.write_references.ensures.number
 

@@ -1,4 +1,4 @@
-use Rattle.msvc_demangler_in.proofs.Found.{not_read_for}
+use Rattle.msvc_c_calls.proofs.Found.{not_read_for}
 use Rattle.msvc_demangler_in.proofs.Listed.{lost_tree, tree_shown}
 use Rattle.msvc_demangler_in.specs.Shown.{not_shown}
 use Rattle.msvc_demangler_in.proofs.calls.show.Goals as goal
@@ -10,9 +10,10 @@ returns-in_default c =
 
 pub returns-in-Ok : goal.returns-in-Ok
 returns-in-Ok c =
-    let found = c.write_tree_of.ensures in (
+    let found = c.write_tree_of.ensures in
+    let read = c.in-Ok.ensures.read in (
       found.0,
-      tree_shown _ c.args.symbol.now _ _ _ found.0 c.utf8.symbol c.in-Ok.ensures.parsed c.in-Ok.ensures.within found.1,
+      tree_shown _ c.args.symbol.now _ _ _ found.0 c.utf8.symbol read.parsed read.within found.1,
       found.2,
       found.3,
     )
@@ -22,7 +23,7 @@ returns c =
     let found = c.write_reason.ensures in (
       found.0,
       not_shown
-          (not_read_for _ c.args.symbol.now _ _ c.in-Err.refusal found.0 c.utf8.symbol c.in-Err.ensures.fails found.1),
+          (not_read_for _ c.args.symbol.now _ _ c.in-Err.failure found.0 c.utf8.symbol c.in-Err.ensures.fails found.1),
       found.2,
       found.3,
     )

@@ -18,9 +18,9 @@ symbols-preserved-in-Some c =
       (
         so.1.0 ++ (map kept stay ++ declared found.text ∷ []),
         c.in_ok-extend_from_slice-in-Some-2.ensures.items
-            ∙ ap (λ t. t ++ c.printed_bytes.result.now) (c.in_ok-extend_from_slice-in-Some.ensures.items
+            ∙ ap (λ t. t ++ c.declared.result.now) (c.in_ok-extend_from_slice-in-Some.ensures.items
             ∙ ap (λ n. c.symbols.text.items ++ take n (drop at piece)) count)
-            ∙ ap (λ t. (c.symbols.text.items ++ stay) ++ t) (c.printed_bytes.ensures found.text found.printed)
+            ∙ ap (λ t. (c.symbols.text.items ++ stay) ++ t) (c.declared.ensures found.text found.printed)
             ∙ text-further c.symbols.text.items found.text so.1.0 stay so.1.1,
         parts-further c.args.flags.0 c.args.scan.now c.symbols.scan c.next_symbol.new.scan piece c.args.until at
             (before + c.in-Some.found.bytes) so.1.0 (map kept stay ++ declared found.text ∷ []) so.1.2 (omega arith)

@@ -38,8 +38,8 @@ symbols-preserved-in-Some g c =
     let stay = take before (drop at text) in
     let count : at + before - at ≡ before = omega arith in
     let on = c.in_ok-writer-in-Some-2.ensures given _ (c.in_ok-writer-in-Some.ensures given parts so.1.1) in
-    let same = ap (λ n. (parts ++ map kept (take n (drop at text))) ++ declared c.printed_bytes.result.now ∷ []) count
-    ∙ ap (λ t. (parts ++ map kept stay) ++ declared t ∷ []) (c.printed_bytes.ensures found.text found.printed)
+    let same = ap (λ n. (parts ++ map kept (take n (drop at text))) ++ declared c.declared.result.now ∷ []) count
+    ∙ ap (λ t. (parts ++ map kept stay) ++ declared t ∷ []) (c.declared.ensures found.text found.printed)
     ∙ append_assoc parts (map kept stay) (declared found.text ∷ []) in (
       omega (arith, found.inside, so.0, length-drop at text),
       (

@@ -11,7 +11,7 @@ pub returns-in_err-write_all-in-Ok-clause-text : goal.returns-in_err-write_all-i
 returns-in_err-write_all-in-Ok-clause-text g c =
     let p = err_from_is_err_and c.from_residual.result c.from_residual.ensures.1 in
     let e = c.in_err-write_all-in-Ok.ensures.sets_failed in
-    let is = c.in-Ok.ensures.printed in
+    let is = c.in-Ok.ensures.declared in
     let text = declaration is.0 line_flags in
     rw (p.1, p.2) (
       [],

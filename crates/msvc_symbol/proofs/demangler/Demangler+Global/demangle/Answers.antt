@@ -1,4 +1,4 @@
-use Rattle.msvc_read.proofs.WholeTexts.{laws}
+use Rattle.msvc_productions.proofs.WholeTexts.{laws}
 use Rattle.msvc_symbol.proofs.demangler.Demangler+Global.demangle.Goals as goal
 
 pub returns-clause-laws : goal.returns-clause-laws

@@ -1,0 +1,27 @@
+-- Why reading a text fails, before an error is made of the reason.
+use Rattle.std.specs.Prelude.{ℕ, List, ◌-◌, ◌≡◌, Option, codes, length}
+use Rattle.msvc_nodes.specs.declared.error.ErrorRepr.{ErrorRepr}
+use Rattle.msvc_grammar.specs.Limits.{MayBeAbout}
+use Rattle.msvc_grammar.specs.Parsed.{IsRejected}
+use Rattle.msvc_grammar.specs.Rejections.{IsNoSymbol, begins_with}
+use Rattle.msvc_cursor.specs.Errors.{IsErrorOf}
+use Rattle.msvc_cursor.specs.Messages.{limit_of_failure}
+use Rattle.msvc_cursor.specs.declared.failure.Failure.{Failure}
+use Rattle.msvc_cursor.specs.declared.failure.Failure.TheVariants as failure
+
+-- memory ran out, or else this holds of the offset in the text; reading fails for the length of no declaration
+abbrev pub UnlessMemory : List ℕ → Failure → (ℕ → Type 0) → Type 0
+UnlessMemory text failure.Memory holds = Unit {0}
+UnlessMemory text (failure.Rejected message left) holds = holds (length text - left)
+UnlessMemory text (failure.TooLong read) holds = ⊥
+
+-- Reading the text fails for this reason, under a limit on nodes or without one.
+pub record Fails (nodes : Option ℕ) (text : List ℕ) (reason : Failure) : Type 0 where
+  -- each error that is made of the reason rejects the text
+  pub rejected : (e : ErrorRepr) → IsErrorOf reason text e → IsRejected nodes text e
+  -- no beginning of the text is a symbol within the limit
+  pub none : UnlessMemory text reason (λ offset. IsNoSymbol nodes text)
+  -- a text without a question mark at its beginning is rejected at offset 0
+  pub begins : UnlessMemory text reason (λ offset. (begins_with (codes "?") text → ⊥) → offset ≡ 0)
+  -- the reason is no limit, if there is none
+  pub limit : MayBeAbout nodes (limit_of_failure reason)

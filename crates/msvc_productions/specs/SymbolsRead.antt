@@ -1,0 +1,20 @@
+-- What is read of a text that begins with a symbol.
+use Rattle.std.specs.Prelude.{ℕ, List, ◌≡◌, ◌≤◌, Option, length}
+use Rattle.msvc_nodes.specs.Trees.{SymbolTree}
+use Rattle.msvc_grammar.specs.Counts.{node_count}
+use Rattle.msvc_grammar.specs.Limits.{IsWithin}
+use Rattle.msvc_grammar.specs.Parsed.{AreReferences, IsParsed, IsSymbolLength}
+use Rattle.msvc_grammar.specs.State.{Note}
+
+-- The text begins with a symbol of this tree, which is within the limit on nodes. The symbol takes so many bytes, and
+-- these are its back references.
+pub record IsSymbolRead (nodes : Option ℕ) (text : List ℕ) (tree : SymbolTree) (bytes : ℕ) (notes : List Note)
+    : Type 0 where
+  pub parsed : IsParsed text tree
+  pub within : IsWithin nodes (node_count tree)
+  pub takes : IsSymbolLength bytes text
+  -- the bytes are in the text
+  pub inside : bytes ≤ length text
+  pub references : AreReferences text notes
+  -- the references are those of this tree
+  pub same : references.tree ≡ tree

@@ -1,0 +1,86 @@
+//! Reads the symbol that a text begins with, into nodes of an arena.
+
+ghost use Rattle.std.specs.Prelude.{◌≡◌, codes, IfErr, IfOk, None, Err, length, map, true};
+ghost use Rattle.msvc_nodes.specs.NodeView.{typed_symbol_of};
+ghost use Rattle.msvc_grammar.specs.Parsed.{GrammarLaws};
+ghost use Rattle.msvc_grammar.specs.Reads.{read_name};
+ghost use Rattle.msvc_grammar.specs.Rules.{after, symbol};
+ghost use Rattle.msvc_grammar.specs.State.{beginning_with};
+ghost use Rattle.msvc_cursor.specs.Errors.{IsInside};
+ghost use Rattle.msvc_cursor.specs.Failures.{Fails};
+ghost use Rattle.msvc_cursor.specs.Messages.{may_fail_for};
+ghost use Rattle.msvc_cursor.specs.Parser.{IsRead, note_of, with_length};
+ghost use Rattle.msvc_productions.specs.SymbolsRead.{IsSymbolRead};
+
+use crate::symbols::symbol;
+use bumpalo::Bump;
+use msvc_cursor::back_references::BackReference;
+use msvc_cursor::failure::{Failure, Message};
+use msvc_cursor::limit::{NodeBudget, NodeLimit, Unlimited};
+use msvc_cursor::limits::Limits;
+use msvc_cursor::parser::Parser;
+use msvc_nodes::nodes::TypedSymbol;
+use std::alloc::Allocator;
+
+/// The symbol that a text begins with. Its names borrow from the text. A part that occurs twice in the symbol is
+/// shared.
+#[derive(Drop)]
+pub struct SymbolRead<'a, 'b, A: Allocator> {
+    /// The nodes of the symbol, in the arena.
+    pub symbol: TypedSymbol<'a, 'b>,
+    /// The bytes that the symbol takes.
+    pub length: usize,
+    /// The digits that were read as whole parameters, in rising order of their offsets.
+    pub references: Vec<BackReference, &'b Bump<A>>,
+}
+
+/// Reads the symbol that `input` begins with, within the limit on nodes. All memory is the arena's.
+///
+/// # Errors
+///
+/// Fails if `input` begins with no symbol, if its tree has more nodes than allowed, or if an allocation fails.
+#[inline(always)]
+pub fn read<'a, 'b, A: Allocator>(
+    arena: &'b Bump<A>,
+    input: &'a str,
+    limits: Limits,
+) -> Result<SymbolRead<'a, 'b, A>, Failure>
+    ensures read { IfOk result (λ r. IsSymbolRead limits.nodes input.now (typed_symbol_of r.symbol) r.length
+        (map note_of r.references.items)) }
+    ensures fails { IfErr result (λ reason. Fails limits.nodes input.now reason) }
+    ensures inside { IfErr result (λ reason. IsInside input.now reason) }
+    ensures laws { GrammarLaws input.now }
+{
+    match limits.nodes {
+        None => read_counted(arena, input, Unlimited),
+        Some(max) => read_counted(arena, input, NodeLimit { used: 0, max }),
+    }
+}
+
+/// Reads the symbol that `input` begins with, within a budget of nodes.
+#[inline(always)]
+fn read_counted<'a, 'b, L: NodeBudget, A: Allocator>(
+    arena: &'b Bump<A>,
+    input: &'a str,
+    budget: L,
+) -> Result<SymbolRead<'a, 'b, A>, Failure>
+    ensures value { IsRead (λ r. (typed_symbol_of r.symbol, r.length, map note_of r.references.items)) result
+        (with_length input.now (read_name symbol input.now (beginning_with (record {
+          weight = L.weight;
+          used = L.used budget;
+          max = L.max budget;
+        }) input.now))) }
+    ensures start { after (codes "?") input.now ≡ None
+        → result ≡ Err (Failure.Rejected Message.NoQuestionMark (length input.now)) }
+    ensures counted { IfErr result (λ reason. may_fail_for L.weight reason ≡ true) }
+{
+    let mut parser = Parser::new(arena, input.as_bytes(), budget);
+    match symbol(&mut parser) {
+        Ok(symbol) => Ok(SymbolRead {
+            symbol,
+            length: input.len().saturating_sub(parser.rest.len()),
+            references: parser.back_references,
+        }),
+        Err(_) => Err(parser.last_error.reason),
+    }
+}
