@@ -27,68 +27,22 @@ message-at view message input words offset (Ok text) same says =
     }
 message-at view message input words offset (Err e) same says = tt
 
+none-not-bytes : None ≢ Some Bytes
+none-not-bytes e = absurd (cc)
+
+-- the words of a message tell which limit it is about, and that is never the limit on bytes
+words-and-bytes : (message : Message)
+    → (message_limit (message_words message) ≡ limit_of_message message) × (limit_of_message message ≢ Some Bytes)
+words-and-bytes messages.TooManyNodes = (refl, λ e. let no : Some Nodes ≡ Some Bytes = e in absurd (cc))
+words-and-bytes _ = (refl, none-not-bytes)
+
 -- the words tell which limit a message is about
 pub words-limit : (message : Message) → message_limit (message_words message) ≡ limit_of_message message
-words-limit messages.NoQuestionMark = refl
-words-limit messages.EndOfInput = refl
-words-limit messages.MissingAt = refl
-words-limit messages.BadNumber = refl
-words-limit messages.NameReferenceTooLarge = refl
-words-limit (messages.InvalidBackReference index) = refl
-words-limit (messages.InvalidArrayDimension dimension) = refl
-words-limit messages.UnknownStorageClass = refl
-words-limit messages.UnknownPrimitiveType = refl
-words-limit messages.UnknownCallingConv = refl
-words-limit messages.UnknownFuncClass = refl
-words-limit messages.ZExpected = refl
-words-limit messages.AtExpected = refl
-words-limit messages.QuestionMarkExpected = refl
-words-limit messages.AExpected = refl
-words-limit messages.BExpected = refl
-words-limit messages.GuardTypeExpected = refl
-words-limit messages.MissingDigit = refl
-words-limit messages.GuardNumberTooLarge = refl
-words-limit messages.UnexpectedLocalGuardMarker = refl
-words-limit messages.ExpectedUnsigned = refl
-words-limit messages.UnknownStringCharacterType = refl
-words-limit (messages.UnknownCharacter byte) = refl
-words-limit messages.HashLength = refl
-words-limit messages.UnknownOperatorName = refl
-words-limit messages.UnknownRttiOperatorName = refl
-words-limit messages.TooManyNodes = refl
-
-none-not-bytes : (limit : Option Limit) → limit ≡ None → limit ≢ Some Bytes
-none-not-bytes limit none e = let no : None ≡ Some Bytes = sym none ∙ e in absurd (cc)
+words-limit message = (words-and-bytes message).0
 
 -- no message is about the limit on bytes
 pub not-bytes : (message : Message) → limit_of_message message ≢ Some Bytes
-not-bytes messages.NoQuestionMark e = none-not-bytes _ refl e
-not-bytes messages.EndOfInput e = none-not-bytes _ refl e
-not-bytes messages.MissingAt e = none-not-bytes _ refl e
-not-bytes messages.BadNumber e = none-not-bytes _ refl e
-not-bytes messages.NameReferenceTooLarge e = none-not-bytes _ refl e
-not-bytes (messages.InvalidBackReference x) e = none-not-bytes _ refl e
-not-bytes (messages.InvalidArrayDimension x) e = none-not-bytes _ refl e
-not-bytes messages.UnknownStorageClass e = none-not-bytes _ refl e
-not-bytes messages.UnknownPrimitiveType e = none-not-bytes _ refl e
-not-bytes messages.UnknownCallingConv e = none-not-bytes _ refl e
-not-bytes messages.UnknownFuncClass e = none-not-bytes _ refl e
-not-bytes messages.ZExpected e = none-not-bytes _ refl e
-not-bytes messages.AtExpected e = none-not-bytes _ refl e
-not-bytes messages.QuestionMarkExpected e = none-not-bytes _ refl e
-not-bytes messages.AExpected e = none-not-bytes _ refl e
-not-bytes messages.BExpected e = none-not-bytes _ refl e
-not-bytes messages.GuardTypeExpected e = none-not-bytes _ refl e
-not-bytes messages.MissingDigit e = none-not-bytes _ refl e
-not-bytes messages.GuardNumberTooLarge e = none-not-bytes _ refl e
-not-bytes messages.UnexpectedLocalGuardMarker e = none-not-bytes _ refl e
-not-bytes messages.ExpectedUnsigned e = none-not-bytes _ refl e
-not-bytes messages.UnknownStringCharacterType e = none-not-bytes _ refl e
-not-bytes (messages.UnknownCharacter x) e = none-not-bytes _ refl e
-not-bytes messages.HashLength e = none-not-bytes _ refl e
-not-bytes messages.UnknownOperatorName e = none-not-bytes _ refl e
-not-bytes messages.UnknownRttiOperatorName e = none-not-bytes _ refl e
-not-bytes messages.TooManyNodes e = let no : Some Nodes ≡ Some Bytes = e in absurd (cc)
+not-bytes message = (words-and-bytes message).1
 
 is-none : (limit : Option Limit) → is_none limit ≡ true → limit ≡ None
 is-none None none = refl
