@@ -7,7 +7,7 @@ use Rattle.std.specs.Prelude.{slice_get}
 use Rattle.msvc_nodes.specs.Trees.{NameTree, SymbolTree, TypeTree}
 use Rattle.msvc_grammar.specs.Counts.{node_count}
 use Rattle.msvc_grammar.specs.Sorts.{Sort, Value}
-use Rattle.msvc_grammar.specs.State.{Entry, Note, State, at_most, beginning_with, counted, is_allowed, more, span_of}
+use Rattle.msvc_grammar.specs.State.{Entry, Note, State, Count, beginning_with, counted, is_allowed, more, span_of}
 use Rattle.msvc_grammar.specs.State.{uncounted}
 use Rattle.msvc_grammar.specs.Reads.{Derives, Found, Reader, Reads, and_then, counting, emptied, entered_by}
 use Rattle.msvc_grammar.specs.Reads.{letter_here}
@@ -145,6 +145,10 @@ pub read_name-allowed : {a : Sort} (n : Production a) (left : List ℕ) (s : Sta
     → read_name n left s ≡ Some (v, rest, t) → is_allowed s.count ≡ true → is_allowed t.count ≡ true
 read_name-allowed n left s v rest t e ok =
     if_is Allowed (read_name n left s) (v, rest, t) e (name-allowed _ n left s ok)
+
+-- a count of at most n nodes
+abbrev pub at_most : ℕ → Count
+at_most n = record { weight = 1; used = 0; max = n }
 
 -- before anything is read, there are no nodes too many
 pub none_allowed : (max : ℕ) → is_allowed (at_most max) ≡ true

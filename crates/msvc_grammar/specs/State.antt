@@ -1,5 +1,5 @@
--- What a rule of the grammar has before and after it, beside the bytes left. A place in the text is told by the
--- bytes left: it is the length of the text less theirs.
+-- The state of the grammar before and after a rule, beside the bytes left. A place in the text is the length of the
+-- text less the number of bytes left.
 use Rattle.std.specs.Prelude.{ℕ, List, [], ◌∷◌, ◌++◌, ◌+◌, ◌-◌, Bool, length, nat_lt, not, if◌then◌else◌}
 use Rattle.std.specs.List.{list_any}
 use Rattle.msvc_nodes.specs.Equality.{same_name, same_type}
@@ -11,7 +11,7 @@ pub record Entry : Type 0 where
   pub start : ℕ
   pub end : ℕ
 
--- a digit that was read as a whole parameter: its place, and the bytes that entered its type
+-- a digit that was read as a whole parameter: its place, and where the bytes of its type start and end
 pub record Note : Type 0 where
   pub at : ℕ
   pub start : ℕ
@@ -35,17 +35,13 @@ pub record State : Type 0 where
 abbrev pub place : List ℕ → State → ℕ
 place left s = s.whole - length left
 
--- the entry of a type whose bytes begin at left and end where after is left
+-- the entry of a type whose bytes begin where `left` is unread and end where `remaining` is unread
 abbrev pub span_of : TypeTree → List ℕ → List ℕ → State → Entry
 span_of t left remaining s = record { entered = t; start = place left s; end = place remaining s }
 
--- no limit: nothing is counted
+-- the count where there is no limit and nothing is counted
 abbrev pub uncounted : Count
 uncounted = record { weight = 0; used = 0; max = 0 }
-
--- at most so many nodes
-abbrev pub at_most : ℕ → Count
-at_most n = record { weight = 1; used = 0; max = n }
 
 -- the state in which the reading of a text begins, with a limit or without
 abbrev pub beginning_with : Count → List ℕ → State
@@ -54,7 +50,7 @@ beginning_with count text = record { whole = length text; count = count; names =
 abbrev pub beginning : List ℕ → State
 beginning text = beginning_with uncounted text
 
--- so many nodes more
+-- a count with n nodes more
 abbrev pub more : ℕ → Count → Count
 more n count = record count { used = count.used + n }
 
@@ -69,7 +65,8 @@ is_allowed count = not (nat_lt count.max count.used)
 abbrev pub most_memorized : ℕ
 most_memorized = 10
 
--- What enters a table goes to its end. What is in it already does not enter again, and nothing enters a full table.
+-- A new entry goes to the end of a table. An entry that the table has does not enter it again, and nothing enters a full
+-- table.
 
 abbrev pub with_name : NameTree → List NameTree → List NameTree
 with_name name table =

@@ -17,7 +17,7 @@ use Rattle.msvc_grammar.proofs.Laws.{derived-alone, derived-only, symbol-derived
 use Rattle.msvc_grammar.proofs.Laws.{tables-are-handed-back}
 use Rattle.msvc_grammar.proofs.Locality.{types-are-local}
 use Rattle.msvc_grammar.proofs.NamesInText.{derived-parts, derived-utf8, rest-utf8}
-use Rattle.msvc_grammar.proofs.NodeLimits.{within_derived, within_rejected}
+use Rattle.msvc_grammar.proofs.NodeLimits.{at_most, within_derived, within_rejected}
 use Rattle.msvc_grammar.proofs.NotesIncreasing.{derived_rising}
 use Rattle.msvc_grammar.proofs.Progress.{IsTail, tail}
 use Rattle.msvc_grammar.proofs.Soundness.{after-is}
@@ -30,7 +30,7 @@ use Rattle.msvc_grammar.specs.Prefix.{IsReadTo}
 use Rattle.msvc_grammar.specs.Reads.{Derives, Found, read_name}
 use Rattle.msvc_grammar.specs.Rejections.{IsNoSymbol, IsRejectedRightly, IsRejectionAt, begins_with}
 use Rattle.msvc_grammar.specs.Rules.{after, symbol, symbol_body}
-use Rattle.msvc_grammar.specs.State.{Count, State, Note, at_most, beginning, beginning_with, uncounted}
+use Rattle.msvc_grammar.specs.State.{Count, State, Note, beginning, beginning_with, uncounted}
 use Rattle.msvc_cursor.proofs.Choices.{chosen}
 use Rattle.msvc_cursor.proofs.SymbolSteps.{symbol_step}
 use Rattle.msvc_cursor.proofs.Messages.{not-bytes, words-limit}
@@ -56,7 +56,7 @@ laws text =
     }
 
 -- a symbol begins with a question mark
-pub begun : (text : List ℕ) (tree : SymbolTree) (rest : List ℕ) (notes : List Note) → Derives text tree rest notes
+begun : (text : List ℕ) (tree : SymbolTree) (rest : List ℕ) (notes : List Note) → Derives text tree rest notes
     → begins_with (codes "?") text
 begun text tree rest notes d = go (after (codes "?") text) refl
   where
@@ -88,7 +88,7 @@ parsed text tree rest notes utf8 d =
 -- The bytes that were read
 
 -- the grammar derives the tree, with so many bytes before the rest
-abbrev pub DerivedTo : List ℕ → SymbolTree → ℕ → Type 0
+abbrev DerivedTo : List ℕ → SymbolTree → ℕ → Type 0
 DerivedTo text tree n =
     (rest : List ℕ) × (notes : List Note) × (derived : Derives text tree rest notes) × (length text - length rest ≡ n)
 
@@ -146,7 +146,7 @@ derived_references text tree rest notes derived =
 -- What a reader returns
 
 -- how nodes are counted under a limit
-abbrev pub count_under : Option ℕ → Count
+abbrev count_under : Option ℕ → Count
 count_under None = uncounted
 count_under (Some max) = at_most max
 
@@ -169,7 +169,7 @@ whole text (Some x) tree n notes e =
     )
 
 -- the grammar derives what is read, and its tree is within the limit
-abbrev pub DerivedWithin : Option ℕ → List ℕ → SymbolTree → ℕ → List Note → Type 0
+abbrev DerivedWithin : Option ℕ → List ℕ → SymbolTree → ℕ → List Note → Type 0
 DerivedWithin nodes text tree n notes =
     (rest : List ℕ) × (derived : Derives text tree rest notes) × (length text - length rest ≡ n)
     × IsWithin nodes (node_count tree)
@@ -188,7 +188,7 @@ read-derived (Some max) text tree n notes e =
     let within = within_derived text max tree found.0 found.1 found.2 in
     (found.0, subst (Derives text tree found.0) found.4 within.0, found.3, within.1)
 
-pub symbol-read : (nodes : Option ℕ) (text : List ℕ) (tree : SymbolTree) (n : ℕ) (notes : List Note) → IsUtf8 text
+symbol-read : (nodes : Option ℕ) (text : List ℕ) (tree : SymbolTree) (n : ℕ) (notes : List Note) → IsUtf8 text
     → symbol_under nodes text ≡ Some (tree, n, notes) → IsSymbolRead nodes text tree n notes
 unfolding derived_references
 symbol-read nodes text tree n notes utf8 e =
@@ -299,7 +299,9 @@ rejected nodes text r e h start unlimited is =
       rejected = rightly;
       begins = rejected-at-once text r e start is;
       hashes = hashes-under nodes text e rightly;
-      limit = error-about nodes e (limit_of_failure r) (failure-about nodes r _ h unlimited) (error-limit text r e _ h is);
+      limit =
+          error-about nodes e (limit_of_failure r) (failure-about nodes r _ h unlimited)
+          (error-limit text r e _ h is);
     }
 
 -- where no symbol is read, none is derived, and a text without a question mark at its beginning is rejected there
@@ -372,7 +374,7 @@ memory-fails nodes text =
         }
 
 -- reading fails for no declaration, so the offset of its failure is inside the text
-pub fails-inside : (nodes : Option ℕ) (text : List ℕ) (r : Failure) → Fails nodes text r → IsInside text r
+fails-inside : (nodes : Option ℕ) (text : List ℕ) (r : Failure) → Fails nodes text r → IsInside text r
 fails-inside nodes text failure.Memory fails = tt
 fails-inside nodes text (failure.Rejected message left) fails = tt
 fails-inside nodes text (failure.TooLong read) fails = absurd fails.none

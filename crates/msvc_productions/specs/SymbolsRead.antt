@@ -6,8 +6,8 @@ use Rattle.msvc_grammar.specs.Limits.{IsWithin}
 use Rattle.msvc_grammar.specs.Parsed.{AreReferences, IsParsed, IsSymbolLength}
 use Rattle.msvc_grammar.specs.State.{Note}
 
--- The text begins with a symbol of this tree, which is within the limit on nodes. The symbol takes so many bytes, and
--- these are its back references.
+-- The text begins with a symbol of this tree, which is within the limit on nodes. The symbol takes this many bytes, and
+-- the notes are its back references.
 pub record IsSymbolRead (nodes : Option ℕ) (text : List ℕ) (tree : SymbolTree) (bytes : ℕ) (notes : List Note)
     : Type 0 where
   pub parsed : IsParsed text tree

@@ -1,7 +1,7 @@
 //! The productions that call each other, a reader each, all in one cycle of calls, `readers`; `symbol` begins it. Every
 //! other function here serves that cycle alone and calls none of it: it reads a part without recursion, or stores a
-//! node. Letters, numbers, strings, back references and the parser's state are in `msvc_cursor`. `read` reads the symbol
-//! that a text begins with. Nothing here prints.
+//! node. `read` reads the symbol that a text begins with. Letters, numbers, strings, back references and the parser's
+//! state are in `msvc_cursor`. Nothing here prints.
 #![tactic(auto, using(msvc_cursor::proofs::Steps::steps), unfolding(msvc_grammar::specs::Grammar::arrays, msvc_nodes::specs::NodeView::name_of, msvc_nodes::specs::NodeView::type_of))]
 
 mod function_types;
