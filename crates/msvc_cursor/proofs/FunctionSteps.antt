@@ -15,12 +15,19 @@ use Rattle.msvc_grammar.specs.Rules.{number, holds, none_of, after, lookup, give
 use Rattle.msvc_grammar.specs.Rules.{optional, class_part, function_type, member_pointer, node}
 use Rattle.msvc_grammar.specs.Grammar.{grammar, has, pointed_return_qualifiers}
 use Rattle.msvc_grammar.specs.Letters.{digits, pointer_sizes, restricts, alignments, reference_qualifiers, qualifiers}
-use Rattle.msvc_grammar.specs.Letters.{storage_classes, conventions, qualifiers_of_returns, function_classes}
+use Rattle.msvc_grammar.specs.Letters.{storage_classes, conventions, qualifiers_of_returns, function_classes, thunk}
 use Rattle.msvc_grammar.specs.Reads.{read_name, read, read_by, letter_here, with_value, type_noted, noted_by}
 use Rattle.msvc_grammar.specs.Reads.{entered_by, and_then, in_node, or_else}
 use Rattle.msvc_grammar.proofs.FuelIndependence.{read_name-is}
 use Rattle.msvc_cursor.proofs.Choices.{or_none, choose, chosen, no_letter, literal_or-is, letter_following}
 use Rattle.msvc_grammar.specs.Rules.{◌>>=◌, ◌>>◌}
+use Rattle.msvc_grammar.specs.declared.forms.ObjectQualifiers.{ObjectQualifiers}
+use Rattle.msvc_grammar.specs.declared.forms.ObjectQualifiers.TheVariants as object_qualifiers
+use Rattle.msvc_grammar.specs.declared.forms.FunctionKind.{FunctionKind}
+use Rattle.msvc_grammar.specs.declared.forms.FunctionKind.TheVariants as function_kind
+use Rattle.msvc_grammar.specs.declared.forms.MemberPointerForm.{MemberPointerForm}
+use Rattle.msvc_grammar.specs.declared.forms.MemberPointerForm.TheVariants as pointer_form
+use Rattle.msvc_grammar.specs.declared.forms.TemplateNames.TheVariants as templates
 
 -- functions
 
@@ -33,14 +40,15 @@ pub thunk_number_none : (left : List ℕ) (s : State) → read_name (thunk_numbe
 unfolding grammar read read_by
 thunk_number_none left s = read_name-is (thunk_number false) left s
 
-pub this_qualifiers_static : (left : List ℕ) (s : State) → read_name (this_qualifiers true) left s ≡ Some (0, left, s)
+pub this_qualifiers_none : (left : List ℕ) (s : State)
+    → read_name (this_qualifiers object_qualifiers.Absent) left s ≡ Some (0, left, s)
 unfolding grammar read read_by
-this_qualifiers_static left s = read_name-is (this_qualifiers true) left s
+this_qualifiers_none left s = read_name-is (this_qualifiers object_qualifiers.Absent) left s
 
 pub this_qualifiers_there : (left : List ℕ) (s : State)
-    → read_name (this_qualifiers false) left s ≡ read_name function_qualifiers left s
+    → read_name (this_qualifiers object_qualifiers.Present) left s ≡ read_name function_qualifiers left s
 unfolding grammar read read_by
-this_qualifiers_there left s = read_name-is (this_qualifiers false) left s
+this_qualifiers_there left s = read_name-is (this_qualifiers object_qualifiers.Present) left s
 
 pub function_qualifiers_step : (left : List ℕ) (s : State) → read_name function_qualifiers left s
     ≡ and_then (read (optional pointer_sizes) left s) (λ size l t. and_then (read (optional restricts) l t)
@@ -51,12 +59,12 @@ pub function_qualifiers_step : (left : List ℕ) (s : State) → read_name funct
 unfolding grammar read read_by
 function_qualifiers_step left s = read_name-is function_qualifiers left s
 
-pub signature_step : (member : Bool) (left : List ℕ) (s : State) → read_name (signature member) left s
+pub signature_step : (kind : FunctionKind) (left : List ℕ) (s : State) → read_name (signature kind) left s
     ≡ and_then (letter_here conventions left s) (λ c l t. and_then (read_name return_qualifiers l t)
-    (λ q k u. and_then (read_name (returned member q) k u) (λ x j v. and_then (read_name function_parameters j v)
+    (λ q k u. and_then (read_name (returned kind q) k u) (λ x j v. and_then (read_name function_parameters j v)
     (λ xs i w. Some ((c, (x, xs)), i, w)))))
 unfolding grammar read read_by
-signature_step member left s = read_name-is (signature member) left s
+signature_step kind left s = read_name-is (signature kind) left s
 
 pub return_qualifiers_step : (left : List ℕ) (s : State) → read_name return_qualifiers left s
     ≡ chosen (after (codes "?") left) (λ rest. and_then (byte_here rest s)
@@ -67,18 +75,18 @@ return_qualifiers_step left s =
     ∙ literal_or-is {a = bits} (codes "?") (letter bits qualifiers_of_returns) (give 0) left s
     ∙ letter_following qualifiers_of_returns (after (codes "?") left) (Some (0, left, s)) s
 
-pub returned_member : (q : ℕ) (left : List ℕ) (s : State) → read_name (returned true q) left s
+pub returned_member : (q : ℕ) (left : List ℕ) (s : State) → read_name (returned function_kind.Member q) left s
     ≡ chosen (after (codes "@") left) (λ rest. in_node rest s (λ l t. Some (plain plain_kind.None, l, t)))
     (read_name (type_ q) left s)
 unfolding grammar read read_by
 returned_member q left s =
-    read_name-is (returned true q) left s
+    read_name-is (returned function_kind.Member q) left s
     ∙ literal_or-is {a = type_tree} (codes "@") (node (give (plain plain_kind.None))) (call (type_ q)) left s
 
 pub returned_other : (q : ℕ) (left : List ℕ) (s : State)
-    → read_name (returned false q) left s ≡ read_name (type_ q) left s
+    → read_name (returned function_kind.Free q) left s ≡ read_name (type_ q) left s
 unfolding grammar read read_by
-returned_other q left s = read_name-is (returned false q) left s
+returned_other q left s = read_name-is (returned function_kind.Free q) left s
 
 -- parameters
 
@@ -121,43 +129,45 @@ pub pointed_return_qualifiers_step : (left : List ℕ) (s : State) → read poin
 unfolding read read_by
 pointed_return_qualifiers_step left s = literal_or-is {a = bits} (codes "?") (optional storage_classes) (give 0) left s
 
-pub function_type_step : (bare : Bool) (left : List ℕ) (s : State) → read_name (function_type bare) left s
-    ≡ in_node left s (λ m a. and_then (read_name (this_qualifiers bare) m a)
+pub function_type_step : (object : ObjectQualifiers) (left : List ℕ) (s : State)
+    → read_name (function_type object) left s
+    ≡ in_node left s (λ m a. and_then (read_name (this_qualifiers object) m a)
     (λ on_this l t. and_then (letter_here conventions l t)
     (λ c k u. and_then (read pointed_return_qualifiers k u) (λ q j v. and_then (read_name (type_ q) j v)
     (λ x i w. and_then (read_name function_parameters i w)
     (λ xs h y. Some (function c (type_trees xs) on_this x, h, y)))))))
 unfolding grammar read read_by
-function_type_step bare left s = read_name-is (function_type bare) left s
+function_type_step object left s = read_name-is (function_type object) left s
 
-pub member_pointer_step : (qualified : Bool) (left : List ℕ) (s : State)
-    → read_name (member_pointer qualified) left s
-    ≡ in_node left s (λ h a. and_then (read_name (qualified_name true) h a)
+pub member_pointer_step : (which : MemberPointerForm) (left : List ℕ) (s : State)
+    → read_name (member_pointer which) left s
+    ≡ in_node left s (λ h a. and_then (read_name (qualified_name templates.NotMemorized) h a)
     (λ n l t. and_then (read (optional pointer_sizes) l t)
-    (λ size k u. and_then (read_name (class_part qualified) k u) (λ part j v. and_then (read_name (signature true) j v)
+    (λ size k u. and_then (read_name (class_part which) k u)
+    (λ part j v. and_then (read_name (signature function_kind.Member) j v)
     (λ f i w. Some (
       tree.member_pointer n.0 (name_trees n.1) part.0 f.0 (type_trees f.1.1) (bit_or size part.1) f.1.0,
       i,
       w,
     ))))))
 unfolding grammar read read_by
-member_pointer_step qualified left s = read_name-is (member_pointer qualified) left s
+member_pointer_step which left s = read_name-is (member_pointer which) left s
 
-pub class_part_qualified : (left : List ℕ) (s : State) → read_name (class_part true) left s
+pub class_part_qualified : (left : List ℕ) (s : State) → read_name (class_part pointer_form.Qualified) left s
     ≡ and_then (read (optional qualifiers) left s) (λ q l t. Some ((0, q), l, t))
 unfolding grammar read read_by
-class_part_qualified left s = read_name-is (class_part true) left s
+class_part_qualified left s = read_name-is (class_part pointer_form.Qualified) left s
 
-pub class_part_of : (left : List ℕ) (s : State) → read_name (class_part false) left s
+pub class_part_of : (left : List ℕ) (s : State) → read_name (class_part pointer_form.OfClass) left s
     ≡ and_then (letter_here function_classes left s) (λ class l t.
-    and_then (read_name (thunk_number (has class 128)) l t) (λ _ k u. Some ((class, 0), k, u)))
+    and_then (read_name (thunk_number (has class thunk)) l t) (λ _ k u. Some ((class, 0), k, u)))
 unfolding grammar read read_by
-class_part_of left s = read_name-is (class_part false) left s
+class_part_of left s = read_name-is (class_part pointer_form.OfClass) left s
 
 pub ruleset steps = (
   thunk_number_there,
   thunk_number_none,
-  this_qualifiers_static,
+  this_qualifiers_none,
   this_qualifiers_there,
   function_qualifiers_step,
   signature_step,

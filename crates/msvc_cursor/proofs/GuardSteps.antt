@@ -16,7 +16,7 @@ use Rattle.msvc_grammar.specs.Reads.{Found, read_name, read, read_by, letter_her
 use Rattle.msvc_grammar.specs.Reads.{in_node, or_else}
 use Rattle.msvc_grammar.proofs.FuelIndependence.{read_name-is}
 use Rattle.msvc_nodes.specs.declared.kinds.Guard.{Guard}
-use Rattle.msvc_cursor.specs.Parser.{guard_of, indexed}
+use Rattle.msvc_cursor.specs.Parser.{indexed}
 use Rattle.msvc_cursor.proofs.Choices.{choose, chosen, letter_or-is, if_required, then_is}
 use Rattle.msvc_grammar.specs.Rules.{◌>>◌}
 
@@ -73,6 +73,11 @@ guard_index_there left s =
         (λ z k u. and_then (read_name (unsigned z) k u) (λ i j v. Some (Some i, j, v))))
     go l t true = refl
     go l t false = refl
+
+-- which guard a name is, if any
+abbrev pub guard_of : NameTree → Option Guard
+guard_of (guard kind index) = Some kind
+guard_of _ = None
 
 -- no index after a name that is none of a guard
 other_name : (n : NameTree) (ns : List NameTree) (left : List ℕ) (s : State) → is_guard n ≡ false

@@ -16,12 +16,14 @@ use Rattle.msvc_grammar.specs.Rules.{anonymous_namespace, hexadecimal_digits, so
 use Rattle.msvc_grammar.specs.Rules.{number, after, Rule, give, literal, known_name, call, literal_or, node}
 use Rattle.msvc_grammar.specs.Grammar.{grammar, entering_name, nested_symbol, new_interface, new_source_name}
 use Rattle.msvc_grammar.specs.Grammar.{template_inside, template_kept}
-use Rattle.msvc_grammar.specs.Letters.{digits}
+use Rattle.msvc_grammar.specs.Letters.{at_sign, digits}
 use Rattle.msvc_grammar.specs.Reads.{Found, read_name, read, read_by, letter_here, with_byte, part_here}
 use Rattle.msvc_grammar.specs.Reads.{after_literal, and_then, counting, emptied, in_node, name_known, put_apart}
 use Rattle.msvc_grammar.proofs.FuelIndependence.{read_name-is}
 use Rattle.msvc_cursor.proofs.Choices.{choose, chosen, letter_or-is, literal_or-is}
 use Rattle.msvc_grammar.specs.Rules.{◌>>=◌, ◌>>◌}
+use Rattle.msvc_grammar.specs.declared.forms.TemplateNames.{TemplateNames}
+use Rattle.msvc_grammar.specs.declared.forms.TemplateNames.TheVariants as templates
 
 -- the part up to a byte, by its place
 suc_lt : (n m : ℕ) → nat_lt n m ≡ nat_lt (suc n) (suc m)
@@ -31,84 +33,84 @@ suc_lt n m = go (nat_lt n m) refl
     go true e = sym (lt-ltb (suc n) (suc m) (omega (arith, ltb-true n m e)))
     go false e = sym (le-ltb (suc n) (suc m) (omega (arith, ltb-false n m e)))
 
-pub part_cut : (left : List ℕ) (s : State) → part_here 64 left s ≡ cut_at (name_length left) left s
+pub part_cut : (left : List ℕ) (s : State) → part_here at_sign left s ≡ cut_at (name_length left) left s
 unfolding part_here name_length
 part_cut [] s = refl
-part_cut (x ∷ xs) s = go (x == 64) (prefix_len is_other xs) (part_cut xs s)
+part_cut (x ∷ xs) s = go (x == at_sign) (prefix_len is_other xs) (part_cut xs s)
   where
     is_other : ℕ → Bool
-    is_other z = not (z == 64)
+    is_other z = not (z == at_sign)
 
     tail_of : (n : ℕ) (t : Bool)
         → with_byte x (cut_at (cond t (Some n) None) xs s) ≡ cut_at (cond t (Some (suc n)) None) (x ∷ xs) s
     tail_of n true = simp add-one
     tail_of n false = refl
 
-    go : (t : Bool) (n : ℕ) → part_here 64 xs s ≡ cut_at (cond (nat_lt n (length xs)) (Some n) None) xs s
-        → cond t (Some ([], xs, s)) (with_byte x (part_here 64 xs s))
+    go : (t : Bool) (n : ℕ) → part_here at_sign xs s ≡ cut_at (cond (nat_lt n (length xs)) (Some n) None) xs s
+        → cond t (Some ([], xs, s)) (with_byte x (part_here at_sign xs s))
         ≡ cut_at (cond (nat_lt (cond (not t) (1 + n) 0) (length (x ∷ xs))) (Some (cond (not t) (1 + n) 0)) None)
         (x ∷ xs) s
     go true n e = ap (λ t. cut_at (cond t (Some 0) None) (x ∷ xs) s) (sym (lt-ltb 0 (suc (length xs)) (omega arith)))
     go false n e = ap (with_byte x) e ∙ tail_of n (nat_lt n (length xs))
         ∙ simp one-add (ap (λ t. cut_at (cond t (Some (suc n)) None) (x ∷ xs) s) (suc_lt n (length xs)))
 
-pub qualified_name_step : (of_symbol : Bool) (left : List ℕ) (s : State) → read_name (qualified_name of_symbol) left s
-    ≡ and_then (read_name (unqualified_name of_symbol) left s)
+pub qualified_name_step : (kept : TemplateNames) (left : List ℕ) (s : State) → read_name (qualified_name kept) left s
+    ≡ and_then (read_name (unqualified_name kept) left s)
     (λ n l t. and_then (read_name scope l t) (λ ns k u. Some ((n, ns), k, u)))
 unfolding grammar read read_by
-qualified_name_step of_symbol left s = read_name-is (qualified_name of_symbol) left s
+qualified_name_step kept left s = read_name-is (qualified_name kept) left s
 
 pub source_name_step : (left : List ℕ) (s : State)
     → read_name source_name left s ≡ cut_at (name_length left) left s
 unfolding grammar read read_by
 source_name_step left s = read_name-is source_name left s ∙ part_cut left s
 
-pub unqualified_name_step : (of_symbol : Bool) (left : List ℕ) (s : State)
-    → read_name (unqualified_name of_symbol) left s
+pub unqualified_name_step : (kept : TemplateNames) (left : List ℕ) (s : State)
+    → read_name (unqualified_name kept) left s
     ≡ choose (letter_here digits left s) (λ i l t. name_known (slice_get t.names i) l t)
-    (chosen (after (codes "?$") left) (λ rest. read (template_kept of_symbol) rest s)
+    (chosen (after (codes "?$") left) (λ rest. read (template_kept kept) rest s)
     (chosen (after (codes "?") left) (λ rest. read_name special_name rest s) (read new_source_name left s)))
 unfolding grammar read read_by
-unqualified_name_step of_symbol left s =
-    read_name-is (unqualified_name of_symbol) left s
+unqualified_name_step kept left s =
+    read_name-is (unqualified_name kept) left s
     ∙ letter_or-is digits (λ i. known_name i)
-    (literal_or (codes "?$") (template_kept of_symbol) special_or_new) left s
+    (literal_or (codes "?$") (template_kept kept) special_or_new) left s
     ∙ ap (choose (letter_here digits left s) (λ i l t. name_known (slice_get t.names i) l t))
-    (literal_or-is {a = name_tree} (codes "?$") (template_kept of_symbol) special_or_new left s
-    ∙ ap (chosen (after (codes "?$") left) (λ rest. read (template_kept of_symbol) rest s))
+    (literal_or-is {a = name_tree} (codes "?$") (template_kept kept) special_or_new left s
+    ∙ ap (chosen (after (codes "?$") left) (λ rest. read (template_kept kept) rest s))
     (literal_or-is {a = name_tree} (codes "?") (call special_name) new_source_name left s))
   where
     special_or_new : Rule name_tree
     special_or_new = literal_or (codes "?") (call special_name) new_source_name
 
-kept_or_not : (of_symbol : Bool) (left : List ℕ) (s : State) → read (template_kept of_symbol) left s
-    ≡ and_then (read_name template_name left s) (λ n l t. Some (n, l, add_template_name of_symbol n t))
+kept_or_not : (kept : TemplateNames) (left : List ℕ) (s : State) → read (template_kept kept) left s
+    ≡ and_then (read_name template_name left s) (λ n l t. Some (n, l, add_template_name kept n t))
 unfolding read read_by
-kept_or_not true left s = go (read_name template_name left s)
+kept_or_not templates.NotMemorized left s = go (read_name template_name left s)
   where
     go : (o : Found NameTree) → o ≡ and_then o (λ n l t. Some (n, l, t))
     go None = refl
     go (Some x) = refl
-kept_or_not false left s = refl
+kept_or_not templates.Memorized left s = refl
 
 template_name_step : (left : List ℕ) (s : State) → read_name template_name left s
     ≡ put_apart s (read template_inside left (emptied s))
 unfolding grammar read read_by
 template_name_step left s = read_name-is template_name left s
 
-pub template_kept_step : (of_symbol : Bool) (left : List ℕ) (s : State) → read (template_kept of_symbol) left s
+pub template_kept_step : (kept : TemplateNames) (left : List ℕ) (s : State) → read (template_kept kept) left s
     ≡ and_then (put_apart s (read template_inside left (emptied s))) (λ n l t. Some (
       n,
       l,
-      add_template_name of_symbol n
+      add_template_name kept n
           t,
     ))
-template_kept_step of_symbol left s =
-    kept_or_not of_symbol left s
-    ∙ ap (λ o. and_then o (λ n l t. Some (n, l, add_template_name of_symbol n t))) (template_name_step left s)
+template_kept_step kept left s =
+    kept_or_not kept left s
+    ∙ ap (λ o. and_then o (λ n l t. Some (n, l, add_template_name kept n t))) (template_name_step left s)
 
 pub template_inside_step : (left : List ℕ) (s : State) → read template_inside left s
-    ≡ in_node left s (λ j a. and_then (read_name (unqualified_name false) j a)
+    ≡ in_node left s (λ j a. and_then (read_name (unqualified_name templates.Memorized) j a)
     (λ n l t. and_then (read_name parameters l t) (λ ts k u. Some (template n (type_trees ts), k, u))))
 unfolding read read_by
 template_inside_step left s = refl
@@ -125,7 +127,7 @@ nested_name_step left s =
 
 pub marked_name_step : (left : List ℕ) (s : State) → read_name locally_scoped_name left s
     ≡ chosen (after (codes "?") left) (λ rest. read nested_symbol rest s)
-    (chosen (after (codes "$") left) (λ rest. read (template_kept false) rest s)
+    (chosen (after (codes "$") left) (λ rest. read (template_kept templates.Memorized) rest s)
     (chosen (after (codes "A") left) (λ rest. read_name anonymous_namespace rest s)
     (chosen (after (codes "Q") left) (λ rest. read new_interface rest s)
     (in_node left s (λ j a. and_then (read_name number j a) (λ z l t. Some (discriminator z, l, t)))))))
@@ -134,8 +136,8 @@ marked_name_step left s =
     read_name-is locally_scoped_name left s
     ∙ literal_or-is {a = name_tree} (codes "?") nested_symbol from_template left s
     ∙ ap (chosen (after (codes "?") left) (λ rest. read nested_symbol rest s))
-    (literal_or-is {a = name_tree} (codes "$") (template_kept false) from_anonymous left s
-    ∙ ap (chosen (after (codes "$") left) (λ rest. read (template_kept false) rest s))
+    (literal_or-is {a = name_tree} (codes "$") (template_kept templates.Memorized) from_anonymous left s
+    ∙ ap (chosen (after (codes "$") left) (λ rest. read (template_kept templates.Memorized) rest s))
     (literal_or-is {a = name_tree} (codes "A") (call anonymous_namespace) from_interface left s
     ∙ ap (chosen (after (codes "A") left) (λ rest. read_name anonymous_namespace rest s))
     (literal_or-is {a = name_tree} (codes "Q") new_interface from_number left s)))
@@ -150,7 +152,7 @@ marked_name_step left s =
     from_anonymous = literal_or (codes "A") (call anonymous_namespace) from_interface
 
     from_template : Rule name_tree
-    from_template = literal_or (codes "$") (template_kept false) from_anonymous
+    from_template = literal_or (codes "$") (template_kept templates.Memorized) from_anonymous
 
 pub nested_symbol_step : (left : List ℕ) (s : State) → read nested_symbol left s
     ≡ in_node left s (λ j a. and_then (read_name symbol_body j a)

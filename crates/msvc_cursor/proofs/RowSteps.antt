@@ -5,8 +5,8 @@ use Rattle.std.specs.Prelude.{is_some, codes}
 use Rattle.msvc_nodes.specs.declared.kinds.PlainType.TheVariants as plain_kind
 use Rattle.msvc_nodes.specs.Trees.{NameTree, TypeTree, plain}
 use Rattle.msvc_cursor.specs.Parser.{counting_ellipsis, ellipsis_types, parameters_stop}
-use Rattle.msvc_cursor.specs.declared.forms.Ellipsis.{Ellipsis}
-use Rattle.msvc_cursor.specs.declared.forms.Ellipsis.TheVariants.{Absent, Present}
+use Rattle.msvc_grammar.specs.declared.forms.Ellipsis.{Ellipsis}
+use Rattle.msvc_grammar.specs.declared.forms.Ellipsis.TheVariants.{Absent, Present}
 use Rattle.msvc_grammar.specs.State.{State}
 use Rattle.msvc_grammar.specs.Sorts.{bits, name_tree, list}
 use Rattle.msvc_grammar.specs.Rules.{parameters, parameter, lengths, scope, nested_name, hexadecimal_digits, number}

@@ -17,9 +17,9 @@ use Rattle.msvc_grammar.specs.Rules.{symbol, symbol_body, guard_index, encoding,
 use Rattle.msvc_grammar.specs.Rules.{this_qualifiers, signature, type_, qualified_name, scope, number, after, lookup}
 use Rattle.msvc_grammar.specs.Rules.{Rule, literal, literal_or, optional, required, source_name}
 use Rattle.msvc_grammar.specs.Grammar.{grammar, has, named_symbol, hashed_symbol, is_guard, numbered_guard, with_index}
-use Rattle.msvc_grammar.specs.Grammar.{template_kept, template_symbol, is_hash}
+use Rattle.msvc_grammar.specs.Grammar.{template_kept, template_symbol, is_hash, qualifiers_of_class}
 use Rattle.msvc_grammar.specs.Letters.{rows_of, qualifiers, storage_classes, conventions, function_classes}
-use Rattle.msvc_grammar.specs.Letters.{encoding_letters}
+use Rattle.msvc_grammar.specs.Letters.{encoding_letters, thunk}
 use Rattle.msvc_grammar.specs.Reads.{Found, read_name, read, read_by, letter_here, with_value, after_literal, and_then}
 use Rattle.msvc_grammar.specs.Reads.{in_node}
 use Rattle.msvc_grammar.proofs.FuelIndependence.{read_name-is}
@@ -27,6 +27,8 @@ use Rattle.msvc_nodes.specs.declared.kinds.SpecialTableKind.{SpecialTableKind}
 use Rattle.msvc_nodes.specs.Trees.{md5_symbol}
 use Rattle.msvc_cursor.proofs.Choices.{choose, chosen, literal_or-is, lookup-rows, if_required, or_none, then_is}
 use Rattle.msvc_cursor.proofs.NameSteps.{source_name_step}
+use Rattle.msvc_grammar.specs.declared.forms.FunctionKind.TheVariants as function_kind
+use Rattle.msvc_grammar.specs.declared.forms.TemplateNames.TheVariants as templates
 
 -- symbols
 
@@ -61,7 +63,7 @@ symbol_body_step left s =
     from_guard = literal_or (codes "$TSS") numbered_guard from_template
 
 pub template_symbol_step : (left : List ℕ) (s : State) → read template_symbol left s
-    ≡ and_then (read (template_kept true) left s) (λ n l t. in_node l t
+    ≡ and_then (read (template_kept templates.NotMemorized) left s) (λ n l t. in_node l t
     (λ k u. Some (record { name = n; scope = tree.no_names; symbol_type = plain plain_kind.None }, k, u)))
 unfolding read read_by
 template_symbol_step left s = refl
@@ -71,11 +73,11 @@ abbrev pub symbol_of : NameTree → List NameTree → TypeTree → SymbolTree
 symbol_of n ns x = record { name = n; scope = name_trees ns; symbol_type = x }
 
 pub named_symbol_step : (left : List ℕ) (s : State) → read named_symbol left s
-    ≡ and_then (read_name (qualified_name true) left s)
+    ≡ and_then (read_name (qualified_name templates.NotMemorized) left s)
     (λ n l t. and_then (parser.indexed n.0 n.1 l t) (λ m k u. and_then (read_name encoding k u)
     (λ x j v. Some (symbol_of m.0 m.1 x, j, v))))
 unfolding read read_by
-named_symbol_step left s = go (read_name (qualified_name true) left s)
+named_symbol_step left s = go (read_name (qualified_name templates.NotMemorized) left s)
   where
     inside : (n : NameTree) (ns : List NameTree) (o : Found (Option ℕ))
         → and_then o (λ index k u. and_then (read_name encoding k u)
@@ -95,7 +97,8 @@ named_symbol_step left s = go (read_name (qualified_name true) left s)
     go (Some y) = inside y.0.0 y.0.1 (read_name (guard_index (is_guard y.0.0)) y.1 y.2)
 
 pub named_symbol_is : (left l k rest : List ℕ) (s t u v : State) (n m : NameTree) (ns ms : List NameTree) (x : TypeTree)
-    → read_name (qualified_name true) left s ≡ Some ((n, ns), l, t) → parser.indexed n ns l t ≡ Some ((m, ms), k, u)
+    → read_name (qualified_name templates.NotMemorized) left s ≡ Some ((n, ns), l, t)
+    → parser.indexed n ns l t ≡ Some ((m, ms), k, u)
     → read_name encoding k u ≡ Some (x, rest, v)
     → read named_symbol left s ≡ Some (symbol_of m ms x, rest, v)
 named_symbol_is left l k rest s t u v n m ns ms x e f g =
@@ -198,15 +201,15 @@ unfolding grammar read read_by
 untyped_step left s = read_name-is (encoding_after untyped) left s
 
 pub function_step : (left : List ℕ) (s : State) → read_name (encoding_after plain_function) left s
-    ≡ in_node left s (λ j a. and_then (read_name (signature false) j a)
+    ≡ in_node left s (λ j a. and_then (read_name (signature function_kind.Free) j a)
     (λ f l t. Some (function f.0 (type_trees f.1.1) 0 f.1.0, l, t)))
 unfolding grammar read read_by
 function_step left s = read_name-is (encoding_after plain_function) left s
 
 pub member_step : (class : ℕ) (left : List ℕ) (s : State) → read_name (encoding_after (member_of class)) left s
-    ≡ in_node left s (λ i a. and_then (read_name (thunk_number (has class 128)) i a)
-    (λ _ l t. and_then (read_name (this_qualifiers (has class 16)) l t)
-    (λ on_this k u. and_then (read_name (signature true) k u)
+    ≡ in_node left s (λ i a. and_then (read_name (thunk_number (has class thunk)) i a)
+    (λ _ l t. and_then (read_name (this_qualifiers (qualifiers_of_class class)) l t)
+    (λ on_this k u. and_then (read_name (signature function_kind.Member) k u)
     (λ f j v. Some (member_function class f.0 (type_trees f.1.1) on_this f.1.0, j, v)))))
 unfolding grammar read read_by
 member_step class left s = read_name-is (encoding_after (member_of class)) left s

@@ -29,6 +29,9 @@ use Rattle.msvc_grammar.proofs.FuelIndependence.{read_name-is}
 use Rattle.msvc_nodes.specs.declared.kinds.PointerAffinity.TheVariants as mark_kind
 use Rattle.msvc_nodes.specs.declared.kinds.TagKind.TheVariants as tag_kind
 use Rattle.msvc_grammar.specs.declared.forms.TypePrefix.TheVariants as form
+use Rattle.msvc_grammar.specs.declared.forms.ObjectQualifiers.TheVariants as object_qualifiers
+use Rattle.msvc_grammar.specs.declared.forms.MemberPointerForm.TheVariants as pointer_form
+use Rattle.msvc_grammar.specs.declared.forms.TemplateNames.TheVariants as templates
 use Rattle.msvc_grammar.proofs.Checks.{apart_texts, differ, no_text_begins_another}
 use Rattle.msvc_grammar.proofs.FirstSets.{differ-never, if_both}
 use Rattle.msvc_cursor.proofs.Choices.{or_none, chosen, literal_or-is, lookup-rows, letter_step, letter_following}
@@ -125,27 +128,27 @@ type_step q left s =
 -- Forms of a type, after its text
 
 pub enumeration_step : (q : ℕ) (left : List ℕ) (s : State) → read_name (prefixed_type q form.Enumeration) left s
-    ≡ in_node left s (λ l t. and_then (read_name (qualified_name false) l t)
+    ≡ in_node left s (λ l t. and_then (read_name (qualified_name templates.Memorized) l t)
     (λ n k u. Some (tagged tag_kind.Enum n.0 (name_trees n.1) q, k, u)))
 unfolding grammar read read_by
 enumeration_step q left s = read_name-is (prefixed_type q form.Enumeration) left s
 
 pub alias_step : (q : ℕ) (left : List ℕ) (s : State) → read_name (prefixed_type q form.Alias) left s
-    ≡ in_node left s (λ l t. and_then (read_name (qualified_name true) l t)
+    ≡ in_node left s (λ l t. and_then (read_name (qualified_name templates.NotMemorized) l t)
     (λ n k u. Some (tagged tag_kind.Alias n.0 (name_trees n.1) q, k, u)))
 unfolding grammar read read_by
 alias_step q left s = read_name-is (prefixed_type q form.Alias) left s
 
 pub reference_to_function_step : (q : ℕ) (left : List ℕ) (s : State)
     → read_name (prefixed_type q form.ReferenceToFunction) left s
-    ≡ in_node left s (λ l t. and_then (read_name (function_type true) l t)
+    ≡ in_node left s (λ l t. and_then (read_name (function_type object_qualifiers.Absent) l t)
     (λ x k u. Some (pointing mark_kind.Reference x q, k, u)))
 unfolding grammar read read_by
 reference_to_function_step q left s = read_name-is (prefixed_type q form.ReferenceToFunction) left s
 
 pub pointer_to_function_step : (q : ℕ) (left : List ℕ) (s : State)
     → read_name (prefixed_type q form.PointerToFunction) left s
-    ≡ in_node left s (λ l t. and_then (read_name (function_type true) l t)
+    ≡ in_node left s (λ l t. and_then (read_name (function_type object_qualifiers.Absent) l t)
     (λ x k u. Some (pointing mark_kind.Pointer x q, k, u)))
 unfolding grammar read read_by
 pointer_to_function_step q left s = read_name-is (prefixed_type q form.PointerToFunction) left s
@@ -190,12 +193,13 @@ unfolding grammar read read_by
 nullptr_step q left s = read_name-is (prefixed_type q form.Nullptr) left s
 
 pub function_form_step : (q : ℕ) (left : List ℕ) (s : State)
-    → read_name (prefixed_type q form.Function) left s ≡ read_name (function_type true) left s
+    → read_name (prefixed_type q form.Function) left s ≡ read_name (function_type object_qualifiers.Absent) left s
 unfolding grammar read read_by
 function_form_step q left s = read_name-is (prefixed_type q form.Function) left s
 
 pub qualified_function_step : (q : ℕ) (left : List ℕ) (s : State)
-    → read_name (prefixed_type q form.QualifiedFunction) left s ≡ read_name (function_type false) left s
+    → read_name (prefixed_type q form.QualifiedFunction) left s
+    ≡ read_name (function_type object_qualifiers.Present) left s
 unfolding grammar read read_by
 qualified_function_step q left s = read_name-is (prefixed_type q form.QualifiedFunction) left s
 
@@ -205,12 +209,13 @@ unfolding grammar read read_by
 cv_type_step q left s = read_name-is (prefixed_type q form.CvQualified) left s
 
 pub qualified_member_step : (q : ℕ) (left : List ℕ) (s : State)
-    → read_name (prefixed_type q form.QualifiedMemberPointer) left s ≡ read_name (member_pointer true) left s
+    → read_name (prefixed_type q form.QualifiedMemberPointer) left s
+    ≡ read_name (member_pointer pointer_form.Qualified) left s
 unfolding grammar read read_by
 qualified_member_step q left s = read_name-is (prefixed_type q form.QualifiedMemberPointer) left s
 
 pub member_form_step : (q : ℕ) (left : List ℕ) (s : State) → read_name (prefixed_type q form.MemberPointer) left s
-    ≡ and_then (read (literal (codes "?")) left s) (λ _ l t. read_name (member_pointer false) l t)
+    ≡ and_then (read (literal (codes "?")) left s) (λ _ l t. read_name (member_pointer pointer_form.OfClass) l t)
 unfolding grammar read read_by
 member_form_step q left s = read_name-is (prefixed_type q form.MemberPointer) left s
 
@@ -276,7 +281,7 @@ extended_step q left s =
     go (b ∷ bs) t = found (lookup b extended_types) bs t
 
 pub named_step : (q : ℕ) (tag : TagKind) (left : List ℕ) (s : State) → read_name (type_after q (named tag)) left s
-    ≡ in_node left s (λ l t. and_then (read_name (qualified_name false) l t)
+    ≡ in_node left s (λ l t. and_then (read_name (qualified_name templates.Memorized) l t)
     (λ n k u. Some (tagged tag n.0 (name_trees n.1) q, k, u)))
 unfolding grammar read read_by
 named_step q tag left s = read_name-is (type_after q (named tag)) left s

@@ -13,7 +13,7 @@ use Rattle.msvc_cursor.specs.declared.failure.MessageText.TheVariants.{Fixed, Ma
 use Rattle.msvc_cursor.specs.declared.failure.Failure.{Failure}
 use Rattle.msvc_cursor.specs.declared.failure.Failure.TheVariants as failure
 
--- the error, unless it is one out of memory, says the words of the message
+-- the error says the words of the message, unless memory ran out
 abbrev pub IsSaid : Message → ErrorRepr → Type 0
 IsSaid message (error.ParseError said context offset) = cow_str_bytes said ≡ message_words message
 IsSaid message _ = Unit {0}
@@ -42,7 +42,7 @@ IsInside input failure.Memory = Unit {0}
 IsInside input (failure.Rejected message left) = Unit {0}
 IsInside input (failure.TooLong read) = read ≤ length input
 
--- the offset in the input; 0 if memory ran out
+-- the offset in the input at which a call fails, or 0 if memory ran out
 abbrev pub offset_of_failure : List ℕ → Failure → ℕ
 offset_of_failure input failure.Memory = 0
 offset_of_failure input (failure.Rejected message left) = length input - left

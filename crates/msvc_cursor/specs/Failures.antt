@@ -9,7 +9,7 @@ use Rattle.msvc_cursor.specs.Messages.{limit_of_failure}
 use Rattle.msvc_cursor.specs.declared.failure.Failure.{Failure}
 use Rattle.msvc_cursor.specs.declared.failure.Failure.TheVariants as failure
 
--- memory ran out, or else this holds of the offset in the text; reading fails for the length of no declaration
+-- memory ran out, or `holds` is true of the offset in the text; no reader fails for the length of a declaration
 abbrev pub UnlessMemory : List ℕ → Failure → (ℕ → Type 0) → Type 0
 UnlessMemory text failure.Memory holds = Unit {0}
 UnlessMemory text (failure.Rejected message left) holds = holds (length text - left)

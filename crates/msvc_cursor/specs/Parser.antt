@@ -26,43 +26,41 @@ use Rattle.msvc_grammar.specs.State as state
 use Rattle.msvc_cursor.specs.declared.back_references.BackReference.{BackReference}
 use Rattle.msvc_cursor.specs.declared.entries.MemorizedName.{MemorizedName}
 use Rattle.msvc_cursor.specs.declared.entries.MemorizedType.{MemorizedType}
-use Rattle.msvc_cursor.specs.declared.forms.FunctionKind.{FunctionKind}
-use Rattle.msvc_cursor.specs.declared.forms.FunctionKind.TheVariants as function_kind
-use Rattle.msvc_cursor.specs.declared.forms.MemberPointerForm.{MemberPointerForm}
-use Rattle.msvc_cursor.specs.declared.forms.MemberPointerForm.TheVariants as pointer_form
-use Rattle.msvc_cursor.specs.declared.forms.ObjectQualifiers.{ObjectQualifiers}
-use Rattle.msvc_cursor.specs.declared.forms.ObjectQualifiers.TheVariants as qualifiers_of
-use Rattle.msvc_cursor.specs.declared.forms.Ellipsis.{Ellipsis}
-use Rattle.msvc_cursor.specs.declared.forms.Ellipsis.TheVariants as ellipsis
-use Rattle.msvc_cursor.specs.declared.forms.TemplateNames.{TemplateNames}
-use Rattle.msvc_cursor.specs.declared.forms.TemplateNames.TheVariants as templates
+use Rattle.msvc_grammar.specs.declared.forms.Ellipsis.{Ellipsis}
+use Rattle.msvc_grammar.specs.declared.forms.Ellipsis.TheVariants as ellipsis
+use Rattle.msvc_grammar.specs.declared.forms.TemplateNames.{TemplateNames}
+use Rattle.msvc_grammar.specs.declared.forms.TemplateNames.TheVariants as templates
 use Rattle.msvc_cursor.specs.declared.parser.Parser.{Parser}
 use Rattle.msvc_cursor.specs.declared.failure.Failure.{Failure}
 use Rattle.msvc_cursor.specs.declared.failure.Failed.{Failed}
 use Rattle.msvc_cursor.specs.declared.failure.Failure.TheVariants as failure
 
+-- the name of an entry of the table of names
 abbrev pub known_name_of : {L : Type 0} {g : _} → MemorizedName L g → NameTree
 known_name_of e = name_at e.memorized
 
+-- an entry of the table of types, as the grammar has it
 abbrev pub memorized_of : {L : Type 0} {g : _} → MemorizedType L g → state.Entry
 memorized_of e = record { entered = type_at e.memorized; start = e.start; end = e.end }
 
+-- a digit that was read as a whole parameter, as the grammar notes it
 abbrev pub note_of : BackReference → state.Note
 note_of n = record { at = n.at; start = n.start; end = n.end }
 
--- the count of nodes
+-- the nodes that a parser has counted
 abbrev pub count_of : {L A : Type 0} {g h : _} → Parser L A g h → state.Count
 count_of {g = g} p =
     record { weight = g.weight; used = g.used p.limit; max = g.max p.limit }
 
+-- the state of the grammar that a parser holds
 abbrev pub state_of : {L A : Type 0} {g h : _} → Parser L A g h → state.State
 state_of p =
     record {
       whole = p.text_length;
       count = count_of p;
-      names = map known_name_of (current p.backrefs.names);
-      types = map memorized_of (current p.backrefs.types);
-      notes = map note_of p.back_references.items;
+      names = map known_name_of (current p.tables.names);
+      types = map memorized_of (current p.tables.types);
+      notes = map note_of p.references.items;
     }
 
 -- what a reader leaves unchanged: the entries before the tables in use, and the lists that its callers fill
@@ -74,11 +72,12 @@ pub record Frame (N E : Type 0) : Type 0 where
   pub listed_types : List (Bor «Type»)
   pub types_before : List (Bor «Type»)
 
+-- the frame of a parser
 abbrev pub frame_of : {L A : Type 0} {g h : _} → Parser L A g h → Frame (MemorizedName L g) (MemorizedType L g)
 frame_of p =
     record {
-      names = enclosing p.backrefs.names;
-      types = enclosing p.backrefs.types;
+      names = enclosing p.tables.names;
+      types = enclosing p.tables.types;
       listed_names = current p.listed_names;
       names_before = enclosing p.listed_names;
       listed_types = current p.listed_types;
@@ -96,7 +95,7 @@ abbrev pub Gives : {X Y : Type 0} → (X → Y) → Failure → Result X Failed 
 Gives view last_error (Ok x) read = read ≡ Some (view x)
 Gives view last_error (Err e) read = Rejects last_error read
 
--- the same for a function that returns the reason
+-- the result of a function that returns the reason of its failure, seen by view, is what a rule reads
 abbrev pub IsRead : {X Y : Type 0} → (X → Y) → Result X Failure → Option Y → Type 0
 IsRead view (Ok x) read = read ≡ Some (view x)
 IsRead view (Err e) read = Rejects e read
@@ -107,21 +106,21 @@ abbrev pub ReadsAs : {L A : Type 0} {g h : _} {X Y : Type 0} → (X → Y) → P
     Failed
     → (List ℕ → state.State → Found Y) → Type 0
 ReadsAs view before after result reading =
-    Gives (λ x. (view x, after.rest.now, state_of after)) after.last_error.reason result (reading before.rest.now (state_of
-    before))
+    Gives (λ x. (view x, after.rest.now, state_of after)) after.last_error.reason result
+    (reading before.rest.now (state_of before))
 
 -- on success, a reader has read at least one byte and has left the frame unchanged
 abbrev pub Consumes : {L A : Type 0} {g h : _} {X : Type 0} → Parser L A g h → Parser L A g h → Result X Failed → Type 0
 Consumes before after result =
     IfOk result (λ _. (length after.rest.now < length before.rest.now) × (frame_of after ≡ frame_of before))
 
--- the same, and it may have read no byte
+-- on success, a reader has read any number of bytes, or none, and has left the frame unchanged
 abbrev pub MayConsume : {L A : Type 0} {g h : _} {X : Type 0} → Parser L A g h → Parser L A g h → Result X Failed → Type
     0
 MayConsume before after result =
     IfOk result (λ _. (length after.rest.now ≤ length before.rest.now) × (frame_of after ≡ frame_of before))
 
--- the same, and it has read no byte
+-- on success, a reader has read no byte and has left the frame unchanged
 abbrev pub Stays : {L A : Type 0} {g h : _} {X : Type 0} → Parser L A g h → Parser L A g h → Result X Failed → Type 0
 Stays before after result =
     IfOk result (λ _. (after.rest.now ≡ before.rest.now) × (frame_of after ≡ frame_of before))
@@ -146,25 +145,27 @@ unfoldable pub byte_here : List ℕ → state.State → Found ℕ
 byte_here [] s = None
 byte_here (b ∷ bs) s = Some (b, bs, s)
 
--- a template name is memorized unless it names a symbol
-abbrev pub add_template_name : Bool → NameTree → state.State → state.State
-add_template_name of_symbol n s = if of_symbol then s else state.remember_name n s
+-- the state after the name of a template, which enters the table of names if template names are memorized
+abbrev pub add_template_name : TemplateNames → NameTree → state.State → state.State
+add_template_name templates.Memorized n s = state.remember_name n s
+add_template_name templates.NotMemorized n s = s
 
--- the entry of a table whose text the bytes begin with, and the bytes after that text
+-- an entry and the bytes after its text, if the bytes begin with that text, or what the other entries give
 abbrev pub this_or : {A : Type 0} → A → Option (List ℕ) → Option (A × List ℕ) → Option (A × List ℕ)
 this_or x None others = others
 this_or x (Some rest) others = Some (x, rest)
 
+-- the entry of a table whose text the bytes begin with, and the bytes after that text
 unfoldable pub text_at : {A : Type 0} → List (List ℕ × A) → List ℕ → Option (A × List ℕ)
 text_at [] left = None
 text_at (row ∷ others) left = this_or row.1 (after row.0 left) (text_at others left)
 
--- a row of a table without the first byte of its text, if that is this byte
+-- a row of a table without the first byte of its text, if that byte is b, and other rows
 abbrev pub begun_by : {A : Type 0} → ℕ → List ℕ → A → List (List ℕ × A) → List (List ℕ × A)
 begun_by b [] x others = others
 begun_by b (l ∷ ls) x others = if l == b then (ls, x) ∷ others else others
 
--- the rows of a table whose texts begin with this byte, without it
+-- the rows of a table whose texts begin with a byte, without that byte
 abbrev pub one_less : {A : Type 0} → ℕ → List (List ℕ × A) → List (List ℕ × A)
 one_less b [] = []
 one_less b (row ∷ others) = begun_by b row.0 row.1 (one_less b others)
@@ -179,7 +180,7 @@ double_dollar_texts = one_less dollar_sign dollar_texts
 unfoldable pub name_length : List ℕ → Option ℕ
 name_length left = position (λ b. b == at_sign) left
 
--- the bytes before an index and those after the byte there, if there is an index
+-- the bytes before an index and the bytes after the one there, if there is an index
 abbrev pub cut_at : Option ℕ → List ℕ → state.State → Found (List ℕ)
 cut_at None left s = None
 cut_at (Some i) left s = Some (take i left, drop (i + 1) left, s)
@@ -200,24 +201,6 @@ ellipsis_types ellipsis.Present = plain plain_kind.Variadic ∷ []
 abbrev pub counting_ellipsis : Ellipsis → List ℕ → state.State → Found (Unit {0})
 counting_ellipsis ellipsis.Absent left s = Some (tt, left, s)
 counting_ellipsis ellipsis.Present left s = counting s.count.weight left s
-
--- the truth values by which the grammar distinguishes cases
-
-abbrev pub is_of_symbol : TemplateNames → Bool
-is_of_symbol templates.Memorized = false
-is_of_symbol templates.NotMemorized = true
-
-abbrev pub is_bare : ObjectQualifiers → Bool
-is_bare qualifiers_of.Absent = true
-is_bare qualifiers_of.Present = false
-
-abbrev pub is_qualified : MemberPointerForm → Bool
-is_qualified pointer_form.Qualified = true
-is_qualified pointer_form.OfClass = false
-
-abbrev pub is_member : FunctionKind → Bool
-is_member function_kind.Free = false
-is_member function_kind.Member = true
 
 -- what a code stands for, if anything, and the bytes after it
 abbrev pub at_rest : {A : Type 0} → Option A → List ℕ → Option (A × List ℕ)
@@ -243,28 +226,23 @@ unfoldable pub special_at : List ℕ → Option (SpecialForm × List ℕ)
 special_at [] = None
 special_at (b ∷ bs) = if b == underscore then special_at_after_under bs else at_rest (lookup b basic_special_letters) bs
 
--- what a table has, which counts as a node, or what is read else
+-- what a table has for a letter, which counts as a node, or what is read else
 abbrev pub found_or : {A : Type 0} → Option A → List ℕ → state.State → Found A → Found A
 found_or (Some x) left s other = in_node left s (λ l t. Some (x, l, t))
 found_or None left s other = other
 
--- the type of a letter that needs no other: a base type with these qualifiers, or the memorized type of a digit
+-- the type of a letter after which nothing is read: a base type with these qualifiers, or the memorized type of a digit
 abbrev pub type_of_letter : ℕ → ℕ → List ℕ → state.State → Found TypeTree
 type_of_letter q b left s =
     found_or (option_map (λ x. base x q) (lookup b base_types)) left s
     (and_then (with_value (lookup b digits) left s) (λ i l t. type_known (slice_get t.types i) l t))
-
--- which guard a name is, if any
-abbrev pub guard_of : NameTree → Option Guard
-guard_of (guard kind index) = Some kind
-guard_of _ = None
 
 -- a symbol's name and scope, with the index that follows the name of a guard
 abbrev pub indexed : NameTree → List NameTree → List ℕ → state.State → Found (NameTree × List NameTree)
 indexed n ns left s =
     and_then (read_name (guard_index (is_guard n)) left s) (λ index l t. Some ((with_index index n, ns), l, t))
 
--- the digits of a hash before an index, and the bytes after the one there
+-- the bytes before an index, if they are a hash, and the bytes after the one there
 abbrev pub hash_at : Option ℕ → List ℕ → state.State → Found (List ℕ)
 hash_at None left s = None
 hash_at (Some i) left s = if is_hash (take i left) then Some (take i left, drop (i + 1) left, s) else None

@@ -23,7 +23,7 @@ ListsNames before after result =
       names_before = enclosing before.listed_names ++ current before.listed_names;
     }))
 
--- the same for types
+-- a reader of types leaves them on a new part of the list, and returns the checkpoint that ends that part
 abbrev pub ListsTypes : {L A : Type 0} {g h : _} → Parser L A g h → Parser L A g h → Result Checkpoint Failed → Type 0
 ListsTypes before after result =
     IfOk result (λ checkpoint. (checkpoint.from ≡ length (enclosing before.listed_types))
@@ -43,7 +43,7 @@ EndsNames checkpoint before after result =
       names_before = take checkpoint.from (enclosing before.listed_names);
     })
 
--- the same for types
+-- a part of the list of types is dropped, and the list is as it was before that part began
 abbrev pub EndsTypes : {L A : Type 0} {g h : _} {X : Type 0} → Checkpoint → Parser L A g h → Parser L A g h →
     Result X Failed → Type 0
 EndsTypes checkpoint before after result =

@@ -11,9 +11,9 @@ ghost use Rattle.msvc_grammar.specs.State.{remember_name, remember_type, span_of
 ghost use Rattle.msvc_cursor.specs.Parser.{known_name_of, memorized_of, ReadsAs, Stays};
 ghost use Rattle.msvc_cursor.specs.NestedList.{current, enclosing};
 
+use crate::budget::NodeBudget;
 use crate::entries::{MemorizedName, MemorizedType};
 use crate::failure::{Failed, Message};
-use crate::limit::NodeBudget;
 use crate::nested_list::{Checkpoint, NestedList};
 use crate::parser::Parser;
 use msvc_nodes::nodes::{Name, Type};
@@ -113,7 +113,7 @@ impl<'a, 'b, L: NodeBudget, A: Allocator> Parser<'a, 'b, L, A> {
             (λ left s. with_value (Some (name_of name.now)) left (remember_name (name_of name.now) s)) }
         ensures stays { Stays self.old self.new result }
     {
-        let names = self.backrefs.names.items();
+        let names = self.tables.names.items();
         if names.len() >= MAX_MEMORIZED || is_known_name(names, name) {
             return Ok(name);
         }
@@ -121,7 +121,7 @@ impl<'a, 'b, L: NodeBudget, A: Allocator> Parser<'a, 'b, L, A> {
             memorized: name,
             nodes,
         };
-        if self.backrefs.names.push(entry).is_err() {
+        if self.tables.names.push(entry).is_err() {
             return Err(self.no_memory());
         }
         Ok(name)
@@ -134,7 +134,7 @@ impl<'a, 'b, L: NodeBudget, A: Allocator> Parser<'a, 'b, L, A> {
             (λ left s. name_known (slice_get s.names digit) left s) }
         ensures stays { Stays self.old self.new result }
     {
-        let Some(known) = self.backrefs.names.get(usize::from(digit)) else {
+        let Some(known) = self.tables.names.get(usize::from(digit)) else {
             return Err(self.reject(Message::NameReferenceTooLarge));
         };
         self.count_nodes(known.nodes)?;
@@ -147,7 +147,7 @@ impl<'a, 'b, L: NodeBudget, A: Allocator> Parser<'a, 'b, L, A> {
             (λ left s. type_known (slice_get s.types digit) left s) }
         ensures stays { Stays self.old self.new result }
     {
-        let Some(known) = self.backrefs.types.get(usize::from(digit)) else {
+        let Some(known) = self.tables.types.get(usize::from(digit)) else {
             return Err(self.reject(Message::InvalidBackReference(digit)));
         };
         self.count_nodes(known.nodes)?;
@@ -167,7 +167,7 @@ impl<'a, 'b, L: NodeBudget, A: Allocator> Parser<'a, 'b, L, A> {
             (λ left s. type_noted (slice_get s.types digit) start.now left s) }
         ensures stays { Stays self.old self.new result }
     {
-        let Some(entry) = self.backrefs.types.get(usize::from(digit)) else {
+        let Some(entry) = self.tables.types.get(usize::from(digit)) else {
             return Err(self.reject(Message::InvalidBackReference(digit)));
         };
         let note = BackReference {
@@ -175,7 +175,7 @@ impl<'a, 'b, L: NodeBudget, A: Allocator> Parser<'a, 'b, L, A> {
             start: entry.start,
             end: entry.end,
         };
-        if self.back_references.push(note).is_err() {
+        if self.references.push(note).is_err() {
             return Err(self.no_memory());
         }
         self.count_nodes(entry.nodes)?;
@@ -197,7 +197,7 @@ impl<'a, 'b, L: NodeBudget, A: Allocator> Parser<'a, 'b, L, A> {
             (remember_type (span_of (type_of memorized.now) start.now left s) s)) }
         ensures stays { Stays self.old self.new result }
     {
-        let types = self.backrefs.types.items();
+        let types = self.tables.types.items();
         if types.len() >= MAX_MEMORIZED || is_known_type(types, memorized) {
             return Ok(memorized);
         }
@@ -207,7 +207,7 @@ impl<'a, 'b, L: NodeBudget, A: Allocator> Parser<'a, 'b, L, A> {
             end: self.offset_of(self.rest),
             nodes,
         };
-        if self.backrefs.types.push(entry).is_err() {
+        if self.tables.types.push(entry).is_err() {
             return Err(self.no_memory());
         }
         Ok(memorized)

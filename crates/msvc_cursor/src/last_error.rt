@@ -4,8 +4,8 @@
 ghost use Rattle.std.specs.Prelude.{◌≡◌, true};
 ghost use Rattle.msvc_cursor.specs.Messages.{may_fail_for};
 
+use crate::budget::NodeBudget;
 use crate::failure::Failure;
-use crate::limit::NodeBudget;
 use std::marker::PhantomData;
 
 /// The reason why the last reader failed. It is the limit on nodes only if nodes are counted.

@@ -14,8 +14,8 @@ ghost use Rattle.msvc_grammar.specs.Rules.{lookup, type_after};
 ghost use Rattle.msvc_grammar.specs.Sorts.{extended};
 ghost use Rattle.msvc_cursor.specs.Parser.{Consumes, ReadsAs, Stays, type_of_letter};
 
+use crate::budget::NodeBudget;
 use crate::failure::{Failed, Message};
-use crate::limit::NodeBudget;
 use crate::parser::Parser;
 use bitflags::Flags;
 use msvc_nodes::base_types;

@@ -5,12 +5,11 @@
 #![tactic(auto)]
 
 pub mod back_references;
+pub mod budget;
 pub mod entries;
 pub mod failure;
-pub mod forms;
 pub mod last_error;
 pub mod letters;
-pub mod limit;
 pub mod limits;
 pub mod nested_list;
 pub mod numbers;

@@ -6,9 +6,9 @@ ghost use Rattle.msvc_grammar.specs.Reads.{read, read_name};
 ghost use Rattle.msvc_grammar.specs.Rules.{magnitude, number};
 ghost use Rattle.msvc_cursor.specs.Parser.{Consumes, ReadsAs};
 
+use crate::budget::NodeBudget;
 use crate::failure::{Failed, Message};
 use crate::letters;
-use crate::limit::NodeBudget;
 use crate::parser::Parser;
 use std::alloc::Allocator;
 

@@ -21,10 +21,10 @@ ghost use Rattle.msvc_cursor.specs.Parser.{frame_of, optional_letters, ReadsAs, 
 ghost use Rattle.msvc_cursor.specs.Parser.{Stays};
 
 use crate::back_references::{BackReference, BackrefTables};
+use crate::budget::NodeBudget;
 use crate::failure::{Failed, Failure, Message};
 use crate::last_error::LastError;
 use crate::letters::{self, OptionalLetters};
-use crate::limit::NodeBudget;
 use crate::nested_list::NestedList;
 use bitflags::Flags;
 use bumpalo::Bump;
@@ -42,14 +42,14 @@ pub struct Parser<'a, 'b, L: NodeBudget, A: Allocator> {
     pub text_length: usize,
     /// The bytes that are still unread.
     pub rest: &'a [u8],
-    /// The tables that digits refer to.
-    pub backrefs: BackrefTables<'a, 'b, L, A>,
+    /// The tables of names and types that digits refer to.
+    pub tables: BackrefTables<'a, 'b, L, A>,
     /// The names of the scopes that are being read.
     pub listed_names: NestedList<'b, &'b Name<'a, 'b>, A>,
     /// The parameters of the lists that are being read.
     pub listed_types: NestedList<'b, &'b Type<'a, 'b>, A>,
-    /// The back references read so far.
-    pub back_references: Vec<BackReference, &'b Bump<A>>,
+    /// The digits that were read as whole parameters so far.
+    pub references: Vec<BackReference, &'b Bump<A>>,
     /// The limit on nodes.
     pub limit: L,
     /// The error of the last reader that failed.
@@ -70,13 +70,13 @@ impl<'a, 'b, L: NodeBudget, A: Allocator> Parser<'a, 'b, L, A> {
             arena,
             text_length: text.len(),
             rest: text,
-            backrefs: BackrefTables {
+            tables: BackrefTables {
                 names: NestedList::new(arena),
                 types: NestedList::new(arena),
             },
             listed_names: NestedList::new(arena),
             listed_types: NestedList::new(arena),
-            back_references: Vec::new(arena),
+            references: Vec::new(arena),
             limit,
             last_error: LastError {
                 reason: Failure::Memory,
@@ -94,10 +94,7 @@ impl<'a, 'b, L: NodeBudget, A: Allocator> Parser<'a, 'b, L, A> {
         ensures state { state_of self.new ≡ state_of self.old }
         ensures kept { frame_of self.new ≡ frame_of self.old }
     {
-        self.last_error = LastError {
-            reason: Failure::Memory,
-            budget: PhantomData,
-        };
+        self.last_error.reason = Failure::Memory;
         Failed
     }
 
@@ -111,10 +108,7 @@ impl<'a, 'b, L: NodeBudget, A: Allocator> Parser<'a, 'b, L, A> {
         ensures state { state_of self.new ≡ state_of self.old }
         ensures kept { frame_of self.new ≡ frame_of self.old }
     {
-        self.last_error = LastError {
-            reason: Failure::Rejected(message, left),
-            budget: PhantomData,
-        };
+        self.last_error.reason = Failure::Rejected(message, left);
         Failed
     }
 
@@ -182,10 +176,7 @@ impl<'a, 'b, L: NodeBudget, A: Allocator> Parser<'a, 'b, L, A> {
         ensures state { state_of self.new ≡ state_of self.old }
         ensures kept { frame_of self.new ≡ frame_of self.old }
     {
-        self.last_error = LastError {
-            reason: Failure::Rejected(message, self.rest.len()),
-            budget: PhantomData,
-        };
+        self.last_error.reason = Failure::Rejected(message, self.rest.len());
         Failed
     }
 
@@ -194,15 +185,13 @@ impl<'a, 'b, L: NodeBudget, A: Allocator> Parser<'a, 'b, L, A> {
     #[inline(never)]
     fn reject_nodes(&mut self) -> Failed
         requires { nat_lt 0 L.weight ≡ true }
-        ensures last_error { self.new.last_error.reason ≡ Failure.Rejected Message.TooManyNodes (length self.old.rest.now) }
+        ensures last_error { self.new.last_error.reason
+            ≡ Failure.Rejected Message.TooManyNodes (length self.old.rest.now) }
         ensures rest { self.new.rest.now ≡ self.old.rest.now }
         ensures state { state_of self.new ≡ state_of self.old }
         ensures kept { frame_of self.new ≡ frame_of self.old }
     {
-        self.last_error = LastError {
-            reason: Failure::Rejected(Message::TooManyNodes, self.rest.len()),
-            budget: PhantomData,
-        };
+        self.last_error.reason = Failure::Rejected(Message::TooManyNodes, self.rest.len());
         Failed
     }
 

@@ -3,8 +3,8 @@
 ghost use Rattle.std.specs.Prelude.{◌≡◌, IfErr, None};
 ghost use Rattle.msvc_cursor.specs.Parser.{Consumes, cut_at, name_length, ReadsAs};
 
+use crate::budget::NodeBudget;
 use crate::failure::{Failed, Message};
-use crate::limit::NodeBudget;
 use crate::parser::Parser;
 use byte_search::find_byte;
 use std::alloc::Allocator;

@@ -10,9 +10,9 @@ ghost use Rattle.msvc_grammar.specs.Rules.{character, characters, encoding_after
 ghost use Rattle.msvc_grammar.specs.Sorts.{encoded_string};
 ghost use Rattle.msvc_cursor.specs.Parser.{Consumes, MayConsume, ReadsAs};
 
+use crate::budget::NodeBudget;
 use crate::failure::{Failed, Message};
 use crate::letters;
-use crate::limit::NodeBudget;
 use crate::parser::Parser;
 use bumpalo::Bump;
 use bumpalo::collections::into_bump_slice;

@@ -31,6 +31,10 @@ use Rattle.msvc_grammar.specs.Rules.{special_name, special_after, literal_or, te
 use Rattle.msvc_grammar.specs.Letters.{type_texts, special_texts}
 use Rattle.msvc_grammar.specs.declared.forms.TypePrefix.TheVariants as form
 use Rattle.msvc_grammar.specs.declared.forms.SpecialForm.TheVariants as special
+use Rattle.msvc_grammar.specs.declared.forms.ObjectQualifiers.TheVariants as object_qualifiers
+use Rattle.msvc_grammar.specs.declared.forms.FunctionKind.TheVariants as function_kind
+use Rattle.msvc_grammar.specs.declared.forms.MemberPointerForm.TheVariants as pointer_form
+use Rattle.msvc_grammar.specs.declared.forms.TemplateNames.TheVariants as templates
 use Rattle.msvc_grammar.specs.Grammar.{grammar}
 use Rattle.msvc_grammar.specs.Reads.{ranks}
 
@@ -61,19 +65,19 @@ some_value (both a b) = (some_value a, some_value b)
 unfoldable pub rank : {a : Sort} → Production a → ℕ
 rank symbol = 0
 rank symbol_body = 3
-rank (guard_index guarded) = 0
+rank (guard_index is_guard) = 0
 rank (unsigned z) = 0
 rank (decimal value) = 1
 rank encoding = 0
 rank (encoding_after l) = 4
 rank (characters n) = 1
 rank character = 0
-rank (thunk_number there) = 3
-rank (this_qualifiers static) = 1
+rank (thunk_number is_thunk) = 3
+rank (this_qualifiers object) = 1
 rank function_qualifiers = 0
-rank (signature member) = 0
+rank (signature kind) = 0
 rank return_qualifiers = 0
-rank (returned member q) = 2
+rank (returned kind q) = 2
 rank function_parameters = 4
 rank parameters = 3
 rank parameter = 2
@@ -81,16 +85,16 @@ rank (type_ q) = 1
 rank (plain_type q) = 0
 rank (type_after q l) = 5
 rank (prefixed_type q f) = 5
-rank (function_type bare) = 2
-rank (member_pointer qualified) = 3
-rank (class_part qualified) = 0
+rank (function_type object) = 2
+rank (member_pointer which) = 3
+rank (class_part which) = 0
 rank pointee = 2
 rank array = 4
 rank dimension = 3
 rank (positive z) = 0
 rank (lengths n) = 3
-rank (qualified_name of_symbol) = 2
-rank (unqualified_name of_symbol) = 1
+rank (qualified_name kept) = 2
+rank (unqualified_name kept) = 1
 rank special_name = 0
 rank (special_after f) = 3
 rank template_name = 2
@@ -103,7 +107,7 @@ rank source_name = 0
 rank number = 2
 rank magnitude = 1
 rank (letters value) = 0
-rank (required there) = 0
+rank (required condition) = 0
 
 -- how deep productions call one another at most, where these bytes are left
 unfoldable pub depth : {a : Sort} → Production a → List ℕ → ℕ
@@ -113,25 +117,25 @@ depth n left = ranks * length left + rank n
 
 -- by the name of a production
 unfoldable pub consumer : {a : Sort} → Production a → ℕ
-consumer (guard_index guarded) = 0
+consumer (guard_index is_guard) = 0
 consumer (unsigned z) = 0
 consumer encoding = 0
 consumer (encoding_after l) = 0
 consumer (characters n) = 0
-consumer (thunk_number there) = 0
-consumer (this_qualifiers static) = 0
+consumer (thunk_number is_thunk) = 0
+consumer (this_qualifiers object) = 0
 consumer function_qualifiers = 0
 consumer return_qualifiers = 0
 consumer parameters = 0
 consumer (type_after q (points mark on_pointer)) = 1
 consumer (type_after q l) = 0
 consumer (prefixed_type q f) = 0
-consumer (class_part qualified) = 0
+consumer (class_part which) = 0
 consumer (positive z) = 0
 consumer (lengths n) = 0
-consumer (qualified_name of_symbol) = 2
+consumer (qualified_name kept) = 2
 consumer (special_after f) = 0
-consumer (required there) = 0
+consumer (required condition) = 0
 consumer _ = 1
 
 abbrev pub least : ℕ → ℕ → ℕ
@@ -242,18 +246,18 @@ pub data After : Type 0 where
 unfoldable pub needs : {a : Sort} → Production a → ℕ
 needs symbol = 1
 needs symbol_body = 1
-needs (unqualified_name of_symbol) = 1
+needs (unqualified_name kept) = 1
 needs template_name = 1
 needs nested_name = 1
 needs locally_scoped_name = 1
-needs (guard_index guarded) = 1
+needs (guard_index is_guard) = 1
 needs encoding = 1
 needs (encoding_after l) = 1
-needs (this_qualifiers static) = 1
+needs (this_qualifiers object) = 1
 needs function_qualifiers = 1
 needs return_qualifiers = 1
 needs parameters = 1
-needs (class_part qualified) = 1
+needs (class_part which) = 1
 needs _ = 0
 
 -- the same where some byte stood after these: that it was the end of the text is no question then
@@ -264,10 +268,10 @@ needs_inside nested_name = 1
 needs_inside locally_scoped_name = 1
 needs_inside encoding = 1
 needs_inside (encoding_after l) = 1
-needs_inside (this_qualifiers static) = 1
+needs_inside (this_qualifiers object) = 1
 needs_inside function_qualifiers = 1
 needs_inside return_qualifiers = 1
-needs_inside (class_part qualified) = 1
+needs_inside (class_part which) = 1
 needs_inside _ = 0
 
 abbrev pub asks : After → {a : Sort} → Production a → ℕ
@@ -471,10 +475,10 @@ checked (characters zero) = search
 checked (characters (suc n)) = search
 checked (thunk_number true) = search
 checked (thunk_number false) = search
-checked (this_qualifiers true) = search
-checked (this_qualifiers false) = search
-checked (returned true q) = search
-checked (returned false q) = search
+checked (this_qualifiers object_qualifiers.Absent) = search
+checked (this_qualifiers object_qualifiers.Present) = search
+checked (returned function_kind.Member q) = search
+checked (returned function_kind.Free q) = search
 checked (type_after q (based b)) = search
 checked (type_after q extended) = search
 checked (type_after q (named tag)) = search
@@ -497,18 +501,18 @@ checked (prefixed_type q form.QualifiedFunction) = search
 checked (prefixed_type q form.Alias) = search
 checked (prefixed_type q form.CvQualified) = search
 checked (prefixed_type q form.MemberPointer) = search
-checked (function_type true) = search depth 20
-checked (function_type false) = search depth 20
-checked (class_part true) = search
-checked (class_part false) = search
+checked (function_type object_qualifiers.Absent) = search depth 20
+checked (function_type object_qualifiers.Present) = search depth 20
+checked (class_part pointer_form.Qualified) = search
+checked (class_part pointer_form.OfClass) = search
 checked (positive (pos zero)) = search
 checked (positive (pos (suc n))) = search
 checked (positive (negsuc n)) = search
 checked (lengths zero) = search
 checked (lengths (suc n)) = search
 checked (plain_type q) = search none_below
-checked (unqualified_name true) = search
-checked (unqualified_name false) = search
+checked (unqualified_name templates.NotMemorized) = search
+checked (unqualified_name templates.Memorized) = search
 checked (type_ q) = (
   fine_text_or 1 type_texts (λ f. call (prefixed_type q f))
       (literal_or (codes "$") (call (plain_type q)) (call (plain_type q)))

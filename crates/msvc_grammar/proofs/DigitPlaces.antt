@@ -19,6 +19,10 @@ use Rattle.msvc_grammar.specs.Grammar.{grammar}
 use Rattle.msvc_grammar.specs.Letters.{type_texts, special_texts}
 use Rattle.msvc_grammar.specs.declared.forms.SpecialForm.TheVariants as special
 use Rattle.msvc_grammar.specs.declared.forms.TypePrefix.TheVariants as form
+use Rattle.msvc_grammar.specs.declared.forms.ObjectQualifiers.TheVariants as object_qualifiers
+use Rattle.msvc_grammar.specs.declared.forms.FunctionKind.TheVariants as function_kind
+use Rattle.msvc_grammar.specs.declared.forms.MemberPointerForm.TheVariants as pointer_form
+use Rattle.msvc_grammar.specs.declared.forms.TemplateNames.TheVariants as templates
 use Rattle.msvc_grammar.proofs.Checks.{some_value, least, consumes, consumer, differ, bars, others, needs_inside, Local}
 
 -- How many bytes a rule reads at least before a digit that it notes
@@ -167,10 +171,10 @@ well_placed (characters zero) = search depth 12
 well_placed (characters (suc n)) = search depth 12
 well_placed (thunk_number true) = search depth 12
 well_placed (thunk_number false) = search depth 12
-well_placed (this_qualifiers true) = search depth 12
-well_placed (this_qualifiers false) = search depth 12
-well_placed (returned true q) = search depth 12
-well_placed (returned false q) = search depth 12
+well_placed (this_qualifiers object_qualifiers.Absent) = search depth 12
+well_placed (this_qualifiers object_qualifiers.Present) = search depth 12
+well_placed (returned function_kind.Member q) = search depth 12
+well_placed (returned function_kind.Free q) = search depth 12
 well_placed (type_after q (based b)) = search depth 12
 well_placed (type_after q extended) = search depth 12
 well_placed (type_after q (named tag)) = search depth 12
@@ -193,18 +197,18 @@ well_placed (prefixed_type q form.QualifiedFunction) = search depth 12
 well_placed (prefixed_type q form.Alias) = search depth 12
 well_placed (prefixed_type q form.CvQualified) = search depth 12
 well_placed (prefixed_type q form.MemberPointer) = search depth 12
-well_placed (function_type true) = search depth 12
-well_placed (function_type false) = search depth 12
-well_placed (class_part true) = search depth 12
-well_placed (class_part false) = search depth 12
+well_placed (function_type object_qualifiers.Absent) = search depth 12
+well_placed (function_type object_qualifiers.Present) = search depth 12
+well_placed (class_part pointer_form.Qualified) = search depth 12
+well_placed (class_part pointer_form.OfClass) = search depth 12
 well_placed (positive (pos zero)) = search depth 12
 well_placed (positive (pos (suc n))) = search depth 12
 well_placed (positive (negsuc n)) = search depth 12
 well_placed (lengths zero) = search depth 12
 well_placed (lengths (suc n)) = search depth 12
 well_placed (plain_type q) = search depth 12
-well_placed (unqualified_name true) = search depth 12
-well_placed (unqualified_name false) = search depth 12
+well_placed (unqualified_name templates.NotMemorized) = search depth 12
+well_placed (unqualified_name templates.Memorized) = search depth 12
 well_placed (type_ q) = ((placed_texts type_texts (λ f. call (prefixed_type q f)) (λ f. tt), search), refl)
 well_placed special_name = (placed_texts special_texts (λ f. call (special_after f)) (λ f. tt), refl)
 well_placed (special_after (special.Plain o)) = search depth 12

@@ -30,6 +30,10 @@ use Rattle.msvc_grammar.specs.Rules.{literal, up_to, here, ◌>>=◌, ◌or◌, 
 use Rattle.msvc_grammar.specs.Rules.{prefixed_type, function_type, member_pointer, class_part}
 use Rattle.msvc_grammar.specs.declared.forms.TypePrefix.TheVariants as form
 use Rattle.msvc_grammar.specs.declared.forms.SpecialForm.TheVariants as special
+use Rattle.msvc_grammar.specs.declared.forms.ObjectQualifiers.TheVariants as object_qualifiers
+use Rattle.msvc_grammar.specs.declared.forms.FunctionKind.TheVariants as function_kind
+use Rattle.msvc_grammar.specs.declared.forms.MemberPointerForm.TheVariants as pointer_form
+use Rattle.msvc_grammar.specs.declared.forms.TemplateNames.TheVariants as templates
 use Rattle.msvc_grammar.specs.Grammar.{grammar, arrays, escaped_character, hashed_symbol, named_symbol, numbered_guard}
 use Rattle.msvc_grammar.specs.Grammar.{template_symbol, with_index}
 use Rattle.msvc_grammar.specs.Letters.{escaped_characters, plain_characters, special_texts}
@@ -153,10 +157,10 @@ module _ (P : List ℕ → Type 0) where
   gives character = ((refl, λ _ _. gives_escaped), (refl, no-names plain_characters))
   gives (thunk_number true) = search depth 60
   gives (thunk_number false) = search depth 60
-  gives (this_qualifiers true) = search depth 60
-  gives (this_qualifiers false) = search depth 60
-  gives (returned true q) = search depth 60
-  gives (returned false q) = search depth 60
+  gives (this_qualifiers object_qualifiers.Absent) = search depth 60
+  gives (this_qualifiers object_qualifiers.Present) = search depth 60
+  gives (returned function_kind.Member q) = search depth 60
+  gives (returned function_kind.Free q) = search depth 60
   gives (type_after q (based b)) = search depth 60
   gives (type_after q extended) = search depth 60
   gives (type_after q (named tag)) = (tt, λ n h. (h.0, in-names n.1 h.1))
@@ -178,8 +182,8 @@ module _ (P : List ℕ → Type 0) where
   gives (special_after special.BaseClass) = search depth 60
   gives (required true) = search depth 60
   gives (required false) = search depth 60
-  gives (unqualified_name true) = search depth 60
-  gives (unqualified_name false) = search depth 60
+  gives (unqualified_name templates.NotMemorized) = search depth 60
+  gives (unqualified_name templates.Memorized) = search depth 60
   gives template_name = (tt, λ n h. (tt, λ ts k. (h, in-types ts k)))
   gives (prefixed_type q form.Enumeration) = (tt, λ n h. (h.0, in-names n.1 h.1))
   gives (prefixed_type q form.ReferenceToFunction) = search depth 60
@@ -196,9 +200,9 @@ module _ (P : List ℕ → Type 0) where
   gives (prefixed_type q form.Alias) = (tt, λ n h. (h.0, in-names n.1 h.1))
   gives (prefixed_type q form.CvQualified) = search depth 60
   gives (prefixed_type q form.MemberPointer) = search depth 60
-  gives (function_type bare) =
+  gives (function_type object) =
       (tt, λ _ _. (search, λ _ _. (search depth 60, λ _ _. (tt, λ t h. (tt, λ ts k. (in-types ts k, h))))))
-  gives (member_pointer qualified) = (
+  gives (member_pointer which) = (
     tt,
     λ n h. (
       search depth 60,
@@ -211,8 +215,8 @@ module _ (P : List ℕ → Type 0) where
       ),
     ),
   )
-  gives (class_part true) = search depth 60
-  gives (class_part false) = search depth 60
+  gives (class_part pointer_form.Qualified) = search depth 60
+  gives (class_part pointer_form.OfClass) = search depth 60
   gives (type_ q) = search depth 200
   gives array = search in-arrays depth 60
   gives _ = search depth 60

@@ -21,6 +21,11 @@ use Rattle.msvc_grammar.specs.Rules.{here, ◌or◌, entering, apart}
 use Rattle.msvc_grammar.specs.Rules.{prefixed_type, function_type, member_pointer, class_part}
 use Rattle.msvc_grammar.specs.declared.forms.TypePrefix.TheVariants as form
 use Rattle.msvc_grammar.specs.declared.forms.SpecialForm.TheVariants as special
+use Rattle.msvc_grammar.specs.declared.forms.ObjectQualifiers.TheVariants as object_qualifiers
+use Rattle.msvc_grammar.specs.declared.forms.FunctionKind.TheVariants as function_kind
+use Rattle.msvc_grammar.specs.declared.forms.MemberPointerForm.TheVariants as pointer_form
+use Rattle.msvc_grammar.specs.declared.forms.TemplateNames.{TemplateNames}
+use Rattle.msvc_grammar.specs.declared.forms.TemplateNames.TheVariants as templates
 use Rattle.msvc_grammar.specs.Grammar.{grammar, arrays, pointed_return_qualifiers}
 use Rattle.msvc_grammar.specs.Grammar.{hashed_symbol, named_symbol}
 use Rattle.msvc_grammar.specs.Grammar.{nested_symbol, new_interface, new_source_name, numbered_guard, template_inside}
@@ -103,10 +108,10 @@ module _ (w : ℕ) where
   unfolding Makes
   makes_interface = ((refl, λ n. (refl, λ _. omega arith)), λ n. (refl, λ _. omega arith))
 
-  makes_kept : (of_symbol : Bool) → Makes 0 (template_kept of_symbol)
+  makes_kept : (kept : TemplateNames) → Makes 0 (template_kept kept)
   unfolding Makes
-  makes_kept true = refl
-  makes_kept false = (refl, λ n. (refl, λ _. omega arith))
+  makes_kept templates.NotMemorized = refl
+  makes_kept templates.Memorized = (refl, λ n. (refl, λ _. omega arith))
 
   pub makes_template : Makes 0 template_inside
   unfolding Makes
@@ -161,11 +166,11 @@ module _ (w : ℕ) where
   makes character = search no_nodes depth 60
   makes (thunk_number true) = search depth 60
   makes (thunk_number false) = search depth 60
-  makes (this_qualifiers true) = search depth 60
-  makes (this_qualifiers false) = search depth 60
-  makes (signature member) = (no_nodes conventions, λ _. (refl, λ _. (refl, λ t. (refl, λ ts. omega arith))))
-  makes (returned true q) = ((refl, λ _. omega arith), refl)
-  makes (returned false q) = search depth 60
+  makes (this_qualifiers object_qualifiers.Absent) = search depth 60
+  makes (this_qualifiers object_qualifiers.Present) = search depth 60
+  makes (signature kind) = (no_nodes conventions, λ _. (refl, λ _. (refl, λ t. (refl, λ ts. omega arith))))
+  makes (returned function_kind.Member q) = ((refl, λ _. omega arith), refl)
+  makes (returned function_kind.Free q) = search depth 60
   makes function_parameters =
       ((refl, λ _. (refl, λ _. omega arith)), (refl, λ ts. (refl, λ _. omega arith)))
   makes parameters =
@@ -195,12 +200,12 @@ module _ (w : ℕ) where
   makes (prefixed_type q form.Alias) = (refl, λ n. omega arith)
   makes (prefixed_type q form.CvQualified) = (makes_optional qualifiers, λ _. refl)
   makes (prefixed_type q form.MemberPointer) = (refl, λ _. refl)
-  makes (function_type bare) =
+  makes (function_type object) =
       (refl, λ _. (no_nodes conventions, λ _. (makes_returned, λ _. (refl, λ t. (refl, λ ts. omega arith)))))
-  makes (member_pointer qualified) =
+  makes (member_pointer which) =
       (refl, λ n. (makes_optional pointer_sizes, λ _. (refl, λ _. (refl, λ f. omega arith))))
-  makes (class_part true) = (makes_optional qualifiers, λ _. refl)
-  makes (class_part false) = (no_nodes function_classes, λ _. (refl, λ _. refl))
+  makes (class_part pointer_form.Qualified) = (makes_optional qualifiers, λ _. refl)
+  makes (class_part pointer_form.OfClass) = (no_nodes function_classes, λ _. (refl, λ _. refl))
   makes array = (
     refl,
     λ _. (
@@ -216,9 +221,9 @@ module _ (w : ℕ) where
   makes (positive (negsuc n)) = search depth 60
   makes (lengths zero) = refl
   makes (lengths (suc n)) = (refl, λ _. (refl, λ zs. omega arith))
-  makes (qualified_name of_symbol) = (refl, λ n. (refl, λ ns. omega arith))
-  makes (unqualified_name of_symbol) =
-      ((no_nodes digits, λ _. refl), ((refl, λ _. makes_kept of_symbol), ((refl, λ _. refl), makes_source)))
+  makes (qualified_name kept) = (refl, λ n. (refl, λ ns. omega arith))
+  makes (unqualified_name kept) =
+      ((no_nodes digits, λ _. refl), ((refl, λ _. makes_kept kept), ((refl, λ _. refl), makes_source)))
   makes special_name = makes_texts special_texts (λ f. call (special_after f)) (λ f. refl)
   makes (special_after (special.Plain o)) = omega arith
   makes (special_after (special.Guard kind)) = omega arith

@@ -1,4 +1,5 @@
--- How many nodes a tree has, each name and each type in it, where each counts for as much.
+-- How many nodes a tree has. Each name and each type in it counts for the first argument: one, or nothing where there
+-- is no limit.
 use Rattle.std.specs.Prelude.{ℕ, ◌+◌}
 use Rattle.msvc_nodes.specs.Trees.{NameTree, NameTrees, SymbolTree, TypeTree, TypeTrees, spelled, operator, guard}
 use Rattle.msvc_nodes.specs.Trees.{type_descriptor, base_class_descriptor, template, discriminator, nested, anonymous}
@@ -45,6 +46,6 @@ abbrev mutual
 abbrev pub symbol_count : ℕ → SymbolTree → ℕ
 symbol_count w s = (name_count w s.name + names_count w s.scope) + type_count w s.symbol_type
 
--- the nodes of a tree
+-- how many nodes a tree has
 abbrev pub node_count : SymbolTree → ℕ
 node_count s = symbol_count 1 s

@@ -1,5 +1,5 @@
--- The grammar of symbols. Most productions have the name that docs/grammar.md gives them, and that of the function
--- that reads them; the others are parts of one. Texts stand in it as such; what letters stand for is in the tables of
+-- The grammar of symbols. Most productions have one name here, in docs/grammar.md and as the function that reads them;
+-- the other productions are parts of one. Texts stand in the rules, and what letters stand for is in the tables of
 -- Letters.
 use Rattle.std.specs.Prelude.{ℕ, ℤ, pos, List, [], ◌∷◌, ◌++◌, ◌==◌, ◌+◌, ◌*◌, ◌%◌, ◌^◌, Bool, true, false, Some, None}
 use Rattle.std.specs.Prelude.{negsuc, Option, bit_and, bit_or, suc, zero, codes, is_some, length, nat_lt, not, min}
@@ -19,6 +19,12 @@ use Rattle.msvc_nodes.specs.Trees.{pointing, constant_string, vcall_thunk, funct
 use Rattle.msvc_nodes.specs.Trees.{member_function, variable, name_trees, type_trees}
 use Rattle.msvc_grammar.specs.declared.forms.TypePrefix.TheVariants as form
 use Rattle.msvc_grammar.specs.declared.forms.SpecialForm.TheVariants as special
+use Rattle.msvc_grammar.specs.declared.forms.FunctionKind.TheVariants as function_kind
+use Rattle.msvc_grammar.specs.declared.forms.MemberPointerForm.TheVariants as pointer_form
+use Rattle.msvc_grammar.specs.declared.forms.ObjectQualifiers.{ObjectQualifiers}
+use Rattle.msvc_grammar.specs.declared.forms.ObjectQualifiers.TheVariants as object_qualifiers
+use Rattle.msvc_grammar.specs.declared.forms.TemplateNames.{TemplateNames}
+use Rattle.msvc_grammar.specs.declared.forms.TemplateNames.TheVariants as templates
 use Rattle.msvc_grammar.specs.Sorts.{based, extended, named, points, arrayed, indexed, referred}
 use Rattle.msvc_grammar.specs.Sorts.{variable_of, table_of, type_information, untyped, encoded_string}
 use Rattle.msvc_grammar.specs.Sorts.{virtual_call, plain_function, member_of, Sort, nothing, bits, integer}
@@ -49,6 +55,10 @@ use Rattle.msvc_grammar.specs.Letters.{plain_characters, escaped_characters, at_
 abbrev pub has : ℕ → ℕ → Bool
 has class bit = bit_and class bit == bit
 
+-- whether a member function of a class has qualifiers on its object: a static one has none
+abbrev pub qualifiers_of_class : ℕ → ObjectQualifiers
+qualifiers_of_class class = if has class static then object_qualifiers.Absent else object_qualifiers.Present
+
 -- a value modulo 2 ^ 32, signed
 abbrev pub signed : ℕ → ℤ
 signed value = cast_signed w32 (value % 2 ^ 32)
@@ -58,11 +68,11 @@ unfoldable pub arrays : List ℤ → TypeTree → ℕ → TypeTree
 arrays [] t q = t
 arrays (n ∷ ns) t q = tree.array n (arrays ns t q) q
 
--- how many characters of a string are kept at most, if they are of one byte
+-- how many characters of one byte are kept of a string at most
 abbrev pub most_characters : ℕ
 most_characters = 32
 
--- how many characters of a string are kept, where each has so many bytes
+-- how many bytes are kept of a string of this length, whose characters have `size` bytes each
 abbrev pub string_length : ℕ → ℤ → ℕ
 string_length size (pos n) = min n (most_characters * size)
 string_length size (negsuc n) = 0
@@ -71,7 +81,7 @@ string_length size (negsuc n) = 0
 abbrev pub hash_length : ℕ
 hash_length = 32
 
--- whether a hash is so many digits to base 16
+-- whether bytes are a hash: `hash_length` digits to base 16
 abbrev pub is_hash : List ℕ → Bool
 is_hash digits =
     if length digits == hash_length then every (λ b. is_some (lookup b hexadecimal_codes)) digits else false
@@ -80,7 +90,7 @@ is_hash digits =
 abbrev pub greatest_number : ℕ
 greatest_number = 2147483647
 
--- whether a number is at most the greatest
+-- whether a number is at most the greatest number
 abbrev pub is_in_range : ℕ → Bool
 is_in_range value = not (nat_lt greatest_number value)
 
@@ -89,21 +99,21 @@ abbrev pub is_guard : NameTree → Bool
 is_guard (guard kind index) = true
 is_guard _ = false
 
--- the name of a guard with an index, and any other as it stands
+-- a name with an index, which only the name of a guard takes
 abbrev pub with_index : Option ℕ → NameTree → NameTree
 with_index index (guard kind before) = guard kind index
 with_index index n = n
 
 -- Parts of productions
 
--- a name that enters the table
+-- a name that enters the table of names
 abbrev pub entering_name : Rule name_tree → Rule name_tree
 entering_name r = do
   n ← r
   remember n
   give n
 
--- a source name, which enters the table
+-- a source name, which enters the table of names
 abbrev pub new_source_name : Rule name_tree
 new_source_name = entering_name (node (do n ← call source_name; give (spelled spelling_kind.Source n)))
 
@@ -123,14 +133,14 @@ new_interface = entering_name (node (do
 -- a name and arguments
 abbrev pub template_inside : Rule name_tree
 template_inside = node (do
-  n ← call (unqualified_name false)
+  n ← call (unqualified_name templates.Memorized)
   ts ← call parameters
   give (template n (type_trees ts)))
 
--- a template, which enters the table if it is not a symbol's own name
-abbrev pub template_kept : Bool → Rule name_tree
-template_kept true = call template_name
-template_kept false = entering_name (call template_name)
+-- a template, whose name enters the table of names if template names are memorized
+abbrev pub template_kept : TemplateNames → Rule name_tree
+template_kept templates.NotMemorized = call template_name
+template_kept templates.Memorized = entering_name (call template_name)
 
 -- letters to base 16, as a number of 32 bits
 abbrev pub signed_letters : Rule integer
@@ -155,7 +165,7 @@ template_symbol = do
 -- what follows the ? of a symbol that has a scope
 abbrev pub named_symbol : Rule symbol_tree
 named_symbol = do
-  n ← call (qualified_name true)
+  n ← call (qualified_name templates.NotMemorized)
   index ← call (guard_index (is_guard n.0))
   t ← call encoding
   give (record { name = with_index index n.0; scope = name_trees n.1; symbol_type = t })
@@ -215,7 +225,7 @@ grammar (guard_index true) = do
 grammar (guard_index false) = give None
 grammar (unsigned (pos n)) = give n
 grammar (unsigned (negsuc n)) = never
--- decimal digits after a value that others had, and an @ ends them
+-- decimal digits up to an @, which continue the value of the digits before them
 grammar (decimal value) = do
   call (required (is_in_range value))
   letter_or digits (λ d. call (decimal (value * decimal_base + d))) (do literal (codes "@"); give value)
@@ -247,14 +257,14 @@ grammar (encoding_after virtual_call) = node (do
   c ← letter convention conventions
   give (vcall_thunk z c))
 grammar (encoding_after plain_function) = node (do
-  f ← call (signature false)
+  f ← call (signature function_kind.Free)
   give (function f.0 (type_trees f.1.1) 0 f.1.0))
 grammar (encoding_after (member_of class)) = node (do
   call (thunk_number (has class thunk))
-  on_this ← call (this_qualifiers (has class static))
-  f ← call (signature true)
+  on_this ← call (this_qualifiers (qualifiers_of_class class))
+  f ← call (signature function_kind.Member)
   give (member_function class f.0 (type_trees f.1.1) on_this f.1.0))
--- as many characters
+-- as many characters as the number says
 grammar (characters zero) = give []
 grammar (characters (suc n)) = do
   c ← call character
@@ -267,9 +277,9 @@ grammar (thunk_number true) = do
   z ← call number
   give tt
 grammar (thunk_number false) = give tt
--- a static function has no qualifiers on this
-grammar (this_qualifiers true) = give 0
-grammar (this_qualifiers false) = call function_qualifiers
+-- the qualifiers of the object that a function is called on, which a static function lacks
+grammar (this_qualifiers object_qualifiers.Absent) = give 0
+grammar (this_qualifiers object_qualifiers.Present) = call function_qualifiers
 grammar function_qualifiers = do
   size ← optional pointer_sizes
   restrict ← optional restricts
@@ -277,18 +287,19 @@ grammar function_qualifiers = do
   reference ← optional reference_qualifiers
   qualifier ← optional qualifiers
   give (bit_or size (bit_or restrict (bit_or alignment (bit_or reference qualifier))))
--- a convention, what is returned and the parameters; of a member function, or of another
-grammar (signature member) = do
+-- a convention, what is returned and the parameters, of a member function or of another
+grammar (signature kind) = do
   c ← letter convention conventions
   q ← call return_qualifiers
-  t ← call (returned member q)
+  t ← call (returned kind q)
   ts ← call function_parameters
   give (c, (t, ts))
 grammar return_qualifiers = literal_or (codes "?") (letter bits qualifiers_of_returns) (give 0)
 -- an @ for no type, as a constructor has none, or a type
-grammar (returned true q) = literal_or (codes "@") (node (give (plain plain_kind.None))) (call (type_ q))
-grammar (returned false q) = call (type_ q)
--- X for one void, or parameters; and a Z
+grammar (returned function_kind.Member q) =
+    literal_or (codes "@") (node (give (plain plain_kind.None))) (call (type_ q))
+grammar (returned function_kind.Free q) = call (type_ q)
+-- X for one void, or parameters, and a Z after either
 grammar function_parameters =
     literal_or (codes "X")
     (do literal (codes "Z"); node (give (base base_kind.Void 0 ∷ [])))
@@ -315,7 +326,7 @@ grammar (type_after q extended) = node (do
   b ← letter base_type extended_types
   give (base b q))
 grammar (type_after q (named tag)) = node (do
-  n ← call (qualified_name false)
+  n ← call (qualified_name templates.Memorized)
   give (tagged tag n.0 (name_trees n.1) q))
 grammar (type_after q (points mark on_pointer)) = node (do
   t ← call pointee
@@ -324,18 +335,18 @@ grammar (type_after q arrayed) = call array
 grammar (type_after q indexed) = node (do
   z ← call number
   give (numbered number_kind.TemplateParameter (int_wrapping_neg w32 z)))
--- whatever the qualifiers are
+-- the type of an entry keeps its own qualifiers
 grammar (type_after q (referred i)) = known_type i
 grammar (prefixed_type q form.Enumeration) = node (do
-  n ← call (qualified_name false)
+  n ← call (qualified_name templates.Memorized)
   give (tagged tag_kind.Enum n.0 (name_trees n.1) q))
 grammar (prefixed_type q form.ReferenceToFunction) = node (do
-  t ← call (function_type true)
+  t ← call (function_type object_qualifiers.Absent)
   give (pointing mark_kind.Reference t q))
 grammar (prefixed_type q form.PointerToFunction) = node (do
-  t ← call (function_type true)
+  t ← call (function_type object_qualifiers.Absent)
   give (pointing mark_kind.Pointer t q))
-grammar (prefixed_type q form.QualifiedMemberPointer) = call (member_pointer true)
+grammar (prefixed_type q form.QualifiedMemberPointer) = call (member_pointer pointer_form.Qualified)
 grammar (prefixed_type q form.Constant) = node (do
   z ← call number
   give (numbered number_kind.Constant z))
@@ -348,37 +359,37 @@ grammar (prefixed_type q form.RValueReference) = node (do
   give (pointing mark_kind.RValueReference t q))
 grammar (prefixed_type q form.EmptyPack) = node (give (plain plain_kind.EmptyPack))
 grammar (prefixed_type q form.Nullptr) = node (give (plain plain_kind.Nullptr))
-grammar (prefixed_type q form.Function) = call (function_type true)
-grammar (prefixed_type q form.QualifiedFunction) = call (function_type false)
+grammar (prefixed_type q form.Function) = call (function_type object_qualifiers.Absent)
+grammar (prefixed_type q form.QualifiedFunction) = call (function_type object_qualifiers.Present)
 grammar (prefixed_type q form.Alias) = node (do
-  n ← call (qualified_name true)
+  n ← call (qualified_name templates.NotMemorized)
   give (tagged tag_kind.Alias n.0 (name_trees n.1) q))
--- whatever the qualifiers before it are
+-- the qualifiers that are read here replace those before the type
 grammar (prefixed_type q form.CvQualified) = do
   q ← optional qualifiers
   call (plain_type q)
 grammar (prefixed_type q form.MemberPointer) = do
   literal (codes "?")
-  call (member_pointer false)
--- what is returned has other qualifiers than those of a symbol's function
-grammar (function_type bare) = node (do
-  on_this ← call (this_qualifiers bare)
+  call (member_pointer pointer_form.OfClass)
+-- a function type has `pointed_return_qualifiers`, where the function of a symbol has `return_qualifiers`
+grammar (function_type object) = node (do
+  on_this ← call (this_qualifiers object)
   c ← letter convention conventions
   q ← pointed_return_qualifiers
   t ← call (type_ q)
   ts ← call function_parameters
   give (function c (type_trees ts) on_this t))
-grammar (member_pointer qualified) = node (do
-  n ← call (qualified_name true)
+grammar (member_pointer which) = node (do
+  n ← call (qualified_name templates.NotMemorized)
   size ← optional pointer_sizes
-  part ← call (class_part qualified)
-  f ← call (signature true)
+  part ← call (class_part which)
+  f ← call (signature function_kind.Member)
   give (tree.member_pointer n.0 (name_trees n.1) part.0 f.0 (type_trees f.1.1) (bit_or size part.1) f.1.0))
--- a class, and qualifiers; there is one of the two
-grammar (class_part true) = do
+-- the class of the member function and the qualifiers of its object, of which a pointer has one
+grammar (class_part pointer_form.Qualified) = do
   q ← optional qualifiers
   give (0, q)
-grammar (class_part false) = do
+grammar (class_part pointer_form.OfClass) = do
   class ← letter bits function_classes
   call (thunk_number (has class thunk))
   give (class, 0)
@@ -387,8 +398,8 @@ grammar pointee = do
   size ← optional pointer_sizes
   class ← optional storage_classes
   call (type_ (bit_or size class))
--- A number above 0, as many lengths, the qualifiers of each level after $$C, and the type of the elements. The type
--- stands in both alternatives, since it is its bytes that tell where $$C does not begin.
+-- A number above 0, that many lengths, the qualifiers of each level after a $$C, and the type of the elements. The type
+-- stands in both alternatives, since its bytes tell that no $$C begins.
 grammar array = do
   n ← call dimension
   zs ← call (lengths n)
@@ -400,22 +411,22 @@ grammar dimension = do
   call (positive z)
 grammar (positive (pos (suc n))) = give (suc n)
 grammar (positive _) = never
--- as many numbers, each the length of an array, which is a node
+-- the lengths of nested arrays, as many as the number says; each array is a node
 grammar (lengths zero) = give []
 grammar (lengths (suc n)) = node (do
   z ← call number
   zs ← call (lengths n)
   give (z ∷ zs))
-grammar (qualified_name of_symbol) = do
-  n ← call (unqualified_name of_symbol)
+grammar (qualified_name kept) = do
+  n ← call (unqualified_name kept)
   ns ← call scope
   give (n, ns)
--- A digit is an entry of the table. A template enters the table if it is not a symbol's own name, a source name always.
--- A special name enters no table.
-grammar (unqualified_name of_symbol) =
+-- A digit is an entry of the table of names. A source name always enters that table, a template if template names are
+-- memorized, and a special name never.
+grammar (unqualified_name kept) =
     letter_or digits
     (λ i. known_name i)
-    (literal_or (codes "?$") (template_kept of_symbol) (literal_or (codes "?") (call special_name) new_source_name))
+    (literal_or (codes "?$") (template_kept kept) (literal_or (codes "?") (call special_name) new_source_name))
 grammar special_name = text_and special_texts (λ f. call (special_after f))
 grammar (special_after (special.Plain o)) = node (give (operator o))
 -- an index follows after the scope, where a guard is a symbol's own name
@@ -460,10 +471,10 @@ grammar source_name = up_to at_sign
 grammar number = literal_or (codes "?") (do z ← call magnitude; give (int_wrapping_neg w32 z)) (call magnitude)
 -- one digit stands for one more than itself
 grammar magnitude = letter_or digits (λ d. give (cast_signed w32 (d + 1))) signed_letters
--- letters are the digits to base 16 after a value that others had, and an @ ends them
+-- letters up to an @, each a digit to base 16, which continue the value of the letters before them
 grammar (letters value) =
     (do literal (codes "@"); give value)
     or (do d ← letter bits hexadecimal; call (letters (value * hexadecimal_base + d)))
--- what was read may stand there, or nothing is read
+-- no byte is read where the condition holds; else the text is rejected
 grammar (required true) = give tt
 grammar (required false) = never

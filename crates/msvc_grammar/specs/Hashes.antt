@@ -4,10 +4,11 @@ use Rattle.msvc_nodes.specs.Trees.{SymbolTree, md5_symbol}
 use Rattle.msvc_nodes.specs.declared.error.ErrorRepr.{ErrorRepr}
 use Rattle.msvc_nodes.specs.declared.error.ErrorRepr.TheVariants as error
 use Rattle.msvc_grammar.specs.Grammar.{is_hash}
+use Rattle.msvc_grammar.specs.Letters.{at_sign}
 
--- the text of that symbol, and any bytes after it
+-- the text of a symbol that is a hash of these digits, and any bytes after it
 abbrev pub hashed_text : List ℕ → List ℕ → List ℕ
-hashed_text digits rest = codes "??@" ++ (digits ++ 64 ∷ rest)
+hashed_text digits rest = codes "??@" ++ (digits ++ at_sign ∷ rest)
 
 -- where a text begins with a hash, its symbol is the hash
 abbrev pub HashesStand : List ℕ → SymbolTree → Type 0

@@ -7,7 +7,7 @@ use Rattle.msvc_grammar.specs.Rules.{Rule, type_, apart, call}
 use Rattle.msvc_grammar.specs.Sorts.{Sort, Value}
 use Rattle.msvc_grammar.specs.State.{Entry, Note, State}
 
--- a text has one tree at most, with one rest and the same notes
+-- a text has at most one tree, with one rest and one list of notes
 abbrev pub HasOneTree : List ℕ → Type 0
 HasOneTree text = (tree other : SymbolTree) (rest remaining : List ℕ) (notes others : List Note)
     → Derives text tree rest notes → Derives text other remaining others
@@ -22,7 +22,7 @@ unfoldable pub trees : List Entry → List TypeTree
 trees [] = []
 trees (e ∷ es) = e.entered ∷ trees es
 
--- the tables of the second state are those of the first, and what entered them since
+-- the tables of the second state begin with the tables of the first
 abbrev pub Later : State → State → Type 0
 Later s t = GoesOn s.names t.names × GoesOn (trees s.types) (trees t.types)
 
@@ -30,14 +30,15 @@ Later s t = GoesOn s.names t.names × GoesOn (trees s.types) (trees t.types)
 abbrev pub SameTables : State → State → Type 0
 SameTables s t = (s.names ≡ t.names) × (s.types ≡ t.types)
 
--- A type that was read with some tables is read again with later ones, whatever follows, and leaves these as they are.
+-- A type that was read with some tables is read again with later tables, whatever bytes follow, and leaves the later
+-- tables as they are.
 abbrev pub TypesAreLocal : Type 0
 TypesAreLocal = (q : ℕ) (left rest : List ℕ) (s : State) (v : TypeTree) (t : State)
     → Reads _ (call (type_ q)) (left ++ rest) s v rest t
     → (others : List ℕ) (later : State) → Later t later
     → (next : State) × Reads _ (call (type_ q)) (left ++ others) later v others next × SameTables next later
 
--- what is read with tables of its own, as a template is, leaves those before it as they were
+-- a rule with tables of its own, as a template has, leaves the tables before it as they were
 abbrev pub TablesAreHandedBack : Type 0
 TablesAreHandedBack = (a : Sort) (r : Rule a) (left : List ℕ) (s : State) (v : Value a) (rest : List ℕ) (t : State)
     → Reads a (apart r) left s v rest t → SameTables t s

@@ -1,5 +1,5 @@
 -- What the letters of a symbol stand for, and the texts that types and special names begin with: the tables that the
--- productions of Grammar go by. In a row a letter, or each of some letters, stands beside what it stands for.
+-- productions of Grammar go by. A row has a letter, or some letters, and what each of them stands for.
 use Rattle.std.specs.Prelude.{ℕ, List, [], ◌∷◌, ◌++◌, ◌+◌, Some, None, codes}
 use Prim.Native.Char.{code}
 use Rattle.msvc_nodes.specs.declared.kinds.CallingConv.{CallingConv}
@@ -30,7 +30,7 @@ rows [] values = []
 rows (b ∷ bs) [] = []
 rows (b ∷ bs) (v ∷ values) = (b, v) ∷ rows bs values
 
--- each of some letters for the same, and another table after them
+-- rows in which each of some letters stands for one value, and another table after them
 abbrev pub each_for : {A : Type 0} → List ℕ → A → List (ℕ × A) → List (ℕ × A)
 each_for [] value others = others
 each_for (b ∷ bs) value others = (b, value) ∷ each_for bs value others
@@ -40,7 +40,7 @@ abbrev pub by_letter : {A : Type 0} → List (List ℕ × A) → List (ℕ × A)
 by_letter [] = []
 by_letter (row ∷ table) = each_for row.0 row.1 (by_letter table)
 
--- the rows of a table, each for what f makes of its value, and those of another table after them
+-- the rows of a table with f applied to their values, and the rows of another table after them
 abbrev pub rows_of : {A B : Type 0} → (A → B) → List (ℕ × A) → List (ℕ × B) → List (ℕ × B)
 rows_of f [] others = others
 rows_of f (row ∷ table) others = (row.0, f row.1) ∷ rows_of f table others
@@ -54,31 +54,31 @@ texts_after text (row ∷ table) others = (text ++ row.0 ∷ [], row.1) ∷ text
 
 -- the @ that ends a name, a list or a number
 abbrev pub at_sign : ℕ
-at_sign = 64
+at_sign = code "@"
 
 -- the $ that begins the texts of many types
 abbrev pub dollar_sign : ℕ
-dollar_sign = 36
+dollar_sign = code "$"
 
 -- the _ that stands before the last letters of special names
 abbrev pub underscore : ℕ
-underscore = 95
+underscore = code "_"
 
--- the R that stands, after a _, before those of type information
+-- the R that stands, after a _, before the last letters of type information
 abbrev pub type_information_letter : ℕ
-type_information_letter = 82
+type_information_letter = code "R"
 
 -- the Z that ends parameters with an ellipsis
 abbrev pub ellipsis_letter : ℕ
-ellipsis_letter = 90
+ellipsis_letter = code "Z"
 
 -- Digits
 
--- what decimal digits count to
+-- the base of decimal digits
 abbrev pub decimal_base : ℕ
 decimal_base = 10
 
--- what hexadecimal digits count to
+-- the base of hexadecimal digits
 abbrev pub hexadecimal_base : ℕ
 hexadecimal_base = 16
 
@@ -95,7 +95,7 @@ hexadecimal = rows (codes "ABCDEFGHIJKLMNOP")
 abbrev pub hexadecimal_codes : List (ℕ × ℕ)
 hexadecimal_codes = rows (codes "0123456789abcdefABCDEF") (codes "0123456789abcdefABCDEF")
 
--- Qualifiers, by their bits: a sum has those of its parts
+-- Qualifiers, by their bits: a sum has the bits of its parts
 
 abbrev pub unqualified : ℕ
 unqualified = 0
@@ -124,7 +124,7 @@ lvalue = 128
 abbrev pub rvalue : ℕ
 rvalue = 256
 
--- of the object of a member function
+-- qualifiers of the object of a member function
 abbrev pub qualifiers : List (ℕ × ℕ)
 qualifiers = by_letter (
     (codes "AQ", unqualified)
@@ -132,7 +132,7 @@ qualifiers = by_letter (
     ∷ (codes "CS", volatile)
     ∷ (codes "DT", const + volatile) ∷ [])
 
--- of a variable, and of what is pointed to
+-- qualifiers of a variable, and of what is pointed to
 abbrev pub storage_classes : List (ℕ × ℕ)
 storage_classes = by_letter (
     (codes "AQ", unqualified)
@@ -144,7 +144,7 @@ storage_classes = by_letter (
     ∷ (codes "G", volatile + far)
     ∷ (codes "H", const + volatile + far) ∷ [])
 
--- of what a function returns
+-- qualifiers of what a function returns
 abbrev pub qualifiers_of_returns : List (ℕ × ℕ)
 qualifiers_of_returns = by_letter (
     (codes "A", unqualified)
@@ -152,7 +152,7 @@ qualifiers_of_returns = by_letter (
     ∷ (codes "C", volatile)
     ∷ (codes "D", const + volatile) ∷ [])
 
--- of the elements of an array: none is volatile alone
+-- qualifiers of the elements of an array, which are never volatile alone
 abbrev pub qualifiers_of_arrays : List (ℕ × ℕ)
 qualifiers_of_arrays = by_letter (
     (codes "A", unqualified)
@@ -204,7 +204,7 @@ extended_types = by_letter (
     ∷ (codes "M", base_kind.Uint128)
     ∷ [])
 
--- what is no base type of one letter
+-- the first letters of types that are no base type of one letter
 abbrev pub compound_letters : List (ℕ × TypeLetter)
 compound_letters = by_letter (
     (codes "_", extended)
@@ -344,16 +344,16 @@ operators_of (row ∷ table) others = (row.0, special.Plain row.1) ∷ operators
 abbrev pub basic_special_letters : List (ℕ × SpecialForm)
 basic_special_letters = operators_of basic_operators []
 
--- after _
+-- the last letters of special names, after _
 abbrev pub under_special_letters : List (ℕ × SpecialForm)
 under_special_letters = operators_of under_operators (by_letter ((codes "B", special.Guard guard_kind.Static) ∷ []))
 
--- of run-time type information, after _R
+-- the last letters of special names of run-time type information, after _R
 abbrev pub type_information_letters : List (ℕ × SpecialForm)
 type_information_letters = operators_of type_information_operators
     (by_letter ((codes "0", special.TypeDescriptor) ∷ (codes "1", special.BaseClass) ∷ []))
 
--- after __
+-- the last letters of special names, after __
 abbrev pub double_under_special_letters : List (ℕ × SpecialForm)
 double_under_special_letters = operators_of double_under_operators (by_letter ((
   codes "J",
@@ -361,7 +361,7 @@ double_under_special_letters = operators_of double_under_operators (by_letter ((
       guard_kind.Thread,
 ) ∷ []))
 
--- none begins another
+-- the texts of all special names, of which none begins another
 abbrev pub special_texts : List (List ℕ × SpecialForm)
 special_texts =
     texts_after [] basic_special_letters
@@ -375,40 +375,44 @@ special_texts =
 abbrev pub character_sizes : List (ℕ × ℕ)
 character_sizes = by_letter ((codes "0", 1) ∷ (codes "1", 2) ∷ [])
 
--- what stands for itself in a string
+-- the characters that stand for themselves in a string
 abbrev pub plain_characters : List (ℕ × ℕ)
 plain_characters = rows (codes "0123456789abcdefghijklmnopqrstuvwxyzABCDEFGHIJKLMNOPQRSTUVWXYZ_$")
     (codes "0123456789abcdefghijklmnopqrstuvwxyzABCDEFGHIJKLMNOPQRSTUVWXYZ_$")
 
--- the bytes past ASCII that letters stand for after ?, a capital and a small one for the same
+-- the byte past ASCII that a small letter stands for
+abbrev pub past_ascii : ℕ → ℕ
+past_ascii letter = letter + 128
+
+-- the bytes past ASCII that letters stand for after ?: a capital letter stands for the same byte as its small one
 abbrev pub escaped_letters : List (ℕ × ℕ)
 escaped_letters = by_letter (
-    (codes "aA", 0xE1)
-    ∷ (codes "bB", 0xE2)
-    ∷ (codes "cC", 0xE3)
-    ∷ (codes "dD", 0xE4)
-    ∷ (codes "eE", 0xE5)
-    ∷ (codes "fF", 0xE6)
-    ∷ (codes "gG", 0xE7)
-    ∷ (codes "hH", 0xE8)
-    ∷ (codes "iI", 0xE9)
-    ∷ (codes "jJ", 0xEA)
-    ∷ (codes "kK", 0xEB)
-    ∷ (codes "lL", 0xEC)
-    ∷ (codes "mM", 0xED)
-    ∷ (codes "nN", 0xEE)
-    ∷ (codes "oO", 0xEF)
-    ∷ (codes "pP", 0xF0)
-    ∷ (codes "qQ", 0xF1)
-    ∷ (codes "rR", 0xF2)
-    ∷ (codes "sS", 0xF3)
-    ∷ (codes "tT", 0xF4)
-    ∷ (codes "uU", 0xF5)
-    ∷ (codes "vV", 0xF6)
-    ∷ (codes "wW", 0xF7)
-    ∷ (codes "xX", 0xF8)
-    ∷ (codes "yY", 0xF9)
-    ∷ (codes "zZ", 0xFA)
+    (codes "aA", past_ascii (code "a"))
+    ∷ (codes "bB", past_ascii (code "b"))
+    ∷ (codes "cC", past_ascii (code "c"))
+    ∷ (codes "dD", past_ascii (code "d"))
+    ∷ (codes "eE", past_ascii (code "e"))
+    ∷ (codes "fF", past_ascii (code "f"))
+    ∷ (codes "gG", past_ascii (code "g"))
+    ∷ (codes "hH", past_ascii (code "h"))
+    ∷ (codes "iI", past_ascii (code "i"))
+    ∷ (codes "jJ", past_ascii (code "j"))
+    ∷ (codes "kK", past_ascii (code "k"))
+    ∷ (codes "lL", past_ascii (code "l"))
+    ∷ (codes "mM", past_ascii (code "m"))
+    ∷ (codes "nN", past_ascii (code "n"))
+    ∷ (codes "oO", past_ascii (code "o"))
+    ∷ (codes "pP", past_ascii (code "p"))
+    ∷ (codes "qQ", past_ascii (code "q"))
+    ∷ (codes "rR", past_ascii (code "r"))
+    ∷ (codes "sS", past_ascii (code "s"))
+    ∷ (codes "tT", past_ascii (code "t"))
+    ∷ (codes "uU", past_ascii (code "u"))
+    ∷ (codes "vV", past_ascii (code "v"))
+    ∷ (codes "wW", past_ascii (code "w"))
+    ∷ (codes "xX", past_ascii (code "x"))
+    ∷ (codes "yY", past_ascii (code "y"))
+    ∷ (codes "zZ", past_ascii (code "z"))
     ∷ [])
 
 -- the signs that digits stand for after ?
@@ -426,6 +430,6 @@ escaped_signs = by_letter (
     ∷ (codes "9", code "-")
     ∷ [])
 
--- what stands for another byte after ?
+-- the characters that stand for another byte after ?
 abbrev pub escaped_characters : List (ℕ × ℕ)
 escaped_characters = escaped_letters ++ escaped_signs

@@ -15,8 +15,8 @@ abbrev pub IsBeyond : Option ℕ → ℕ → Type 0
 IsBeyond None count = ⊥
 IsBeyond (Some most) count = most < count
 
--- A rejection may be about this limit, where nodes are limited or not: without a limit about none, and never about the
--- bytes of a declaration.
+-- A rejection may be about this limit: about none where nodes are not limited, and never about the bytes of a
+-- declaration.
 abbrev pub MayBeAbout : (nodes : Option ℕ) → Option Limit → Type 0
 MayBeAbout None about = about ≡ None
 MayBeAbout (Some most) about = about ≢ Some Bytes

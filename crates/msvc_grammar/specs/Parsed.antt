@@ -24,7 +24,7 @@ pub record IsParsed (text : List ℕ) (tree : SymbolTree) : Type 0 where
   pub notes : List Note
   -- the grammar derives the tree from the text, with these bytes left
   pub derived : Derives text tree rest notes
-  -- it derives nothing else from the text
+  -- the grammar derives nothing else from the text
   pub only : IsOnly text tree rest notes
   -- each name in the tree is a part of the text
   pub parts : NamesAreParts text tree
@@ -73,7 +73,7 @@ pub record AreReferences (text : List ℕ) (notes : List Note) : Type 0 where
   pub rest : List ℕ
   -- the grammar derives the tree from the text, with these digits
   pub derived : Derives text tree rest notes
-  -- it derives nothing else from the text
+  -- the grammar derives nothing else from the text
   pub only : IsOnly text tree rest notes
   -- the text begins with a question mark
   pub begins : begins_with (codes "?") text

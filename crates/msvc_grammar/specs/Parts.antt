@@ -1,4 +1,4 @@
--- What it is that the names in a tree are parts of a text.
+-- What it means that the names in a tree are parts of a text.
 use Rattle.std.specs.Prelude.{ℕ, List, ◌++◌, ◌≡◌}
 use Rattle.msvc_nodes.specs.EachName.{EachName}
 use Rattle.msvc_nodes.specs.Trees.{SymbolTree}

@@ -12,7 +12,7 @@ use Rattle.msvc_grammar.specs.Rules.{literal, up_to, here, ◌>>=◌, ◌or◌, 
 use Rattle.msvc_grammar.specs.Rules.{entering, apart, node}
 use Rattle.msvc_grammar.specs.Grammar.{grammar}
 
--- what a type that was read enters into the table: nothing, if it was one byte
+-- the state after a type that was read: the type enters the table of types, unless it was one byte
 abbrev pub enter : TypeTree → List ℕ → List ℕ → State → State
 enter t left rest s =
     if nat_lt 1 (length left - length rest)
@@ -23,10 +23,11 @@ enter t left rest s =
 abbrev pub note_digit : Entry → List ℕ → State → State
 note_digit e left s = take_note (record { at = place left s; start = e.start; end = e.end }) s
 
--- the tables emptied, and those of before put back
+-- a state with empty tables
 abbrev pub emptied : State → State
 emptied s = record s { names = []; types = [] }
 
+-- the second state with the tables of the first
 abbrev pub put_back : State → State → State
 put_back s t = record t { names = s.names; types = s.types }
 
@@ -37,7 +38,7 @@ nodes_of_name n s = name_count s.count.weight n
 abbrev pub nodes_of_type : TypeTree → State → ℕ
 nodes_of_type t s = type_count s.count.weight t
 
--- A rule reads the bytes left up to others, with a state before and one after it, and has a value.
+-- A rule reads the bytes left up to the rest, from one state to another, and has a value.
 pub data Reads : (a : Sort) → Rule a → List ℕ → State → Value a → List ℕ → State → Type 0 where
   given : {a : Sort} {v : Value a} {left : List ℕ} {s : State} → Reads _ (give v) left s v left s
   a_letter : {a : Sort} {table : List (ℕ × Value a)} {b : ℕ} {v : Value a} {rest : List ℕ} {s : State}
@@ -76,7 +77,7 @@ pub data Reads : (a : Sort) → Rule a → List ℕ → State → Value a → Li
 abbrev pub Derives : List ℕ → SymbolTree → List ℕ → List Note → Type 0
 Derives text tree rest notes = (s : State) × Reads _ (call symbol) text (beginning text) tree rest s × (s.notes ≡ notes)
 
--- whatever else the grammar derives from the text is this tree, with this rest and these notes
+-- whatever the grammar derives from the text is this tree, with this rest and these notes
 abbrev pub IsOnly : List ℕ → SymbolTree → List ℕ → List Note → Type 0
 IsOnly text tree rest notes = (other : SymbolTree) (remaining : List ℕ) (others : List Note)
     → Derives text other remaining others → (other ≡ tree) × (remaining ≡ rest) × (others ≡ notes)
@@ -87,7 +88,7 @@ IsOnly text tree rest notes = (other : SymbolTree) (remaining : List ℕ) (other
 abbrev pub Found : Type 0 → Type 0
 Found A = Option (A × List ℕ × State)
 
--- reads at bytes left and a state
+-- a function that reads the bytes left in a state
 abbrev pub Reader : Sort → Type 0
 Reader a = List ℕ → State → Found (Value a)
 
@@ -123,7 +124,7 @@ abbrev pub only_if : Bool → List ℕ → State → Found (Unit {0})
 only_if true left s = Some (tt, left, s)
 only_if false left s = None
 
--- so many nodes more, if they are allowed
+-- counts n nodes more, if they are allowed
 unfoldable pub counting : ℕ → List ℕ → State → Found (Unit {0})
 counting n left s = only_if (is_allowed (more n s.count)) left (counted n s)
 
@@ -140,7 +141,7 @@ type_noted None left bs s = None
 type_noted (Some e) left bs s =
     and_then (counting (nodes_of_type e.entered s) bs (note_digit e left s)) (λ _ l t. Some (e.entered, l, t))
 
--- what is read of a node, which counts before anything of it is read
+-- what a reader reads of a node, which counts before any of its bytes is read
 abbrev pub in_node : {A : Type 0} → List ℕ → State → (List ℕ → State → Found A) → Found A
 in_node left s r = and_then (counting s.count.weight left s) (λ _. r)
 
@@ -178,12 +179,12 @@ read_by calls (noted table) left s = noted_here table left s
 read_by calls (entering r) left s = entered_by left (read_by calls r left s)
 read_by calls (apart r) left s = put_apart s (read_by calls r left (emptied s))
 
--- the number bounds how deep productions call one another
+-- what a production reads, where productions call one another no deeper than the number
 unfoldable pub read_within : ℕ → {a : Sort} → Production a → Reader a
 read_within zero n left s = None
 read_within (suc k) n left s = read_by (λ b m. read_within k m) (grammar n) left s
 
--- no production calls so many others, one within another, before a byte is consumed
+-- fewer productions than this number call one another before a byte is consumed
 abbrev pub ranks : ℕ
 ranks = 6
 

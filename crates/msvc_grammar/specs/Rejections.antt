@@ -1,4 +1,4 @@
--- What a rejection is to those who call.
+-- What a rejection is to callers.
 use Rattle.std.specs.Prelude.{ℕ, List, ◌++◌, ◌≤◌, ◌≡◌, Option, length, string_bytes}
 use Rattle.std.specs.Str.{IsAscii}
 use Rattle.msvc_nodes.specs.Errors.{context_of}
@@ -13,7 +13,7 @@ use Rattle.msvc_grammar.specs.State.{Note}
 abbrev pub begins_with : List ℕ → List ℕ → Type 0
 begins_with literal text = (rest : List ℕ) × (text ≡ literal ++ rest)
 
--- out of memory, or a rejection of the text at this offset; of an ASCII text it shows what stands there
+-- an error out of memory, or a rejection at this offset, which shows what stands there if the text is ASCII
 abbrev pub IsRejectionAt : List ℕ → ℕ → ErrorRepr → Type 0
 IsRejectionAt text offset (error.ParseError message context at) =
     (at ≡ offset) × (IsAscii text → string_bytes context ≡ context_of text offset)
@@ -25,8 +25,8 @@ abbrev pub IsNoSymbol : (nodes : Option ℕ) → List ℕ → Type 0
 IsNoSymbol nodes text = (tree : SymbolTree) (rest : List ℕ) (notes : List Note) → Derives text tree rest notes
     → IsBeyond nodes (node_count tree)
 
--- A text is rejected out of memory, or at a place in it, because no beginning of it is a symbol within the limit on
--- nodes; of an ASCII text the rejection shows what stands there.
+-- A text is rejected out of memory, or at an offset, because no beginning of the text is a symbol within the limit on
+-- nodes. Of an ASCII text the rejection shows what stands at the offset.
 abbrev pub IsRejectedRightly : (nodes : Option ℕ) → List ℕ → ErrorRepr → Type 0
 IsRejectedRightly nodes text (error.ParseError message context at) =
     (at ≤ length text) × IsNoSymbol nodes text × (IsAscii text → string_bytes context ≡ context_of text at)

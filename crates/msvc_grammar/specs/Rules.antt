@@ -3,20 +3,24 @@
 -- at most one alternative reads on is no part of the language. It is proved of the grammar.
 use Rattle.std.specs.Prelude.{ℕ, ℤ, List, [], ◌∷◌, ◌==◌, Bool, true, false, not, Option, Some, None, if◌then◌else◌}
 use Rattle.std.specs.Prelude.{is_some}
+use Rattle.msvc_grammar.specs.declared.forms.FunctionKind.{FunctionKind}
+use Rattle.msvc_grammar.specs.declared.forms.MemberPointerForm.{MemberPointerForm}
+use Rattle.msvc_grammar.specs.declared.forms.ObjectQualifiers.{ObjectQualifiers}
 use Rattle.msvc_grammar.specs.declared.forms.SpecialForm.{SpecialForm}
+use Rattle.msvc_grammar.specs.declared.forms.TemplateNames.{TemplateNames}
 use Rattle.msvc_grammar.specs.declared.forms.TypePrefix.{TypePrefix}
 use Rattle.msvc_nodes.specs.Trees.{NameTree}
 use Rattle.msvc_grammar.specs.Sorts.{TypeLetter, EncodingLetter, Sort, nothing, bits, integer, bytes, name_tree}
 use Rattle.msvc_grammar.specs.Sorts.{type_tree, symbol_tree, convention, perhaps, list, both, Value}
 
 -- The names of the productions, each with the sort of what it reads. What stands after a name is what the production
--- is given: a value so far, the qualifiers of a type, what was read before it.
+-- is given: a value so far, the qualifiers of a type, the case that is read, what was read before it, or a condition on
+-- that.
 pub data Production : Sort → Type 0 where
   -- symbols
   symbol : Production symbol_tree
   symbol_body : Production symbol_tree
-  -- after the name of a guard (true) or another
-  guard_index : Bool → Production (perhaps bits)
+  guard_index : (is_guard : Bool) → Production (perhaps bits)
   unsigned : ℤ → Production bits
   decimal : ℕ → Production bits
   encoding : Production type_tree
@@ -25,12 +29,12 @@ pub data Production : Sort → Type 0 where
   characters : ℕ → Production (list bits)
   character : Production bits
   -- functions
-  thunk_number : Bool → Production nothing
-  this_qualifiers : Bool → Production bits
+  thunk_number : (is_thunk : Bool) → Production nothing
+  this_qualifiers : ObjectQualifiers → Production bits
   function_qualifiers : Production bits
-  signature : Bool → Production (both convention (both type_tree (list type_tree)))
+  signature : FunctionKind → Production (both convention (both type_tree (list type_tree)))
   return_qualifiers : Production bits
-  returned : Bool → ℕ → Production type_tree
+  returned : FunctionKind → ℕ → Production type_tree
   -- parameters
   function_parameters : Production (list type_tree)
   parameters : Production (list type_tree)
@@ -40,19 +44,17 @@ pub data Production : Sort → Type 0 where
   plain_type : ℕ → Production type_tree
   type_after : ℕ → TypeLetter → Production type_tree
   prefixed_type : ℕ → TypePrefix → Production type_tree
-  -- without (true) or with qualifiers on this
-  function_type : Bool → Production type_tree
-  -- with qualifiers (true) or of a class
-  member_pointer : Bool → Production type_tree
-  class_part : Bool → Production (both bits bits)
+  function_type : ObjectQualifiers → Production type_tree
+  member_pointer : MemberPointerForm → Production type_tree
+  class_part : MemberPointerForm → Production (both bits bits)
   pointee : Production type_tree
   array : Production type_tree
   dimension : Production bits
   positive : ℤ → Production bits
   lengths : ℕ → Production (list integer)
-  -- names; of a symbol's own (true) or of another
-  qualified_name : Bool → Production (both name_tree (list name_tree))
-  unqualified_name : Bool → Production name_tree
+  -- names
+  qualified_name : TemplateNames → Production (both name_tree (list name_tree))
+  unqualified_name : TemplateNames → Production name_tree
   special_name : Production name_tree
   special_after : SpecialForm → Production name_tree
   template_name : Production name_tree
@@ -66,8 +68,8 @@ pub data Production : Sort → Type 0 where
   number : Production integer
   magnitude : Production integer
   letters : ℕ → Production bits
-  -- whether what was read may stand there
-  required : Bool → Production nothing
+  -- conditions on what was read
+  required : (holds : Bool) → Production nothing
 
 -- a condition on the bytes left
 pub data Condition : Type 0 where
@@ -83,11 +85,11 @@ pub data Rule : Sort → Type 0 where
   letter : (a : Sort) → List (ℕ × Value a) → Rule a
   -- this text
   literal : List ℕ → Rule nothing
-  -- the bytes before the first one of this kind, which is consumed too
+  -- the bytes before the first byte of this kind, which is consumed too
   up_to : ℕ → Rule bytes
   -- a rule where a condition holds
   here : {a : Sort} → Condition → Rule a → Rule a
-  -- a rule, and after it another, which knows its value
+  -- a rule, and then the rule that is made of its value
   ◌>>=◌ : {a b : Sort} → Rule a → (Value a → Rule b) → Rule b
   -- either of two
   ◌or◌ : {a : Sort} → Rule a → Rule a → Rule a
@@ -98,9 +100,9 @@ pub data Rule : Sort → Type 0 where
   known_name : ℕ → Rule name_tree
   -- a name enters the table of names
   remember : NameTree → Rule nothing
-  -- the type of an entry of the table of types, likewise
+  -- the type of an entry of the table of types, whose nodes count again
   known_type : ℕ → Rule type_tree
-  -- the same for a byte of a table, which is noted
+  -- the type of the entry that a byte stands for in a table, whose nodes count again; the byte is noted
   noted : List (ℕ × ℕ) → Rule type_tree
   -- a type enters the table of types if more than one byte was read for it
   entering : Rule type_tree → Rule type_tree
@@ -113,7 +115,7 @@ infixl 10 ◌>>◌
 abbrev pub ◌>>◌ : {a : Sort} → Rule nothing → Rule a → Rule a
 r >> q = r >>= λ _. q
 
--- what a table has at a letter
+-- what a table has for a letter
 abbrev pub lookup : {A : Type 0} → ℕ → List (ℕ × A) → Option A
 lookup b [] = None
 lookup b (row ∷ others) = if b == row.0 then Some row.1 else lookup b others
@@ -145,7 +147,7 @@ abbrev pub holds : Condition → List ℕ → Bool
 holds (none_of texts) left = not (some_of (begins left) texts)
 holds at_end left = is_nil left
 
--- Rules that are made of others
+-- Rules that are made of other rules
 
 -- no text is read
 abbrev pub never : {a : Sort} → Rule a
@@ -156,11 +158,11 @@ abbrev pub begins_of : {A : Type 0} → List (ℕ × A) → List (List ℕ)
 begins_of [] = []
 begins_of (row ∷ others) = (row.0 ∷ []) ∷ begins_of others
 
--- a letter of a table and what follows it, or another rule where none of them stands
+-- a letter of a table and what follows it, or another rule where no letter of the table stands
 abbrev pub letter_or : {a : Sort} → List (ℕ × ℕ) → (ℕ → Rule a) → Rule a → Rule a
 letter_or table f q = (letter bits table >>= f) or here (none_of (begins_of table)) q
 
--- a text and what follows it, or another rule where it does not begin
+-- a text and what follows it, or another rule where the text does not begin
 abbrev pub literal_or : {a : Sort} → List ℕ → Rule a → Rule a → Rule a
 literal_or text r q = (literal text >> r) or here (none_of (text ∷ [])) q
 
@@ -174,10 +176,10 @@ abbrev pub text_and : {a : Sort} {A : Type 0} → List (List ℕ × A) → (A �
 text_and [] f = never
 text_and (row ∷ others) f = (literal row.0 >> f row.1) or text_and others f
 
--- a text of a table and what follows it, or another rule where none of them begins
+-- a text of a table and what follows it, or another rule where no text of the table begins
 abbrev pub text_or : {a : Sort} {A : Type 0} → List (List ℕ × A) → (A → Rule a) → Rule a → Rule a
 text_or table f q = text_and table f or here (none_of (texts_of table)) q
 
--- a part that stands where the next byte is a letter of the table; else no bits
+-- the bits of a letter of a table, or no bits where no letter of the table stands
 abbrev pub optional : List (ℕ × ℕ) → Rule bits
 optional table = letter_or table (λ x. give x) (give 0)

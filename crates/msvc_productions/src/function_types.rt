@@ -4,14 +4,12 @@ ghost use Rattle.std.specs.Prelude.{◌≡◌, ◌≤◌, false, IfOk, length, m
 ghost use Rattle.msvc_nodes.specs.NodeView.{name_at, name_of, type_at, type_of};
 ghost use Rattle.msvc_nodes.specs.Trees.{name_trees, type_trees};
 ghost use Rattle.msvc_nodes.specs.Trees as tree;
-ghost use Rattle.msvc_grammar.specs.Grammar.{pointed_return_qualifiers, has};
-ghost use Rattle.msvc_grammar.specs.Letters.{conventions};
+ghost use Rattle.msvc_grammar.specs.Grammar.{has, pointed_return_qualifiers, qualifiers_of_class};
+ghost use Rattle.msvc_grammar.specs.Letters.{conventions, thunk};
 ghost use Rattle.msvc_grammar.specs.Reads.{letter_here, read, read_name, with_value};
 ghost use Rattle.msvc_grammar.specs.Rules as rules;
 ghost use Rattle.msvc_grammar.specs.Sorts.{member_of, plain_function};
-ghost use Rattle.msvc_cursor.specs.Parser.{Consumes, frame_of, is_bare, is_member};
-ghost use Rattle.msvc_cursor.specs.Parser.{is_qualified, MayConsume, ReadsAs, state_of};
-ghost use Rattle.msvc_cursor.specs.Parser.{Stays};
+ghost use Rattle.msvc_cursor.specs.Parser.{Consumes, frame_of, MayConsume, ReadsAs, state_of, Stays};
 ghost use Rattle.msvc_cursor.specs.Rows.{EndsTypes, parts_at};
 ghost use Rattle.msvc_cursor.specs.NestedList.{current, enclosing};
 
@@ -19,12 +17,12 @@ use crate::parameters::function_parameters;
 use crate::qualified_names::qualified_name;
 use crate::types::{new_plain, type_};
 use bitflags::Flags;
+use msvc_cursor::budget::NodeBudget;
 use msvc_cursor::failure::{Failed, Message};
-use msvc_cursor::forms::{FunctionKind, MemberPointerForm, ObjectQualifiers, TemplateNames};
 use msvc_cursor::letters::{self, OptionalLetters};
-use msvc_cursor::limit::NodeBudget;
 use msvc_cursor::nested_list::Checkpoint;
 use msvc_cursor::parser::Parser;
+use msvc_grammar::forms::{FunctionKind, MemberPointerForm, ObjectQualifiers, TemplateNames};
 use msvc_nodes::flags::{FuncClass, StorageClass};
 use msvc_nodes::kinds::{CallingConv, PlainType};
 use msvc_nodes::nodes::{Function, Symbol, Type};
@@ -72,7 +70,7 @@ pub fn function_type<'a, 'b, L: NodeBudget, A: Allocator>(
     qualifiers: ObjectQualifiers,
 ) -> Result<&'b Type<'a, 'b>, Failed>
     ensures value { ReadsAs type_at parser.old parser.new result
-        (read_name (rules.function_type (is_bare qualifiers))) }
+        (read_name (rules.function_type qualifiers)) }
     ensures consumes { Consumes parser.old parser.new result }
 {
     parser.count_node()?;
@@ -91,7 +89,7 @@ pub fn member_pointer<'a, 'b, L: NodeBudget, A: Allocator>(
     form: MemberPointerForm,
 ) -> Result<&'b Type<'a, 'b>, Failed>
     ensures value { ReadsAs type_at parser.old parser.new result
-        (read_name (rules.member_pointer (is_qualified form))) }
+        (read_name (rules.member_pointer form)) }
     ensures consumes { Consumes parser.old parser.new result }
 {
     parser.count_node()?;
@@ -201,7 +199,7 @@ pub fn class_part<'a, 'b, L: NodeBudget, A: Allocator>(
     form: MemberPointerForm,
 ) -> Result<(FuncClass, StorageClass), Failed>
     ensures value { ReadsAs (λ c. (c.0.0, c.1.0)) parser.old parser.new result
-        (read_name (rules.class_part (is_qualified form))) }
+        (read_name (rules.class_part form)) }
     ensures consumes { MayConsume parser.old parser.new result }
 {
     match form {
@@ -217,7 +215,8 @@ pub fn class_part<'a, 'b, L: NodeBudget, A: Allocator>(
 pub fn class_of_member<'a, 'b, L: NodeBudget, A: Allocator>(
     parser: &mut Parser<'a, 'b, L, A>,
 ) -> Result<FuncClass, Failed>
-    ensures value { ReadsAs (λ c. (c.0, 0)) parser.old parser.new result (read_name (rules.class_part false)) }
+    ensures value { ReadsAs (λ c. (c.0, 0)) parser.old parser.new result
+        (read_name (rules.class_part MemberPointerForm.OfClass)) }
     ensures consumes { MayConsume parser.old parser.new result }
 {
     let letter = parser.byte()?;
@@ -233,7 +232,8 @@ pub fn thunk_number<'a, 'b, L: NodeBudget, A: Allocator>(
     parser: &mut Parser<'a, 'b, L, A>,
     class: FuncClass,
 ) -> Result<(), Failed>
-    ensures value { ReadsAs (λ _. tt) parser.old parser.new result (read_name (rules.thunk_number (has class.0 128))) }
+    ensures value { ReadsAs (λ _. tt) parser.old parser.new result
+        (read_name (rules.thunk_number (has class.0 thunk))) }
     ensures consumes { MayConsume parser.old parser.new result }
 {
     if class.contains(FuncClass::THUNK) {
@@ -247,7 +247,7 @@ pub fn this_qualifiers<'a, 'b, L: NodeBudget, A: Allocator>(
     parser: &mut Parser<'a, 'b, L, A>,
     qualifiers: ObjectQualifiers,
 ) -> StorageClass
-    ensures value { read_name (rules.this_qualifiers (is_bare qualifiers)) parser.old.rest.now (state_of parser.old)
+    ensures value { read_name (rules.this_qualifiers qualifiers) parser.old.rest.now (state_of parser.old)
         ≡ Some (result.0, parser.new.rest.now, state_of parser.new) }
     ensures shorter { length parser.new.rest.now ≤ length parser.old.rest.now }
     ensures kept { frame_of parser.new ≡ frame_of parser.old }
@@ -266,7 +266,7 @@ pub fn signature<'a, 'b, L: NodeBudget, A: Allocator>(
     class: FuncClass,
     this_qualifiers: StorageClass,
 ) -> Result<&'b Function<'a, 'b>, Failed>
-    ensures value { ReadsAs parts_at parser.old parser.new result (read_name (rules.signature (is_member kind))) }
+    ensures value { ReadsAs parts_at parser.old parser.new result (read_name (rules.signature kind)) }
     ensures given { IfOk result (λ f. (f.now.class.0 ≡ class.0) × (f.now.qualifiers.0 ≡ this_qualifiers.0)) }
     ensures consumes { MayConsume parser.old parser.new result }
 {
@@ -322,8 +322,7 @@ pub fn returned<'a, 'b, L: NodeBudget, A: Allocator>(
     kind: FunctionKind,
     qualifiers: StorageClass,
 ) -> Result<&'b Type<'a, 'b>, Failed>
-    ensures value { ReadsAs type_at parser.old parser.new result (read_name (rules.returned (is_member kind)
-        qualifiers.0)) }
+    ensures value { ReadsAs type_at parser.old parser.new result (read_name (rules.returned kind qualifiers.0)) }
     ensures consumes { Consumes parser.old parser.new result }
 {
     match kind {
@@ -339,7 +338,8 @@ pub fn member_returned<'a, 'b, L: NodeBudget, A: Allocator>(
     parser: &mut Parser<'a, 'b, L, A>,
     qualifiers: StorageClass,
 ) -> Result<&'b Type<'a, 'b>, Failed>
-    ensures value { ReadsAs type_at parser.old parser.new result (read_name (rules.returned true qualifiers.0)) }
+    ensures value { ReadsAs type_at parser.old parser.new result
+        (read_name (rules.returned FunctionKind.Member qualifiers.0)) }
     ensures consumes { Consumes parser.old parser.new result }
 {
     if parser.consume(b"@") {
@@ -365,9 +365,9 @@ pub fn function_qualifiers<'a, 'b, L: NodeBudget, A: Allocator>(
     size.union(restrict.union(alignment.union(reference.union(qualifier))))
 }
 
-/// Returns whether a member function has qualifiers on `this`: a static one has none.
+/// Returns whether a member function of a class has qualifiers on `this`: a static one has none.
 fn object_qualifiers(class: FuncClass) -> ObjectQualifiers
-    ensures { is_bare result ≡ has class.0 16 }
+    ensures { result ≡ qualifiers_of_class class.0 }
 {
     if class.contains(FuncClass::STATIC) {
         return ObjectQualifiers::Absent;

@@ -5,7 +5,7 @@ ghost use Rattle.std.specs.Prelude.{Some, true};
 ghost use Rattle.msvc_nodes.specs.NodeView.{name_at, name_of};
 ghost use Rattle.msvc_nodes.specs.Trees.{name_trees, numbered};
 ghost use Rattle.msvc_nodes.specs.declared.kinds.NumberedType.TheVariants as number_kind;
-ghost use Rattle.msvc_grammar.specs.Grammar.{guard_marker, is_in_range, numbered_guard};
+ghost use Rattle.msvc_grammar.specs.Grammar.{greatest_number, guard_marker, is_in_range, numbered_guard};
 ghost use Rattle.msvc_grammar.specs.Letters.{digits};
 ghost use Rattle.msvc_grammar.specs.Reads.{and_then, in_node, letter_here, read, read_name, with_value};
 ghost use Rattle.msvc_grammar.specs.Rules as rules;
@@ -15,8 +15,8 @@ ghost use Rattle.msvc_cursor.specs.NestedList.{current, enclosing};
 
 use crate::qualified_names::{nested_name, put_symbol, scope};
 use crate::symbols::put_typed_symbol;
+use msvc_cursor::budget::NodeBudget;
 use msvc_cursor::failure::{Failed, Message};
-use msvc_cursor::limit::NodeBudget;
 use msvc_cursor::nested_list::Checkpoint;
 use msvc_cursor::parser::Parser;
 use msvc_nodes::kinds::NumberedType;
@@ -154,7 +154,7 @@ pub fn guard_number<'a, 'b, L: NodeBudget, A: Allocator>(
     ensures value { ReadsAs (λ n. n) parser.old parser.new result
         (λ left s. and_then (letter_here digits left s) (λ d. read_name (rules.decimal d))) }
     ensures consumes { Consumes parser.old parser.new result }
-    ensures small { IfOk result (λ n. n ≤ 2147483647) }
+    ensures small { IfOk result (λ n. n ≤ greatest_number) }
 {
     let mut value = u32::from(guard_digit(parser)?);
     'digits: loop {
@@ -186,7 +186,7 @@ pub fn guard_digit<'a, 'b, L: NodeBudget, A: Allocator>(
 /// Returns the number with one more digit appended, if it is not too large.
 fn longer_number(value: u32, digit: u8) -> Option<u32>
     ensures value { result ≡ (if is_in_range (value * 10 + digit) then Some (value * 10 + digit) else None) }
-    ensures small { IfSome result (λ n. n ≤ 2147483647) }
+    ensures small { IfSome result (λ n. n ≤ greatest_number) }
 {
     let longer = u64::from(value) * BASE + u64::from(digit);
     if longer > GREATEST_NUMBER {

@@ -9,9 +9,9 @@ ghost use Rattle.msvc_cursor.specs.Parser.{Consumes, hash_at, name_length, Reads
 ghost use Rattle.msvc_cursor.specs.Rows.{typed_symbol_at};
 
 use crate::symbols::untyped_symbol;
+use msvc_cursor::budget::NodeBudget;
 use msvc_cursor::failure::{Failed, Message};
 use msvc_cursor::letters;
-use msvc_cursor::limit::NodeBudget;
 use msvc_cursor::parser::Parser;
 use msvc_nodes::nodes::{Name, TypedSymbol};
 use std::alloc::Allocator;

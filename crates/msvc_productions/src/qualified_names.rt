@@ -9,7 +9,7 @@ ghost use Rattle.msvc_grammar.specs.Grammar.{new_interface, new_source_name, tem
 ghost use Rattle.msvc_grammar.specs.Letters.{hexadecimal_codes};
 ghost use Rattle.msvc_grammar.specs.Reads.{and_then, in_node, letter_here, read, read_name, with_value};
 ghost use Rattle.msvc_grammar.specs.Rules as rules;
-ghost use Rattle.msvc_cursor.specs.Parser.{add_template_name, Consumes, is_of_symbol, ReadsAs, Stays};
+ghost use Rattle.msvc_cursor.specs.Parser.{add_template_name, Consumes, ReadsAs, Stays};
 ghost use Rattle.msvc_cursor.specs.Rows.{EndsNames, EndsTypes, ListsNames, named_at};
 ghost use Rattle.msvc_cursor.specs.NestedList.{current, enclosing};
 
@@ -17,12 +17,12 @@ use crate::parameters::parameters;
 use crate::special_names::special_name;
 use crate::symbols::symbol_body;
 use bumpalo::Bump;
+use msvc_cursor::budget::NodeBudget;
 use msvc_cursor::failure::{Failed, Message};
-use msvc_cursor::forms::TemplateNames;
 use msvc_cursor::letters;
-use msvc_cursor::limit::NodeBudget;
 use msvc_cursor::nested_list::Checkpoint;
 use msvc_cursor::parser::Parser;
+use msvc_grammar::forms::TemplateNames;
 use msvc_nodes::nodes::{Name, Symbol, Template, TypedSymbol};
 use std::alloc::Allocator;
 
@@ -50,7 +50,7 @@ pub fn add_template_name<'a, 'b, L: NodeBudget, A: Allocator>(
     requires { L.used nodes ≡ name_count L.weight (name_of name.now) }
     ensures value { ReadsAs name_at parser.old parser.new result
         (λ left s. with_value (Some (name_of name.now)) left
-        (add_template_name (is_of_symbol templates) (name_of name.now) s)) }
+        (add_template_name templates (name_of name.now) s)) }
     ensures stays { Stays parser.old parser.new result }
 {
     match templates {
@@ -67,7 +67,7 @@ pub fn unqualified_name<'a, 'b, L: NodeBudget, A: Allocator>(
     templates: TemplateNames,
 ) -> Result<&'b Name<'a, 'b>, Failed>
     ensures value { ReadsAs name_at parser.old parser.new result
-        (read_name (rules.unqualified_name (is_of_symbol templates))) }
+        (read_name (rules.unqualified_name templates)) }
     ensures consumes { Consumes parser.old parser.new result }
 {
     if let Some(digit) = parser.digit() {
@@ -89,13 +89,13 @@ pub fn template_name<'a, 'b, L: NodeBudget, A: Allocator>(
     parser: &mut Parser<'a, 'b, L, A>,
     templates: TemplateNames,
 ) -> Result<&'b Name<'a, 'b>, Failed>
-    ensures value { ReadsAs name_at parser.old parser.new result (read (template_kept (is_of_symbol templates))) }
+    ensures value { ReadsAs name_at parser.old parser.new result (read (template_kept templates)) }
     ensures consumes { Consumes parser.old parser.new result }
 {
     let before = parser.limit;
-    let saved = parser.backrefs.open_template();
+    let saved = parser.tables.open_template();
     let template = template(parser)?;
-    parser.backrefs.close_template(saved);
+    parser.tables.close_template(saved);
     let nodes = parser.limit.since(before);
     add_template_name(parser, template, nodes, templates)
 }
@@ -329,7 +329,7 @@ pub fn qualified_name<'a, 'b, L: NodeBudget, A: Allocator>(
     templates: TemplateNames,
 ) -> Result<&'b Symbol<'a, 'b>, Failed>
     ensures value { ReadsAs named_at parser.old parser.new result
-        (read_name (rules.qualified_name (is_of_symbol templates))) }
+        (read_name (rules.qualified_name templates)) }
     ensures consumes { Consumes parser.old parser.new result }
 {
     let name = unqualified_name(parser, templates)?;

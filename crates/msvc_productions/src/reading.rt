@@ -15,8 +15,8 @@ ghost use Rattle.msvc_productions.specs.SymbolsRead.{IsSymbolRead};
 use crate::symbols::symbol;
 use bumpalo::Bump;
 use msvc_cursor::back_references::BackReference;
+use msvc_cursor::budget::{NodeBudget, NodeLimit, Unlimited};
 use msvc_cursor::failure::{Failure, Message};
-use msvc_cursor::limit::{NodeBudget, NodeLimit, Unlimited};
 use msvc_cursor::limits::Limits;
 use msvc_cursor::parser::Parser;
 use msvc_nodes::nodes::TypedSymbol;
@@ -79,7 +79,7 @@ fn read_counted<'a, 'b, L: NodeBudget, A: Allocator>(
         Ok(symbol) => Ok(SymbolRead {
             symbol,
             length: input.len().saturating_sub(parser.rest.len()),
-            references: parser.back_references,
+            references: parser.references,
         }),
         Err(_) => Err(parser.last_error.reason),
     }

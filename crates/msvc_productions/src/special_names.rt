@@ -10,9 +10,9 @@ ghost use Rattle.msvc_grammar.specs.declared.forms.SpecialForm.TheVariants as sp
 ghost use Rattle.msvc_cursor.specs.Parser.{Consumes, ReadsAs, Stays};
 
 use crate::types::type_;
+use msvc_cursor::budget::NodeBudget;
 use msvc_cursor::failure::{Failed, Message};
 use msvc_cursor::letters::OptionalLetters;
-use msvc_cursor::limit::NodeBudget;
 use msvc_cursor::parser::Parser;
 use msvc_cursor::special_codes::{special_form, unknown_code};
 use msvc_grammar::forms::SpecialForm;

@@ -9,19 +9,18 @@ ghost use Rattle.msvc_grammar.specs.Grammar.{array_class, arrays};
 ghost use Rattle.msvc_grammar.specs.Letters.{qualifiers};
 ghost use Rattle.msvc_grammar.specs.Reads.{and_then, in_node, read, read_name, with_value};
 ghost use Rattle.msvc_grammar.specs.Rules as rules;
-ghost use Rattle.msvc_cursor.specs.Parser.{Consumes, is_of_symbol, MayConsume, ReadsAs, Stays};
+ghost use Rattle.msvc_cursor.specs.Parser.{Consumes, MayConsume, ReadsAs, Stays};
 
 use crate::function_types::{function_type, member_pointer};
 use crate::qualified_names::qualified_name;
 use bitflags::Flags;
 use bumpalo::collections::into_bump_slice;
+use msvc_cursor::budget::NodeBudget;
 use msvc_cursor::failure::{Failed, Message};
-use msvc_cursor::forms::{MemberPointerForm, ObjectQualifiers, TemplateNames};
 use msvc_cursor::letters::{self, OptionalLetters};
-use msvc_cursor::limit::NodeBudget;
 use msvc_cursor::parser::Parser;
 use msvc_cursor::type_prefixes::type_prefix;
-use msvc_grammar::forms::TypePrefix;
+use msvc_grammar::forms::{MemberPointerForm, ObjectQualifiers, TemplateNames, TypePrefix};
 use msvc_nodes::flags::StorageClass;
 use msvc_nodes::kinds::{NumberedType, PlainType, PointerAffinity, TagKind};
 use msvc_nodes::nodes::{Symbol, Type};
@@ -121,7 +120,7 @@ pub fn marked_member_pointer<'a, 'b, L: NodeBudget, A: Allocator>(
 ) -> Result<&'b Type<'a, 'b>, Failed>
     ensures value { ReadsAs type_at parser.old parser.new result
         (λ left s. and_then (read (rules.literal (codes "?")) left s)
-        (λ _ l t. read_name (rules.member_pointer false) l t)) }
+        (λ _ l t. read_name (rules.member_pointer MemberPointerForm.OfClass) l t)) }
     ensures consumes { Consumes parser.old parser.new result }
 {
     parser.expect(b"?", Message::QuestionMarkExpected)?;
@@ -151,7 +150,7 @@ pub fn tagged_type<'a, 'b, L: NodeBudget, A: Allocator>(
     qualifiers: StorageClass,
 ) -> Result<&'b Type<'a, 'b>, Failed>
     ensures value { ReadsAs type_at parser.old parser.new result
-        (λ left s. in_node left s (λ left s. and_then (read_name (rules.qualified_name (is_of_symbol templates)) left s)
+        (λ left s. in_node left s (λ left s. and_then (read_name (rules.qualified_name templates) left s)
         (λ n left s. Some (tagged tag n.0 (name_trees n.1) qualifiers.0, left, s)))) }
     ensures consumes { Consumes parser.old parser.new result }
 {
@@ -204,7 +203,7 @@ pub fn pointed_function<'a, 'b, L: NodeBudget, A: Allocator>(
     qualifiers: StorageClass,
 ) -> Result<&'b Type<'a, 'b>, Failed>
     ensures value { ReadsAs type_at parser.old parser.new result
-        (λ left s. in_node left s (λ left s. and_then (read_name (rules.function_type true) left s)
+        (λ left s. in_node left s (λ left s. and_then (read_name (rules.function_type ObjectQualifiers.Absent) left s)
         (λ t left s. Some (pointing affinity t qualifiers.0, left, s)))) }
     ensures consumes { Consumes parser.old parser.new result }
 {

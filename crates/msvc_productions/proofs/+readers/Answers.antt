@@ -16,12 +16,13 @@ use Rattle.msvc_grammar.specs.Counts.{name_count, type_count}
 use Rattle.msvc_grammar.specs.Grammar.{named_symbol, template_inside, template_kept}
 use Rattle.msvc_grammar.specs.Letters.{base_types, compound_letters, digits, encoding_letters, function_classes}
 use Rattle.msvc_grammar.specs.Letters.{rows_of}
-use Rattle.msvc_cursor.specs.Parser.{Frame, byte_here, frame_of, indexed, is_of_symbol}
+use Rattle.msvc_cursor.specs.Parser.{Frame, byte_here, frame_of, indexed}
 use Rattle.msvc_cursor.specs.Parser.{add_template_name, known_name_of, memorized_of}
 use Rattle.msvc_cursor.specs.Parser.{found_or, parameters_stop, state_of, type_of_letter}
 use Rattle.msvc_grammar.specs.Reads.{and_then, emptied, put_apart, put_back, read, read_name, type_known, with_value}
 use Rattle.msvc_grammar.specs.Rules.{after, encoding, encoding_after, lookup, nested_name, parameter, parameters}
 use Rattle.msvc_grammar.specs.Rules.{plain_type, qualified_name, scope}
+use Rattle.msvc_grammar.specs.declared.forms.TemplateNames.TheVariants.{NotMemorized}
 use Rattle.msvc_grammar.specs.Sorts.{member_of}
 use Rattle.msvc_cursor.specs.Rows.{named_at}
 use Rattle.msvc_cursor.specs.NestedList.{current, enclosing}
@@ -187,7 +188,7 @@ symbols::named_symbol-returns-clause-value g t c =
     let before : NameTree × List NameTree = named_at c.in_ok-named.named in
     let symbol : NameTree × List NameTree = named_at c.in_ok-symbol.symbol in
     let type : TypeTree = type_at c.in_ok-symbol_type.symbol_type in
-    let read_first : read_name (qualified_name true) c.args.parser.now.rest.now (state_of c.args.parser.now)
+    let read_first : read_name (qualified_name NotMemorized) c.args.parser.now.rest.now (state_of c.args.parser.now)
     ≡ Some (before, c.qualified_name.new.parser.rest.now, state_of c.qualified_name.new.parser) = search rules in
     let read_index : indexed before.0 before.1 c.qualified_name.new.parser.rest.now
     (state_of c.qualified_name.new.parser)
@@ -225,18 +226,18 @@ qualified_names::template_name-returns-clause-value g t c =
     let inside : read template_inside c.args.parser.now.rest.now (emptied s)
     ≡ Some (n, c.template.new.parser.rest.now, inner) =
     ap (read template_inside c.args.parser.now.rest.now) (sym entered) ∙ c.in_ok-template.ensures.value in
-    let names : current c.close_template.new.self.names ≡ current c.args.parser.now.backrefs.names =
+    let names : current c.close_template.new.self.names ≡ current c.args.parser.now.tables.names =
     c.close_template.ensures.current.0
     ∙ ap (drop c.open_template-saved.result.names.from)
     (ap (λ (f : Frame _ _). f.names) c.in_ok-template.ensures.consumes.1 ∙ around.0)
-    ∙ drop_at (enclosing c.args.parser.now.backrefs.names) (current c.args.parser.now.backrefs.names)
+    ∙ drop_at (enclosing c.args.parser.now.tables.names) (current c.args.parser.now.tables.names)
     c.open_template-saved.result.names.from
     (sym c.open_template-saved.ensures.place.0) in
-    let types : current c.close_template.new.self.types ≡ current c.args.parser.now.backrefs.types =
+    let types : current c.close_template.new.self.types ≡ current c.args.parser.now.tables.types =
     c.close_template.ensures.current.1
     ∙ ap (drop c.open_template-saved.result.types.from)
     (ap (λ (f : Frame _ _). f.types) c.in_ok-template.ensures.consumes.1 ∙ around.1)
-    ∙ drop_at (enclosing c.args.parser.now.backrefs.types) (current c.args.parser.now.backrefs.types)
+    ∙ drop_at (enclosing c.args.parser.now.tables.types) (current c.args.parser.now.tables.types)
     c.open_template-saved.result.types.from
     (sym c.open_template-saved.ensures.place.1) in
     let left : record inner {
@@ -250,22 +251,22 @@ qualified_names::template_name-returns-clause-value g t c =
     })
     names
     ∙ ap (λ (es : List (MemorizedType _ _)). record inner { names = s.names; types = map memorized_of es }) types in
-    let read_all : read (template_kept (is_of_symbol c.args.templates)) c.args.parser.now.rest.now s
+    let read_all : read (template_kept c.args.templates) c.args.parser.now.rest.now s
     ≡ Some (
       n,
       c.template.new.parser.rest.now,
-      add_template_name (is_of_symbol c.args.templates) n (record inner {
+      add_template_name c.args.templates n (record inner {
         names = map known_name_of (current c.close_template.new.self.names);
         types = map memorized_of (current c.close_template.new.self.types);
       }),
     ) =
-    template_kept_step (is_of_symbol c.args.templates) c.args.parser.now.rest.now s
-    ∙ ap (λ o. and_then (put_apart s o) (λ m l u. Some (m, l, add_template_name (is_of_symbol c.args.templates) m u)))
+    template_kept_step c.args.templates c.args.parser.now.rest.now s
+    ∙ ap (λ o. and_then (put_apart s o) (λ m l u. Some (m, l, add_template_name c.args.templates m u)))
     inside
     ∙ ap (λ (u : State). Some (
       n,
       c.template.new.parser.rest.now,
-      add_template_name (is_of_symbol c.args.templates) n
+      add_template_name c.args.templates n
           u,
     )) (sym left) in
     rw read_all c.add_template_name.ensures.value

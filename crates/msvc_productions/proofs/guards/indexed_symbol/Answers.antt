@@ -3,8 +3,8 @@ use Rattle.msvc_nodes.specs.NodeView.{name_at, name_of}
 use Rattle.msvc_nodes.specs.declared.kinds.Guard.{Guard}
 use Rattle.msvc_nodes.specs.declared.nodes.Name as node
 use Rattle.msvc_nodes.specs.declared.nodes.Name.{Name}
-use Rattle.msvc_cursor.proofs.GuardSteps.{indexed_other}
-use Rattle.msvc_cursor.specs.Parser.{guard_of, state_of}
+use Rattle.msvc_cursor.proofs.GuardSteps.{guard_of, indexed_other}
+use Rattle.msvc_cursor.specs.Parser.{state_of}
 use Rattle.std.specs.Prelude.{map}
 use Rattle.msvc_productions.proofs.guards.indexed_symbol.Goals as goal
 

@@ -1,4 +1,4 @@
-//! The limit on nodes.
+//! Node budgets: a limit on nodes with the number of nodes made so far, or no limit.
 
 ghost use Rattle.std.specs.Prelude.{◌≡◌, ◌+◌, ◌≤◌, IsTrue, nat_lt, not, true, ℕ};
 
