@@ -1,5 +1,5 @@
 -- The words of messages, the limit that they are about, and the text that says why an input is rejected.
-use Rattle.std.proofs.Common.{◌≡◌, ◌≢◌, ◌∙◌, ℕ, List, Option, Some, None, Result, Ok, Err, IfOk, refl, subst, sym}
+use Rattle.std.proofs.Common.{◌≡◌, ◌≢◌, ℕ, List, Option, Some, None, Result, Ok, Err, IfOk, refl, subst}
 use Rattle.std.proofs.Common.{true}
 use Rattle.std.specs.Prelude.{IfErr, IfSome, is_none}
 use Rattle.msvc_nodes.proofs.Contexts.{context_text-IsAscii}

@@ -1,5 +1,5 @@
 -- Step lemmas of types, by the text that a type begins with.
-use Rattle.std.proofs.Common.{ℕ, ℤ, pos, negsuc, zero, suc, List, [], ◌∷◌, Option, Some, None, true, false, cond, not}
+use Rattle.std.proofs.Common.{ℕ, ℤ, pos, negsuc, zero, suc, List, [], ◌∷◌, Option, Some, None, true, cond, not}
 use Rattle.std.proofs.Common.{◌≡◌, refl, sym, ap, ◌∙◌}
 use Rattle.std.specs.Prelude.{is_some, slice_get, codes, bit_or, unwrap_or}
 use Rattle.std.specs.Option.{option_map, option_map_or}

@@ -3,8 +3,7 @@ use Rattle.std.specs.Prelude.{ℕ, List, [], ◌∷◌, Option, Some, None, Resu
 use Rattle.std.specs.Prelude.{◌<◌, ◌≤◌, ◌-◌, IfOk, length, map, position, slice_get, take, drop, if◌then◌else◌}
 use Rattle.std.specs.Option.{option_map}
 use Rattle.msvc_nodes.specs.declared.kinds.PlainType.TheVariants as plain_kind
-use Rattle.msvc_nodes.specs.declared.kinds.Guard.{Guard}
-use Rattle.msvc_nodes.specs.Trees.{NameTree, SymbolTree, TypeTree, base, guard, plain}
+use Rattle.msvc_nodes.specs.Trees.{NameTree, SymbolTree, TypeTree, base, plain}
 use Rattle.msvc_nodes.specs.NodeView.{name_at, type_at}
 use Rattle.std.specs.Borrow.{Bor}
 use Rattle.msvc_nodes.specs.declared.nodes.Name.{Name}

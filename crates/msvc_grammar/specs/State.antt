@@ -65,8 +65,8 @@ is_allowed count = not (nat_lt count.max count.used)
 abbrev pub most_memorized : ℕ
 most_memorized = 10
 
--- A new entry goes to the end of a table. An entry that the table has does not enter it again, and nothing enters a full
--- table.
+-- A new entry goes to the end of a table. An entry that the table has does not enter it again, and nothing enters a
+-- full table.
 
 abbrev pub with_name : NameTree → List NameTree → List NameTree
 with_name name table =

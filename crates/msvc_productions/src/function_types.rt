@@ -1,6 +1,6 @@
 //! Types of functions and of member functions.
 
-ghost use Rattle.std.specs.Prelude.{◌≡◌, ◌≤◌, false, IfOk, length, map, Some, true};
+ghost use Rattle.std.specs.Prelude.{◌≡◌, ◌≤◌, IfOk, length, map, Some};
 ghost use Rattle.msvc_nodes.specs.NodeView.{name_at, name_of, type_at, type_of};
 ghost use Rattle.msvc_nodes.specs.Trees.{name_trees, type_trees};
 ghost use Rattle.msvc_nodes.specs.Trees as tree;

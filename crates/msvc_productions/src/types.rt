@@ -1,7 +1,7 @@
 //! Types.
 
 ghost use Rattle.std.specs.Int.{int_wrapping_neg, w32};
-ghost use Rattle.std.specs.Prelude.{codes, false, map, Some, true};
+ghost use Rattle.std.specs.Prelude.{codes, map, Some};
 ghost use Rattle.msvc_nodes.specs.NodeView.{name_at, name_of, type_at, type_of};
 ghost use Rattle.msvc_nodes.specs.Trees.{name_trees, numbered, plain, pointing, tagged};
 ghost use Rattle.msvc_nodes.specs.declared.kinds.NumberedType.TheVariants as number_kind;
