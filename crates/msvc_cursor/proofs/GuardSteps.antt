@@ -11,7 +11,7 @@ use Rattle.msvc_grammar.specs.Sorts.{bits}
 use Rattle.msvc_grammar.specs.Rules.{guard_index, scope, nested_name, number, after, give, literal, call, letter_or}
 use Rattle.msvc_grammar.specs.Rules.{decimal, is_nil, unsigned}
 use Rattle.msvc_grammar.specs.Grammar.{grammar, is_guard, numbered_guard, with_index, guard_marker, is_in_range}
-use Rattle.msvc_grammar.specs.Letters.{digits}
+use Rattle.msvc_grammar.specs.Letters.{at_sign, digits}
 use Rattle.msvc_grammar.specs.Reads.{Found, read_name, read, read_by, letter_here, with_value, after_literal, and_then}
 use Rattle.msvc_grammar.specs.Reads.{in_node, or_else}
 use Rattle.msvc_grammar.proofs.FuelIndependence.{read_name-is}
@@ -155,16 +155,17 @@ decimal_ends value (b ∷ bs) rest s h e =
     decimal_step value (b ∷ bs) s
     ∙ ap (λ t. cond t (choose (letter_here digits (b ∷ bs) s) (λ d l u. read_name (decimal (value * 10 + d)) l u)
     (and_then (read (literal (codes "@")) (b ∷ bs) s) (λ _ l u. Some (value, l, u)))) None) (in_range value h)
-    ∙ go (b == 64) refl e
+    ∙ go (b == at_sign) refl e
   where
-    go : (t : Bool) → (b == 64) ≡ t → cond t (Some bs) None ≡ Some rest
+    go : (t : Bool) → (b == at_sign) ≡ t → cond t (Some bs) None ≡ Some rest
         → choose (letter_here digits (b ∷ bs) s) (λ d l u. read_name (decimal (value * 10 + d)) l u)
-        (and_then (after_literal (cond (b == 64) (Some bs) None) s) (λ _ l u. Some (value, l, u)))
+        (and_then (after_literal (cond (b == at_sign) (Some bs) None) s) (λ _ l u. Some (value, l, u)))
         ≡ Some (value, rest, s)
     go true k e =
         let same : bs ≡ rest = cc in
         ap (λ c. choose (letter_here digits (c ∷ bs) s) (λ d l u. read_name (decimal (value * 10 + d)) l u)
-        (and_then (after_literal (cond (c == 64) (Some bs) None) s) (λ _ l u. Some (value, l, u)))) (eqb-true b 64 k)
+        (and_then (after_literal (cond (c == at_sign) (Some bs) None) s) (λ _ l u. Some (value, l, u))))
+        (eqb-true b at_sign k)
         ∙ ap (λ z. Some (value, z, s)) same
     go false k e = absurd (cc)
 

@@ -12,7 +12,7 @@ use Rattle.msvc_grammar.specs.Sorts.{bits, name_tree, list}
 use Rattle.msvc_grammar.specs.Rules.{parameters, parameter, lengths, scope, nested_name, hexadecimal_digits, number}
 use Rattle.msvc_grammar.specs.Rules.{after, give, letter, call}
 use Rattle.msvc_grammar.specs.Grammar.{grammar}
-use Rattle.msvc_grammar.specs.Letters.{hexadecimal_codes}
+use Rattle.msvc_grammar.specs.Letters.{at_sign, ellipsis_letter, hexadecimal_codes}
 use Rattle.msvc_grammar.specs.Reads.{Found, read_name, read, read_by, letter_here, after_literal, and_then, or_else}
 use Rattle.msvc_grammar.specs.Reads.{counting, in_node}
 use Rattle.msvc_grammar.proofs.FuelIndependence.{read_name-is}
@@ -173,7 +173,7 @@ pub parameters_step : (left : List ℕ) (s : State) → read_name parameters lef
     ≡ parameters_by (parameters_stop left) (read_name parameter left s) s
 unfolding grammar read read_by parameters_stop
 parameters_step [] s = read_name-is parameters [] s
-parameters_step (b ∷ bs) s = read_name-is parameters (b ∷ bs) s ∙ go (b == 64) (b == 90)
+parameters_step (b ∷ bs) s = read_name-is parameters (b ∷ bs) s ∙ go (b == at_sign) (b == ellipsis_letter)
   where
     others : Found (List TypeTree)
     others = and_then (read_name parameter (b ∷ bs) s)

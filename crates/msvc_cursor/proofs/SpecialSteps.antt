@@ -15,6 +15,7 @@ use Rattle.msvc_grammar.specs.Rules.{after, type_, call, literal, lookup, number
 use Rattle.msvc_grammar.specs.Rules.{special_name}
 use Rattle.msvc_grammar.specs.Grammar.{grammar}
 use Rattle.msvc_grammar.specs.Letters.{under_special_letters, basic_special_letters, special_texts, storage_classes}
+use Rattle.msvc_grammar.specs.Letters.{type_information_letter, underscore}
 use Rattle.msvc_grammar.specs.Letters.{texts_after, double_under_special_letters, type_information_letters}
 use Rattle.msvc_grammar.specs.Reads.{and_then, counting, in_node, read, read_by, read_name}
 use Rattle.msvc_grammar.proofs.Checks.{no_code_begins_another}
@@ -117,45 +118,47 @@ by_tables-is left =
     after_mark = texts_after (codes "_") under_special_letters after_two
 
 -- after _
-marked : (bs : List ℕ) → by_tables (95 ∷ bs) ≡ special_at_after_under bs
+marked : (bs : List ℕ) → by_tables (underscore ∷ bs) ≡ special_at_after_under bs
 unfolding special_at_after_under
 marked [] = refl
-marked (c ∷ cs) = go (c == 95) refl
+marked (c ∷ cs) = go (c == underscore) refl
   where
-    other : (t : Bool) → (c == 82) ≡ t
+    other : (t : Bool) → (c == type_information_letter) ≡ t
         → first_of (letter_at under_special_letters (c ∷ cs))
         (first_of (letter_after type_information_letters (cond t (Some cs) None)) None)
         ≡ cond t (letter_at type_information_letters cs) (letter_at under_special_letters (c ∷ cs))
     other true e =
         ap (λ x. first_of (letter_at under_special_letters (x ∷ cs))
-        (first_of (letter_at type_information_letters cs) None)) (eqb-true c 82 e)
+        (first_of (letter_at type_information_letters cs) None)) (eqb-true c type_information_letter e)
         ∙ first_none (letter_at type_information_letters cs)
     other false e = first_none (letter_at under_special_letters (c ∷ cs))
 
-    go : (t : Bool) → (c == 95) ≡ t
+    go : (t : Bool) → (c == underscore) ≡ t
         → first_of (letter_at under_special_letters (c ∷ cs))
-        (first_of (letter_after type_information_letters (cond (c == 82) (Some cs) None))
+        (first_of (letter_after type_information_letters (cond (c == type_information_letter) (Some cs) None))
         (first_of (letter_after double_under_special_letters (cond t (Some cs) None)) None))
         ≡ cond t (letter_at double_under_special_letters cs)
-        (cond (c == 82) (letter_at type_information_letters cs) (letter_at under_special_letters (c ∷ cs)))
+        (cond (c == type_information_letter) (letter_at type_information_letters cs)
+        (letter_at under_special_letters (c ∷ cs)))
     go true e =
         ap (λ x. first_of (letter_at under_special_letters (x ∷ cs))
-        (first_of (letter_after type_information_letters (cond (x == 82) (Some cs) None))
+        (first_of (letter_after type_information_letters (cond (x == type_information_letter) (Some cs) None))
         (first_of (letter_at double_under_special_letters cs) None))) (eqb-true c 95 e)
         ∙ first_none (letter_at double_under_special_letters cs)
-    go false e = other (c == 82) refl
+    go false e = other (c == type_information_letter) refl
 
 -- the code that begins, letter by letter
 pub special_texts-are : (left : List ℕ) → text_at special_texts left ≡ special_at left
 unfolding special_at
 special_texts-are [] = by_tables-is []
-special_texts-are (b ∷ bs) = by_tables-is (b ∷ bs) ∙ go (b == 95) refl
+special_texts-are (b ∷ bs) = by_tables-is (b ∷ bs) ∙ go (b == underscore) refl
   where
-    go : (t : Bool) → (b == 95) ≡ t
+    go : (t : Bool) → (b == underscore) ≡ t
         → first_of (letter_at basic_special_letters (b ∷ bs))
-        (first_of (letter_after under_special_letters (cond (b == 95) (Some bs) None))
-        (first_of (letter_after type_information_letters (cond (b == 95) (after (codes "R") bs) None))
-        (first_of (letter_after double_under_special_letters (cond (b == 95) (after (codes "_") bs) None)) None)))
+        (first_of (letter_after under_special_letters (cond (b == underscore) (Some bs) None))
+        (first_of (letter_after type_information_letters (cond (b == underscore) (after (codes "R") bs) None))
+        (first_of (letter_after double_under_special_letters (cond (b == underscore) (after (codes "_") bs) None))
+        None)))
         ≡ cond t (special_at_after_under bs) (letter_at basic_special_letters (b ∷ bs))
     go true e = ap (λ x. by_tables (x ∷ bs)) (eqb-true b 95 e) ∙ marked bs
     go false e =

@@ -1,7 +1,7 @@
 use Rattle.std.proofs.Common.{rules, ◌≡◌, ◌∷◌, [], ◌++◌, ◌+◌, ◌<◌, Some, None, List, sym, ap, ◌∙◌, arith}
 use Rattle.std.proofs.Common.{length, drop}
 use Rattle.std.proofs.lemmas.List.{drop_at}
-use Rattle.std.specs.Prelude.{map, slice_get}
+use Rattle.std.specs.Prelude.{codes, map, slice_get}
 use Rattle.msvc_nodes.specs.Trees.{NameTree, TypeTree, base}
 use Rattle.std.specs.Option.{option_map}
 use Rattle.msvc_nodes.specs.NodeView.{name_at, type_at}
@@ -94,7 +94,7 @@ pub qualified_names::scope-returns-then-consume-clause-value :
     goal.qualified_names::scope-returns-then-consume-clause-value
 qualified_names::scope-returns-then-consume-clause-value g t c =
     let end = c.consume.new.self in
-    let ends : after (64 ∷ []) c.names.parser.rest.now ≡ Some end.rest.now = search rules in
+    let ends : after (codes "@") c.names.parser.rest.now ≡ Some end.rest.now = search rules in
     let same : current c.names.parser.listed_names ≡ current end.listed_names =
     ap (λ (f : Frame _ _). f.listed_names) (sym c.consume.ensures.kept) in
     let state : state_of c.names.parser ≡ state_of end = sym c.consume.ensures.state in
@@ -117,7 +117,7 @@ qualified_names::scope-names-preserved g t c =
     let seen : map name_at (current c.push.new.self)
     ≡ map name_at (current c.names.parser.listed_names) ++ name_at c.in_ok-name.name ∷ [] =
     ap (map name_at) items ∙ map_last name_at (current c.names.parser.listed_names) c.in_ok-name.name in
-    let none : after (64 ∷ []) c.names.parser.rest.now ≡ None = search rules in
+    let none : after (codes "@") c.names.parser.rest.now ≡ None = search rules in
     let read : read_name nested_name c.names.parser.rest.now (state_of c.names.parser)
     ≡ Some (name_at c.in_ok-name.name, c.nested_name.new.parser.rest.now, state_of c.nested_name.new.parser) =
     search rules in (

@@ -1,5 +1,5 @@
 use Rattle.std.proofs.Common.{rules, ◌≡◌, ◌∷◌, [], ◌++◌, ◌<◌, Some, None, sym, ap, ◌∙◌, arith, length}
-use Rattle.std.specs.Prelude.{string_bytes}
+use Rattle.std.specs.Prelude.{codes, string_bytes}
 use Rattle.msvc_cursor.proofs.RowSteps.{digits_more, with_front}
 use Rattle.msvc_grammar.specs.Letters.{hexadecimal_codes}
 use Rattle.msvc_cursor.specs.Parser.{state_of}
@@ -10,7 +10,7 @@ use Rattle.msvc_productions.proofs.qualified_names.hex_digit_string.Goals as goa
 -- the new digit goes after those so far
 pub digits-preserved : goal.digits-preserved
 digits-preserved g c =
-    let none : after (64 ∷ []) c.digits.parser.rest.now ≡ None = search rules in
+    let none : after (codes "@") c.digits.parser.rest.now ≡ None = search rules in
     let read : letter_here hexadecimal_codes c.digits.parser.rest.now (state_of c.digits.parser)
     ≡ Some (c.in_ok-digit.digit, c.hexadecimal_digit.new.parser.rest.now, state_of c.hexadecimal_digit.new.parser) =
     search rules in
