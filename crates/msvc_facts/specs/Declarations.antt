@@ -9,9 +9,9 @@ use Rattle.msvc_nodes.specs.declared.kinds.PointerAffinity.TheVariants.{Pointer}
 use Rattle.msvc_nodes.specs.declared.kinds.Spelling.TheVariants.{Source}
 use Rattle.msvc_print.specs.Declaration.{declaration}
 use Rattle.msvc_print.specs.Pieces.{is_written_after, resolve, space, text}
-use Rattle.msvc_print.specs.declared.text.Space.{Space}
-use Rattle.msvc_print.specs.declared.text.Space.TheVariants.{AfterAngle, AfterPointer, AfterReference, AfterWord}
-use Rattle.msvc_print.specs.declared.text.Space.TheVariants.{UnlessOpen}
+use Rattle.msvc_print.specs.declared.spaces.Space.{Space}
+use Rattle.msvc_print.specs.declared.spaces.Space.TheVariants.{AfterAngle, AfterPointer, AfterReference, AfterWord}
+use Rattle.msvc_print.specs.declared.spaces.Space.TheVariants.{UnlessOpen}
 use Rattle.msvc_facts.specs.Symbols.{IsShown}
 
 -- whether the space is written after each of a letter, `>`, `)`, `&`, `*`, a space, `(` and a digit

@@ -35,7 +35,7 @@ use Rattle.msvc_print.specs.Words.{base_word, closing, kind_word, mark_space, ma
 use Rattle.msvc_print.specs.Words.{name_space, opening, qualifier, qualifier_space, qualifiers, tag_word, variable_word}
 use Rattle.msvc_print.specs.declared.operators.NameKind.{NameKind}
 use Rattle.msvc_print.specs.declared.operators.NameKind.TheVariants as name_kinds
-use Rattle.msvc_print.specs.declared.text.Space.TheVariants.{AfterPointer, AfterReference, AfterWord, UnlessOpen}
+use Rattle.msvc_print.specs.declared.spaces.Space.TheVariants.{AfterPointer, AfterReference, AfterWord, UnlessOpen}
 
 -- two words give the same answer to each question that a definition asks
 record Same (a b : ℕ) : Type 0 where

@@ -6,7 +6,7 @@ use Rattle.msvc_print.specs.Limited.{LimitedText, add_all, limited, settle_withi
 use Rattle.msvc_print.specs.Pieces.{Piece, blank, is_written_after, last_byte, settle, settle_all, space, text}
 use Rattle.msvc_print.specs.Work.{finished, item_pieces}
 use Rattle.msvc_print.specs.declared.item.Item.{Item}
-use Rattle.msvc_print.specs.declared.text.Space.{Space}
+use Rattle.msvc_print.specs.declared.spaces.Space.{Space}
 
 settle-longer : (before : List ℕ) (piece : Piece) → length before ≤ length (settle before piece)
 settle-longer before (text bytes) = omega (arith, length-append before bytes)
@@ -51,14 +51,39 @@ left_out max true before piece more =
     ap (λ t. record { max = max; text = t }) (sym (within-exceeds max (settle before piece) more))
 left_out max false before piece more = refl
 
--- a space that is written
-pub spaced : (max : ℕ) (whole : Bool) (before : List ℕ) (kind : Space) →
-    is_written_after kind (last_byte before) ≡ true → add_all (limited max whole before) (text (blank ∷ []) ∷ [])
-    ≡ add_all (limited max whole before) (space kind ∷ [])
+-- A space that is written after the last byte of a text.
+pub spaced : (out : LimitedText) (kind : Space) (last : ℕ) →
+    ((bytes : List ℕ) → out.text ≡ Some bytes → last ≡ last_byte bytes) → is_written_after kind last ≡ true →
+    add_all out (text (blank ∷ []) ∷ []) ≡ add_all out (space kind ∷ [])
 unfolding add_all settle_within
-spaced max true before kind is =
-    ap (λ b. record { max = max; text = within max (cond b (before ++ blank ∷ []) before) }) (sym is)
-spaced max false before kind is = refl
+spaced out kind last last_is is = at out.text last_is
+  where
+    at : (t : Option (List ℕ)) → ((bytes : List ℕ) → t ≡ Some bytes → last ≡ last_byte bytes) →
+        add_all (record { max = out.max; text = t }) (text (blank ∷ []) ∷ [])
+        ≡ add_all (record { max = out.max; text = t }) (space kind ∷ [])
+    at None last_is = refl
+    at (Some before) last_is =
+        ap (λ b. record { max = out.max; text = within out.max (cond b (before ++ blank ∷ []) before) })
+        (sym (ap (is_written_after kind) (sym (last_is before refl)) ∙ is))
+
+-- A space that is not written after the last byte of a text.
+pub not_spaced : (out : LimitedText) (kind : Space) (last : ℕ) →
+    ((bytes : List ℕ) → out.text ≡ Some bytes → last ≡ last_byte bytes) →
+    ((bytes : List ℕ) → out.text ≡ Some bytes → length bytes ≤ out.max) → is_written_after kind last ≡ false →
+    out ≡ add_all out (space kind ∷ [])
+unfolding add_all settle_within
+not_spaced out kind last last_is fits not = at out.text last_is fits
+  where
+    at : (t : Option (List ℕ)) → ((bytes : List ℕ) → t ≡ Some bytes → last ≡ last_byte bytes) →
+        ((bytes : List ℕ) → t ≡ Some bytes → length bytes ≤ out.max) →
+        record { max = out.max; text = t } ≡ add_all (record { max = out.max; text = t }) (space kind ∷ [])
+    at None last_is fits = refl
+    at (Some before) last_is fits =
+        let same : cond (is_written_after kind (last_byte before)) (before ++ blank ∷ []) before ≡ before
+        = ap (λ b. cond b (before ++ blank ∷ []) before)
+        (ap (is_written_after kind) (sym (last_is before refl)) ∙ not) in
+        ap (λ t. record { max = out.max; text = t })
+        (sym (ap (within out.max) same ∙ within-fits out.max before (fits before refl)))
 
 -- a text that is not whole stays so
 pub add_all-left_out : (max : ℕ) (pieces : List Piece) →

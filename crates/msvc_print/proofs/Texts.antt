@@ -48,8 +48,8 @@ use Rattle.msvc_print.specs.Pieces.{is_written_after, last_byte}
 use Rattle.msvc_print.specs.Sides.{Sides, alone, around, between, kept, kept_left, kept_right}
 use Rattle.msvc_print.specs.Words.{base_word, closing, kind_word, mark_space, mark_word, marked}
 use Rattle.msvc_print.specs.Words.{name_space, opening, qualifiers, tag_word, variable_word}
-use Rattle.msvc_print.specs.declared.text.Space.{Space}
-use Rattle.msvc_print.specs.declared.text.Space.TheVariants.{AfterPointer}
+use Rattle.msvc_print.specs.declared.spaces.Space.{Space}
+use Rattle.msvc_print.specs.declared.spaces.Space.TheVariants.{AfterPointer}
 
 -- the bytes of a piece, if it has some, are UTF-8
 abbrev IsText : Piece → Type 0

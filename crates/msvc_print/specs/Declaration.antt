@@ -19,7 +19,7 @@ use Rattle.msvc_print.specs.Operators.{unqualified_name}
 use Rattle.msvc_print.specs.declared.operators.NameKind.{NameKind}
 use Rattle.msvc_print.specs.Pieces.{Piece, text, space, resolve}
 use Rattle.msvc_print.specs.Sides.{Sides, alone, around, between, kept}
-use Rattle.msvc_print.specs.declared.text.Space.TheVariants.{AfterAngle, AfterPointer}
+use Rattle.msvc_print.specs.declared.spaces.Space.TheVariants.{AfterAngle, AfterPointer}
 use Rattle.msvc_print.specs.Words.{base_word, variable_word, tag_word, mark_word, qualifiers, marked}
 use Rattle.msvc_print.specs.Words.{opening, closing}
 

@@ -7,7 +7,7 @@ use Rattle.msvc_print.specs.Flags.{has, no_access_specifiers, no_member_type, no
 use Rattle.msvc_print.specs.Flags.{space_after_comma, with_ptr64}
 use Rattle.msvc_print.specs.Pieces.{Piece, text, space}
 use Rattle.msvc_print.specs.Words.{opening, closing, qualifier}
-use Rattle.msvc_print.specs.declared.text.Space.TheVariants.{AfterPointer, UnlessOpen}
+use Rattle.msvc_print.specs.declared.spaces.Space.TheVariants.{AfterPointer, UnlessOpen}
 
 abbrev pub convention_word : CallingConv → List ℕ
 convention_word Cdecl = codes "__cdecl "

@@ -15,7 +15,7 @@ use Rattle.msvc_print.specs.Pieces.{Piece, text, space}
 use Rattle.msvc_print.specs.Words.{name_space}
 use Rattle.msvc_print.specs.declared.operators.NameKind.{NameKind}
 use Rattle.msvc_print.specs.declared.operators.NameKind.TheVariants as name_kinds
-use Rattle.msvc_print.specs.declared.text.Space.TheVariants.{AfterPointer}
+use Rattle.msvc_print.specs.declared.spaces.Space.TheVariants.{AfterPointer}
 
 -- what the row of an operator prints
 abbrev pub words_in : PlainOperator → List OperatorRow → List ℕ

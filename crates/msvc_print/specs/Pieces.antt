@@ -1,9 +1,9 @@
 -- The pieces of a text, and the text that they settle to.
 use Rattle.std.specs.Prelude.{ℕ, List, [], ◌∷◌, ◌++◌, ◌-◌, Bool, cond, not, ◌==◌, ◌||◌, fold, length, slice_index}
 use Rattle.std.specs.Char.{is_ascii_alphabetic}
-use Rattle.msvc_print.specs.declared.text.Space.{Space}
-use Rattle.msvc_print.specs.declared.text.Space.TheVariants.{AfterPointer, AfterReference, AfterWord, UnlessOpen}
-use Rattle.msvc_print.specs.declared.text.Space.TheVariants.{AfterAngle}
+use Rattle.msvc_print.specs.declared.spaces.Space.{Space}
+use Rattle.msvc_print.specs.declared.spaces.Space.TheVariants.{AfterPointer, AfterReference, AfterWord, UnlessOpen}
+use Rattle.msvc_print.specs.declared.spaces.Space.TheVariants.{AfterAngle}
 
 pub data Piece : Type 0 where
   text : List ℕ → Piece

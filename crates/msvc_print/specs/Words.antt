@@ -11,8 +11,8 @@ use Rattle.msvc_nodes.specs.declared.kinds.VarStorageKind.TheVariants.{PrivateSt
 use Rattle.msvc_nodes.specs.declared.kinds.VarStorageKind.TheVariants.{Global, FunctionLocalStatic}
 use Rattle.msvc_print.specs.Flags.{has, hug_type, ms_type_names, no_class_type, space_before_pointer}
 use Rattle.msvc_print.specs.Pieces.{Piece, text, space}
-use Rattle.msvc_print.specs.declared.text.Space.{Space}
-use Rattle.msvc_print.specs.declared.text.Space.TheVariants.{AfterPointer, AfterReference, AfterWord}
+use Rattle.msvc_print.specs.declared.spaces.Space.{Space}
+use Rattle.msvc_print.specs.declared.spaces.Space.TheVariants.{AfterPointer, AfterReference, AfterWord}
 
 abbrev pub base_word : PrimitiveKind → ℕ → List ℕ
 base_word base_kind.Void flags = codes "void"

@@ -22,7 +22,7 @@ use Rattle.msvc_print.specs.declared.item.Item.TheVariants.{Before, After}
 use Rattle.msvc_print.specs.declared.item.ListEnd.{ListEnd}
 use Rattle.msvc_print.specs.declared.item.ListEnd.TheVariants.{Round, Bare, Angle}
 use Rattle.msvc_print.specs.declared.printer.Printer.{Printer}
-use Rattle.msvc_print.specs.declared.text.Space.TheVariants.{AfterAngle}
+use Rattle.msvc_print.specs.declared.spaces.Space.TheVariants.{AfterAngle}
 
 -- what a member function returns
 unfoldable pub member_return : TypeTree → Option TypeTree

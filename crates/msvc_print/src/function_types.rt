@@ -7,7 +7,8 @@ ghost use Rattle.msvc_print.specs.Limited.{Writes};
 ghost use Rattle.msvc_print.specs.Work.{end_pieces};
 
 use crate::item::ListEnd;
-use crate::text::{Space, Text, write_opening, write_qualifier, write_space, write_text};
+use crate::spaces::{Space, write_opening, write_qualifier, write_space};
+use crate::text::{Text, write_text};
 use bitflags::Flags;
 use msvc_nodes::flags::{DemangleFlags, FuncClass, StorageClass};
 use msvc_nodes::kinds::CallingConv;

@@ -5,7 +5,7 @@
 //!
 //! A symbol goes through `printer`: its `Printer` has the stack of `item`, the output and the flags, and loops over the
 //! stack. Each step is a method of `Printer` in `qualified_names` or `types`; these call `simple_types`,
-//! `function_types`, `operators` and `words`; and `text` writes the bytes.
+//! `function_types`, `operators` and `words`; `spaces` writes the spaces, and `text` the bytes.
 #![tactic(auto, using(crate::proofs::Stack::pushes))]
 
 mod function_types;
@@ -14,6 +14,7 @@ mod operators;
 mod printer;
 mod qualified_names;
 mod simple_types;
+mod spaces;
 mod text;
 mod types;
 mod words;

@@ -9,7 +9,8 @@ ghost use Rattle.msvc_print.specs.Operators.{name_kind, operator_word, spaced};
 ghost use Rattle.msvc_print.specs.Limited.{add_all};
 
 use crate::function_types::write_separator;
-use crate::text::{Space, Text, write_number, write_space, write_text};
+use crate::spaces::{Space, write_space};
+use crate::text::{Text, write_number, write_text};
 use msvc_nodes::flags::DemangleFlags;
 use msvc_nodes::kinds::{Guard, PlainOperator};
 use msvc_nodes::nodes::{BaseClass, Name};

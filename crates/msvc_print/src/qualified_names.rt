@@ -17,14 +17,15 @@ ghost use Rattle.msvc_print.specs.SymbolNodes.{symbol_pieces_of, symbol_weight_o
 ghost use Rattle.msvc_print.specs.SymbolNodes.{typed_symbol_weight_of};
 ghost use Rattle.msvc_print.specs.Weights.{name_weight, scope_weight, type_weight, types_weight};
 ghost use Rattle.msvc_print.specs.Work.{AddsAtMost, AddsLess, Keeps, Lightens, Prints, Pushes, member_return};
-ghost use Rattle.msvc_print.specs.declared.text.Space.TheVariants.{AfterPointer};
+ghost use Rattle.msvc_print.specs.declared.spaces.Space.TheVariants.{AfterPointer};
 
 use crate::item::{Item, ListEnd, TypeList, push};
 use crate::operators::{
     NameKind, name_kind, operator_word, write_base_class, write_guard, write_spaced_word,
 };
 use crate::printer::Printer;
-use crate::text::{Space, Text, word_space, write_number, write_space, write_text};
+use crate::spaces::{Space, word_space, write_space};
+use crate::text::{Text, write_number, write_text};
 use bitflags::Flags;
 use msvc_nodes::flags::DemangleFlags;
 use msvc_nodes::nodes::{Name, Scope, Symbol, Type, TypedSymbol};

@@ -12,7 +12,8 @@ ghost use Rattle.msvc_print.specs.Pieces.{text};
 ghost use Rattle.msvc_print.specs.Words.{base_word, marked, qualifiers as qualifier_pieces};
 
 use crate::function_types::write_separator;
-use crate::text::{Text, write_mark, write_qualifiers, write_text};
+use crate::spaces::{write_mark, write_qualifiers};
+use crate::text::{Text, write_text};
 use crate::types::{is_empty_pack, write_numbered};
 use crate::words::{base_word, mark_word};
 use msvc_nodes::flags::{DemangleFlags, StorageClass};

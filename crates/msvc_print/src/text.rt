@@ -1,20 +1,13 @@
-//! Texts under a limit of bytes, and the pieces that are written to them. Whether a space is written depends on the
-//! byte before it.
-#![tactic(auto, using(crate::proofs::Stack::pushes), unfolding(crate::specs::Words::closing, crate::specs::Words::marked, crate::specs::Words::opening))]
+//! The text that a declaration is written to: its bytes, under a limit.
 
 ghost use Rattle.std.specs.Prelude.{◌≡◌, ◌≤◌, ◌+◌, ◌∷◌, ◌++◌, [], ℕ, List, Some, OnOk, IfOk, is_some};
-ghost use Rattle.std.specs.Prelude.{cond, length, string_bytes, take};
+ghost use Rattle.std.specs.Prelude.{length, string_bytes, take};
 ghost use Rattle.std.specs.Str.{IsUtf8};
 ghost use Rattle.std.specs.Str.Lossy.{utf8_lossy};
-ghost use Rattle.msvc_print.specs.Flags.{has, space_before_pointer};
 ghost use Rattle.msvc_print.specs.Limited.{Writes, empty_within};
-ghost use Rattle.msvc_print.specs.Pieces.{is_written_after, space, text};
-ghost use Rattle.msvc_print.specs.Words as spec;
-ghost use Rattle.msvc_print.specs.declared.text.Space.TheVariants.{AfterWord};
+ghost use Rattle.msvc_print.specs.Pieces.{last_byte, text};
 
-use bitflags::Flags;
 use itoa::{Buffer, Integer};
-use msvc_nodes::flags::{DemangleFlags, StorageClass};
 use std::alloc::{AllocError, Allocator, Global};
 use std::marker::Model;
 use std::simd::Simd;
@@ -122,6 +115,18 @@ impl<A: Allocator> Text<A> {
         &self.bytes[..self.written]
     }
 
+    /// Returns the last byte of the text, 0 if it is empty. The byte is unspecified if the text is not whole.
+    #[inline(always)]
+    pub(crate) fn last_byte(&self) -> u8
+        ensures last { (bytes : List ℕ) → self.now.text ≡ Some bytes → result ≡ last_byte bytes }
+        ensures fits { (bytes : List ℕ) → self.now.text ≡ Some bytes → length bytes ≤ self.now.max }
+    {
+        if self.written == 0 {
+            return 0;
+        }
+        self.bytes[self.written - 1]
+    }
+
     /// Returns the bytes of a whole text that is UTF-8 as a string, without a check.
     pub fn as_str(&self) -> &str
         requires { (bytes : List ℕ) × (self.now.text ≡ Some bytes) × IsUtf8 bytes }
@@ -162,37 +167,6 @@ pub fn into_string_lossy<A: Allocator>(alloc: A, declared: Text<A>) -> Result<St
     match String::from_utf8(declared.into_bytes()) {
         Ok(text) => Ok(text),
         Err(error) => String::from_utf8_lossy(alloc, error.as_bytes()),
-    }
-}
-
-/// The bytes after which a space is written.
-#[derive(Clone, Copy)]
-pub enum Space {
-    /// After an ASCII letter, `>`, `)`, `&` or `*`.
-    AfterPointer,
-    /// After an ASCII letter, `>`, `)` or `&`.
-    AfterReference,
-    /// After an ASCII letter, `>` or `)`.
-    AfterWord,
-    /// Unless the byte before is a space or `(`.
-    UnlessOpen,
-    /// After `>`.
-    AfterAngle,
-}
-
-impl Space {
-    /// Returns whether the space is written after `byte`, which is 0 at the start of a text.
-    fn is_written_after(self, byte: u8) -> bool
-        ensures { result ≡ is_written_after self byte }
-    {
-        let ends_word = byte.is_ascii_alphabetic() || byte == b'>' || byte == b')';
-        match self {
-            Space::AfterWord => ends_word,
-            Space::AfterReference => ends_word || byte == b'&',
-            Space::AfterPointer => ends_word || byte == b'&' || byte == b'*',
-            Space::UnlessOpen => !(byte == b' ' || byte == b'('),
-            Space::AfterAngle => byte == b'>',
-        }
     }
 }
 
@@ -292,118 +266,6 @@ pub fn write_text<A: Allocator>(out: &mut Text<A>, bytes: &[u8]) -> Result<(), A
     copy_at(&mut out.bytes, out.written, bytes);
     out.written += bytes.len();
     out.ready -= bytes.len();
-    Ok(())
-}
-
-/// Writes a space, if one is written after the last byte of `out`.
-#[inline(always)]
-pub fn write_space<A: Allocator>(out: &mut Text<A>, kind: Space) -> Result<(), AllocError>
-    ensures { OnOk result (Writes (space kind ∷ []) out.old out.new) }
-{
-    let last = if out.written == 0 {
-        0
-    } else {
-        out.bytes[out.written - 1]
-    };
-    if !kind.is_written_after(last) {
-        return Ok(());
-    }
-    write_text(out, b" ")
-}
-
-/// Returns the space before a word. Under SPACE_BEFORE_POINTER it is `AfterWord`, and else `other`.
-pub fn word_space(flags: DemangleFlags, other: Space) -> Space
-    ensures { result ≡ cond (has flags.0 space_before_pointer) AfterWord other }
-{
-    if flags.contains(DemangleFlags::SPACE_BEFORE_POINTER) {
-        Space::AfterWord
-    } else {
-        other
-    }
-}
-
-/// Writes a space and a qualifier, if its bit is set.
-#[inline(always)]
-pub fn write_qualifier<A: Allocator>(
-    out: &mut Text<A>,
-    kind: Space,
-    bit: StorageClass,
-    word: &[u8],
-    qualifiers: StorageClass,
-) -> Result<(), AllocError>
-    ensures { OnOk result (Writes (spec.qualifier kind bit.0 word.now qualifiers.0) out.old out.new) }
-{
-    if qualifiers.contains(bit) {
-        write_space(out, kind)?;
-        write_text(out, word)?;
-    }
-    Ok(())
-}
-
-/// Writes `const` and `volatile`, if their bits are set.
-#[inline(always)]
-pub fn write_qualifiers<A: Allocator>(
-    out: &mut Text<A>,
-    qualifiers: StorageClass,
-    flags: DemangleFlags,
-) -> Result<(), AllocError>
-    ensures { OnOk result (Writes (spec.qualifiers qualifiers.0 flags.0) out.old out.new) }
-{
-    if qualifiers.is_empty() {
-        return Ok(());
-    }
-    write_set_qualifiers(out, qualifiers, flags)
-}
-
-/// Writes `const` and `volatile`, of which one bit or both are set.
-fn write_set_qualifiers<A: Allocator>(
-    out: &mut Text<A>,
-    qualifiers: StorageClass,
-    flags: DemangleFlags,
-) -> Result<(), AllocError>
-    ensures { OnOk result (Writes (spec.qualifiers qualifiers.0 flags.0) out.old out.new) }
-{
-    let kind = word_space(flags, Space::AfterPointer);
-    write_qualifier(out, kind, StorageClass::CONST, b"const", qualifiers)?;
-    write_qualifier(out, kind, StorageClass::VOLATILE, b"volatile", qualifiers)
-}
-
-/// Writes the space before the mark of a pointer or a reference, and the mark with its qualifiers.
-pub fn write_mark<A: Allocator>(
-    out: &mut Text<A>,
-    word: &[u8],
-    qualifiers: StorageClass,
-    flags: DemangleFlags,
-) -> Result<(), AllocError>
-    ensures { OnOk result (Writes (spec.marked word.now qualifiers.0 flags.0) out.old out.new) }
-{
-    if !flags.contains(DemangleFlags::HUG_TYPE) {
-        write_space(out, Space::AfterPointer)?;
-    } else if flags.contains(DemangleFlags::SPACE_BEFORE_POINTER) {
-        write_space(out, Space::AfterWord)?;
-    }
-    write_text(out, word)?;
-    write_qualifiers(out, qualifiers, flags)
-}
-
-/// Writes the parenthesis before the mark of a pointer, if the type is pointed to.
-pub fn write_opening<A: Allocator>(out: &mut Text<A>, pointed: bool) -> Result<(), AllocError>
-    ensures { OnOk result (Writes (spec.opening pointed) out.old out.new) }
-{
-    if pointed {
-        write_space(out, Space::AfterPointer)?;
-        write_text(out, b"(")?;
-    }
-    Ok(())
-}
-
-/// Writes the parenthesis that closes that of [`write_opening`], if the type is pointed to.
-pub fn write_closing<A: Allocator>(out: &mut Text<A>, pointed: bool) -> Result<(), AllocError>
-    ensures { OnOk result (Writes (spec.closing pointed) out.old out.new) }
-{
-    if pointed {
-        write_text(out, b")")?;
-    }
     Ok(())
 }
 

@@ -19,7 +19,8 @@ use crate::function_types::{write_calling, write_list_end, write_member_start, w
 use crate::item::{Item, ListEnd, TypeList, push};
 use crate::printer::Printer;
 use crate::simple_types::{write_base, write_simple, write_simple_pointer, write_simple_types};
-use crate::text::{Text, write_closing, write_number, write_opening, write_qualifiers, write_text};
+use crate::spaces::{write_closing, write_opening, write_qualifiers};
+use crate::text::{Text, write_number, write_text};
 use crate::words::{mark_word, tag_word, variable_word};
 use bitflags::Flags;
 use msvc_nodes::flags::{DemangleFlags, StorageClass};

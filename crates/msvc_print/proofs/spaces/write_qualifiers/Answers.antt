@@ -2,7 +2,7 @@ use Rattle.std.proofs.Common.{ap, sym, ◌∙◌, rules, ◌≡◌}
 use Rattle.msvc_print.proofs.Settling.{add_all-none}
 use Rattle.msvc_print.specs.Limited.{add_all}
 use Rattle.msvc_print.specs.Words.{qualifiers}
-use Rattle.msvc_print.proofs.text.write_qualifiers.Goals as goal
+use Rattle.msvc_print.proofs.spaces.write_qualifiers.Goals as goal
 
 -- no bit is set
 pub returns-then-is_empty : goal.returns-then-is_empty

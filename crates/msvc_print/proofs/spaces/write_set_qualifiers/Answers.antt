@@ -3,7 +3,7 @@ use Rattle.std.proofs.lemmas.Result.{on_ok_weaker}
 use Rattle.msvc_print.proofs.Settling.{settled_two}
 use Rattle.msvc_print.specs.Limited.{add_all}
 use Rattle.msvc_print.specs.Words.{qualifier, qualifiers}
-use Rattle.msvc_print.proofs.text.write_set_qualifiers.Goals as goal
+use Rattle.msvc_print.proofs.spaces.write_set_qualifiers.Goals as goal
 
 pub returns : goal.returns
 unfolding qualifiers
