@@ -1,5 +1,5 @@
 -- Names of operators, by their kinds, and types, by what a name of an operator asks of them.
-use Rattle.std.proofs.Common.{◌≡◌, ℕ, ℤ, ◌≤◌, List, [], ◌∷◌, refl, ap, ◌∙◌, arith}
+use Rattle.std.proofs.Common.{◌≡◌, ℕ, ℤ, ◌≤◌, List, [], ◌∷◌, ◌++◌, refl, ap, ◌∙◌, arith, false, Option, Some, None}
 use Rattle.std.proofs.Common.{codes}
 use Rattle.std.specs.Fmt.{signed_decimal}
 use Rattle.msvc_nodes.specs.Trees.{TypeTree, operator, member_function}
@@ -7,12 +7,13 @@ use Rattle.msvc_nodes.specs.declared.kinds.PlainOperator.{PlainOperator}
 use Rattle.msvc_nodes.specs.declared.kinds.PlainOperator.TheVariants as plain_operator
 use Rattle.msvc_print.proofs.Halves.{around-halves}
 use Rattle.msvc_print.specs.Declaration.{conversion}
+use Rattle.msvc_print.specs.Halves.{after, before}
 use Rattle.msvc_print.specs.Operators.{base_class_pieces, listed, name_kind, spaced}
 use Rattle.msvc_print.specs.Limited.{LimitedText, add_all}
 use Rattle.msvc_print.specs.Pieces.{Piece, text}
 use Rattle.msvc_print.proofs.Settling.{settled_two}
 use Rattle.msvc_print.specs.Weights.{type_weight}
-use Rattle.msvc_print.specs.Work.{conversion_to, member_return, return_weight}
+use Rattle.msvc_print.specs.Work.{member_return}
 use Rattle.msvc_print.specs.declared.operators.NameKind.TheVariants as name_kinds
 
 pub name_kind-other : (o : PlainOperator) → (o ≡ plain_operator.Ctor → ⊥) → (o ≡ plain_operator.Dtor → ⊥) →
@@ -25,6 +26,16 @@ name_kind-other plain_operator.Conversion a b c d e = absurd (c refl)
 name_kind-other plain_operator.VBTable a b c d e = absurd (d refl)
 name_kind-other plain_operator.LiteralOperatorName a b c d e = absurd (e refl)
 name_kind-other _ a b c d e = refl
+
+-- the pieces of a conversion operator, by the type that its function returns, or `name` if it is no member function
+unfoldable pub conversion_to : Option TypeTree → List Piece → ℕ → List Piece
+conversion_to None name flags = name
+conversion_to (Some t) name flags = text (codes "operator ") ∷ (before t false flags ++ after t false flags)
+
+-- the weight of the type that a member function returns
+unfoldable pub return_weight : Option TypeTree → ℕ
+return_weight None = 0
+return_weight (Some t) = type_weight t
 
 pub conversion-return : (t : TypeTree) (name : List Piece) (flags : ℕ) →
     conversion t name flags ≡ conversion_to (member_return t) name flags

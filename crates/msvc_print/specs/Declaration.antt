@@ -1,6 +1,6 @@
--- The declaration of a symbol. It is grown inside out, from its name with nothing on either side: each type, that
--- nearest the name first, puts pieces on the left and on the right of what is there. So a pointer to an array of arrays
--- of `int` goes `x`, `*x`, `(*x)[3500]`, `(*x)[3500][6]`, `int (*x)[3500][6]`.
+-- The declaration of a symbol. It grows from the name outwards: each type, the one nearest the name first, adds pieces
+-- on the left and on the right of the pieces that are there. A pointer to an array of arrays of `int` grows `x`, `*x`,
+-- `(*x)[3500]`, `(*x)[3500][6]`, `int (*x)[3500][6]`.
 use Rattle.std.specs.Prelude.{ℕ, ℤ, List, [], ◌∷◌, ◌++◌, Bool, true, false, cond, codes, Option, Some, None}
 use Rattle.std.specs.Fmt.{signed_decimal}
 use Rattle.msvc_nodes.specs.declared.kinds.NumberedType.TheVariants as number_kind
@@ -23,32 +23,32 @@ use Rattle.msvc_print.specs.declared.spaces.Space.TheVariants.{AfterAngle, After
 use Rattle.msvc_print.specs.Words.{base_word, variable_word, tag_word, mark_word, qualifiers, marked}
 use Rattle.msvc_print.specs.Words.{opening, closing}
 
--- a name as it is spelled
+-- the pieces of a name that is spelled in the mangled text
 abbrev pub spelled_name : Spelling → List ℕ → List Piece
 spelled_name spelling_kind.Source bytes = text bytes ∷ []
 spelled_name spelling_kind.Interface bytes = text (codes "[") ∷ text bytes ∷ text (codes "]") ∷ []
 spelled_name spelling_kind.Md5 bytes = text (codes "??@") ∷ text bytes ∷ text (codes "@") ∷ []
 
--- pieces in the quotes of a name that no source has
+-- the pieces of a name that no source has, between a backquote and a quote
 abbrev pub quoted : List Piece → List Piece
 quoted pieces = text (codes "`") ∷ (pieces ++ text (codes "'") ∷ [])
 
--- the same, unless it is the name of a symbol itself
+-- the pieces of a nested symbol, quoted unless the nested symbol is the name of a symbol itself
 unfoldable pub quoted_unless : Bool → List Piece → List Piece
 quoted_unless of_symbol pieces = cond of_symbol pieces (quoted pieces)
 
--- the arguments of a template
+-- the arguments of a template, between `<` and `>`
 abbrev pub angled : List Piece → List Piece
 angled arguments = text (codes "<") ∷ (arguments ++ (space AfterAngle ∷ text (codes ">") ∷ []))
 
--- What a scope prints: its names, the outermost first, with `::` after each (`prefix`) or between them (`path`), and
--- the innermost of them.
+-- The pieces of a scope: its names, the outermost first, with `::` after each name (`prefix`) or between the names
+-- (`path`), and its innermost name.
 pub record ScopePieces : Type 0 where
   pub prefix : List Piece
   pub path : List Piece
   pub innermost : Option (List Piece)
 
--- a scope with one more name, inside the others
+-- the pieces of a scope that has one more name inside the names of `outer`
 abbrev pub with_inner : ScopePieces → List Piece → ScopePieces
 with_inner outer name = record {
   prefix = outer.prefix ++ (name ++ text (codes "::") ∷ []);
@@ -56,51 +56,52 @@ with_inner outer name = record {
   innermost = Some name;
 }
 
--- what stands before the name of a destructor
+-- the `~` before the name of a destructor
 abbrev pub tilde : List Piece
 tilde = text (codes "~") ∷ []
 
--- the class that a constructor or a destructor is named by, after a word
+-- the name of a constructor or a destructor: the name of its class after `word`, or `[invalid]` if it has no class
 abbrev pub class_after : List Piece → Option (List Piece) → List Piece
 class_after word None = text (codes "[invalid]") ∷ []
 class_after word (Some class) = word ++ class
 
--- the name of a symbol in its scope, by what it prints in any scope, and as a conversion operator
+-- The name of a symbol in its scope. `name` has its pieces as a name of any scope, `conversion` those of a conversion
+-- operator.
 abbrev pub named : NameKind → ScopePieces → List Piece → List Piece → ℕ → List Piece
 named kind scope conversion name flags = scoped kind scope.prefix scope.path
     (unqualified_name kind (class_after [] scope.innermost) (class_after tilde scope.innermost) conversion name) flags
 
--- the name of a class or an enumeration, which has no type that a conversion operator could ask
+-- the name of a class or an enumeration in its scope, which has no type that a conversion operator could print
 abbrev pub named_class : NameKind → ScopePieces → List Piece → ℕ → List Piece
 named_class kind scope name flags = named kind scope name name flags
 
--- the class whose member function is pointed to
+-- the class of a pointer to a member function, with `::*` after its name
 abbrev pub pointed_class : List Piece → List Piece
 pointed_class class = space AfterPointer ∷ (class ++ text (codes "::*") ∷ [])
 
--- the length of a level of an array
+-- the length of a level of an array, in brackets
 abbrev pub length_pieces : ℤ → List Piece
 length_pieces n = text (codes "[") ∷ text (signed_decimal n) ∷ text (codes "]") ∷ []
 
--- what a table has on its right, by the scope that it is for
+-- the pieces on the right of the name of a table: the scope that the table is for
 unfoldable pub table_end : SpecialTableKind → NameTrees → List Piece → List Piece
 table_end table_kind.Functions no_names path = []
 table_end table_kind.Functions (names n ns) path = text (codes "{for `") ∷ (path ++ text (codes "'}") ∷ [])
 table_end table_kind.Bases scope path = path ++ text (codes "'}}") ∷ []
 
--- what a thunk into a table of virtual functions has on its right
+-- the pieces on the right of the name of a thunk: its offset in a table of virtual functions, and the memory model
 abbrev pub thunk_end : ℤ → ℕ → List Piece
 thunk_end n flags =
     text (codes "{") ∷ text (signed_decimal n) ∷ (separator false flags ++ text (codes "{flat}}") ∷ [])
 
--- a pack of parameters that has none, which no list of parameters shows
+-- whether a type is a pack without parameters, which no list of parameters shows
 unfoldable pub is_empty_pack : TypeTree → Bool
 is_empty_pack (plain plain_kind.EmptyPack) = true
 is_empty_pack _ = false
 
 unfoldable mutual
-  -- A name. `of_symbol` says that it is the name of a symbol itself, where a nested symbol has no quotes, and not one
-  -- inside a scope.
+  -- The pieces of a name. `of_symbol` says whether the name is that of a symbol itself, where a nested symbol has no
+  -- quotes, or stands in a scope.
   pub name_pieces : NameTree → Bool → ℕ → List Piece
   name_pieces (spelled how bytes) of_symbol flags = spelled_name how bytes
   name_pieces (template n ts) of_symbol flags = name_pieces n false flags ++ angled (parameters ts true flags)
@@ -115,20 +116,21 @@ unfoldable mutual
       space AfterPointer ∷ ((grown t false alone flags).left ++ text (codes "::`RTTI Type Descriptor'") ∷ [])
   name_pieces (base_class_descriptor a b c d) of_symbol flags = base_class_pieces a b c d flags
 
-  -- a scope, whose innermost name stands first in the tree
+  -- the pieces of a scope, whose innermost name stands first in the tree
   pub scope_pieces : NameTrees → ℕ → ScopePieces
   scope_pieces no_names flags = record { prefix = []; path = []; innermost = None }
   scope_pieces (names n ns) flags = with_inner (scope_pieces ns flags) (name_pieces n false flags)
 
-  -- a conversion operator, by the type of its symbol: what a member function returns, or else its name
+  -- the pieces of a conversion operator, by the type of its symbol: the type that a member function returns, or `name`
+  -- where the symbol is no member function
   pub conversion : TypeTree → List Piece → ℕ → List Piece
   conversion (member_function class convention ts set t) name flags =
       text (codes "operator ") ∷ around (grown t false alone flags) []
   conversion _ name flags = name
 
-  -- The sides of a name, `sides` so far, with one more type: its pieces on the left and on the right of these, and then
-  -- those of the types that stand in it around all that. `pointed` says that it stands directly under a pointer or a
-  -- reference, whose mark is there by then: some types put parentheses round it.
+  -- The sides of a name with one more type: the pieces of the type on the left and on the right of `sides`, and around
+  -- these the pieces of the types inside the type. `pointed` says whether the type stands directly under a pointer or a
+  -- reference, whose mark `sides` then has: some types put parentheses round the mark.
   pub grown : TypeTree → Bool → Sides → ℕ → Sides
   grown (base b set) pointed sides flags = between (text (base_word b flags) ∷ qualifiers set flags) sides []
   grown (tagged tag n scope set) pointed sides flags = between (text (tag_word tag flags)
@@ -141,19 +143,20 @@ unfoldable mutual
   grown (function convention ts set t) pointed sides flags = grown t false
       (between (calling pointed convention flags) sides
       (parameter_list pointed (parameters ts true flags) set flags)) flags
-  -- as a function; then its words before all that
+  -- A member function grows as a function does. Its words stand before all other pieces.
   grown (member_function class convention ts set t) pointed sides flags = between (member_start pointed class flags)
       (grown t false
       (between (calling pointed convention flags) sides
       (parameter_list pointed (parameters ts true flags) set flags)) flags) []
-  -- likewise, with the name of the class; then its `const` after all that
+  -- A pointer to a member function grows as a pointer to a function does, with the name of the class. The `const` of
+  -- the member function stands after all other pieces.
   grown (member_pointer n scope class convention ts set t) pointed sides flags = between []
       (grown t false
       (between (calling true convention flags ++ pointed_class
       (named_class (name_kind n) (scope_pieces scope flags) (name_pieces n true flags) flags)) sides
       (text (codes ")(") ∷ (parameters ts true flags ++ text (codes ")") ∷ []))) flags)
       (function_qualifier 1 (codes "const") set)
-  -- its qualifiers and its type; then its word before all that
+  -- A variable has its qualifiers and its type. Its words stand before all other pieces.
   grown (variable t kind set) pointed sides flags = between (text (variable_word kind) ∷ [])
       (grown t false (between (qualifiers set flags) sides []) flags) []
   grown (table k scope set) pointed sides flags =
@@ -169,36 +172,34 @@ unfoldable mutual
   grown (plain plain_kind.Nullptr) pointed sides flags = between (text (codes "std::nullptr_t") ∷ []) sides []
   grown _ pointed sides flags = sides
 
-  -- the types of a list, each on both sides of nothing, with a comma before all but the first
+  -- The types of a list, each on both sides of no name, with a comma before each but the first. `first` says whether
+  -- none of the list was printed before.
   pub parameters : TypeTrees → Bool → ℕ → List Piece
   parameters no_types first flags = []
   parameters (types t ts) first flags = cond (is_empty_pack t) (parameters ts first flags)
       (separator first flags ++ (around (grown t false alone flags) [] ++ parameters ts false flags))
 
--- the names of a scope, the outermost first, with `::` after each
+-- the names of a scope, the outermost first, with `::` after each name
 abbrev pub scope_prefix : NameTrees → ℕ → List Piece
 scope_prefix ns flags = (scope_pieces ns flags).prefix
 
--- the same with `::` between them
+-- the names of a scope, the outermost first, with `::` between them
 abbrev pub scope_path : NameTrees → ℕ → List Piece
 scope_path ns flags = (scope_pieces ns flags).path
 
--- the innermost name of a scope after a word, as constructors and destructors print it
+-- the name of a constructor or a destructor in a scope: the innermost name of the scope after `word`
 abbrev pub class_name : NameTrees → List Piece → ℕ → List Piece
 class_name ns word flags = class_after word (scope_pieces ns flags).innermost
 
--- a name in its scope, whose symbol has this type, where the name prints in this way
-abbrev pub symbol_as : NameKind → NameTree → NameTrees → TypeTree → ℕ → List Piece
-symbol_as kind n scope t flags = named kind (scope_pieces scope flags) (conversion t (name_pieces n true flags) flags)
-    (name_pieces n true flags) flags
-
--- a name in its scope, whose symbol has this type
+-- the name `n` of a symbol of type `t`, in the scope of the symbol
 abbrev pub symbol_name : NameTree → NameTrees → TypeTree → ℕ → List Piece
-symbol_name n scope t flags = symbol_as (name_kind n) n scope t flags
+symbol_name n scope t flags = named (name_kind n) (scope_pieces scope flags)
+    (conversion t (name_pieces n true flags) flags) (name_pieces n true flags) flags
 
--- the pieces of a symbol: its name, with what the flags keep of both sides
+-- the pieces of a symbol: its name, and what the flags keep of both sides of the name
 abbrev pub symbol_pieces : NameTree → NameTrees → TypeTree → ℕ → List Piece
 symbol_pieces n scope t flags = around (kept (grown t false alone flags) flags) (symbol_name n scope t flags)
 
+-- the declaration of a symbol under flags
 unfoldable pub declaration : SymbolTree → ℕ → List ℕ
 declaration s flags = resolve (symbol_pieces s.name s.scope s.symbol_type flags)

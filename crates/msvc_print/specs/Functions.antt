@@ -1,4 +1,4 @@
--- What the declaration of a function has beside its types.
+-- The words, qualifiers and commas that the declaration of a function has beside its types.
 use Rattle.std.specs.Prelude.{ℕ, List, [], ◌∷◌, ◌++◌, Bool, cond, codes}
 use Rattle.msvc_nodes.specs.declared.kinds.CallingConv.{CallingConv}
 use Rattle.msvc_nodes.specs.declared.kinds.CallingConv.TheVariants.{Cdecl, Pascal, Thiscall, Stdcall, Fastcall}
@@ -9,6 +9,7 @@ use Rattle.msvc_print.specs.Pieces.{Piece, text, space}
 use Rattle.msvc_print.specs.Words.{opening, closing, qualifier}
 use Rattle.msvc_print.specs.declared.spaces.Space.TheVariants.{AfterPointer, UnlessOpen}
 
+-- the word of a calling convention, with one space after it
 abbrev pub convention_word : CallingConv → List ℕ
 convention_word Cdecl = codes "__cdecl "
 convention_word Pascal = codes "__pascal "
@@ -17,40 +18,40 @@ convention_word Stdcall = codes "__stdcall "
 convention_word Fastcall = codes "__fastcall "
 convention_word _Regcall = codes "__regcall "
 
--- one word on a member function, where its bit is set
+-- a word of a member function, where the set `class` has its bit
 abbrev pub member_word : ℕ → List ℕ → ℕ → List Piece
 member_word bit word class = cond (has class bit) (text word ∷ []) []
 
--- who may call a member function
+-- the word for who may call a member function, which NO_ACCESS_SPECIFIERS drops
 unfoldable pub access_words : ℕ → ℕ → List Piece
 access_words class flags = cond (has flags no_access_specifiers) []
     (member_word 4 (codes "private: ") class
     ++ (member_word 2 (codes "protected: ") class
     ++ member_word 1 (codes "public: ") class))
 
--- what kind of member a function is
+-- `static` and `virtual` of a member function, which NO_MEMBER_TYPE drops
 unfoldable pub kind_words : ℕ → ℕ → List Piece
 kind_words class flags = cond (has flags no_member_type) []
     (member_word 16 (codes "static ") class ++ member_word 32 (codes "virtual ") class)
 
--- all words on a member function
+-- all words of a member function
 unfoldable pub member_words : ℕ → ℕ → List Piece
 member_words class flags =
     member_word 128 (codes "[thunk]: ") class ++ (access_words class flags ++ kind_words class flags)
 
--- the words stand before a function, and not before a pointer to one
+-- the words before a member function; a pointer to the function has none
 unfoldable pub member_start : Bool → ℕ → ℕ → List Piece
 member_start pointed class flags = cond pointed [] (member_words class flags)
 
--- one qualifier of a function itself, where its bit is set
+-- a qualifier of a function itself, where `set` has its bit
 abbrev pub function_qualifier : ℕ → List ℕ → ℕ → List Piece
 function_qualifier bit word set = qualifier AfterPointer bit word set
 
--- `__ptr64`, which only a flag shows
+-- `__ptr64` among the qualifiers of a function itself, which only WITH_PTR64 shows
 unfoldable pub wide_qualifier : ℕ → ℕ → List Piece
 wide_qualifier set flags = cond (has flags with_ptr64) (function_qualifier 64 (codes "__ptr64") set) []
 
--- all qualifiers of a function itself
+-- the qualifiers of a function itself, where no flag drops them
 unfoldable pub each_function_qualifier : ℕ → ℕ → List Piece
 each_function_qualifier set flags =
     function_qualifier 1 (codes "const") set
@@ -60,23 +61,23 @@ each_function_qualifier set flags =
     ++ (function_qualifier 128 (codes "&") set
     ++ function_qualifier 256 (codes "&&") set))))
 
--- the same, unless a flag silences them
+-- the qualifiers of a function itself, which NO_THISTYPE drops
 unfoldable pub function_qualifiers : ℕ → ℕ → List Piece
 function_qualifiers set flags = cond (has flags no_this_type) [] (each_function_qualifier set flags)
 
--- the word of how a function is called
+-- the word of a calling convention, which NO_MS_KEYWORDS drops
 unfoldable pub convention_pieces : CallingConv → ℕ → List Piece
 convention_pieces convention flags = cond (has flags no_ms_keywords) [] (text (convention_word convention) ∷ [])
 
--- how a function is called, and the parenthesis before the mark of a pointer to it
+-- the calling convention of a function, after the parenthesis before the mark of a pointer to the function
 unfoldable pub calling : Bool → CallingConv → ℕ → List Piece
 calling pointed convention flags = opening pointed ++ (space UnlessOpen ∷ convention_pieces convention flags)
 
--- what a function has on its right: its parameters, and its qualifiers
+-- the pieces on the right of the name of a function: its parameters, and the qualifiers of the function itself
 abbrev pub parameter_list : Bool → List Piece → ℕ → ℕ → List Piece
 parameter_list pointed parameters set flags = closing pointed
     ++ (text (codes "(") ∷ (parameters ++ (text (codes ")") ∷ function_qualifiers set flags)))
 
--- what stands before a parameter that is not the first
+-- the comma before a parameter that is not the first
 unfoldable pub separator : Bool → ℕ → List Piece
 separator first flags = cond first [] (text (cond (has flags space_after_comma) (codes ", ") (codes ",")) ∷ [])

@@ -1,6 +1,7 @@
--- What the printer's two passes over a type print: `before` the name what the type and those in it put on its left, the
--- outermost first, and `after` the name what they put on its right, that nearest the name first. For the printer alone:
--- no public contract speaks of it. `proofs/Halves` shows that these are what `grown` puts on the two sides.
+-- The pieces that the printer's two passes over a type print: `before` has what the type and the types inside it put on
+-- the left of a name, the type nearest the name last; `after` has what they put on the right, the type nearest the name
+-- first. No public contract speaks of these definitions. `proofs/Halves` shows that they are what `grown` puts on the
+-- two sides.
 use Rattle.std.specs.Prelude.{ℕ, List, [], ◌∷◌, ◌++◌, Bool, true, false, codes}
 use Rattle.std.specs.Fmt.{signed_decimal}
 use Rattle.msvc_nodes.specs.declared.kinds.NumberedType.TheVariants as number_kind
@@ -14,25 +15,27 @@ use Rattle.msvc_print.specs.Pieces.{Piece, text}
 use Rattle.msvc_print.specs.Words.{base_word, variable_word, tag_word, mark_word, qualifiers, marked}
 use Rattle.msvc_print.specs.Words.{opening, closing}
 
--- the name of a symbol that has no type
+-- the name `n` of a symbol without a type, in the scope of the symbol
 abbrev pub plain_name : NameTree → NameTrees → ℕ → List Piece
 plain_name n scope flags = symbol_name n scope (plain plain_kind.None) flags
 
--- the class whose member function is pointed to
+-- the class of a pointer to a member function, by its name in its scope
 abbrev pub pointed_name : NameTree → NameTrees → ℕ → List Piece
 pointed_name n scope flags = pointed_class (plain_name n scope flags)
 
--- what stands after the name of a function: its parameters, its qualifiers, and the rest of what it returns
+-- the pieces after the name of a function: its parameters, its qualifiers, and `returned`, the pieces that the returned
+-- type has after the name
 abbrev pub function_end : Bool → List Piece → ℕ → ℕ → List Piece → List Piece
 function_end pointed parameters set flags returned = closing pointed
     ++ (text (codes "(") ∷ (parameters ++ (text (codes ")") ∷ (function_qualifiers set flags ++ returned))))
 
--- what stands after a pointer to a member function: its parameters, the rest of what it returns, and its `const`
+-- the pieces after the name of a pointer to a member function: the parameters of the function, `returned`, the pieces
+-- that the returned type has after the name, and the `const` of the function
 unfoldable pub member_pointer_end : List Piece → ℕ → List Piece → List Piece
 member_pointer_end parameters set returned = text (codes ")(") ∷ (parameters
     ++ (text (codes ")") ∷ (returned ++ function_qualifier 1 (codes "const") set)))
 
--- what a type has before the name
+-- the pieces of a type before the name
 unfoldable pub before : TypeTree → Bool → ℕ → List Piece
 before (base b set) pointed flags = text (base_word b flags) ∷ qualifiers set flags
 before (tagged tag n scope set) pointed flags =
@@ -55,7 +58,7 @@ before (vcall_thunk n convention) pointed flags = text (codes "[thunk]: ") ∷ c
 before (variable t kind set) pointed flags = text (variable_word kind) ∷ (before t false flags ++ qualifiers set flags)
 before _ pointed flags = []
 
--- what it has after the name
+-- the pieces of a type after the name
 unfoldable pub after : TypeTree → Bool → ℕ → List Piece
 after (pointing m t set) pointed flags = after t true flags
 after (array n t set) pointed flags = closing pointed ++ (length_pieces n ++ after t false flags)

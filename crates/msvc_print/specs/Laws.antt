@@ -1,5 +1,5 @@
--- What flags do not change, as statements about declarations alone, which `proofs/Laws` proves, and about the text of
--- one.
+-- Statements of what flags do not change: in declarations, which `proofs/Laws` proves, and in a text that shows a
+-- declaration.
 use Rattle.std.specs.Prelude.{ℕ, List, ◌++◌, ◌≡◌, bit_and, codes, true}
 use Rattle.std.specs.Str.Lossy.{utf8_lossy}
 use Rattle.msvc_nodes.specs.Trees.{NameTree, NameTrees, SymbolTree, TypeTree, md5_symbol, operator}
@@ -7,37 +7,37 @@ use Rattle.msvc_nodes.specs.declared.kinds.PlainOperator.TheVariants as plain_op
 use Rattle.msvc_print.specs.Declaration.{declaration}
 use Rattle.msvc_print.specs.Flags.{has, name_only}
 
--- the bits that some definition asks for; that of DECODE_32_BIT is none of them
+-- the bits of all flags that definitions read; the bit of DECODE_32_BIT is none of them
 abbrev pub obeyed_flags : ℕ
 obeyed_flags = 0x1F016E6
 
--- two words have the same bits within these
+-- the words `a` and `b` have the same bits among `bits`
 abbrev pub Agree : ℕ → ℕ → ℕ → Type 0
 Agree bits a b = bit_and a bits ≡ bit_and b bits
 
--- words that differ in bits alone that are not asked for have the same declarations
+-- a symbol has the same declaration under two words that differ only in bits that no definition reads
 abbrev pub OtherBitsChangeNothing : Type 0
 OtherBitsChangeNothing = (s : SymbolTree) (a b : ℕ) → Agree obeyed_flags a b → declaration s a ≡ declaration s b
 
--- under NAME_ONLY symbols that differ in their types alone have the same declarations, but for conversion operators
+-- under NAME_ONLY symbols that differ only in their types have the same declaration, except conversion operators
 abbrev pub NameOnlyAsksNoType : Type 0
 NameOnlyAsksNoType = (n : NameTree) (scope : NameTrees) (t other : TypeTree) (flags : ℕ) → has flags name_only ≡ true →
     (n ≡ operator plain_operator.Conversion → ⊥) →
     declaration (record { name = n; scope = scope; symbol_type = t }) flags
     ≡ declaration (record { name = n; scope = scope; symbol_type = other }) flags
 
--- a text shows the symbol's declaration under every word that agrees with this one within the bits that are asked for
+-- a text shows the declaration of a symbol under every word that agrees with `flags` in the bits that definitions read
 abbrev pub IsTextUnderOtherBits : List ℕ → SymbolTree → ℕ → Type 0
 IsTextUnderOtherBits text s flags =
     (other : ℕ) → Agree obeyed_flags flags other → text ≡ utf8_lossy (declaration s other)
 
--- under NAME_ONLY a text shows the declaration of every symbol that differs from this one in its type alone, but for
--- conversion operators
+-- under NAME_ONLY a text shows the declaration of every symbol that differs from `s` only in its type, unless `s` is a
+-- conversion operator
 abbrev pub IsTextOfOtherTypes : List ℕ → SymbolTree → ℕ → Type 0
 IsTextOfOtherTypes text s flags = has flags name_only ≡ true → (s.name ≡ operator plain_operator.Conversion → ⊥) →
     (other : TypeTree) → text ≡ utf8_lossy (declaration (record s { symbol_type = other }) flags)
 
--- a hash alone is shown as it was written, under every word
+-- the declaration of a symbol that is a hash is the hash as it was written, under all flags
 abbrev pub HashIsItsText : Type 0
 HashIsItsText = (digits : List ℕ) (flags : ℕ) →
     declaration (md5_symbol digits) flags ≡ codes "??@" ++ (digits ++ codes "@")

@@ -1,4 +1,4 @@
--- What names of operators print, and which names print otherwise where they are the name of a symbol itself.
+-- The pieces of names of operators, and the kinds of names that print otherwise as the name of a symbol itself.
 use Rattle.std.specs.Prelude.{ℕ, ℤ, List, [], ◌∷◌, ◌++◌, Option, Some, None, false, codes, if◌then◌else◌}
 use Rattle.std.specs.Fmt.{decimal, signed_decimal}
 use denote.Enum.Bare.{sameb}
@@ -17,16 +17,17 @@ use Rattle.msvc_print.specs.declared.operators.NameKind.{NameKind}
 use Rattle.msvc_print.specs.declared.operators.NameKind.TheVariants as name_kinds
 use Rattle.msvc_print.specs.declared.spaces.Space.TheVariants.{AfterPointer}
 
--- what the row of an operator prints
+-- the words in the row of an operator in a table
 abbrev pub words_in : PlainOperator → List OperatorRow → List ℕ
 words_in o [] = []
 words_in o (row ∷ table) = if sameb operators o row.1 then row.2 else words_in o table
 
--- what an operator prints
+-- the words of an operator
 unfoldable pub operator_word : PlainOperator → List ℕ
 operator_word o =
     words_in o (basic_operators ++ (under_operators ++ (type_information_operators ++ double_under_operators)))
 
+-- the words of a guard
 abbrev pub guard_word : Guard → List ℕ
 guard_word guard_kind.Static = codes "`local static guard'"
 guard_word guard_kind.Thread = codes "`local static thread guard'"
@@ -40,19 +41,21 @@ unfoldable pub guard_number : Option ℕ → List Piece
 guard_number None = []
 guard_number (Some n) = text (codes "{") ∷ text (decimal n) ∷ text (codes "}") ∷ []
 
+-- the pieces of a guard of a static variable
 unfoldable pub guard_pieces : Guard → Option ℕ → List Piece
 guard_pieces g n = space AfterPointer ∷ text (guard_word g) ∷ guard_number n
 
--- a comma and a number
+-- a number of a list, with a comma before it
 abbrev pub listed : ℤ → ℕ → List Piece
 listed z flags = separator false flags ++ text (signed_decimal z) ∷ []
 
+-- the pieces of the place of a base class in an object, as run-time type information names it
 unfoldable pub base_class_pieces : ℤ → ℤ → ℤ → ℤ → ℕ → List Piece
 base_class_pieces a b c d flags =
     space AfterPointer ∷ text (codes "`RTTI Base Class Descriptor at (") ∷ text (signed_decimal a)
     ∷ (listed b flags ++ (listed c flags ++ (listed d flags ++ text (codes ")'") ∷ [])))
 
--- which names print otherwise where they are the name of a symbol itself
+-- how a name prints where it is the name of a symbol itself
 unfoldable pub name_kind : NameTree → NameKind
 name_kind (operator plain_operator.Ctor) = name_kinds.Constructor
 name_kind (operator plain_operator.Dtor) = name_kinds.Destructor
@@ -61,8 +64,8 @@ name_kind (operator plain_operator.VBTable) = name_kinds.BaseTable
 name_kind (operator plain_operator.LiteralOperatorName) = name_kinds.Literal
 name_kind _ = name_kinds.Ordinary
 
--- The name of a symbol after its scope: what a constructor, a destructor and a conversion operator print, and what the
--- name prints in any scope.
+-- The pieces of the name of a symbol after its scope. `constructor`, `destructor` and `conversion` have the pieces of
+-- such a name, and `name` the pieces of the name in any scope.
 abbrev pub unqualified_name : NameKind → List Piece → List Piece → List Piece → List Piece → List Piece
 unqualified_name name_kinds.Constructor constructor destructor conversion name = constructor
 unqualified_name name_kinds.Destructor constructor destructor conversion name = destructor
@@ -71,8 +74,8 @@ unqualified_name name_kinds.BaseTable constructor destructor conversion name = t
 unqualified_name name_kinds.Literal constructor destructor conversion name = []
 unqualified_name name_kinds.Ordinary constructor destructor conversion name = name
 
--- A name in its scope: after the names of the scope with `::` after each (`prefix`). A literal operator stands before
--- the names of the scope with `::` between them (`path`).
+-- A name in its scope. The name stands after the names of the scope with `::` after each (`prefix`); a literal operator
+-- stands before the names of the scope with `::` between them (`path`).
 unfoldable pub scoped : NameKind → List Piece → List Piece → List Piece → ℕ → List Piece
 scoped name_kinds.Literal prefix path name flags =
     space (name_space flags) ∷ space AfterPointer ∷ text (codes "operator \"\"") ∷ path

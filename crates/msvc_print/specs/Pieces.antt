@@ -1,16 +1,17 @@
--- The pieces of a text, and the text that they settle to.
+-- The pieces of a declaration, and the text that the pieces make.
 use Rattle.std.specs.Prelude.{ℕ, List, [], ◌∷◌, ◌++◌, ◌-◌, Bool, cond, not, ◌==◌, ◌||◌, fold, length, slice_index}
 use Rattle.std.specs.Char.{is_ascii_alphabetic}
 use Rattle.msvc_print.specs.declared.spaces.Space.{Space}
 use Rattle.msvc_print.specs.declared.spaces.Space.TheVariants.{AfterPointer, AfterReference, AfterWord, UnlessOpen}
 use Rattle.msvc_print.specs.declared.spaces.Space.TheVariants.{AfterAngle}
 
+-- bytes as they are, or a space
 pub data Piece : Type 0 where
   text : List ℕ → Piece
-  -- a space that is written or not, by the byte before it
+  -- a space, which is written or not by the byte before it
   space : Space → Piece
 
--- the last byte of a text, 0 where there is none
+-- the last byte of a text, 0 if the text is empty
 abbrev pub last_byte : List ℕ → ℕ
 last_byte bytes = slice_index bytes (length bytes - 1)
 
@@ -32,11 +33,11 @@ star = 42
 abbrev pub closing_angle : ℕ
 closing_angle = 62
 
--- an ASCII letter, `>` or `)`
+-- whether a byte is an ASCII letter, `>` or `)`
 abbrev pub ends_word : ℕ → Bool
 ends_word b = is_ascii_alphabetic b || b == closing_angle || b == closing_round
 
--- whether a space is written after this byte
+-- whether a space is written after the byte `b`
 abbrev pub is_written_after : Space → ℕ → Bool
 is_written_after AfterWord b = ends_word b
 is_written_after AfterReference b = ends_word b || b == ampersand
@@ -49,9 +50,10 @@ abbrev pub settle : List ℕ → Piece → List ℕ
 settle before (text bytes) = before ++ bytes
 settle before (space s) = cond (is_written_after s (last_byte before)) (before ++ blank ∷ []) before
 
--- a text with the pieces after it, from the left
+-- a text with pieces after it, which are added from the left
 unfoldable pub settle_all : List ℕ → List Piece → List ℕ
 settle_all before pieces = fold settle before pieces
 
+-- the text that pieces make
 abbrev pub resolve : List Piece → List ℕ
 resolve pieces = settle_all [] pieces

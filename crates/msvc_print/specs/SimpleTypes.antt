@@ -1,5 +1,5 @@
--- What is left of a list of types whose first ones are written at once. For the printer alone: no public contract
--- speaks of it.
+-- The pieces of the rest of a list of types, whose first types the printer writes at once. No public contract speaks of
+-- them.
 use Rattle.std.specs.Prelude.{ℕ, List, [], ◌∷◌, ◌++◌, false}
 use Rattle.std.specs.Borrow.{Bor}
 use Rattle.msvc_nodes.specs.NodeView.{type_of, types_in}
@@ -8,7 +8,7 @@ use Rattle.msvc_print.specs.Declaration.{parameters}
 use Rattle.msvc_print.specs.Halves.{after, before}
 use Rattle.msvc_print.specs.Pieces.{Piece}
 
--- the types of a list, where the comma before the first is written, or none is
+-- the types of a list, without a comma before the first type, which is written already if one belongs there
 abbrev pub begun : List (Bor «Type») → ℕ → List Piece
 begun [] flags = []
 begun (t ∷ ts) flags =

@@ -1,4 +1,4 @@
--- What symbols print and weigh, by their nodes. For the printer alone: no public contract speaks of it.
+-- The pieces and the weights of symbols, by their nodes. No public contract speaks of these definitions.
 use Rattle.std.specs.Prelude.{ℕ, ◌+◌, List, Option, Some, None}
 use Rattle.std.specs.Borrow.{Bor}
 use Rattle.msvc_nodes.specs.NodeView.{name_of, names_in, type_of}
@@ -12,34 +12,37 @@ use Rattle.msvc_print.specs.Halves.{pointed_name}
 use Rattle.msvc_print.specs.Pieces.{Piece}
 use Rattle.msvc_print.specs.Weights.{symbol_weight, type_weight, typed_symbol_weight}
 
--- the type of a symbol that has none
+-- the type that a symbol without a type is printed with
 abbrev pub no_type : TypeTree
 no_type = plain plain_kind.None
 
--- the type of a symbol, or none
+-- the type of a symbol, by its node
 abbrev pub type_or_none : Option (Bor «Type») → TypeTree
 type_or_none None = no_type
 type_or_none (Some t) = type_of t.now
 
--- a name in its scope, whose symbol has this type
+-- the name of a symbol of type `t`, in the scope of the symbol
 abbrev pub symbol_name_of : Symbol → TypeTree → ℕ → List Piece
 symbol_name_of s t flags = symbol_name (name_of s.name.now) (names_in s.scope.now) t flags
 
+-- the weight of the name of a symbol of type `t`, in the scope of the symbol
 abbrev pub symbol_weight_of : Symbol → TypeTree → ℕ
 symbol_weight_of s t = symbol_weight (name_of s.name.now) (names_in s.scope.now) t
 
--- the class whose member function is pointed to
+-- the class of a pointer to a member function
 abbrev pub class_pieces_of : Symbol → ℕ → List Piece
 class_pieces_of s flags = pointed_name (name_of s.name.now) (names_in s.scope.now) flags
 
+-- the weight of the class of a pointer to a member function
 abbrev pub class_weight_of : Symbol → ℕ
 class_weight_of s = 3 + symbol_weight_of s no_type
 
--- a symbol with its type on both sides of its name
+-- the pieces of a symbol, whose type stands on both sides of its name
 abbrev pub symbol_pieces_of : TypedSymbol → ℕ → List Piece
 symbol_pieces_of s flags =
     symbol_pieces (name_of s.symbol.name.now) (names_in s.symbol.scope.now) (type_of s.symbol_type.now) flags
 
+-- the weight of a symbol, whose type stands on both sides of its name
 abbrev pub typed_symbol_weight_of : TypedSymbol → ℕ
 typed_symbol_weight_of s = typed_symbol_weight (symbol_weight_of s.symbol (type_of s.symbol_type.now))
     (type_weight (type_of s.symbol_type.now))

@@ -1,4 +1,4 @@
--- The words of a declaration that no recursion needs.
+-- The words and marks of a declaration that depend on no other type or name.
 use Rattle.std.specs.Prelude.{ℕ, List, [], ◌∷◌, ◌++◌, Bool, cond, codes}
 use Rattle.msvc_nodes.specs.declared.kinds.PrimitiveKind.{PrimitiveKind}
 use Rattle.msvc_nodes.specs.declared.kinds.PointerAffinity.{PointerAffinity}
@@ -14,6 +14,7 @@ use Rattle.msvc_print.specs.Pieces.{Piece, text, space}
 use Rattle.msvc_print.specs.declared.spaces.Space.{Space}
 use Rattle.msvc_print.specs.declared.spaces.Space.TheVariants.{AfterPointer, AfterReference, AfterWord}
 
+-- the word of a base type
 abbrev pub base_word : PrimitiveKind → ℕ → List ℕ
 base_word base_kind.Void flags = codes "void"
 base_word base_kind.Char flags = codes "char"
@@ -38,7 +39,7 @@ base_word base_kind.Uint64 flags = cond (has flags ms_type_names) (codes "unsign
 base_word base_kind.Int128 flags = cond (has flags ms_type_names) (codes "__int128") (codes "int128_t")
 base_word base_kind.Uint128 flags = cond (has flags ms_type_names) (codes "unsigned __int128") (codes "uint128_t")
 
--- what stands before a variable, by who may name it
+-- the words before a variable, which say who may name the variable
 abbrev pub variable_word : VarStorageKind → List ℕ
 variable_word PrivateStatic = codes "private: static "
 variable_word ProtectedStatic = codes "protected: static "
@@ -46,7 +47,7 @@ variable_word PublicStatic = codes "public: static "
 variable_word Global = []
 variable_word FunctionLocalStatic = []
 
--- the space before a name
+-- the space before the name of a symbol
 abbrev pub name_space : ℕ → Space
 name_space flags = cond (has flags space_before_pointer) AfterWord AfterReference
 
@@ -54,11 +55,11 @@ name_space flags = cond (has flags space_before_pointer) AfterWord AfterReferenc
 abbrev pub qualifier_space : ℕ → Space
 qualifier_space flags = cond (has flags space_before_pointer) AfterWord AfterPointer
 
--- one qualifier after a space, where its bit is set
+-- a qualifier after a space, where `set` has its bit
 abbrev pub qualifier : Space → ℕ → List ℕ → ℕ → List Piece
 qualifier s bit word set = cond (has set bit) (space s ∷ text word ∷ []) []
 
--- `const` and `volatile` of a set of qualifiers
+-- the `const` and the `volatile` of a set of qualifiers
 unfoldable pub qualifiers : ℕ → ℕ → List Piece
 qualifiers set flags = qualifier (qualifier_space flags) 1 (codes "const") set
     ++ qualifier (qualifier_space flags) 2 (codes "volatile") set
@@ -71,16 +72,17 @@ kind_word tag_kind.Union = codes "union "
 kind_word tag_kind.Enum = codes "enum "
 kind_word tag_kind.Alias = []
 
--- the word before a name that stands for a type
+-- the word before a name that stands for a type, which NO_CLASS_TYPE drops
 abbrev pub tag_word : TagKind → ℕ → List ℕ
 tag_word tag flags = cond (has flags no_class_type) [] (kind_word tag)
 
+-- the mark of a pointer or a reference
 abbrev pub mark_word : PointerAffinity → List ℕ
 mark_word mark_kind.Pointer = codes "*"
 mark_word mark_kind.Reference = codes "&"
 mark_word mark_kind.RValueReference = codes "&&"
 
--- the space before a mark, if there is one
+-- the space before the mark of a pointer or a reference, if flags keep one
 abbrev pub mark_space : ℕ → List Piece
 mark_space flags = cond (has flags hug_type)
     (cond (has flags space_before_pointer) (space AfterWord ∷ []) [])
@@ -90,9 +92,10 @@ mark_space flags = cond (has flags hug_type)
 unfoldable pub marked : List ℕ → ℕ → ℕ → List Piece
 marked word set flags = mark_space flags ++ (text word ∷ qualifiers set flags)
 
--- the parentheses round that which a pointer's mark belongs to
+-- the parenthesis before the mark of a pointer to an array or a function
 unfoldable pub opening : Bool → List Piece
 opening pointed = cond pointed (space AfterPointer ∷ text (codes "(") ∷ []) []
 
+-- the parenthesis after the name of a pointer to an array or a function
 unfoldable pub closing : Bool → List Piece
 closing pointed = cond pointed (text (codes ")") ∷ []) []

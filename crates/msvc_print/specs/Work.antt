@@ -1,5 +1,6 @@
--- What the printer's stack of work means, and how much it is. For the printer alone: no public contract speaks of it.
-use Rattle.std.specs.Prelude.{ℕ, ◌+◌, ◌<◌, ◌≤◌, ◌≡◌, List, [], ◌∷◌, ◌++◌, Bool, false, Option, Some, None}
+-- The pieces that the items of the printer's stack stand for, and their weights. No public contract speaks of these
+-- definitions.
+use Rattle.std.specs.Prelude.{ℕ, ◌+◌, ◌<◌, ◌≤◌, ◌≡◌, List, [], ◌∷◌, ◌++◌, Bool, Option, Some, None}
 use Rattle.std.specs.Prelude.{codes}
 use Rattle.std.specs.Borrow.{Bor}
 use Rattle.msvc_nodes.specs.NodeView.{name_of, names_in, type_of, types_in}
@@ -24,27 +25,18 @@ use Rattle.msvc_print.specs.declared.item.ListEnd.TheVariants.{Round, Bare, Angl
 use Rattle.msvc_print.specs.declared.printer.Printer.{Printer}
 use Rattle.msvc_print.specs.declared.spaces.Space.TheVariants.{AfterAngle}
 
--- what a member function returns
+-- the type that a member function returns, or `None` of any other type
 unfoldable pub member_return : TypeTree → Option TypeTree
 member_return (member_function class convention ts set t) = Some t
 member_return _ = None
 
--- what a conversion operator of a symbol that returns this prints, or one that is no member function
-unfoldable pub conversion_to : Option TypeTree → List Piece → ℕ → List Piece
-conversion_to None name flags = name
-conversion_to (Some t) name flags = text (codes "operator ") ∷ (before t false flags ++ after t false flags)
-
-unfoldable pub return_weight : Option TypeTree → ℕ
-return_weight None = 0
-return_weight (Some t) = type_weight t
-
--- what stands after the last type of a list
+-- the pieces after the last type of a list
 abbrev pub end_pieces : ListEnd → ℕ → List Piece
 end_pieces (Round set) flags = text (codes ")") ∷ function_qualifiers set.0 flags
 end_pieces Bare flags = text (codes ")") ∷ []
 end_pieces Angle flags = space AfterAngle ∷ text (codes ">") ∷ []
 
--- the types that are left of a list, and what stands after them
+-- the types that are left of a list, and the pieces after the last type
 abbrev pub rest_of_parameters : List (Bor «Type») → Bool → ListEnd → ℕ → List Piece
 rest_of_parameters ts first end flags = parameters (types_in ts) first flags ++ end_pieces end flags
 
@@ -64,6 +56,7 @@ item_pieces (Parameters list) flags = rest_of_parameters list.types.now list.fir
 item_pieces (Before t pointed) flags = before (type_of t.now) pointed flags
 item_pieces (After t pointed) flags = after (type_of t.now) pointed flags
 
+-- the weight of an item
 abbrev pub item_weight : Item → ℕ
 item_weight (Text bytes) = 1
 item_weight (Name n of_symbol) = name_weight (name_of n.now)
@@ -79,45 +72,46 @@ item_weight (Parameters list) = types_weight (types_in list.types.now)
 item_weight (Before t pointed) = type_weight (type_of t.now)
 item_weight (After t pointed) = type_weight (type_of t.now)
 
--- the text once all work on the stack, the last item first, is written after what is there
+-- the text `out` once all items of a stack, the last item first, are written after it
 unfoldable pub finished : List Item → LimitedText → ℕ → LimitedText
 finished [] out flags = out
 finished (item ∷ above) out flags = add_all (finished above out flags) (item_pieces item flags)
 
+-- the weight of all items of a stack
 unfoldable pub work : List Item → ℕ
 work [] = 0
 work (item ∷ above) = item_weight item + work above
 
--- pushes stand for these pieces, whatever is written before them
+-- pushes added items to a stack that stand for `pieces`, whatever text is written before them
 abbrev pub Pushes : List Piece → ℕ → List Item → List Item → Type 0
 Pushes pieces flags stack stack' =
     (out : LimitedText) → finished stack' out flags ≡ finished stack (add_all out pieces) flags
 
--- pushes added work of this weight at most
+-- pushes added at most `weight` to the weight of a stack
 abbrev pub AddsAtMost : ℕ → List Item → List Item → Type 0
 AddsAtMost weight stack stack' = work stack' ≤ weight + work stack
 
--- pushes added work of less than this weight
+-- pushes added less than `weight` to the weight of a stack
 abbrev pub AddsLess : ℕ → List Item → List Item → Type 0
 AddsLess weight stack stack' = work stack' < weight + work stack
 
--- the text once all that a printer has left to print is written after this one
+-- the text `out` once all items of a printer's stack are written after it
 abbrev pub finished_after : {S A : Type 0} → Printer S A → LimitedText → LimitedText
 finished_after printer out = finished printer.stack.now.items out printer.flags.0
 
--- a step of the printer printed these pieces: wrote some, and left the rest on the stack
+-- a step of the printer printed `pieces`: it wrote some of them, and left the others on the stack
 abbrev pub Prints : {S A : Type 0} → List Piece → Printer S A → Printer S A → Type 0
 Prints pieces printer printer' =
     finished_after printer' printer'.out.now ≡ finished_after printer (add_all printer.out.now pieces)
 
--- a step on work of this weight left at most as much
+-- a step of the printer added at most `weight` to the weight of its stack
 abbrev pub LeavesAtMost : {S A : Type 0} → ℕ → Printer S A → Printer S A → Type 0
 LeavesAtMost weight printer printer' = AddsAtMost weight printer.stack.now.items printer'.stack.now.items
 
--- a step on work of this weight left less
+-- a step of the printer added less than `weight` to the weight of its stack
 abbrev pub Lightens : {S A : Type 0} → ℕ → Printer S A → Printer S A → Type 0
 Lightens weight printer printer' = AddsLess weight printer.stack.now.items printer'.stack.now.items
 
--- a step left the flags as they were, and wrote to the same text
+-- a step of the printer kept the flags, and wrote to the text that it was given
 abbrev pub Keeps : {S A : Type 0} → Printer S A → Printer S A → Type 0
 Keeps printer printer' = (printer'.flags ≡ printer.flags) × (printer'.out.ghost_name ≡ printer.out.ghost_name)

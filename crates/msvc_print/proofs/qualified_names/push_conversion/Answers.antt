@@ -3,8 +3,8 @@ use Rattle.std.proofs.lemmas.Result.{on_ok_weaker}
 use Rattle.msvc_nodes.specs.NodeView.{name_of, type_of}
 use Rattle.msvc_print.specs.Declaration.{name_pieces}
 use Rattle.msvc_print.specs.SymbolNodes.{type_or_none}
-use Rattle.msvc_print.specs.Work.{conversion_to, member_return, return_weight}
-use Rattle.msvc_print.proofs.OperatorNames.{conversion-return, return_weight-bound}
+use Rattle.msvc_print.specs.Work.{member_return}
+use Rattle.msvc_print.proofs.OperatorNames.{conversion-return, conversion_to, return_weight, return_weight-bound}
 use Rattle.msvc_print.proofs.Stack.{pushed_one, pushed_three, same_pieces, work_one}
 use Rattle.msvc_print.proofs.qualified_names.push_conversion.Goals as goal
 
