@@ -43,12 +43,13 @@ added max true before after piece same fits =
     ap (λ t. record { max = max; text = t }) (sym (ap (within max) same ∙ within-fits max after fits))
 added max false before after piece same fits = refl
 
--- a piece that it does not allow
-pub left_out : (max : ℕ) (whole : Bool) (before : List ℕ) (piece : Piece) → max < length (settle before piece) →
+-- A piece of a text that is not whole, or that the limit does not allow.
+pub left_out : (max : ℕ) (whole : Bool) (before : List ℕ) (piece : Piece) →
+    (whole ≡ true → max < length (settle before piece)) →
     record { max = max; text = None } ≡ add_all (limited max whole before) (piece ∷ [])
 unfolding add_all settle_within
 left_out max true before piece more =
-    ap (λ t. record { max = max; text = t }) (sym (within-exceeds max (settle before piece) more))
+    ap (λ t. record { max = max; text = t }) (sym (within-exceeds max (settle before piece) (more refl)))
 left_out max false before piece more = refl
 
 -- A space that is written after the last byte of a text.

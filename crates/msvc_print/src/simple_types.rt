@@ -77,9 +77,7 @@ pub fn write_simple_pointer<'a, 'b, A: Allocator>(
     if !write_simple_inner(out, inner, flags)? {
         return Ok(false);
     }
-    if out.is_whole() {
-        write_mark(out, word, qualifiers, flags)?;
-    }
+    write_mark(out, word, qualifiers, flags)?;
     Ok(true)
 }
 

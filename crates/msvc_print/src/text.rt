@@ -232,17 +232,18 @@ fn fill_ahead<A: Allocator>(bytes: &mut Vec<u8, A>, max: usize) -> usize
     }
 }
 
-/// Writes bytes as they are, behind those that were written, if the limit allows them.
+/// Writes bytes as they are, behind those that were written, if the limit allows them. Once a piece was left out, writes
+/// nothing more and requests no memory.
 #[cold]
 #[inline(never)]
 fn write_text_beyond<A: Allocator>(out: &mut Text<A>, bytes: &[u8]) -> Result<(), AllocError>
     ensures { OnOk result (Writes (text bytes.now ∷ []) out.old out.new) }
 {
-    if bytes.len() > out.max - out.written {
+    out.ready = 0;
+    if !out.whole || bytes.len() > out.max - out.written {
         out.whole = false;
         return Ok(());
     }
-    out.ready = 0;
     out.bytes.truncate(out.written);
     out.bytes.extend_from_slice(bytes)?;
     out.written += bytes.len();

@@ -122,14 +122,11 @@ impl<'a, 'b, 't, S: Allocator, A: Allocator> Printer<'a, 'b, 't, S, A> {
         if !self.out.is_whole() {
             return Ok(());
         }
-        if !write_simple(self.out, function.returned, self.flags)? {
-            push(self.stack, Item::Calling(pointed, function.convention))?;
-            return self.print_inner(function.returned, false);
+        if write_simple(self.out, function.returned, self.flags)? {
+            return write_calling(self.out, pointed, function.convention, self.flags);
         }
-        if self.out.is_whole() {
-            write_calling(self.out, pointed, function.convention, self.flags)?;
-        }
-        Ok(())
+        push(self.stack, Item::Calling(pointed, function.convention))?;
+        self.print_inner(function.returned, false)
     }
 
     /// Prints what a variable has before its name: words that no flag drops, its type, and its qualifiers.
@@ -303,7 +300,7 @@ impl<'a, 'b, 't, S: Allocator, A: Allocator> Printer<'a, 'b, 't, S, A> {
         ensures kept { Keeps self.old self.new }
     {
         let mut list = TypeList { types, first, end };
-        'lists: while self.out.is_whole() {
+        'lists: loop {
             self.print_list(list.types, list.first, list.end)?;
             let Some(Item::Parameters(next)) = self.stack.last() else {
                 return Ok(());
@@ -311,7 +308,6 @@ impl<'a, 'b, 't, S: Allocator, A: Allocator> Printer<'a, 'b, 't, S, A> {
             list = *next;
             self.stack.pop();
         }
-        Ok(())
     }
 
     /// Prints a type on both sides of nothing.

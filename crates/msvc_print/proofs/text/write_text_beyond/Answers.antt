@@ -1,21 +1,31 @@
-use Rattle.std.proofs.Common.{◌≡◌, ◌∷◌, ◌++◌, [], ◌≤◌, ◌+◌, length, take, arith, ap, sym, ◌∙◌}
+use Rattle.std.proofs.Common.{◌≡◌, ◌∷◌, ◌++◌, [], ◌<◌, ◌≤◌, ◌+◌, length, take, false, true, arith, ap, sym, ◌∙◌}
 use Rattle.std.proofs.Common.{length-append, length-take, length-take-le}
 use Rattle.msvc_print.proofs.Longer.{added, left_out}
 use Rattle.msvc_print.specs.Limited.{add_all}
 use Rattle.msvc_print.specs.Pieces.{text}
 use Rattle.msvc_print.proofs.text.write_text_beyond.Goals as goal
+use Rattle.msvc_print.proofs.text.write_text_beyond.Goals.{
+  then-not-out-via-then-not-out,
+  then-not-out-via-else-not-out+then-bytes-out,
+}
 
-pub returns-then-bytes-out : goal.returns-then-bytes-out
-returns-then-bytes-out g c =
+-- the text is not whole, or the piece exceeds the limit
+pub returns-then-not-out : goal.returns-then-not-out
+returns-then-not-out g c =
     let fields = c.out.inside in
     let before = take fields.written fields.bytes.items in
-    left_out _ fields.whole before (text c.args.bytes.now) (omega (
-      arith,
-      c.if-bytes-out.true,
-      c.out.invariant.0,
-      length-take-le fields.written fields.bytes.items (omega (arith, c.out.invariant.0)),
-      length-append before c.args.bytes.now,
-    ))
+    let exceeds : fields.whole ≡ true → fields.max < length (before ++ c.args.bytes.now)
+    = λ whole. elim c.then-not-out.branch [
+      | then-not-out-via-then-not-out w ↦ let both : false ≡ true = sym w.if-not-out.true ∙ whole in absurd (cc)
+      | then-not-out-via-else-not-out+then-bytes-out w ↦ omega (
+        arith,
+        w.if-bytes-out.true,
+        c.out.invariant.0,
+        length-take-le fields.written fields.bytes.items (omega (arith, c.out.invariant.0)),
+        length-append before c.args.bytes.now,
+      )
+    ] in
+    left_out _ fields.whole before (text c.args.bytes.now) exceeds
     ∙ ap (λ t. add_all t (text c.args.bytes.now ∷ [])) c.out.view_is
 
 pub returns : goal.returns

@@ -1,6 +1,5 @@
 use Rattle.std.proofs.Common.{◌≡◌, false, is_some, ap, rules}
 use Rattle.msvc_print.proofs.SimpleTypes.{add_all-not_whole}
-use Rattle.msvc_print.proofs.Settling.{settled_two}
 use Rattle.msvc_print.specs.Work.{finished_after}
 use Rattle.msvc_print.proofs.printer.Printer.print_function.Goals as goal
 
@@ -9,9 +8,3 @@ pub returns-then-not-is_whole-clause-text : goal.returns-then-not-is_whole-claus
 returns-then-not-is_whole-clause-text g c =
     let left_out : is_some c.args.self.now.out.now.text ≡ false = search rules in
     ap (finished_after c.args.self.now) (add_all-not_whole _ _ left_out)
-
-pub returns-else-is_whole-clause-text : goal.returns-else-is_whole-clause-text
-returns-else-is_whole-clause-text g c =
-    let left_out : is_some c.write_simple.new.out.text ≡ false = search rules in
-    ap (finished_after c.args.self.now)
-    (settled_two _ _ _ _ _ (c.in_ok-write_simple.ensures.simple c.if-not-branch.false) (add_all-not_whole _ _ left_out))

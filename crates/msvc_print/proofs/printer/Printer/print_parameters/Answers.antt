@@ -1,7 +1,4 @@
-use Rattle.std.proofs.Common.{◌≡◌, ◌∷◌, ◌++◌, [], false, is_some, arith, ap, sym, ◌∙◌, rules}
-use Rattle.msvc_print.specs.Work.{finished_after}
-use Rattle.msvc_print.proofs.SimpleTypes.{add_all-not_whole}
-use Rattle.msvc_print.proofs.Parameters.{types_weight-positive}
+use Rattle.std.proofs.Common.{◌≡◌, ◌∷◌, ◌++◌, [], arith, sym, ◌∙◌, rules}
 use Rattle.msvc_print.proofs.Stack.{pushed_one, work_one}
 use Rattle.msvc_print.specs.declared.item.Item.TheVariants.{Parameters}
 use Rattle.msvc_print.proofs.printer.Printer.print_parameters.Given.{Over}
@@ -29,13 +26,3 @@ lists-preserved g c = record {
     c.print_list.ensures.kept.1 ∙ c.lists.invariant.kept.1,
   );
 }
-
--- a piece was left out
-pub returns-clause-text : goal.returns-clause-text
-returns-clause-text g c =
-    let left_out : is_some c.lists.self.out.now.text ≡ false = search rules in
-    ap (finished_after c.lists.self) (add_all-not_whole _ _ left_out) ∙ c.lists.invariant.text
-
-pub returns-clause-lighter : goal.returns-clause-lighter
-returns-clause-lighter g c =
-    omega (arith, c.lists.invariant.lighter, types_weight-positive c.lists.list.types.now)
