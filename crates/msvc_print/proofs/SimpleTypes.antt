@@ -1,11 +1,10 @@
 -- Flat types are written at once, as the items of the stack would print them.
 use Rattle.std.proofs.Common.{◌≡◌, ℕ, suc, ◌+◌, ◌-◌, ◌<◌, ◌≤◌, List, [], ◌∷◌, ◌++◌, Bool, true, false, cond}
 use Rattle.std.proofs.Common.{length, get_or, drop, take, refl, ap, sym, ◌∙◌, is_some, None, arith}
-use Rattle.std.proofs.lemmas.List.{append-nil, append_assoc, at_drop_more, drop_all, length-drop, take_all}
+use Rattle.std.proofs.lemmas.List.{append_assoc, at_drop_more, drop_all, length-drop, take_all}
 use Rattle.std.specs.Borrow.{Bor}
 use Rattle.msvc_nodes.specs.NodeView.{type_of, types_in}
-use Rattle.msvc_nodes.specs.Trees.{NameTree, NameTrees, TypeTree, tagged, types}
-use Rattle.msvc_nodes.specs.declared.kinds.TagKind.{TagKind}
+use Rattle.msvc_nodes.specs.Trees.{TypeTree, types}
 use Rattle.msvc_nodes.specs.declared.nodes.Type.{«Type»}
 use Rattle.msvc_print.proofs.Halves.{around-halves}
 use Rattle.msvc_print.proofs.Longer.{add_all-left_out, none_left}
@@ -13,11 +12,10 @@ use Rattle.msvc_print.proofs.Settling.{add_all-append}
 use Rattle.msvc_print.specs.Declaration.{grown, is_empty_pack, parameters}
 use Rattle.msvc_print.specs.SimpleTypes.{begun}
 use Rattle.msvc_print.specs.Functions.{separator}
-use Rattle.msvc_print.specs.Halves.{after, before, plain_name}
+use Rattle.msvc_print.specs.Halves.{after, before}
 use Rattle.msvc_print.specs.Limited.{LimitedText, add_all}
-use Rattle.msvc_print.specs.Pieces.{Piece, text}
+use Rattle.msvc_print.specs.Pieces.{Piece}
 use Rattle.msvc_print.specs.Sides.{alone, around}
-use Rattle.msvc_print.specs.Words.{qualifiers, tag_word}
 use Rattle.msvc_print.specs.Work.{end_pieces, rest_of_parameters}
 use Rattle.msvc_print.specs.declared.item.ListEnd.{ListEnd}
 
@@ -104,14 +102,6 @@ pub left_out-end : (ts : List (Bor «Type»)) (at : ℕ) (first : Bool) (flags :
     add_all out (begun (drop at ts) flags) ≡ add_all out (parameters (types_in (drop at ts)) first flags)
 left_out-end ts at first flags out e =
     sym (add_all-not_whole out _ e) ∙ add_all-not_whole out _ e
-
--- a class or an enumeration has nothing after the name
-pub tagged-sides : (tag : TagKind) (n : NameTree) (scope : NameTrees) (set flags : ℕ) →
-    before (tagged tag n scope set) false flags ++ after (tagged tag n scope set) false flags
-    ≡ text (tag_word tag flags) ∷ (plain_name n scope flags ++ qualifiers set flags)
-unfolding before after
-tagged-sides tag n scope set flags =
-    append-nil (text (tag_word tag flags) ∷ (plain_name n scope flags ++ qualifiers set flags))
 
 -- the types that are left of a list
 pub types-left : (ts : List (Bor «Type»)) (at : ℕ) → take (length ts - at) (drop at ts) ≡ drop at ts

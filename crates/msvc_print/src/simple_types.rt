@@ -38,7 +38,7 @@ pub fn write_base<A: Allocator>(
 }
 
 /// Writes a type that has no other in it, if it is simple. Returns whether it is.
-fn write_simple_inner<'a, 'b, A: Allocator>(
+pub fn write_simple_inner<'a, 'b, A: Allocator>(
     out: &mut Text<A>,
     t: &'b Type<'a, 'b>,
     flags: DemangleFlags,

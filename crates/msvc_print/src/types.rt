@@ -1,6 +1,6 @@
 //! Prints types on both sides of a name: writes the pieces that come first, and pushes what is left.
 
-ghost use Rattle.std.specs.Prelude.{ℕ, [], ◌∷◌, ◌++◌, ◌+◌, Bool, true, false, OnOk, ◌≡◌, codes};
+ghost use Rattle.std.specs.Prelude.{ℕ, [], ◌∷◌, ◌++◌, ◌+◌, Bool, true, false, IfOk, OnOk, ◌≡◌, codes};
 ghost use Rattle.std.specs.Fmt.{signed_decimal};
 ghost use Rattle.msvc_nodes.specs.Trees.{plain, numbered};
 ghost use Rattle.msvc_nodes.specs.NodeView.{names_in, type_of, types_in};
@@ -18,7 +18,9 @@ ghost use Rattle.msvc_print.specs.Work.{AddsAtMost, Keeps, LeavesAtMost, Lighten
 use crate::function_types::{write_calling, write_list_end, write_member_start, write_separator};
 use crate::item::{Item, ListEnd, TypeList, push};
 use crate::printer::Printer;
-use crate::simple_types::{write_base, write_simple, write_simple_pointer, write_simple_types};
+use crate::simple_types::{
+    write_base, write_simple, write_simple_inner, write_simple_pointer, write_simple_types,
+};
 use crate::spaces::{write_closing, write_opening, write_qualifiers};
 use crate::text::{Text, write_number, write_text};
 use crate::words::{mark_word, tag_word, variable_word};
@@ -72,20 +74,39 @@ impl<'a, 'b, 't, S: Allocator, A: Allocator> Printer<'a, 'b, 't, S, A> {
         }
     }
 
+    /// Prints what a base type, a number, a class or an enumeration has before the name. Returns whether the type is one
+    /// of these, which have nothing after the name.
+    #[inline(always)]
+    #[tactic(auto, using(crate::proofs::Nodes::printed), unfolding(crate::specs::Halves::after, crate::specs::Halves::before, crate::specs::Weights::type_weight, msvc_nodes::specs::NodeView::type_of))]
+    fn print_innermost(&mut self, t: &'b Type<'a, 'b>) -> Result<bool, AllocError>
+        ensures text { IfOk result (λ is. is ≡ true → (pointed : Bool) →
+            Prints (before (type_of t.now) pointed self.old.flags.0) self.old self.new) }
+        ensures ends { IfOk result (λ is. is ≡ true → (pointed : Bool) →
+            after (type_of t.now) pointed self.old.flags.0 ≡ []) }
+        ensures lighter { IfOk result (λ is. is ≡ true → Lightens (type_weight (type_of t.now)) self.old self.new) }
+        ensures other { IfOk result (λ is. is ≡ false →
+            (self.new.stack.now ≡ self.old.stack.now) × (self.new.out.now ≡ self.old.out.now)) }
+        ensures kept { Keeps self.old self.new }
+    {
+        match t {
+            Type::Tagged(tag, qualifiers, symbol) => {
+                self.print_tagged(tag_word(*tag, self.flags), *symbol, *qualifiers)?;
+                Ok(true)
+            }
+            _ => write_simple_inner(self.out, t, self.flags),
+        }
+    }
+
     /// Prints what a type inside another has before the name. Most have no type in them, and are printed at once.
-    #[tactic(auto, using(crate::proofs::Nodes::printed), unfolding(crate::specs::Halves::before, crate::specs::Weights::type_weight, msvc_nodes::specs::NodeView::type_of))]
     fn print_inner(&mut self, t: &'b Type<'a, 'b>, pointed: bool) -> Result<(), AllocError>
         ensures text { OnOk result (Prints (before (type_of t.now) pointed self.old.flags.0) self.old self.new) }
         ensures lighter { OnOk result (LeavesAtMost (type_weight (type_of t.now)) self.old self.new) }
         ensures kept { Keeps self.old self.new }
     {
-        match t {
-            Type::Base(base, qualifiers) => write_base(self.out, *base, *qualifiers, self.flags),
-            Type::Tagged(tag, qualifiers, symbol) => {
-                self.print_tagged(tag_word(*tag, self.flags), *symbol, *qualifiers)
-            }
-            _ => push(self.stack, Item::Before(t, pointed)),
+        if self.print_innermost(t)? {
+            return Ok(());
         }
+        push(self.stack, Item::Before(t, pointed))
     }
 
     /// Prints what a pointer or a reference has before the name.
@@ -318,18 +339,11 @@ impl<'a, 'b, 't, S: Allocator, A: Allocator> Printer<'a, 'b, 't, S, A> {
             self.old self.new) }
         ensures kept { Keeps self.old self.new }
     {
-        match t {
-            Type::Tagged(tag, qualifiers, symbol) => {
-                let word = tag_word(*tag, self.flags);
-                self.print_tagged(word, *symbol, *qualifiers)?;
-                Ok(())
-            }
-            _ => {
-                push_suffix(self.stack, t, false, self.flags)?;
-                self.print_prefix(t, false)?;
-                Ok(())
-            }
+        if self.print_innermost(t)? {
+            return Ok(());
         }
+        push_suffix(self.stack, t, false, self.flags)?;
+        self.print_prefix(t, false)
     }
 
     /// Prints a word, a name in its scope, and qualifiers.
