@@ -1,4 +1,5 @@
 //! Prints types on both sides of a name: writes the pieces that come first, and pushes what is left.
+#![tactic(auto, using(crate::proofs::Nodes::printed), unfolding(crate::specs::Declaration::is_empty_pack, crate::specs::Declaration::table_end, crate::specs::Halves::after, crate::specs::Halves::before, crate::specs::Weights::type_weight, msvc_nodes::specs::NodeView::type_of))]
 
 ghost use Rattle.std.specs.Prelude.{ℕ, [], ◌∷◌, ◌++◌, ◌+◌, Bool, true, false, IfOk, OnOk, ◌≡◌, codes};
 ghost use Rattle.std.specs.Fmt.{signed_decimal};
@@ -32,7 +33,6 @@ use std::alloc::{AllocError, Allocator};
 
 impl<'a, 'b, 't, S: Allocator, A: Allocator> Printer<'a, 'b, 't, S, A> {
     /// Prints what a type has before the name.
-    #[tactic(auto, using(crate::proofs::Nodes::printed), unfolding(crate::specs::Halves::before, crate::specs::Weights::type_weight, msvc_nodes::specs::NodeView::type_of))]
     pub fn print_prefix(&mut self, t: &'b Type<'a, 'b>, pointed: bool) -> Result<(), AllocError>
         ensures text { OnOk result (Prints (before (type_of t.now) pointed self.old.flags.0) self.old self.new) }
         ensures lighter { OnOk result (Lightens (type_weight (type_of t.now)) self.old self.new) }
@@ -77,7 +77,6 @@ impl<'a, 'b, 't, S: Allocator, A: Allocator> Printer<'a, 'b, 't, S, A> {
     /// Prints what a base type, a number, a class or an enumeration has before the name. Returns whether the type is one
     /// of these, which have nothing after the name.
     #[inline(always)]
-    #[tactic(auto, using(crate::proofs::Nodes::printed), unfolding(crate::specs::Halves::after, crate::specs::Halves::before, crate::specs::Weights::type_weight, msvc_nodes::specs::NodeView::type_of))]
     fn print_innermost(&mut self, t: &'b Type<'a, 'b>) -> Result<bool, AllocError>
         ensures text { IfOk result (λ is. is ≡ true → (pointed : Bool) →
             Prints (before (type_of t.now) pointed self.old.flags.0) self.old self.new) }
@@ -169,7 +168,6 @@ impl<'a, 'b, 't, S: Allocator, A: Allocator> Printer<'a, 'b, 't, S, A> {
     }
 
     /// Prints what a type has after the name.
-    #[tactic(auto, using(crate::proofs::Nodes::printed), unfolding(crate::specs::Halves::after, crate::specs::Weights::type_weight, msvc_nodes::specs::NodeView::type_of))]
     pub fn print_suffix(&mut self, t: &'b Type<'a, 'b>, pointed: bool) -> Result<(), AllocError>
         ensures text { OnOk result (Prints (after (type_of t.now) pointed self.old.flags.0) self.old self.new) }
         ensures lighter { OnOk result (Lightens (type_weight (type_of t.now)) self.old self.new) }
@@ -237,7 +235,6 @@ impl<'a, 'b, 't, S: Allocator, A: Allocator> Printer<'a, 'b, 't, S, A> {
     }
 
     /// Prints what a table has after its name: the scope that it is for.
-    #[tactic(auto, using(crate::proofs::Stack::pushes), unfolding(crate::specs::Declaration::table_end))]
     fn print_table_end(
         &mut self,
         table: SpecialTableKind,
@@ -366,7 +363,6 @@ impl<'a, 'b, 't, S: Allocator, A: Allocator> Printer<'a, 'b, 't, S, A> {
 }
 
 /// Writes a type that has nothing in it.
-#[tactic(auto, using(crate::proofs::Settling::settling), unfolding(crate::specs::Halves::before))]
 fn write_plain<A: Allocator>(
     out: &mut Text<A>,
     kind: PlainType,
@@ -385,7 +381,6 @@ fn write_plain<A: Allocator>(
 }
 
 /// Writes a type that has one number in it.
-#[tactic(auto, using(crate::proofs::Settling::settling), unfolding(crate::specs::Halves::before))]
 pub fn write_numbered<A: Allocator>(
     out: &mut Text<A>,
     kind: NumberedType,
@@ -403,7 +398,6 @@ pub fn write_numbered<A: Allocator>(
 }
 
 /// Returns whether a type may have something after the name.
-#[tactic(auto, unfolding(crate::specs::Halves::after, msvc_nodes::specs::NodeView::type_of))]
 fn may_have_suffix<'a, 'b>(t: &'b Type<'a, 'b>) -> bool
     ensures { result ≡ false → (pointed : Bool) (flags : ℕ) → after (type_of t.now) pointed flags ≡ [] }
 {
@@ -462,7 +456,6 @@ fn push_const<'a, 'b, S: Allocator>(
 }
 
 /// Returns whether a type is a pack without parameters.
-#[tactic(auto, unfolding(crate::specs::Declaration::is_empty_pack, msvc_nodes::specs::NodeView::type_of))]
 pub fn is_empty_pack<'a, 'b>(t: &'b Type<'a, 'b>) -> bool
     ensures { result ≡ spec.is_empty_pack (type_of t.now) }
 {
