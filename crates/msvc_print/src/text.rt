@@ -81,7 +81,6 @@ impl<A: Allocator> Text<A> {
     /// Requests memory for `bytes` bytes ahead, unless that was done before. Changes no byte.
     ///
     /// Fails only if an allocation fails.
-    #[inline(always)]
     pub fn try_reserve_once(&mut self, bytes: usize) -> Result<(), AllocError>
         ensures { self.new ≡ self.old }
     {
@@ -116,7 +115,6 @@ impl<A: Allocator> Text<A> {
     }
 
     /// Returns the last byte of the text, 0 if it is empty. The byte is unspecified if the text is not whole.
-    #[inline(always)]
     pub(crate) fn last_byte(&self) -> u8
         ensures last { (bytes : List ℕ) → self.now.text ≡ Some bytes → result ≡ last_byte bytes }
         ensures fits { (bytes : List ℕ) → self.now.text ≡ Some bytes → length bytes ≤ self.now.max }
@@ -235,7 +233,6 @@ fn fill_ahead<A: Allocator>(bytes: &mut Vec<u8, A>, max: usize) -> usize
 /// Writes bytes as they are, behind those that were written, if the limit allows them. Once a piece was left out, writes
 /// nothing more and requests no memory.
 #[cold]
-#[inline(never)]
 fn write_text_beyond<A: Allocator>(out: &mut Text<A>, bytes: &[u8]) -> Result<(), AllocError>
     ensures { OnOk result (Writes (text bytes.now ∷ []) out.old out.new) }
 {
