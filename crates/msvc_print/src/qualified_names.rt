@@ -234,7 +234,6 @@ impl<'a, 'b, 't, S: Allocator, A: Allocator> Printer<'a, 'b, 't, S, A> {
     }
 
     /// Prints the first `left` names of a scope, the outermost first, each with `::` after it.
-    #[inline(always)]
     fn print_remaining_names(
         &mut self,
         names: &'b [&'b Name<'a, 'b>],
