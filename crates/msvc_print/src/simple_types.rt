@@ -21,9 +21,7 @@ use msvc_nodes::kinds::PrimitiveKind;
 use msvc_nodes::nodes::Type;
 use std::alloc::{AllocError, Allocator};
 
-/// Writes the word of a base type, and its qualifiers. It stays a call, since a loop that has it inline first makes
-/// ready each word that depends on flags.
-#[inline(never)]
+/// Writes the word of a base type, and its qualifiers.
 pub fn write_base<A: Allocator>(
     out: &mut Text<A>,
     base: PrimitiveKind,

@@ -45,7 +45,6 @@ impl Space {
 }
 
 /// Writes a space, if one is written after the last byte of `out`.
-#[inline(always)]
 pub fn write_space<A: Allocator>(out: &mut Text<A>, kind: Space) -> Result<(), AllocError>
     ensures { OnOk result (Writes (space kind ∷ []) out.old out.new) }
 {
