@@ -27,7 +27,7 @@ const TEXT_AT_FIRST: usize = 64;
 /// The rest of a declaration, for each byte of its symbol: few names need more.
 const TEXT_OF_A_BYTE: usize = 3;
 
-/// What a step takes of an arena at most.
+/// Holds what a step takes of an arena at most.
 #[derive(Clone, Copy)]
 struct Need {
     /// Whatever the symbol.
@@ -53,7 +53,6 @@ const PRINTING: Need = Need {
 };
 
 /// Returns what a step needs for a symbol of `bytes` bytes and at most `nodes` nodes.
-#[inline(always)]
 fn needed(need: Need, bytes: usize, nodes: Option<usize>) -> usize
     ensures max { result ≤ 2 ^ 20 }
 {
@@ -67,7 +66,6 @@ fn needed(need: Need, bytes: usize, nodes: Option<usize>) -> usize
 
 /// Returns what an arena needs to read a symbol that `input` begins with, of at most `nodes` nodes: at most a megabyte,
 /// and nothing if `input` doesn't begin with `?`.
-#[inline(always)]
 pub fn arena_to_read(input: &str, nodes: Option<usize>) -> usize
     ensures max { result ≤ 2 ^ 20 }
 {
@@ -79,7 +77,6 @@ pub fn arena_to_read(input: &str, nodes: Option<usize>) -> usize
 
 /// Returns what an arena needs to read such a symbol and to print it: at most a megabyte, and nothing if `input`
 /// doesn't begin with `?`.
-#[inline(always)]
 pub fn arena_to_print(input: &str, nodes: Option<usize>) -> usize
     ensures max { result ≤ 2 ^ 20 }
 {
@@ -92,7 +89,6 @@ pub fn arena_to_print(input: &str, nodes: Option<usize>) -> usize
 }
 
 /// Returns the bytes of the declarations of most symbols of `bytes` bytes.
-#[inline(always)]
 pub fn text_of(bytes: usize) -> usize {
     bytes
         .saturating_mul(TEXT_OF_A_BYTE)
