@@ -2,3 +2,4 @@ pub mod Contexts
 pub mod Decisions
 pub mod NodeLists
 pub mod NodeViews
+pub mod TreeSizes

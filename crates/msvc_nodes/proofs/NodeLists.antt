@@ -3,7 +3,7 @@ use Rattle.std.proofs.Common.{◌≡◌, ℕ, zero, suc, ◌<◌, List, [], ◌�
 use Rattle.std.specs.Borrow.{Bor}
 use Rattle.msvc_nodes.specs.NodeView.{name_at, type_at}
 use Rattle.msvc_nodes.specs.NodeView.{names_in as node_names, types_in as node_types}
-use Rattle.msvc_nodes.specs.Sizes.{name_size, names_size, type_size, types_size}
+use Rattle.msvc_nodes.proofs.TreeSizes.{name_size, names_size, type_size, types_size}
 use Rattle.msvc_nodes.specs.Trees.{names, types, name_trees, type_trees}
 use Rattle.msvc_nodes.specs.declared.nodes.Name.{Name as NodeName}
 use Rattle.msvc_nodes.specs.declared.nodes.Type.{«Type» as NodeType}

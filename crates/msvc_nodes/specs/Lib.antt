@@ -4,5 +4,4 @@ pub mod Equality
 pub mod Errors
 pub mod NodeView
 pub mod PlainOperators
-pub mod Sizes
 pub mod Trees

@@ -1,6 +1,6 @@
 -- The view of a list is made of the views of its elements.
 use Rattle.std.proofs.Common.{◌≡◌, ℕ, zero, suc, ◌<◌, List, [], ◌∷◌, length, get_or, refl, ap, arith}
-use Rattle.msvc_nodes.specs.Sizes.{name_size, names_size, type_size, types_size}
+use Rattle.msvc_nodes.proofs.TreeSizes.{name_size, names_size, type_size, types_size}
 use Rattle.msvc_tree.specs.View.{name_of, type_of, names_in, types_in}
 use Rattle.msvc_tree.specs.declared.tree.Name.{Name}
 use Rattle.msvc_tree.specs.declared.tree.Type.{«Type»}

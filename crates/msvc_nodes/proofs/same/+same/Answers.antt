@@ -5,7 +5,7 @@ use Rattle.msvc_nodes.proofs.NodeLists.{names_in-length, names_in-at, names_in-s
 use Rattle.msvc_nodes.proofs.NodeLists.{types_in-length, types_in-at, types_in-same, node_types-size}
 use Rattle.msvc_nodes.proofs.NodeViews.{type_of-MemberPointer, type_of-Table, type_of-Tagged}
 use Rattle.msvc_nodes.specs.NodeView.{name_at, name_of, names_in, type_at, type_of, types_in}
-use Rattle.msvc_nodes.specs.Sizes.{name_size, names_size, type_size, types_size}
+use Rattle.msvc_nodes.proofs.TreeSizes.{name_size, names_size, type_size, types_size}
 use Rattle.msvc_nodes.specs.Trees.{member_pointer, operator, table, tagged}
 use Rattle.msvc_nodes.specs.contracts.kinds.PlainOperator.{the_type as operators}
 use Rattle.msvc_nodes.specs.declared.kinds.PlainType.TheVariants as plain_kind

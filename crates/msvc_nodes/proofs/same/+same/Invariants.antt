@@ -1,6 +1,6 @@
 use Rattle.std.proofs.Common.{◌≡◌, ℕ, ◌<◌, ◌+◌, ◌*◌, get_or}
 use Rattle.std.specs.Borrow.{Bor}
-use Rattle.msvc_nodes.specs.Sizes.{name_size, names_size, type_size, types_size}
+use Rattle.msvc_nodes.proofs.TreeSizes.{name_size, names_size, type_size, types_size}
 use Rattle.msvc_nodes.specs.NodeView.{name_at, name_of, type_at, type_of, names_in, types_in}
 use Rattle.msvc_nodes.specs.declared.nodes.Name.{Name}
 use Rattle.msvc_nodes.specs.declared.nodes.Type.{«Type»}

@@ -1,7 +1,7 @@
 use Rattle.std.proofs.Common.{◌≡◌, ◌<◌, rules, get_or, sym, ap, ◌∙◌, subst, map, arith}
 use Rattle.std.proofs.lemmas.List.{take_all}
 use Rattle.msvc_nodes.specs.NodeView.{name_at, type_at, name_of as node_name}
-use Rattle.msvc_nodes.specs.Sizes.{name_size, names_size, type_size, types_size}
+use Rattle.msvc_nodes.proofs.TreeSizes.{name_size, names_size, type_size, types_size}
 use Rattle.msvc_tree.specs.View.{name_of, type_of, scope_of, params_of}
 use Rattle.msvc_tree.proofs.Lists.{names_in-size, types_in-size}
 use Rattle.msvc_tree.proofs.NodeLists.{names-from_map, types-from_map}

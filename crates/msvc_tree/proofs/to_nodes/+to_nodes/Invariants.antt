@@ -1,6 +1,6 @@
 use Rattle.std.proofs.Common.{◌≡◌, ◌≤◌, ◌+◌, ◌*◌, length, map, take, vec_capacity, vec_len}
 use Rattle.msvc_nodes.specs.NodeView.{name_at, type_at}
-use Rattle.msvc_nodes.specs.Sizes.{name_size, names_size, type_size, types_size}
+use Rattle.msvc_nodes.proofs.TreeSizes.{name_size, names_size, type_size, types_size}
 use Rattle.msvc_tree.specs.View.{name_of, operator_of, type_of, scope_of, params_of}
 use Rattle.msvc_tree.proofs.to_nodes.+to_nodes.Given as goal
 

@@ -3,7 +3,7 @@ use Rattle.std.proofs.lemmas.List.{map_more, take_all}
 use Rattle.std.specs.Borrow.{Bor}
 use Rattle.msvc_nodes.specs.NodeView.{name_at, type_at, names_in as node_names, types_in as node_types}
 use Rattle.msvc_nodes.specs.NodeView.{name_of as node_name, type_of as node_type}
-use Rattle.msvc_nodes.specs.Sizes.{name_size, names_size, type_size, types_size}
+use Rattle.msvc_nodes.proofs.TreeSizes.{name_size, names_size, type_size, types_size}
 use Rattle.msvc_nodes.specs.Trees.{member_pointer, table, tagged}
 use Rattle.msvc_tree.specs.View.{name_of, type_of, scope_of, params_of}
 use Rattle.msvc_nodes.specs.declared.kinds.PlainType.TheVariants as plain_kind

@@ -1,6 +1,6 @@
 use Rattle.std.proofs.Common.{◌≡◌, ◌≤◌, ◌+◌, ◌*◌, length, map, take, vec_capacity, vec_len}
 use Rattle.msvc_nodes.specs.NodeView.{name_at, type_at, name_of, type_of, names_in, types_in}
-use Rattle.msvc_nodes.specs.Sizes.{name_size, names_size, type_size, types_size}
+use Rattle.msvc_nodes.proofs.TreeSizes.{name_size, names_size, type_size, types_size}
 use Rattle.msvc_tree.specs.View.{name_of as tree_name, type_of as tree_type}
 use Rattle.msvc_tree.proofs.to_tree.+to_tree.Given as goal
 
