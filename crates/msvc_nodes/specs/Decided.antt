@@ -1,12 +1,13 @@
--- Trees can be told apart: of any two, either they are the same or they are not.
-use Rattle.std.specs.Prelude.{is_some, unwrap_or, ◌≡◌, ◌↔◌, IsTrue, Bool, true, false, ℕ, List, Option, Some, None}
-use Rattle.std.specs.Prelude.{refl}
-use Rattle.std.proofs.Common.{true≢false, sym, ap, ◌∙◌}
-use Rattle.std.specs.Cmp.{IsEquivalence}
+-- Whether two trees are equal is decided: a decision of a type is a function of two values of it that says either that
+-- they are equal or that they are not.
+use Rattle.std.specs.Prelude.{◌≡◌, ℕ, List, Option, Some, None, is_some, unwrap_or}
 use denote.Enum.Bare.{Bare, tag_one}
 use denote.Enum.Declared.{Declared, tag_of}
 use lib.IntN.{ℤ_discrete}
+use mathlib.Core.Bool.{true≢false}
+use mathlib.Core.HLevel.{×_discrete}
 use mathlib.Core.List.{List-discrete}
+use mathlib.Core.Path.{ap, refl, sym}
 use native.Mathlib.Decide.{ℕ_discrete}
 use Rattle.msvc_nodes.specs.Trees.{NameTree, NameTrees, TypeTree, TypeTrees, SymbolTree, NameTree-discrete}
 use Rattle.msvc_nodes.specs.Trees.{NameTrees-discrete, TypeTree-discrete, TypeTrees-discrete}
@@ -33,7 +34,7 @@ use Rattle.msvc_nodes.specs.declared.kinds.TagKind.{TagKind}
 use Rattle.msvc_nodes.specs.declared.kinds.CallingConv.{CallingConv}
 use Rattle.msvc_nodes.specs.declared.kinds.VarStorageKind.{VarStorageKind}
 
--- the values of an enumeration with nothing in its variants are told apart by their tags
+-- a decision for an enumeration with nothing in its variants, by the tags of its values
 by_tags : (D : Declared) → Bare D.parts → (a b : D.D) → Dec (tag_of D a ≡ tag_of D b) → Dec (a ≡ b)
 by_tags D bare a b (yes e) = yes (tag_one D bare a b e)
 by_tags D bare a b (no n) = no (λ e. n (ap (tag_of D) e))
@@ -111,13 +112,8 @@ types_discrete =
     ℕ_discrete ℤ_discrete (option_discrete text_discrete) plain_discrete base_discrete tag_discrete number_discrete
     mark_discrete convention_discrete kind_discrete table_discrete
 
-both_of : {A B : Type 0} (a c : A) (b d : B) → Dec (a ≡ c) → Dec (b ≡ d) → Dec (Path (A × B) (a, b) (c, d))
-both_of a c b d (yes p) (yes q) = yes (λ i. (p i, q i))
-both_of a c b d (yes p) (no n) = no (λ e. n (ap (λ x. x.1) e))
-both_of a c b d (no n) q = no (λ e. n (ap (λ x. x.0) e))
-
 pub symbol_discrete : Discrete (NameTree × NameTrees)
-symbol_discrete s t = both_of s.0 t.0 s.1 t.1 (name_discrete s.0 t.0) (names_discrete s.1 t.1)
+symbol_discrete = ×_discrete name_discrete names_discrete
 
 typed_symbol_of : (s t : SymbolTree) → Dec (s.name ≡ t.name) → Dec (s.scope ≡ t.scope)
     → Dec (s.symbol_type ≡ t.symbol_type) → Dec (s ≡ t)
@@ -130,29 +126,3 @@ pub typed_symbol_discrete : Discrete SymbolTree
 typed_symbol_discrete s t =
     typed_symbol_of s t (name_discrete s.name t.name) (names_discrete s.scope t.scope)
     (type_discrete s.symbol_type t.symbol_type)
-
--- the answer of a decision
-pub is_yes : {A : Type 0} → Dec A → Bool
-is_yes (yes a) = true
-is_yes (no n) = false
-
-pub is_yes-is : {A : Type 0} (d : Dec A) → IsTrue (is_yes d) ↔ A
-unfolding is_yes
-is_yes-is (yes a) = (λ e. a, λ b. refl)
-is_yes-is (no n) = (λ e. absurd (true≢false (sym e)), λ a. absurd (n a))
-
-one_answer : (s t : Bool) → (s ≡ true → t ≡ true) → (t ≡ true → s ≡ true) → s ≡ t
-one_answer true t f g = sym (f refl)
-one_answer false true f g = g refl
-one_answer false false f g = refl
-
--- a test whether two views are one is an equivalence
-pub equivalence : {K A : Type 0} (f : K → A) (E : K → K → Bool) → ((x y : K) → IsTrue (E x y) ↔ (f x ≡ f y))
-    → IsEquivalence E
-equivalence f E d = record {
-  refl = λ x. (d x x).1 refl;
-  symm = λ x y. one_answer (E x y) (E y x) (λ e. (d y x).1 (sym ((d x y).0 e))) (λ e. (d x y).1 (sym ((d y x).0 e)));
-  congr =
-      λ x y z e. one_answer (E x z) (E y z) (λ h. (d y z).1 (sym ((d x y).0 e) ∙ (d x z).0 h))
-      (λ h. (d x z).1 ((d x y).0 e ∙ (d y z).0 h));
-}

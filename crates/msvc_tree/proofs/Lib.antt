@@ -1,3 +1,4 @@
+pub mod EqualityLemmas
 pub mod Kept
 pub mod Lists
 pub mod NodeLaws

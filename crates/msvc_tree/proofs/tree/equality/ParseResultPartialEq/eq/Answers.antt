@@ -1,5 +1,5 @@
 use Rattle.std.proofs.lemmas.Bool.Decides.{same_from_decides}
-use Rattle.msvc_tree.specs.Equality.{result_eq-is}
+use Rattle.msvc_tree.proofs.EqualityLemmas.{result_eq-is}
 use Rattle.msvc_tree.proofs.tree.equality.ParseResultPartialEq.eq.Goals as goal
 
 pub returns-clause-value : goal.returns-clause-value

@@ -1,6 +1,6 @@
 use Rattle.std.proofs.Common.{ap}
 use Rattle.std.proofs.lemmas.Bool.Decides.{same_from_decides}
-use Rattle.msvc_tree.specs.Equality.{symbol_eq-is}
+use Rattle.msvc_tree.proofs.EqualityLemmas.{symbol_eq-is}
 use Rattle.msvc_tree.proofs.tree.equality.SymbolPartialEq.eq.Goals as goal
 
 pub returns-clause-value : goal.returns-clause-value
