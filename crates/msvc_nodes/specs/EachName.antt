@@ -1,4 +1,4 @@
--- A fact about every name that is spelled in a tree: a source name, the name of an interface, or a hash.
+-- A fact P about every name that is spelled in a tree: a source name, the name of an interface, or a hash.
 use Rattle.std.specs.Prelude.{ℕ, List}
 use Rattle.msvc_nodes.specs.Trees.{NameTree, NameTrees, TypeTree, TypeTrees, SymbolTree, spelled, operator, guard}
 use Rattle.msvc_nodes.specs.Trees.{type_descriptor, base_class_descriptor, template, discriminator, nested, anonymous}
@@ -7,7 +7,7 @@ use Rattle.msvc_nodes.specs.Trees.{function, member_function, member_pointer, va
 use Rattle.msvc_nodes.specs.Trees.{types}
 
 abbrev mutual
-  -- every name that is spelled in a name
+  -- P holds of every name that is spelled in a name
   pub EachNameOfName : (List ℕ → Type 0) → NameTree → Type 0
   EachNameOfName P (spelled how bytes) = P bytes
   EachNameOfName P (operator o) = Unit {0}
@@ -19,12 +19,12 @@ abbrev mutual
   EachNameOfName P (nested n ns t) = EachNameOfName P n × EachNameOfNames P ns × EachNameOfType P t
   EachNameOfName P (anonymous digits) = Unit {0}
 
-  -- likewise in the names of a scope
+  -- P holds of every name that is spelled in the names of a scope
   pub EachNameOfNames : (List ℕ → Type 0) → NameTrees → Type 0
   EachNameOfNames P no_names = Unit {0}
   EachNameOfNames P (names n ns) = EachNameOfName P n × EachNameOfNames P ns
 
-  -- likewise in a type
+  -- P holds of every name that is spelled in a type
   pub EachNameOfType : (List ℕ → Type 0) → TypeTree → Type 0
   EachNameOfType P (plain p) = Unit {0}
   EachNameOfType P (base b q) = Unit {0}
@@ -41,12 +41,12 @@ abbrev mutual
   EachNameOfType P (table k ns q) = EachNameOfNames P ns
   EachNameOfType P (vcall_thunk z c) = Unit {0}
 
-  -- likewise in a list of types
+  -- P holds of every name that is spelled in a list of types
   pub EachNameOfTypes : (List ℕ → Type 0) → TypeTrees → Type 0
   EachNameOfTypes P no_types = Unit {0}
   EachNameOfTypes P (types t ts) = EachNameOfType P t × EachNameOfTypes P ts
 
--- the fact holds of every name that is spelled in a symbol, in its name, its scope or its type
+-- P holds of every name that is spelled in a symbol, in its name, its scope or its type
 abbrev pub EachName : (List ℕ → Type 0) → SymbolTree → Type 0
 EachName P tree =
     EachNameOfName P tree.name × EachNameOfNames P tree.scope × EachNameOfType P tree.symbol_type

@@ -13,6 +13,7 @@ use Rattle.msvc_nodes.specs.declared.nodes.Type as t
 use Rattle.msvc_nodes.specs.declared.nodes.TypedSymbol.{TypedSymbol}
 
 unfoldable mutual
+  -- a name of the program as a tree
   pub name_of : Name → NameTree
   name_of (n.Source x) = spelled spelling_kind.Source x.now
   name_of (n.Interface x) = spelled spelling_kind.Interface x.now
@@ -27,6 +28,7 @@ unfoldable mutual
   name_of (n.Discriminator z) = discriminator z
   name_of (n.Nested' p pn n pl s r pt t) = nested (name_of n) (names_of r) (type_of t)
 
+  -- a type of the program as a tree
   pub type_of : t.«Type» → TypeTree
   type_of (t.Plain k) = plain k
   type_of (t.Base b q) = base b q.0
@@ -43,31 +45,35 @@ unfoldable mutual
   type_of (t.Table' k q p pl s r) = table k (names_of r) q.0
   type_of (t.VcallThunk z c) = vcall_thunk z c
 
+  -- a row of names, as a scope holds it, as a tree
   pub names_of : {m : _} → Row_of-Scope-names-1 m → NameTrees
   names_of n.end_of-Scope-names-1 = no_names
   names_of (n.more_of-Scope-names-1 p n r) = names (name_of n) (names_of r)
 
+  -- a row of types, as a list of parameters or arguments holds it, as a tree
   pub types_of : {m : _} → Row_of-Function-parameters-1 m → TypeTrees
   types_of n.end_of-Function-parameters-1 = no_types
   types_of (n.more_of-Function-parameters-1 p t r) = types (type_of t) (types_of r)
 
--- the names of a list of references, in its order
+-- the names of a list of references, in its order, as a tree
 abbrev pub names_in : List (Bor Name) → NameTrees
 names_in [] = no_names
 names_in (n ∷ ns) = names (name_of n.now) (names_in ns)
 
--- the types of a list of references, in its order
+-- the types of a list of references, in its order, as a tree
 abbrev pub types_in : List (Bor t.«Type») → TypeTrees
 types_in [] = no_types
 types_in (t ∷ ts) = types (type_of t.now) (types_in ts)
 
--- what a reference refers to, seen
+-- the name that a reference refers to, as a tree
 abbrev pub name_at : Bor Name → NameTree
 name_at n = name_of n.now
 
+-- the type that a reference refers to, as a tree
 abbrev pub type_at : Bor t.«Type» → TypeTree
 type_at t = type_of t.now
 
+-- a symbol of the program with its type, as a tree
 abbrev pub typed_symbol_of : TypedSymbol → SymbolTree
 typed_symbol_of w = record {
   name = name_of w.symbol.name.now;

@@ -1,14 +1,15 @@
 -- The operators with nothing in them, and what the compiler names as it names them. Each has a row in one of four
--- tables, by what stands in its code before the last letter. A row has that letter, the operator and what it prints.
+-- tables, by what stands in its code before the last letter.
 use Rattle.std.specs.Prelude.{ℕ, List, [], ◌∷◌, codes}
 use Prim.Native.Char.{code}
 use Rattle.msvc_nodes.specs.declared.kinds.PlainOperator.{PlainOperator}
 use Rattle.msvc_nodes.specs.declared.kinds.PlainOperator.TheVariants as o
 
+-- a row: the letter, the operator, and what it prints
 abbrev pub OperatorRow : Type 0
 OperatorRow = ℕ × PlainOperator × List ℕ
 
--- whose code is the letter alone
+-- the operators whose code is the letter alone
 abbrev pub basic_operators : List OperatorRow
 basic_operators =
     (code "0", o.Ctor, codes "ctor")
@@ -49,7 +50,7 @@ basic_operators =
     ∷ (code "Z", o.MinusEqual, codes "operator-=")
     ∷ []
 
--- after _
+-- the operators whose code is _ and the letter
 abbrev pub under_operators : List OperatorRow
 under_operators =
     (code "0", o.SlashEqual, codes "operator/=")
@@ -84,7 +85,7 @@ under_operators =
     ∷ (code "Y", o.PlacementArrayDeleteClosure, codes "`placement delete[] closure'")
     ∷ []
 
--- of run-time type information, after _R
+-- the operators of run-time type information, whose code is _R and the letter
 abbrev pub type_information_operators : List OperatorRow
 type_information_operators =
     (code "2", o.RTTIBaseClassArray, codes "`RTTI Base Class Array'")
@@ -92,7 +93,7 @@ type_information_operators =
     ∷ (code "4", o.RTTIClassCompleteObjectLocator, codes "`RTTI Complete Object Locator'")
     ∷ []
 
--- after __
+-- the operators whose code is __ and the letter
 abbrev pub double_under_operators : List OperatorRow
 double_under_operators =
     (code "E", o.DynamicInitializer, codes "`dynamic initializer'")

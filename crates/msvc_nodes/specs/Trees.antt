@@ -49,11 +49,14 @@ mutual
     array : ℤ → TypeTree → ℕ → TypeTree
     -- convention, parameters, the function's qualifiers, what it returns
     function : CallingConv → TypeTrees → ℕ → TypeTree → TypeTree
-    -- the class of the member function first
+    -- the class of the member function, its convention, its parameters, its qualifiers, what it returns
     member_function : ℕ → CallingConv → TypeTrees → ℕ → TypeTree → TypeTree
-    -- name and scope of the class first
+    -- the name and the scope of the class, then the class of the member function, its convention, its parameters, its
+    -- qualifiers, what it returns
     member_pointer : NameTree → NameTrees → ℕ → CallingConv → TypeTrees → ℕ → TypeTree → TypeTree
+    -- the type, who may name the variable and where it lives, the storage class after the type
     variable : TypeTree → VarStorageKind → ℕ → TypeTree
+    -- what the table is of, the scope of the base that it is for, the qualifiers
     table : SpecialTableKind → NameTrees → ℕ → TypeTree
     vcall_thunk : ℤ → CallingConv → TypeTree
     deriving Discrete as TypeTree-discrete
@@ -69,12 +72,12 @@ pub record SymbolTree : Type 0 where
   pub scope : NameTrees
   pub symbol_type : TypeTree
 
--- the names of a list, in its order
+-- the names of a list, in its order, as a tree
 abbrev pub name_trees : List NameTree → NameTrees
 name_trees [] = no_names
 name_trees (n ∷ ns) = names n (name_trees ns)
 
--- the types of a list, in its order
+-- the types of a list, in its order, as a tree
 abbrev pub type_trees : List TypeTree → TypeTrees
 type_trees [] = no_types
 type_trees (t ∷ ts) = types t (type_trees ts)
