@@ -20,7 +20,6 @@ tables = record {
   calls = refl;
   types_of_one_letter = refl;
   types_of_two_letters = refl;
-  microsoft_names = refl;
   compound_types = (refl, refl);
   all_types = refl;
   tags = refl;

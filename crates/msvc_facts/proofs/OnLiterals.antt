@@ -15,7 +15,7 @@ use Rattle.msvc_print.specs.Functions.{wide_qualifier}
 use Rattle.msvc_print.specs.Operators.{base_class_pieces, guard_number, guard_pieces, name_kind, operator_word, scoped}
 use Rattle.msvc_print.specs.Pieces.{settle_all}
 use Rattle.msvc_print.specs.Sides.{kept_left, kept_right}
-use Rattle.msvc_print.specs.Words.{closing, marked, opening, qualifiers}
+use Rattle.msvc_print.specs.Words.{base_word, closing, marked, opening, qualifiers}
 use Rattle.msvc_facts.proofs.Filtering.{parts_from}
 use Rattle.msvc_facts.proofs.Reading.{reading_by, reading_name, reading_within}
 use Rattle.msvc_facts.proofs.Same.{is_same_name, is_same_type}
@@ -25,7 +25,7 @@ unfolding arrays counting grammar is_same_name is_same_type part_here reading_by
 reading = tt
 
 unfoldable pub printing : ⊤
-unfolding access_words base_class_pieces calling closing conversion convention_pieces declaration digits
+unfolding access_words base_class_pieces base_word calling closing conversion convention_pieces declaration digits
     each_function_qualifier function_qualifiers grown guard_number guard_pieces is_empty_pack kept_left kept_right
     kind_words marked member_start member_words name_kind name_pieces opening operator_word parameters qualifiers
     quoted_unless scope_pieces scoped separator settle_all table_end wide_qualifier

@@ -1,6 +1,6 @@
 -- What the tables have. Each fact pins a table whole: its letters or texts in their order, what each stands for, and
 -- where that prints words, these words.
-use Rattle.std.specs.Prelude.{ℕ, List, [], ◌∷◌, ◌++◌, ◌≡◌, None, Some, codes, map}
+use Rattle.std.specs.Prelude.{ℕ, List, [], ◌∷◌, ◌≡◌, None, Some, codes, map}
 use Prim.Native.String.{String}
 use Rattle.msvc_nodes.specs.declared.kinds.CallingConv.TheVariants as convention
 use Rattle.msvc_nodes.specs.declared.kinds.Guard.TheVariants as guards
@@ -44,6 +44,14 @@ with_words {A} word table = map (λ (r : ℕ × A). (r.0 ∷ [], r.1, word r.1))
 -- each value prints these words
 abbrev AreWords : {A : Type 0} → (A → List ℕ) → List A → List String → Type 0
 AreWords word values words = map word values ≡ map codes words
+
+-- a letter, a base type, and its words without flags and under MS_TYPENAMES
+abbrev type_row : String → PrimitiveKind → String → String → List ℕ × PrimitiveKind × List ℕ × List ℕ
+type_row letter kind word microsoft = (codes letter, kind, codes word, codes microsoft)
+
+-- the rows of a table of base types, each with its words without flags and under MS_TYPENAMES
+abbrev both_words : List (ℕ × PrimitiveKind) → List (List ℕ × PrimitiveKind × List ℕ × List ℕ)
+both_words = map (λ (r : ℕ × PrimitiveKind). (r.0 ∷ [], r.1, base_word r.1 0, base_word r.1 0x400))
 
 -- what a special name prints inside a scope, if that is the same in all symbols
 abbrev special_word : SpecialForm → List ℕ
@@ -172,20 +180,31 @@ pub record AreTables : Type 0 where
       ∷ row "B" convention.Cdecl "__cdecl " ∷ row "C" convention.Pascal "__pascal "
       ∷ row "E" convention.Thiscall "__thiscall " ∷ row "G" convention.Stdcall "__stdcall "
       ∷ row "I" convention.Fastcall "__fastcall " ∷ []
-  pub types_of_one_letter : with_words (λ kind. base_word kind 0) base_types ≡ row "X" base.Void "void"
-      ∷ row "C" base.Schar "signed char" ∷ row "D" base.Char "char" ∷ row "E" base.Uchar "unsigned char"
-      ∷ row "F" base.Short "short" ∷ row "G" base.Ushort "unsigned short" ∷ row "H" base.Int "int"
-      ∷ row "I" base.Uint "unsigned int" ∷ row "J" base.Long "long" ∷ row "K" base.Ulong "unsigned long"
-      ∷ row "M" base.Float "float" ∷ row "N" base.Double "double" ∷ row "O" base.Ldouble "long double" ∷ []
-  pub types_of_two_letters : with_words (λ kind. base_word kind 0) extended_types ≡ row "N" base.Bool "bool"
-      ∷ row "W" base.Wchar "wchar_t" ∷ row "Q" base.Char8 "char8_t" ∷ row "S" base.Char16 "char16_t"
-      ∷ row "U" base.Char32 "char32_t" ∷ row "J" base.Int64 "int64_t" ∷ row "K" base.Uint64 "uint64_t"
-      ∷ row "L" base.Int128 "int128_t" ∷ row "M" base.Uint128 "uint128_t" ∷ []
+  pub types_of_one_letter : both_words base_types ≡
+      type_row "X" base.Void "void" "void"
+      ∷ type_row "C" base.Schar "signed char" "signed char"
+      ∷ type_row "D" base.Char "char" "char"
+      ∷ type_row "E" base.Uchar "unsigned char" "unsigned char"
+      ∷ type_row "F" base.Short "short" "short"
+      ∷ type_row "G" base.Ushort "unsigned short" "unsigned short"
+      ∷ type_row "H" base.Int "int" "int"
+      ∷ type_row "I" base.Uint "unsigned int" "unsigned int"
+      ∷ type_row "J" base.Long "long" "long"
+      ∷ type_row "K" base.Ulong "unsigned long" "unsigned long"
+      ∷ type_row "M" base.Float "float" "float"
+      ∷ type_row "N" base.Double "double" "double"
+      ∷ type_row "O" base.Ldouble "long double" "long double" ∷ []
   -- the flag for Microsoft's names changes the last four alone
-  pub microsoft_names : AreWords (λ (r : ℕ × PrimitiveKind). base_word r.1 0x400) (base_types ++ extended_types)
-      ("void" ∷ "signed char" ∷ "char" ∷ "unsigned char" ∷ "short" ∷ "unsigned short" ∷ "int" ∷ "unsigned int"
-      ∷ "long" ∷ "unsigned long" ∷ "float" ∷ "double" ∷ "long double" ∷ "bool" ∷ "wchar_t" ∷ "char8_t" ∷ "char16_t"
-      ∷ "char32_t" ∷ "__int64" ∷ "unsigned __int64" ∷ "__int128" ∷ "unsigned __int128" ∷ [])
+  pub types_of_two_letters : both_words extended_types ≡
+      type_row "N" base.Bool "bool" "bool"
+      ∷ type_row "W" base.Wchar "wchar_t" "wchar_t"
+      ∷ type_row "Q" base.Char8 "char8_t" "char8_t"
+      ∷ type_row "S" base.Char16 "char16_t" "char16_t"
+      ∷ type_row "U" base.Char32 "char32_t" "char32_t"
+      ∷ type_row "J" base.Int64 "int64_t" "__int64"
+      ∷ type_row "K" base.Uint64 "uint64_t" "unsigned __int64"
+      ∷ type_row "L" base.Int128 "int128_t" "__int128"
+      ∷ type_row "M" base.Uint128 "uint128_t" "unsigned __int128" ∷ []
   pub compound_types : IsTable compound_letters "_TUVABPQRSY?0123456789" (extended ∷ named tag.Union
       ∷ named tag.Struct ∷ named tag.Class ∷ points mark.Reference None ∷ points mark.Reference (Some 2)
       ∷ points mark.Pointer None ∷ points mark.Pointer (Some 1) ∷ points mark.Pointer (Some 2)

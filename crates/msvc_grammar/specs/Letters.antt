@@ -8,10 +8,10 @@ use Rattle.msvc_nodes.specs.declared.kinds.VarStorageKind.TheVariants.{PrivateSt
 use Rattle.msvc_nodes.specs.declared.kinds.VarStorageKind.TheVariants.{Global, FunctionLocalStatic}
 use Rattle.msvc_nodes.specs.declared.kinds.TagKind.TheVariants as tag_kind
 use Rattle.msvc_nodes.specs.declared.kinds.PrimitiveKind.{PrimitiveKind}
-use Rattle.msvc_nodes.specs.declared.kinds.PrimitiveKind.TheVariants as base_kind
 use Rattle.msvc_nodes.specs.declared.kinds.Guard.TheVariants as guard_kind
 use Rattle.msvc_nodes.specs.declared.kinds.PointerAffinity.TheVariants as mark_kind
 use Rattle.msvc_nodes.specs.declared.kinds.SpecialTableKind.TheVariants as table_kind
+use Rattle.msvc_nodes.specs.BaseTypes.{BaseRow, basic_types, under_types}
 use Rattle.msvc_nodes.specs.PlainOperators.{OperatorRow, basic_operators, under_operators, double_under_operators}
 use Rattle.msvc_nodes.specs.PlainOperators.{type_information_operators}
 use Rattle.msvc_grammar.specs.declared.forms.TypePrefix.{TypePrefix}
@@ -173,36 +173,17 @@ reference_qualifiers = by_letter ((codes "G", lvalue) ∷ (codes "H", rvalue) �
 
 -- Types
 
+-- the base types of a table, by their letters
+abbrev pub types_of : List BaseRow → List (ℕ × PrimitiveKind)
+types_of [] = []
+types_of (row ∷ table) = (row.0, row.1) ∷ types_of table
+
 abbrev pub base_types : List (ℕ × PrimitiveKind)
-base_types = by_letter (
-    (codes "X", base_kind.Void)
-    ∷ (codes "C", base_kind.Schar)
-    ∷ (codes "D", base_kind.Char)
-    ∷ (codes "E", base_kind.Uchar)
-    ∷ (codes "F", base_kind.Short)
-    ∷ (codes "G", base_kind.Ushort)
-    ∷ (codes "H", base_kind.Int)
-    ∷ (codes "I", base_kind.Uint)
-    ∷ (codes "J", base_kind.Long)
-    ∷ (codes "K", base_kind.Ulong)
-    ∷ (codes "M", base_kind.Float)
-    ∷ (codes "N", base_kind.Double)
-    ∷ (codes "O", base_kind.Ldouble)
-    ∷ [])
+base_types = types_of basic_types
 
 -- the base types of a second letter, after _
 abbrev pub extended_types : List (ℕ × PrimitiveKind)
-extended_types = by_letter (
-    (codes "N", base_kind.Bool)
-    ∷ (codes "W", base_kind.Wchar)
-    ∷ (codes "Q", base_kind.Char8)
-    ∷ (codes "S", base_kind.Char16)
-    ∷ (codes "U", base_kind.Char32)
-    ∷ (codes "J", base_kind.Int64)
-    ∷ (codes "K", base_kind.Uint64)
-    ∷ (codes "L", base_kind.Int128)
-    ∷ (codes "M", base_kind.Uint128)
-    ∷ [])
+extended_types = types_of under_types
 
 -- the first letters of types that are no base type of one letter
 abbrev pub compound_letters : List (ℕ × TypeLetter)

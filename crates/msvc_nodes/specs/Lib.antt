@@ -1,3 +1,4 @@
+pub mod BaseTypes
 pub mod Decided
 pub mod EachName
 pub mod Equality

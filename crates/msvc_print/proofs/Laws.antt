@@ -1,14 +1,14 @@
 -- What flags do not change: bits that no definition asks for, and under NAME_ONLY the type of a symbol.
 use Rattle.std.proofs.Common.{◌≡◌, ℕ, ℤ, List, [], ◌∷◌, ◌++◌, Bool, true, false, cond, refl, ap, sym, ◌∙◌, bit_and}
-use Rattle.std.proofs.Common.{◌==◌, append_assoc, codes}
+use Rattle.std.proofs.Common.{◌==◌, append_assoc, codes, Option, Some, None}
 use Rattle.std.proofs.lemmas.Nat.{and_assoc}
 use Rattle.std.specs.Fmt.{signed_decimal}
+use Rattle.msvc_nodes.specs.BaseTypes.{basic_types, under_types}
 use Rattle.msvc_nodes.specs.Trees.{NameTree, NameTrees, TypeTree, TypeTrees, spelled, operator, guard}
 use Rattle.msvc_nodes.specs.Trees.{type_descriptor, base_class_descriptor, template, discriminator, nested, anonymous}
 use Rattle.msvc_nodes.specs.Trees.{no_names, names, no_types, types, base, tagged, pointing, array, function}
 use Rattle.msvc_nodes.specs.Trees.{member_function, member_pointer, plain, numbered, variable, table, vcall_thunk}
 use Rattle.msvc_nodes.specs.declared.kinds.PrimitiveKind.{PrimitiveKind}
-use Rattle.msvc_nodes.specs.declared.kinds.PrimitiveKind.TheVariants as base_kind
 use Rattle.msvc_nodes.specs.declared.kinds.NumberedType.TheVariants as number_kind
 use Rattle.msvc_nodes.specs.declared.kinds.PlainType.TheVariants as plain_kind
 use Rattle.msvc_nodes.specs.declared.kinds.PlainOperator.TheVariants as plain_operator
@@ -31,7 +31,7 @@ use Rattle.msvc_print.specs.Laws.{Agree, HashIsItsText, NameOnlyAsksNoType, Othe
 use Rattle.msvc_print.specs.Operators.{base_class_pieces, name_kind, unqualified_name, scoped}
 use Rattle.msvc_print.specs.Pieces.{Piece, resolve, settle_all, space, text}
 use Rattle.msvc_print.specs.Sides.{Sides, alone, around, between, kept, kept_left, kept_right}
-use Rattle.msvc_print.specs.Words.{base_word, closing, kind_word, mark_space, mark_word, marked}
+use Rattle.msvc_print.specs.Words.{base_word, base_words, chosen_word, closing, kind_word, mark_space, mark_word, marked}
 use Rattle.msvc_print.specs.Words.{name_space, opening, qualifier, qualifier_space, qualifiers, tag_word, variable_word}
 use Rattle.msvc_print.specs.declared.operators.NameKind.{NameKind}
 use Rattle.msvc_print.specs.declared.operators.NameKind.TheVariants as name_kinds
@@ -89,12 +89,13 @@ same-unless : (c c' : Bool) (xs xs' : List Piece) → c ≡ c' → xs ≡ xs' �
 same-unless c c' xs xs' e e' = ap (λ x. cond x [] xs) e ∙ ap (λ x. cond c' [] x) e'
 
 -- words and spaces
+chosen_word-same : (ws : List ℕ × Option (List ℕ)) (a b : ℕ) → Same a b → chosen_word a ws ≡ chosen_word b ws
+chosen_word-same (word, None) a b e = refl
+chosen_word-same (word, Some other) a b e = ap (λ c. cond c other word) e.type_names
+
 base_word-same : (w : PrimitiveKind) (a b : ℕ) → Same a b → base_word w a ≡ base_word w b
-base_word-same base_kind.Int64 a b e = ap (λ c. cond c (codes "__int64") (codes "int64_t")) e.type_names
-base_word-same base_kind.Uint64 a b e = ap (λ c. cond c (codes "unsigned __int64") (codes "uint64_t")) e.type_names
-base_word-same base_kind.Int128 a b e = ap (λ c. cond c (codes "__int128") (codes "int128_t")) e.type_names
-base_word-same base_kind.Uint128 a b e = ap (λ c. cond c (codes "unsigned __int128") (codes "uint128_t")) e.type_names
-base_word-same _ a b e = refl
+unfolding base_word
+base_word-same w a b e = chosen_word-same (base_words w (basic_types ++ under_types)) a b e
 
 tag_word-same : (tag : TagKind) (a b : ℕ) → Same a b → tag_word tag a ≡ tag_word tag b
 tag_word-same tag a b e = ap (λ c. cond c [] (kind_word tag)) e.class_type

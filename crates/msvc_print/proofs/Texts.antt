@@ -1,10 +1,11 @@
 -- The declaration of a tree whose names are UTF-8 is UTF-8, under any flags.
 use Rattle.std.proofs.Common.{ℕ, zero, suc, ◌+◌, ◌<◌, ◌/◌, ◌%◌, ℤ, pos, negsuc, List, [], ◌∷◌, ◌++◌, Bool, true}
-use Rattle.std.proofs.Common.{false, cond, ◌==◌, Option, Some, None, refl, arith, codes}
+use Rattle.std.proofs.Common.{false, cond, ◌==◌, Option, Some, None, unwrap_or, refl, arith, codes}
 use Rattle.std.proofs.lemmas.Str.{IsUtf8-append, IsUtf8-from_ascii, IsUtf8-nil}
 use Rattle.std.proofs.lemmas.Str.Ascii.{IsAscii-cons, IsAscii-nil}
 use Rattle.std.specs.Fmt.{decimal, digit_glyph, digits, digits_onto, signed_decimal}
 use Rattle.std.specs.Str.{IsAscii, IsUtf8}
+use Rattle.msvc_nodes.specs.BaseTypes.{basic_types, under_types}
 use Rattle.msvc_nodes.specs.EachName.{EachName, EachNameOfName, EachNameOfNames, EachNameOfType, EachNameOfTypes}
 use Rattle.msvc_nodes.specs.declared.kinds.PrimitiveKind.{PrimitiveKind}
 use Rattle.msvc_nodes.specs.declared.kinds.PointerAffinity.{PointerAffinity}
@@ -46,7 +47,7 @@ use Rattle.msvc_print.specs.Functions.{parameter_list, separator, wide_qualifier
 use Rattle.msvc_print.specs.Pieces.{Piece, blank, text, space, settle, settle_all}
 use Rattle.msvc_print.specs.Pieces.{is_written_after, last_byte}
 use Rattle.msvc_print.specs.Sides.{Sides, alone, around, between, kept, kept_left, kept_right}
-use Rattle.msvc_print.specs.Words.{base_word, closing, kind_word, mark_space, mark_word, marked}
+use Rattle.msvc_print.specs.Words.{base_word, base_words, chosen_word, closing, kind_word, mark_space, mark_word, marked}
 use Rattle.msvc_print.specs.Words.{name_space, opening, qualifiers, tag_word, variable_word}
 use Rattle.msvc_print.specs.declared.spaces.Space.{Space}
 use Rattle.msvc_print.specs.declared.spaces.Space.TheVariants.{AfterPointer}
@@ -131,19 +132,18 @@ signed_decimal-utf8 (negsuc n) =
     IsUtf8-from_ascii (45 ∷ decimal (suc n)) (IsAscii-cons 45 (decimal (suc n)) (omega arith) (decimal-ascii (suc n)))
 
 -- words
+chosen_word-utf8 : (flags : ℕ) (ws : List ℕ × Option (List ℕ)) → IsUtf8 ws.0 → IsUtf8 (unwrap_or ws.1 [])
+    → IsUtf8 (chosen_word flags ws)
+chosen_word-utf8 flags (word, None) h h' = h
+chosen_word-utf8 flags (word, Some other) h h' = IsUtf8-choice _ other word h' h
+
 base_word-utf8 : (b : PrimitiveKind) (flags : ℕ) → IsUtf8 (base_word b flags)
-unfolding lib.Utf8.encode
-base_word-utf8 base_kind.Int64 flags =
-    IsUtf8-choice _ (codes "__int64") (codes "int64_t") (codes "__int64", (refl, refl))
-    (codes "int64_t", (refl, refl))
-base_word-utf8 base_kind.Uint64 flags = IsUtf8-choice _ (codes "unsigned __int64") (codes "uint64_t")
-    (codes "unsigned __int64", (refl, refl)) (codes "uint64_t", (refl, refl))
-base_word-utf8 base_kind.Int128 flags =
-    IsUtf8-choice _ (codes "__int128") (codes "int128_t") (codes "__int128", (refl, refl))
-    (codes "int128_t", (refl, refl))
-base_word-utf8 base_kind.Uint128 flags = IsUtf8-choice _ (codes "unsigned __int128") (codes "uint128_t")
-    (codes "unsigned __int128", (refl, refl)) (codes "uint128_t", (refl, refl))
-base_word-utf8 b flags = (base_word b flags, (refl, refl))
+unfolding base_word lib.Utf8.encode
+base_word-utf8 base_kind.Void flags =
+    chosen_word-utf8 flags (codes "void", None) (codes "void", (refl, refl)) ([], (refl, refl))
+base_word-utf8 b flags =
+    let ws = base_words b (basic_types ++ under_types) in
+    chosen_word-utf8 flags ws (ws.0, (refl, refl)) (unwrap_or ws.1 [], (refl, refl))
 
 variable_word-utf8 : (kind : VarStorageKind) → IsUtf8 (variable_word kind)
 unfolding lib.Utf8.encode

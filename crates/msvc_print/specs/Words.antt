@@ -1,9 +1,11 @@
 -- The words and marks of a declaration that depend on no other type or name.
-use Rattle.std.specs.Prelude.{ℕ, List, [], ◌∷◌, ◌++◌, Bool, cond, codes}
+use Rattle.std.specs.Prelude.{ℕ, List, [], ◌∷◌, ◌++◌, Bool, Option, Some, None, cond, codes, if◌then◌else◌}
+use denote.Enum.Bare.{sameb}
+use Rattle.msvc_nodes.specs.BaseTypes.{BaseRow, basic_types, under_types}
+use Rattle.msvc_nodes.specs.contracts.kinds.PrimitiveKind.{the_type as bases}
 use Rattle.msvc_nodes.specs.declared.kinds.PrimitiveKind.{PrimitiveKind}
 use Rattle.msvc_nodes.specs.declared.kinds.PointerAffinity.{PointerAffinity}
 use Rattle.msvc_nodes.specs.declared.kinds.TagKind.{TagKind}
-use Rattle.msvc_nodes.specs.declared.kinds.PrimitiveKind.TheVariants as base_kind
 use Rattle.msvc_nodes.specs.declared.kinds.PointerAffinity.TheVariants as mark_kind
 use Rattle.msvc_nodes.specs.declared.kinds.TagKind.TheVariants as tag_kind
 use Rattle.msvc_nodes.specs.declared.kinds.VarStorageKind.{VarStorageKind}
@@ -14,30 +16,19 @@ use Rattle.msvc_print.specs.Pieces.{Piece, text, space}
 use Rattle.msvc_print.specs.declared.spaces.Space.{Space}
 use Rattle.msvc_print.specs.declared.spaces.Space.TheVariants.{AfterPointer, AfterReference, AfterWord}
 
+-- the words in the row of a base type: its word, and the one that MS_TYPENAMES chooses, if it is another
+abbrev pub base_words : PrimitiveKind → List BaseRow → List ℕ × Option (List ℕ)
+base_words b [] = ([], None)
+base_words b (row ∷ table) = if sameb bases b row.1 then (row.2, row.3) else base_words b table
+
+-- which of the words of a row the flags choose
+abbrev pub chosen_word : ℕ → List ℕ × Option (List ℕ) → List ℕ
+chosen_word flags (word, None) = word
+chosen_word flags (word, Some other) = cond (has flags ms_type_names) other word
+
 -- the word of a base type
-abbrev pub base_word : PrimitiveKind → ℕ → List ℕ
-base_word base_kind.Void flags = codes "void"
-base_word base_kind.Char flags = codes "char"
-base_word base_kind.Schar flags = codes "signed char"
-base_word base_kind.Uchar flags = codes "unsigned char"
-base_word base_kind.Short flags = codes "short"
-base_word base_kind.Ushort flags = codes "unsigned short"
-base_word base_kind.Int flags = codes "int"
-base_word base_kind.Uint flags = codes "unsigned int"
-base_word base_kind.Long flags = codes "long"
-base_word base_kind.Ulong flags = codes "unsigned long"
-base_word base_kind.Float flags = codes "float"
-base_word base_kind.Double flags = codes "double"
-base_word base_kind.Ldouble flags = codes "long double"
-base_word base_kind.Bool flags = codes "bool"
-base_word base_kind.Wchar flags = codes "wchar_t"
-base_word base_kind.Char8 flags = codes "char8_t"
-base_word base_kind.Char16 flags = codes "char16_t"
-base_word base_kind.Char32 flags = codes "char32_t"
-base_word base_kind.Int64 flags = cond (has flags ms_type_names) (codes "__int64") (codes "int64_t")
-base_word base_kind.Uint64 flags = cond (has flags ms_type_names) (codes "unsigned __int64") (codes "uint64_t")
-base_word base_kind.Int128 flags = cond (has flags ms_type_names) (codes "__int128") (codes "int128_t")
-base_word base_kind.Uint128 flags = cond (has flags ms_type_names) (codes "unsigned __int128") (codes "uint128_t")
+unfoldable pub base_word : PrimitiveKind → ℕ → List ℕ
+base_word b flags = chosen_word flags (base_words b (basic_types ++ under_types))
 
 -- the words before a variable, which say who may name the variable
 abbrev pub variable_word : VarStorageKind → List ℕ

@@ -28,6 +28,7 @@ macro_rules! word_in_row {
 }
 
 /// Returns the word of a base type. MS_TYPENAMES chooses those of 64 and 128 bits.
+#[tactic(auto, unfolding(crate::specs::Words::base_word))]
 pub fn base_word<'t>(base: PrimitiveKind, flags: DemangleFlags) -> &'t [u8]
     ensures { result.now ≡ spec.base_word base flags.0 }
 {
