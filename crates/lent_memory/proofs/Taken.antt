@@ -18,7 +18,8 @@ use denote.RawPtr.{Ptr, block_ptr, room_for, in_a_block}
 use denote.Shadow.{pure_l}
 use denote.Steps.{only}
 use Rattle.std.specs.contracts.option.Option as option
-use Rattle.lent_memory.specs.Ownership.{bytes_at, bytes_or_none, block_token}
+use Rattle.lent_memory.specs.Blocks.{block_token}
+use Rattle.lent_memory.specs.Ownership.{bytes_at, bytes_or_none}
 use Rattle.lent_memory.specs.contracts.workspace.Workspace as workspace
 use Rattle.lent_memory.proofs.Values.{sized_val, sized_own, sized_told}
 use Rattle.lent_memory.proofs.Rooms.{retypes, some_bytes, comes_back}

@@ -1,7 +1,8 @@
 //! The allocator: one block at a time, of all the memory.
 
 ghost use Rattle.std.specs.Prelude.{◌≡◌, ◌≤◌, ◌<◌, IfSome};
-ghost use Rattle.lent_memory.specs.Ownership.{IsSize, block_token};
+ghost use Rattle.lent_memory.specs.Blocks.{block_token};
+ghost use Rattle.lent_memory.specs.Ownership.{IsSize};
 
 use crate::slot::Slot;
 use crate::workspace::{Block, Workspace};

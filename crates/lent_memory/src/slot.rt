@@ -3,7 +3,7 @@
 ghost use Rattle.std.specs.Prelude.{◌≡◌, ℕ, IfSome};
 ghost use base.Fml.{fex, fsep, ftrue};
 ghost use denote.RawPtr.{Ptr};
-ghost use Rattle.lent_memory.specs.Ownership.{behind_a_ref};
+ghost use Rattle.lent_memory.specs.Blocks.{behind_a_ref};
 
 use crate::workspace::Workspace;
 use std::marker::{Move, Owns};

@@ -1,7 +1,8 @@
 //! The memory that a caller lends, as the caller passes it.
 
 ghost use Rattle.std.specs.Prelude.{◌≡◌, ℕ};
-ghost use Rattle.lent_memory.specs.Ownership.{IsSize, bytes_or_none, no_memory};
+ghost use Rattle.lent_memory.specs.Blocks.{no_memory};
+ghost use Rattle.lent_memory.specs.Ownership.{IsSize, bytes_or_none};
 
 use std::marker::Model;
 use std::mem::{ManuallyDrop, replace};

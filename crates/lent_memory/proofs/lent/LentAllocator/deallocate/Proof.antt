@@ -25,7 +25,8 @@ use denote.Triple.Call.{calls_at}
 use denote.Triple.Clauses.{Lasts, lasts}
 use denote.Triple.Walked.{Stays, stay_dropped, walk_of, Goes-dropped}
 use Rattle.std.proofs.raw_atomic.Walks.{proved_at, leaves}
-use Rattle.lent_memory.specs.Ownership.{bytes_or_none, block_token}
+use Rattle.lent_memory.specs.Blocks.{block_token}
+use Rattle.lent_memory.specs.Ownership.{bytes_or_none}
 use Rattle.std.proofs.ResultValues.{and_tt}
 use Rattle.lent_memory.proofs.Values.{ptr_typed, list_val, list_own, list_made}
 use Rattle.lent_memory.proofs.Walks.{fm, slot_at}

@@ -19,7 +19,7 @@ use denote.Triple.Entry.{alive}
 use denote.Triple.Walked.{Stays, walk_of}
 use Rattle.std.proofs.raw_atomic.Walks.{proved_at, leaves}
 use Rattle.lent_memory.proofs.Values.{sized_val, sized_own, sized_made}
-use Rattle.lent_memory.specs.Ownership.{no_memory}
+use Rattle.lent_memory.specs.Blocks.{no_memory}
 use Rattle.lent_memory.specs.contracts.workspace.Workspace as workspace
 use Rattle.lent_memory.specs.contracts.workspace.Workspace.none.{ended, clauses}
 use Rattle.lent_memory.specs.contracts.workspace.Workspace.none.Key.{name as #self}
