@@ -1,5 +1,5 @@
 pub mod Runs
--- what the clauses of the public calls cite of the crates below
+-- the definitions of the crates below that the clauses of the public calls cite
 pub use Rattle.msvc_filter.specs.Filtered
 pub use Rattle.msvc_filter.specs.SliceWriters
 pub use Rattle.msvc_filter.specs.SymbolBounds
@@ -38,6 +38,5 @@ pub use Rattle.msvc_tree.specs.Equality
 pub use Rattle.msvc_tree.specs.View
 pub use Rattle.msvc_streams.specs.Faults
 pub use Rattle.msvc_streams.specs.Streams
-pub use Rattle.msvc_streams.specs.Taking
 pub use Rattle.msvc_streams.specs.declared.watched.Fault
 pub use Rattle.msvc_write.specs.Serialized

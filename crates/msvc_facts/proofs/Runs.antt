@@ -12,8 +12,7 @@ use Rattle.std.specs.List.{list_all, list_any}
 use Rattle.std.specs.Prelude.{◌==◌, ◌||◌, if◌then◌else◌, not}
 use Rattle.msvc_demangler.specs.Lines.{pieces}
 use Rattle.msvc_lines.specs.Answers.{IsFilterText}
-use Rattle.msvc_streams.specs.Runs.{IsLines, IsOfOneLine}
-use Rattle.msvc_streams.specs.Taking.{IsWithoutEnd}
+use Rattle.msvc_streams.specs.Runs.{IsLines, IsOfOneLine, IsWithoutEnd}
 use Rattle.msvc_facts.proofs.Answering.{is_answered, text_of}
 use Rattle.msvc_facts.proofs.OnLiterals.{filtering}
 use Rattle.msvc_facts.specs.Runs.{AreFaults, AreLineRuns}

@@ -13,10 +13,9 @@ use Rattle.std.proofs.KnownBytes.{Appends-nil, Appends-trans, Consumes-kept, Con
 use Rattle.std.proofs.lemmas.List.Elements.{All-nil, All-append}
 use Rattle.msvc_filter.specs.Filtered.{IsFiltered, IsFilteredText, Part, nothing, text_of_parts}
 use Rattle.msvc_filter.specs.FilterRuns.{LeavesFiltered, WritesFiltered, max_held}
-use Rattle.msvc_streams.specs.Runs.{IsLines, IsOfOneLine, Writes, WritesPart}
+use Rattle.msvc_streams.specs.Runs.{IsLines, IsOfOneLine, IsWithoutEnd, Writes, WritesPart}
 use Rattle.msvc_filter.specs.WordStates.{AreRest, IsFilteredUpTo, IsDecidedText, IsDecidedTextOf, IsRestText, Keeps}
 use Rattle.msvc_filter.specs.WordStates.{max_looked_at}
-use Rattle.msvc_streams.specs.Taking.{IsWithoutEnd}
 use Rattle.msvc_streams.specs.declared.watched.Fault.{Fault}
 use Rattle.msvc_streams.specs.declared.watched.Fault.TheVariants.{Read, Write, Memory}
 use Rattle.msvc_filter.specs.declared.symbol_bounds.WordState.{WordState}

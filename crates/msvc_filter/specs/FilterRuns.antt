@@ -1,7 +1,6 @@
 -- What the filter has written when it ends.
 use Rattle.std.specs.Prelude.{ℕ, List, [], ◌++◌, ◌≡◌, ◌≢◌, ◌≤◌, Result, MatchResult, length}
-use Rattle.msvc_streams.specs.Runs.{IsLines, IsOfOneLine}
-use Rattle.msvc_streams.specs.Taking.{IsWithoutEnd}
+use Rattle.msvc_streams.specs.Runs.{IsLines, IsOfOneLine, IsWithoutEnd}
 use Rattle.msvc_streams.specs.declared.watched.Fault.{Fault}
 use Rattle.msvc_streams.specs.declared.watched.Fault.TheVariants.{Read, Write}
 use Rattle.msvc_filter.specs.Filtered.{IsFiltered}

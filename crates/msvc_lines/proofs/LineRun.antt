@@ -7,8 +7,7 @@ use Rattle.std.proofs.KnownBytes.{Appends-nil, Appends-trans, Consumes-nil, Cons
 use Rattle.std.proofs.lemmas.List.Elements.{All-nil, All-append}
 use Rattle.msvc_streams.specs.Faults.{IsSet, FailureFlag, SetsFlagOf, Stays, no_stream}
 use Rattle.msvc_lines.specs.LineRuns.{LeavesOff, WritesText}
-use Rattle.msvc_streams.specs.Runs.{IsLines, IsOfOneLine, Writes, WritesPart}
-use Rattle.msvc_streams.specs.Taking.{IsWithoutEnd}
+use Rattle.msvc_streams.specs.Runs.{IsLines, IsOfOneLine, IsWithoutEnd, Writes, WritesPart}
 use Rattle.msvc_streams.specs.declared.watched.Fault.{Fault}
 use Rattle.msvc_streams.specs.declared.watched.Fault.TheVariants.{Read, Write, Memory}
 use Rattle.msvc_lines.proofs.LineTexts.{AreJoined, IsTheText, the_text}

@@ -5,8 +5,7 @@ use Rattle.std.proofs.lemmas.List.{map-append}
 use Rattle.std.specs.Prelude.{map}
 use Rattle.std.proofs.lemmas.List.Elements.{All-head, All-tail}
 use Rattle.msvc_lines.specs.Lines.{joined, pieces, line_of, lines_of}
-use Rattle.msvc_streams.specs.Runs.{IsLines, IsOfOneLine}
-use Rattle.msvc_streams.specs.Taking.{IsWithoutEnd}
+use Rattle.msvc_streams.specs.Runs.{IsLines, IsOfOneLine, IsWithoutEnd}
 
 -- bytes that are there give a piece
 pieces-some : (x : ℕ) (xs : List ℕ) → (p : List ℕ) × (ps : List (List ℕ)) × (pieces (x ∷ xs) ≡ p ∷ ps)

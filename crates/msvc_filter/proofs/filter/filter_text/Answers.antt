@@ -3,9 +3,9 @@ use Rattle.std.specs.Prelude.{vec_len}
 use Rattle.std.proofs.lemmas.List.{nil_from_length}
 use Rattle.std.proofs.lemmas.Result.{err_from_is_err_and}
 use Rattle.std.specs.Io.KnownBytes.{Consumes}
-use Rattle.msvc_streams.specs.Runs.{Writes, WritesPart}
+use Rattle.msvc_streams.specs.Runs.{IsWithEnd, Writes, WritesPart}
 use Rattle.msvc_filter.specs.WordStates.{IsDecidedText, IsDecidedTextOf, IsRestText}
-use Rattle.msvc_streams.specs.Taking.{IsCut, IsWithEnd}
+use Rattle.msvc_streams.specs.Taking.{IsCut}
 use Rattle.msvc_streams.specs.declared.watched.Taken.TheVariants.{Part}
 use Rattle.msvc_filter.proofs.Streamed.{Consumes-front, Consumes-polled, Streaming-end, Streaming-line}
 use Rattle.msvc_filter.proofs.Streamed.{Streaming-line_fault, Streaming-polled, Streaming-put}

@@ -4,8 +4,8 @@ use Rattle.std.proofs.lemmas.Result.{err_from_is_err_and}
 use Rattle.std.specs.Io.KnownBytes.{Consumes}
 use Rattle.msvc_lines.specs.Answers.{IsText}
 use Rattle.msvc_lines.specs.Lines.{line_of}
-use Rattle.msvc_streams.specs.Runs.{Writes, WritesPart}
-use Rattle.msvc_streams.specs.Taking.{IsCut, IsWithEnd}
+use Rattle.msvc_streams.specs.Runs.{IsWithEnd, Writes, WritesPart}
+use Rattle.msvc_streams.specs.Taking.{IsCut}
 use Rattle.msvc_streams.specs.declared.watched.Taken.TheVariants.{Part}
 use Rattle.msvc_lines.proofs.LineRun.{empty-of_length, LineRun-polled, LineRun-end, LineRun-fault, LineRun-line}
 use Rattle.msvc_lines.proofs.LineRun.{LineRun-part, LineRun-rest, LineRun-start}
