@@ -1,7 +1,5 @@
 //! Converts values of the enumerations of `msvc_nodes::kinds` to operators and types of a tree.
 
-#![tactic(auto, using(crate::proofs::Views::rows), unfolding(crate::specs::View::name_of, crate::specs::View::operator_of, crate::specs::View::type_of))]
-
 ghost use Rattle.std.specs.Prelude.{◌≡◌};
 ghost use Rattle.msvc_nodes.specs.Trees.{base, base_class_descriptor, guard, numbered, operator, plain, pointing};
 ghost use Rattle.msvc_nodes.specs.Trees.{table, tagged};

@@ -2,8 +2,6 @@
 //! here, and not in the arms of the `match` that calls the steps: there each arm would have to drop what it holds, and
 //! the proof would take twice as long.
 
-#![tactic(auto, using(crate::proofs::Views::rows), unfolding(crate::specs::View::name_of, crate::specs::View::operator_of, crate::specs::View::type_of))]
-
 ghost use Rattle.std.specs.Prelude.{◌≡◌, IfOk};
 ghost use Rattle.std.specs.Result.{IsOkAnd};
 ghost use Rattle.msvc_nodes.specs.Trees.{array, constant_string, function, member_function, member_pointer, pointing};

@@ -1,8 +1,6 @@
 //! Converts trees to nodes in an arena, in one pass. Texts are not copied: nodes borrow them from the tree. Contracts
 //! state that the definitions view a node and its tree as the same tree.
 
-#![tactic(auto, using(msvc_nodes::proofs::NodeViews::views), unfolding(msvc_nodes::specs::NodeView::name_of, msvc_nodes::specs::NodeView::type_of))]
-
 ghost use Rattle.std.specs.Prelude.{◌≡◌, IfOk, option_map, string_bytes};
 ghost use Rattle.msvc_nodes.specs.NodeView.{name_of as node_name, type_of as node_type, names_in as node_names};
 ghost use Rattle.msvc_nodes.specs.NodeView.{types_in as node_types, typed_symbol_of};

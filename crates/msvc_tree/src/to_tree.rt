@@ -2,8 +2,6 @@
 //! read, digits and string literals are copied. Contracts state that the definitions view a tree and its node as the
 //! same tree.
 
-#![tactic(auto, using(crate::proofs::Views::rows, msvc_nodes::proofs::NodeViews::views), unfolding(crate::specs::View::name_of, crate::specs::View::operator_of, crate::specs::View::type_of, msvc_nodes::specs::NodeView::name_of, msvc_nodes::specs::NodeView::type_of))]
-
 ghost use Rattle.std.specs.Prelude.{◌≡◌, IfOk, Some};
 ghost use Rattle.msvc_nodes.specs.NodeView.{name_of as node_name, type_of as node_type, names_in as node_names};
 ghost use Rattle.msvc_nodes.specs.NodeView.{types_in as node_types, typed_symbol_of};

@@ -1,8 +1,6 @@
 //! Variants of names, operators and types of a tree, with their parts borrowed. Variants with the same fields are one,
 //! and an enumeration of `msvc_nodes::kinds` distinguishes them. Equality and the conversion to nodes match on it.
 
-#![tactic(auto, using(crate::proofs::Views::rows), unfolding(crate::specs::View::name_of, crate::specs::View::operator_of, crate::specs::View::type_of))]
-
 ghost use Rattle.std.specs.Prelude.{◌≡◌};
 ghost use Rattle.msvc_tree.specs.View.{name_of, operator_of, type_of};
 ghost use Rattle.msvc_tree.specs.Variants.{name_in, operator_in, type_in};
