@@ -48,7 +48,7 @@ impl Workspace {
     }
 
     /// Returns the number of bytes, and the workspace unchanged.
-    pub fn with_size(self) -> (usize, Workspace)
+    pub(crate) fn with_size(self) -> (usize, Workspace)
         ensures { (result.0 ≡ self.size) × (result.1 ≡ self) }
     {
         let Workspace { ptr, size } = self;

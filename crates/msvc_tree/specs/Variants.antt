@@ -12,7 +12,7 @@ use Rattle.msvc_tree.specs.declared.variants.OperatorRef.TheVariants as operator
 use Rattle.msvc_tree.specs.declared.variants.TypeRef.{TypeRef}
 use Rattle.msvc_tree.specs.declared.variants.TypeRef.TheVariants as node
 
--- the name of a variant
+-- the name that a variant of a borrowed name is seen as
 abbrev pub name_in : NameRef → NameTree
 name_in (name.Spelled how x) = spelled how x.now
 name_in (name.Operator o) = operator_of o.now
@@ -22,14 +22,14 @@ name_in (name.Nested s) =
     nested (name_of s.now.symbol.name) (scope_of s.now.symbol.scope) (type_of s.now.symbol_type)
 name_in (name.Anonymous x) = anonymous (option_map string_bytes x.now)
 
--- the name of an operator's variant
+-- the name that a variant of a borrowed operator is seen as
 abbrev pub operator_in : OperatorRef → NameTree
 operator_in (operator_ref.Plain o) = operator o
 operator_in (operator_ref.Guard g n) = guard g n
 operator_in (operator_ref.TypeDescriptor q t) = type_descriptor q.0 (type_of t.now)
 operator_in (operator_ref.BaseClassDescriptor p) = base_class_descriptor p.member p.pointer p.entry p.attributes
 
--- the type of a variant
+-- the type that a variant of a borrowed type is seen as
 abbrev pub type_in : TypeRef → TypeTree
 type_in (node.Plain p) = plain p
 type_in (node.Base b q) = base b q.0

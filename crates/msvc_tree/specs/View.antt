@@ -1,4 +1,4 @@
--- The trees of the program seen as trees of the definitions.
+-- The owned trees of the code, seen as trees of the definitions.
 use Rattle.std.specs.Prelude.{List, [], ◌∷◌, option_map, string_bytes}
 use Rattle.msvc_nodes.specs.Trees.{NameTree, NameTrees, TypeTree, TypeTrees, SymbolTree, spelled, operator, guard}
 use Rattle.msvc_nodes.specs.Trees.{type_descriptor, base_class_descriptor, template, discriminator, nested, anonymous}
@@ -24,6 +24,7 @@ use Rattle.msvc_tree.specs.declared.tree.Params.{Params}
 use Rattle.msvc_tree.specs.declared.tree.ParseResult.{ParseResult}
 
 unfoldable mutual
+  -- a name, seen as a tree
   pub name_of : Name → NameTree
   name_of (Operator o) = operator_of o
   name_of (NonTemplate x) = spelled spelling_kind.Source x.now
@@ -34,6 +35,7 @@ unfoldable mutual
   name_of (AsInterface x) = spelled spelling_kind.Interface x.now
   name_of (Md5 x) = spelled spelling_kind.Md5 x.now
 
+  -- an operator, seen as a tree of a name
   pub operator_of : code_operator.Operator → NameTree
   operator_of code_operator.Ctor = operator operator_kind.Ctor
   operator_of code_operator.Dtor = operator operator_kind.Dtor
@@ -113,6 +115,7 @@ unfoldable mutual
   operator_of (code_operator.RTTITypeDescriptor' q p t) = type_descriptor q.0 (type_of t)
   operator_of (code_operator.RTTIBaseClassDescriptor a b c d) = base_class_descriptor a b c d
 
+  -- a type, seen as a tree
   pub type_of : code_type.«Type» → TypeTree
   type_of code_type.None = plain plain_kind.None
   type_of (code_type.ConstantString x) = constant_string x.items
@@ -163,30 +166,35 @@ unfoldable mutual
   type_of (code_type.CXXVBTable' s r q) = table table_kind.Bases (names_of r) q.0
   type_of (code_type.VCallThunk n c) = vcall_thunk n c
 
+  -- the names of a row that a type or a name holds
   pub names_of : {m : _} → Row_of-Name m → NameTrees
   names_of end_of-Name = no_names
   names_of (more_of-Name n r) = names (name_of n) (names_of r)
 
+  -- the types of a row that a type or a name holds
   pub types_of : {m : _} → Row_of-Type m → TypeTrees
   types_of end_of-Type = no_types
   types_of (more_of-Type t r) = types (type_of t) (types_of r)
 
--- the names of a list, in its order
+-- the names of a list, seen as trees, in the order of the list
 abbrev pub names_in : List Name → NameTrees
 names_in [] = no_names
 names_in (n ∷ ns) = names (name_of n) (names_in ns)
 
--- the types of a list, in its order
+-- the types of a list, seen as trees, in the order of the list
 abbrev pub types_in : List code_type.«Type» → TypeTrees
 types_in [] = no_types
 types_in (t ∷ ts) = types (type_of t) (types_in ts)
 
+-- the names of a scope
 abbrev pub scope_of : NameSequence → NameTrees
 scope_of s = names_in s.names.items
 
+-- the types of a list of parameters
 abbrev pub params_of : Params → TypeTrees
 params_of p = types_in p.types.items
 
+-- the tree of what `parse` returns
 abbrev pub tree_of : ParseResult → SymbolTree
 tree_of r = record {
   name = name_of r.symbol.name;

@@ -24,14 +24,14 @@ macro_rules! operator_of_kind {
 }
 
 /// Returns the operator.
-pub fn plain_operator<'a>(kind: PlainOperator) -> Operator<'a>
+pub(crate) fn plain_operator<'a>(kind: PlainOperator) -> Operator<'a>
     ensures { operator_of result ≡ operator kind }
 {
     plain_operators!(operator_of_kind(kind))
 }
 
 /// Makes a guard, with the number after it.
-pub fn guard_operator<'a>(kind: Guard, number: Option<u32>) -> Operator<'a>
+pub(crate) fn guard_operator<'a>(kind: Guard, number: Option<u32>) -> Operator<'a>
     ensures { operator_of result ≡ guard kind number }
 {
     match kind {
@@ -41,7 +41,7 @@ pub fn guard_operator<'a>(kind: Guard, number: Option<u32>) -> Operator<'a>
 }
 
 /// Makes the descriptor of a base class of its place.
-pub fn base_class_operator<'a>(place: &BaseClass) -> Operator<'a>
+pub(crate) fn base_class_operator<'a>(place: &BaseClass) -> Operator<'a>
     ensures { operator_of result
         ≡ base_class_descriptor place.now.member place.now.pointer place.now.entry place.now.attributes }
 {
@@ -49,7 +49,7 @@ pub fn base_class_operator<'a>(place: &BaseClass) -> Operator<'a>
 }
 
 /// Makes a type that has nothing in it.
-pub fn plain_type<'a>(kind: PlainType) -> Type<'a>
+pub(crate) fn plain_type<'a>(kind: PlainType) -> Type<'a>
     ensures { type_of result ≡ plain kind }
 {
     match kind {
@@ -71,14 +71,18 @@ macro_rules! base_of_kind {
 }
 
 /// Makes a base type with its qualifiers.
-pub fn base_type<'a>(kind: PrimitiveKind, qualifiers: StorageClass) -> Type<'a>
+pub(crate) fn base_type<'a>(kind: PrimitiveKind, qualifiers: StorageClass) -> Type<'a>
     ensures { type_of result ≡ base kind qualifiers.0 }
 {
     base_types!(base_of_kind (kind qualifiers))
 }
 
 /// Makes a class, struct, union, enumeration or alias of its name in its scope, with its qualifiers.
-pub fn tagged_type<'a>(kind: TagKind, symbol: Symbol<'a>, qualifiers: StorageClass) -> Type<'a>
+pub(crate) fn tagged_type<'a>(
+    kind: TagKind,
+    symbol: Symbol<'a>,
+    qualifiers: StorageClass,
+) -> Type<'a>
     ensures { type_of result ≡ tagged kind (name_of symbol.entry.name) (scope_of symbol.entry.scope) qualifiers.0 }
 {
     match kind {
@@ -91,7 +95,7 @@ pub fn tagged_type<'a>(kind: TagKind, symbol: Symbol<'a>, qualifiers: StorageCla
 }
 
 /// Makes a type that has a number.
-pub fn numbered_type<'a>(kind: NumberedType, number: i32) -> Type<'a>
+pub(crate) fn numbered_type<'a>(kind: NumberedType, number: i32) -> Type<'a>
     ensures { type_of result ≡ numbered kind number }
 {
     match kind {
@@ -102,7 +106,7 @@ pub fn numbered_type<'a>(kind: NumberedType, number: i32) -> Type<'a>
 }
 
 /// Makes a pointer or a reference to a type, with its own qualifiers.
-pub fn pointing_type<'a>(
+pub(crate) fn pointing_type<'a>(
     kind: PointerAffinity,
     inner: Box<Type<'a>>,
     qualifiers: StorageClass,
@@ -117,7 +121,7 @@ pub fn pointing_type<'a>(
 }
 
 /// Makes a table of virtual functions or bases, of the scope of the base that it is for, with its qualifiers.
-pub fn table_type<'a>(
+pub(crate) fn table_type<'a>(
     kind: SpecialTableKind,
     scope: NameSequence<'a>,
     qualifiers: StorageClass,

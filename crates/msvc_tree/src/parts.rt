@@ -18,7 +18,7 @@ use msvc_nodes::kinds::{PointerAffinity, SpecialTableKind, TagKind};
 use std::alloc::AllocError;
 
 /// Makes a symbol with its type.
-pub fn typed_symbol_from<'a>(
+pub(crate) fn typed_symbol_from<'a>(
     symbol: Result<Symbol<'a>, AllocError>,
     symbol_type: Result<Type<'a>, AllocError>,
 ) -> Result<ParseResult<'a>, AllocError>
@@ -34,7 +34,7 @@ pub fn typed_symbol_from<'a>(
 }
 
 /// Makes a name in its scope.
-pub fn symbol_from<'a>(
+pub(crate) fn symbol_from<'a>(
     name: Result<Name<'a>, AllocError>,
     scope: Result<NameSequence<'a>, AllocError>,
 ) -> Result<Symbol<'a>, AllocError>
@@ -46,7 +46,7 @@ pub fn symbol_from<'a>(
 }
 
 /// Makes a class, struct, union, enumeration or alias of its name in its scope.
-pub fn tagged_from<'a>(
+pub(crate) fn tagged_from<'a>(
     tag: TagKind,
     symbol: Result<Symbol<'a>, AllocError>,
     qualifiers: StorageClass,
@@ -58,14 +58,16 @@ pub fn tagged_from<'a>(
 }
 
 /// Makes a string literal of its bytes.
-pub fn constant_string_from<'a>(text: Result<Vec<u8>, AllocError>) -> Result<Type<'a>, AllocError>
+pub(crate) fn constant_string_from<'a>(
+    text: Result<Vec<u8>, AllocError>,
+) -> Result<Type<'a>, AllocError>
     ensures { IfOk result (λ t. IsOkAnd text (λ v. type_of t ≡ constant_string v.items)) }
 {
     Ok(Type::ConstantString(text?))
 }
 
 /// Makes a pointer or a reference of the type that it points to.
-pub fn pointing_from<'a>(
+pub(crate) fn pointing_from<'a>(
     affinity: PointerAffinity,
     inner: Result<Box<Type<'a>>, AllocError>,
     qualifiers: StorageClass,
@@ -77,7 +79,7 @@ pub fn pointing_from<'a>(
 }
 
 /// Makes an array of its length and its elements.
-pub fn array_from<'a>(
+pub(crate) fn array_from<'a>(
     length: i32,
     inner: Result<Box<Type<'a>>, AllocError>,
     qualifiers: StorageClass,
@@ -88,7 +90,7 @@ pub fn array_from<'a>(
 }
 
 /// Makes a plain function of its parameters and the type that it returns.
-pub fn function_from<'a>(
+pub(crate) fn function_from<'a>(
     convention: CallingConv,
     parameters: Result<Params<'a>, AllocError>,
     qualifiers: StorageClass,
@@ -102,7 +104,7 @@ pub fn function_from<'a>(
 }
 
 /// Makes a member function of its parameters and the type that it returns.
-pub fn member_function_from<'a>(
+pub(crate) fn member_function_from<'a>(
     class: FuncClass,
     convention: CallingConv,
     parameters: Result<Params<'a>, AllocError>,
@@ -117,7 +119,7 @@ pub fn member_function_from<'a>(
 }
 
 /// Makes a pointer to a member function of its class, its parameters and the type that it returns.
-pub fn member_pointer_from<'a>(
+pub(crate) fn member_pointer_from<'a>(
     pointed: Result<Symbol<'a>, AllocError>,
     class: FuncClass,
     convention: CallingConv,
@@ -134,7 +136,7 @@ pub fn member_pointer_from<'a>(
 }
 
 /// Makes a variable of its type.
-pub fn variable_from<'a>(
+pub(crate) fn variable_from<'a>(
     inner: Result<Box<Type<'a>>, AllocError>,
     kind: VarStorageKind,
     qualifiers: StorageClass,
@@ -145,7 +147,7 @@ pub fn variable_from<'a>(
 }
 
 /// Makes a table of virtual functions or bases of the scope of the base that it is for.
-pub fn table_from<'a>(
+pub(crate) fn table_from<'a>(
     which: SpecialTableKind,
     scope: Result<NameSequence<'a>, AllocError>,
     qualifiers: StorageClass,
@@ -156,7 +158,7 @@ pub fn table_from<'a>(
 }
 
 /// Makes a template of its name and its arguments.
-pub fn template_from<'a>(
+pub(crate) fn template_from<'a>(
     name: Result<Box<Name<'a>>, AllocError>,
     arguments: Result<Params<'a>, AllocError>,
 ) -> Result<Name<'a>, AllocError>
@@ -168,7 +170,7 @@ pub fn template_from<'a>(
 }
 
 /// Makes a scope of a symbol with its type.
-pub fn nested_from<'a>(
+pub(crate) fn nested_from<'a>(
     symbol: Result<Box<ParseResult<'a>>, AllocError>,
 ) -> Result<Name<'a>, AllocError>
     ensures { IfOk result (λ n. IsOkAnd symbol.entry (λ b. name_of n
@@ -178,7 +180,7 @@ pub fn nested_from<'a>(
 }
 
 /// Makes the descriptor of a type.
-pub fn type_descriptor_from<'a>(
+pub(crate) fn type_descriptor_from<'a>(
     qualifiers: StorageClass,
     described: Result<Box<Type<'a>>, AllocError>,
 ) -> Result<Name<'a>, AllocError>

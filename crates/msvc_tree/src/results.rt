@@ -8,7 +8,7 @@ ghost use Rattle.msvc_tree.specs.Results.{IsBoxed};
 use std::alloc::{AllocFailed, Global};
 
 /// Boxes the value that was made. Returns its error if it failed, or that of a failed allocation.
-pub fn box_ok<T: Drop, E: From<AllocFailed<T>>>(
+pub(crate) fn box_ok<T: Drop, E: From<AllocFailed<T>>>(
     alloc: Global,
     made: Result<T, E>,
 ) -> Result<Box<T>, E>
@@ -21,7 +21,7 @@ pub fn box_ok<T: Drop, E: From<AllocFailed<T>>>(
 }
 
 /// Pushes the value that was made to a list with spare capacity. Returns its error if it failed.
-pub fn push_ok<T: Drop, E: Drop>(list: &mut Vec<T>, made: Result<T, E>) -> Result<(), E>
+pub(crate) fn push_ok<T: Drop, E: Drop>(list: &mut Vec<T>, made: Result<T, E>) -> Result<(), E>
     requires { vec_len list.old < vec_capacity list.old }
     ensures items { IfOk result (λ _. IsOkAnd made (λ x. list.new.items ≡ list.old.items ++ x ∷ [])) }
     ensures len { IfOk result (λ _. vec_len list.new ≡ vec_len list.old + 1) }
@@ -33,7 +33,7 @@ pub fn push_ok<T: Drop, E: Drop>(list: &mut Vec<T>, made: Result<T, E>) -> Resul
 }
 
 /// Pairs two values that were made. Returns the first error if one failed.
-pub fn pair_ok<A: Drop, B: Drop, E: Drop>(
+pub(crate) fn pair_ok<A: Drop, B: Drop, E: Drop>(
     first: Result<A, E>,
     second: Result<B, E>,
 ) -> Result<(A, B), E>

@@ -18,7 +18,7 @@ use msvc_nodes::{base_types, plain_operators};
 
 /// The variant of a borrowed name, with its parts.
 #[derive(Clone, Copy)]
-pub enum NameRef<'t, 'a> {
+pub(crate) enum NameRef<'t, 'a> {
     Spelled(Spelling, &'a [u8]),
     Operator(&'t Operator<'a>),
     Template(&'t Name<'a>, &'t Params<'a>),
@@ -31,7 +31,7 @@ pub enum NameRef<'t, 'a> {
 
 /// The variant of a borrowed operator, with its parts.
 #[derive(Clone, Copy)]
-pub enum OperatorRef<'t, 'a> {
+pub(crate) enum OperatorRef<'t, 'a> {
     Plain(PlainOperator),
     Guard(Guard, Option<u32>),
     /// The qualifiers that were read for the type, and the type.
@@ -41,7 +41,7 @@ pub enum OperatorRef<'t, 'a> {
 
 /// The parts of a borrowed function type, whatever its class.
 #[derive(Clone, Copy)]
-pub struct FunctionRef<'t, 'a> {
+pub(crate) struct FunctionRef<'t, 'a> {
     pub convention: CallingConv,
     pub parameters: &'t Params<'a>,
     pub qualifiers: StorageClass,
@@ -51,7 +51,7 @@ pub struct FunctionRef<'t, 'a> {
 
 /// The variant of a borrowed type, with its parts.
 #[derive(Clone, Copy)]
-pub enum TypeRef<'t, 'a> {
+pub(crate) enum TypeRef<'t, 'a> {
     Plain(PlainType),
     Base(PrimitiveKind, StorageClass),
     Tagged(TagKind, &'t Symbol<'a>, StorageClass),
@@ -70,7 +70,7 @@ pub enum TypeRef<'t, 'a> {
 }
 
 /// Returns which variant a name is.
-pub fn name_ref<'t, 'a>(tree: &'t Name<'a>) -> NameRef<'t, 'a>
+pub(crate) fn name_ref<'t, 'a>(tree: &'t Name<'a>) -> NameRef<'t, 'a>
     ensures { name_in result ≡ name_of tree.now }
 {
     match tree {
@@ -96,7 +96,7 @@ macro_rules! kind_of_operator {
 }
 
 /// Returns which variant an operator is.
-pub fn operator_ref<'t, 'a>(tree: &'t Operator<'a>) -> OperatorRef<'t, 'a>
+pub(crate) fn operator_ref<'t, 'a>(tree: &'t Operator<'a>) -> OperatorRef<'t, 'a>
     ensures { operator_in result ≡ operator_of tree.now }
 {
     let plain = plain_operators!(kind_of_operator (tree {
@@ -131,7 +131,7 @@ macro_rules! base_of_type {
 }
 
 /// Returns which variant a type is.
-pub fn type_ref<'t, 'a>(tree: &'t Type<'a>) -> TypeRef<'t, 'a>
+pub(crate) fn type_ref<'t, 'a>(tree: &'t Type<'a>) -> TypeRef<'t, 'a>
     ensures { type_in result ≡ type_of tree.now }
 {
     let (base, qualifiers) = base_types!(base_of_type (tree {
