@@ -3,20 +3,20 @@ use Rattle.std.specs.Prelude.{ℕ, List, [], ◌∷◌, ◌++◌, ◌≡◌, ◌
 use Rattle.std.specs.Str.{IsUtf8}
 use Rattle.msvc_demangler.specs.Filtered.{Part, fitting}
 
--- so many bytes are the longest beginning of the text that is UTF-8 and has room
+-- the first `cut` bytes of the text are its longest beginning that is UTF-8 and has room
 abbrev pub IsLongest : List ℕ → ℕ → ℕ → Type 0
 IsLongest text room cut = (cut ≤ length text) × (cut ≤ room) × IsUtf8 (take cut text)
     × ((more : ℕ) → cut < more → more ≤ length text → more ≤ room → ¬ (IsUtf8 (take more text)))
 
--- Nothing is written into a buffer of no bytes. Into any other goes as much of the text as leaves room for a NUL, then
--- the NUL; the bytes after that are as they were.
+-- The buffer `old` becomes `new`: an empty buffer stays. Any other gets the longest beginning of the text that is UTF-8
+-- and leaves room for a NUL, then the NUL, then its old bytes.
 abbrev pub IsWritten : List ℕ → List ℕ → List ℕ → Type 0
 IsWritten text [] new = new ≡ []
 IsWritten text (first ∷ old) new =
     (cut : ℕ) × IsLongest text (length old) cut × (new ≡ take cut text ++ 0 ∷ drop cut old)
 
--- The same of what the filter makes of a text: as many whole parts as leave room for a NUL, and of a declaration that
--- does not fit its longest beginning that is UTF-8; then the NUL.
+-- The buffer `old` becomes `new`: an empty buffer stays. Any other gets the parts that leave room for a NUL, of a
+-- declaration that doesn't fit the longest beginning that is UTF-8, then the NUL, then its old bytes.
 abbrev pub ArePartsWritten : List Part → List ℕ → List ℕ → Type 0
 ArePartsWritten parts [] new = new ≡ []
 ArePartsWritten parts (first ∷ old) new =

@@ -23,18 +23,18 @@ abbrev ten : {A : Type 0} → A → List A
 ten entry = replicate 10 entry
 
 pub record AreNameReferences : Type 0 where
-  -- an equal name does not enter again, another does
+  -- a name that is equal to an entry does not enter again; any other name does
   pub equal : Shows "?a@a@b@1@3HA" "int b::b::a::a"
-  -- a source name and an interface of one text are two names
+  -- a source name and an interface with the same text are two names
   pub interface : Shows "?a@?Qa@@1@3HA" "int [a]::[a]::a"
   pub eleventh : Shows "?a@b@c@d@e@f@g@h@i@j@k@09@3HA" "int j::a::k::j::i::h::g::f::e::d::c::b::a"
   pub full : with_name (named "b") (ten (named "a")) ≡ ten (named "a")
   pub anonymous : Shows "?x@?A0xab@1@3HA" "int `anonymous namespace'::`anonymous namespace'::x"
   pub without_0x : Shows "?x@?A@y@1@3HA" "int y::y::`anonymous namespace'::x"
-  -- a template of a scope enters whole, and a symbol's own does not
+  -- a template in a scope enters whole; a template that is the symbol's name does not enter
   pub template : Shows "?x@?$A@H@1@3HA" "int A<int>::A<int>::x"
   pub own_template : Shows "??$f@H@a@0@YAXXZ" "void __cdecl a::a::f<int>(void)"
-  -- a template begins with an empty table, and leaves the table before it
+  -- a template begins with an empty table; after it the table is that from before it
   pub in_template : Shows "?x@y@?$A@VB@@V1@@1@3HA" "int y::A<class B,class B>::y::x"
   pub outside : IsRefused "?x@y@?$A@V1@@@3HA"
   pub own_name : Shows "?x@y@?$A@V0@@0@3HA" "int x::A<class A>::y::x"
@@ -43,9 +43,9 @@ pub record AreNameReferences : Type 0 where
   pub nested : Shows "?x@?1??f@@YAXXZ1@3HA" "int f::`void __cdecl f(void)'::`2'::x"
 
 pub record AreTypeReferences : Type 0 where
-  -- an equal type does not enter again, another does
+  -- a type that is equal to an entry does not enter again; any other type does
   pub equal : Shows "?f@@YAXPAHPAHPAD1@Z" "void __cdecl f(int *,int *,char *,char *)"
-  -- types are equal by what they are, not by their bytes
+  -- types are equal if their trees are, whatever their bytes
   pub other_bytes : Shows "?f@@YAXPAVa@@PAV1@PAD1@Z" "void __cdecl f(class a *,class a *,char *,char *)"
   pub qualifiers : Shows "?f@@YAXPAHPBH1@Z" "void __cdecl f(int *,int const *,int const *)"
   pub mark : Shows "?f@@YAX$$QAHAAH1@Z" "void __cdecl f(int &&,int &,int &)"
@@ -57,10 +57,10 @@ pub record AreTypeReferences : Type 0 where
   -- what is returned or pointed to is no parameter
   pub returned : Shows "?f@@YAPAHPAD0@Z" "int * __cdecl f(char *,char *)"
   pub pointee : Shows "?f@@YAXPAPAHPAD1@Z" "void __cdecl f(int * *,char *,char *)"
-  -- a parameter of a parameter enters, before the whole
+  -- a parameter of a function type that is a parameter enters before this function type
   pub inner : Shows "?f@@YAXP6AXPAH@Z0@Z" "void __cdecl f(void (__cdecl *)(int *),int *)"
   pub whole : Shows "?f@@YAXP6AXPAH@Z1@Z" "void __cdecl f(void (__cdecl *)(int *),void (__cdecl *)(int *))"
-  -- a template begins with an empty table, and leaves the table before it
+  -- a template begins with an empty table; after it the table is that from before it
   pub in_template : Shows "?f@@YAXPAHV?$A@PAD0@@01@Z"
       "void __cdecl f(int *,class A<char *,char *>,int *,class A<char *,char *>)"
   pub outside : IsRefused "?f@@YAXPAHV?$A@0@@@Z"

@@ -3,12 +3,12 @@ use Rattle.std.specs.Prelude.{ℕ, List, [], ◌∷◌, ◌++◌, ◌≡◌, cod
 use Rattle.msvc_demangler.specs.Filtered.{declared, kept}
 use Rattle.msvc_c_calls.specs.Buffers.{ArePartsWritten, IsWritten}
 
--- a text leaves these bytes of a buffer, and no others
+-- writing the text turns the buffer `old` into `new`, and into no other bytes
 pub record IsLeft (text old new : List ℕ) : Type 0 where
   pub written : IsWritten text old new
   pub only : (others : List ℕ) → IsWritten text old others → others ≡ new
 
--- an ASCII letter and another one of two bytes
+-- an ASCII letter, and a letter of two bytes
 abbrev pub two_letters : List ℕ
 two_letters = 97 ∷ 0xC3 ∷ 0xA9 ∷ []
 

@@ -29,7 +29,7 @@ pub record AreSpaces : Type 0 where
   -- at the start there is no byte that a space could stand after
   pub at_the_start : resolve (space AfterPointer ∷ text (codes "x") ∷ []) ≡ codes "x"
   pub opens_at_the_start : resolve (space UnlessOpen ∷ text (codes "x") ∷ []) ≡ codes " x"
-  -- a space goes by the byte before it, whatever piece that is of
+  -- a space depends on the byte before it, whatever piece has this byte
   pub once : resolve (text (codes "a") ∷ space AfterWord ∷ space AfterPointer ∷ text [] ∷ space AfterWord
       ∷ text (codes "b") ∷ []) ≡ codes "a b"
 
@@ -76,7 +76,7 @@ pub record AreNames : Type 0 where
 
 pub record AreTypes : Type 0 where
   pub arrays : IsShown 0 "?x@@3PEAY1NKM@5HEA" "int (*x)[3500][6]"
-  -- each level of an array has its qualifiers
+  -- each level of an array has the qualifiers of the whole array
   pub levels : IsShown 0 "?x@@3PAY123$$CBHA" "int const const (*x)[3][4]"
   pub array_of_parameters : IsShown 0 "?g@@YAHQAY0EA@$$CBH@Z" "int __cdecl g(int const (* const)[64])"
   pub reference : IsShown 0 "?x@@3$$QAY02HA" "int (&& x)[3]"
@@ -84,7 +84,7 @@ pub record AreTypes : Type 0 where
   pub wraps : IsShown 0 "?x@@3?IAAAAAAA@A" "`template-parameter-2147483648'x"
   pub functions : IsShown 0 "?x@@3P6AHP6AHM@Z0@ZEA" "int (__cdecl *x)(int (__cdecl *)(float),int (__cdecl *)(float))"
   pub member_pointer : IsShown 0 "?x@@3P8A@@EBAXXZA" "void (__cdecl A::*x)(void) const"
-  -- a digit has its entry as that stands, whatever qualifiers are before it
+  -- a digit prints its entry unchanged, whatever qualifiers stand before the digit
   pub digit : IsShown 0 "?f@@YAXPAHPB0@Z" "void __cdecl f(int *,int * *)"
   -- a type of one byte enters no table
   pub one_byte : IsShown 0 "?f@@YAXHPAH0@Z" "void __cdecl f(int,int *,int *)"
@@ -106,7 +106,7 @@ pub record AreTypes : Type 0 where
       "void __cdecl f(int & volatile,int * const,int * volatile,int * const volatile)"
   pub stdcall : IsShown 0 "??_I@YGXPAXIIP6EX0@Z@Z"
       "void __stdcall `vector destructor iterator'(void *,unsigned int,unsigned int,void (__thiscall *)(void *))"
-  -- what a function that is pointed to returns may have any storage class after its ?, or none
+  -- the return type of a function that is pointed to may have any storage class after its ?, or none
   pub pointed_return : IsShown 0 "?x@@3P6A?RHXZA" "int const (__cdecl *x)(void)"
   pub no_class : IsShown 0 "?x@@3P6A?MXZA" "float (__cdecl *x)(void)"
 

@@ -8,10 +8,11 @@ use Rattle.msvc_nodes.specs.declared.error.ErrorRepr.TheVariants.{Memory, Other,
 use Rattle.msvc_nodes.specs.declared.error.Limit.{Limit}
 use Rattle.msvc_nodes.specs.declared.error.Limit.TheVariants.{Bytes, Nodes}
 
--- the bytes of a character that is not ASCII, and those of U+FFFD
+-- the bytes of a character that is not ASCII
 abbrev e_acute : List ℕ
 e_acute = 0xC3 ∷ 0xA9 ∷ []
 
+-- the bytes of U+FFFD
 abbrev replacement : List ℕ
 replacement = 0xEF ∷ 0xBF ∷ 0xBD ∷ []
 
@@ -19,16 +20,16 @@ replacement = 0xEF ∷ 0xBF ∷ 0xBD ∷ []
 abbrev IsContext : (input : List ℕ) (offset : ℕ) (shown : List ℕ) → Type 0
 IsContext input offset shown = context_of input offset ≡ shown
 
--- and as text these
+-- a rejection of an input at an offset shows these bytes as text
 abbrev IsContextText : (input : List ℕ) (offset : ℕ) (shown : List ℕ) → Type 0
 IsContextText input offset shown = context_text_of input offset ≡ shown
 
--- an error of this message, this context and this offset prints this
+-- an error with this message, this context and this offset prints this text
 abbrev Prints : (message context : String) (offset : ℕ) (text : String) → Type 0
 Prints message context offset text = (m : _) (c : _) → cow_str_bytes m ≡ codes message → string_bytes c ≡ codes context
     → error_text (ParseError m c offset) ≡ Some (codes text)
 
--- an error of this message is about this limit
+-- an error with this message is about this limit
 abbrev IsAbout : String → Option Limit → Type 0
 IsAbout message limit = (m : _) (c : _) → cow_str_bytes m ≡ codes message → limit_of (ParseError m c 7) ≡ limit
 
@@ -39,7 +40,7 @@ pub record AreErrors : Type 0 where
   pub more_bytes : IsContext (codes "nopenopenopenopenopenope") 0 (codes "nopenopenopenopenope...")
   pub from_the_offset : IsContext (codes "?f@@YAX0@Z") 8 (codes "@Z")
   pub at_the_end : IsContext (codes "?x@@3") 5 []
-  -- what is no character is shown as U+FFFD, also where the cut splits a character
+  -- bytes that are no character are shown as U+FFFD, also if the cut splits a character
   pub character : IsContextText (codes "?x" ++ e_acute) 1 (codes "x" ++ e_acute)
   pub no_character : IsContextText (0xE9 ∷ codes "x") 0 (replacement ++ codes "x")
   pub whole_character : IsContextText (replicate 18 97 ++ e_acute) 0 (replicate 18 97 ++ e_acute)
@@ -47,7 +48,7 @@ pub record AreErrors : Type 0 where
   pub rejection : Prints "does not start with b'?'" "x" 0 "does not start with b'?' (offset: 0, remaining: \"x\")"
   -- a context is shown with escapes
   pub escapes : Prints "bad number" "\"\\\n" 12 "bad number (offset: 12, remaining: \"\\\"\\\\\\n\")"
-  -- nothing is said of one that is not ASCII
+  -- the text of an error with a context that is not ASCII is not defined
   pub not_ascii : (m : _) (c : _) → string_bytes c ≡ e_acute → error_text (ParseError m c 0) ≡ None
   pub other : (m : _) → string_bytes m ≡ codes "text" → error_text (Other m) ≡ Some (codes "text")
   pub memory : error_text Memory ≡ Some (codes "out of memory")
@@ -58,7 +59,7 @@ pub record AreErrors : Type 0 where
   pub no_limit_of_memory : limit_of Memory ≡ None
   pub offset : (m : _) (c : _) → offset_of (ParseError m c 7) ≡ Some 7
   pub no_offset : offset_of Memory ≡ None
-  -- the error that a call promises is that one or out of memory
+  -- an error that a call promises has the message, the context and the offset, or is out of memory
   pub promised : (m : _) (c : _) (o : ℕ)
       → IsRejectionOrMemory (codes "bad number") (codes "x") 7 (ParseError m c o)
       → (cow_str_bytes m ≡ codes "bad number") × (string_bytes c ≡ codes "x") × (o ≡ 7)

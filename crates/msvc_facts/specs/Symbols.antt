@@ -1,4 +1,4 @@
--- What a fact says of a symbol.
+-- The forms of facts about a symbol.
 use Rattle.std.specs.Prelude.{ℕ, List, ◌≡◌, None, codes}
 use Prim.Native.String.{String}
 use Rattle.msvc_nodes.specs.Trees.{SymbolTree}
@@ -8,11 +8,11 @@ use Rattle.msvc_grammar.specs.Rejections.{IsNoSymbol}
 use Rattle.msvc_grammar.specs.State.{Note}
 use Rattle.msvc_print.specs.Declaration.{declaration}
 
--- the text begins with a symbol of this tree, after which the rest is left
+-- the text begins with a symbol of this tree and these notes, and the rest follows the symbol
 pub record IsTree (text : String) (tree : SymbolTree) (rest : String) (notes : List Note) : Type 0 where
   pub derived : Derives (codes text) tree (codes rest) notes
 
--- the text begins with a symbol of so many nodes, after which the rest is left
+-- the text begins with a symbol of this many nodes, and the rest follows the symbol
 pub record IsCounted (text : String) (nodes : ℕ) (rest : String) : Type 0 where
   pub tree : SymbolTree
   pub notes : List Note

@@ -17,14 +17,15 @@ pub record AreLines : Type 0 where
   -- the last line may lack its line feed
   pub last : AreLinesOf "a\nb" ("a" ∷ "b" ∷ [])
   pub no_other : AreLinesOf "a\n" ("a" ∷ [])
-  -- one carriage return goes with a line feed, and no other
+  -- one carriage return before a line feed is left out; any other stays
   pub returns : AreLinesOf "a\r\r\nb\rc\r\n" ("a\r" ∷ "b\rc" ∷ [])
   pub last_return : AreLinesOf "a\r" ("a\r" ∷ [])
 
--- `undname` writes a text for the lines of some bytes, and no other
+-- `undname` writes this text for the lines of some bytes, and no other text
 pub record IsAnswered (bytes text : List ℕ) : Type 0 where
   pub answered : IsFilterText bytes text
 
+-- `undname` writes this text for the lines of some bytes, both as strings
 abbrev Gives : String → String → Type 0
 Gives bytes text = IsAnswered (codes bytes) (codes text)
 
@@ -60,6 +61,7 @@ pub record AreArguments : Type 0 where
 abbrev Begins : String → Type 0
 Begins before = is_start 10 (reverse (codes before)) 63 ≡ true
 
+-- a ? begins no symbol after these bytes, which stand after a line feed
 abbrev BeginsNot : String → Type 0
 BeginsNot before = is_start 10 (reverse (codes before)) 63 ≡ false
 
@@ -72,14 +74,14 @@ pub record AreWords : Type 0 where
   pub after_a_letter : BeginsNot "a"
   pub after_a_digit : BeginsNot "_TI1"
   pub after_a_full_stop : BeginsNot "."
-  -- the first of its word alone
+  -- only the first ? of a word begins a symbol
   pub second : BeginsNot "?a@"
   pub of_another_word : Begins "?a "
-  -- spaces and control characters end a candidate, and no other byte
+  -- spaces and control characters end a candidate; no other byte does
   pub visible : map is_visible (0 ∷ 10 ∷ 32 ∷ 33 ∷ 126 ∷ 127 ∷ 128 ∷ 255 ∷ [])
       ≡ false ∷ false ∷ false ∷ true ∷ true ∷ false ∷ true ∷ true ∷ []
   pub longest : max_bytes ≡ 4096
-  -- a storage class or an @ that is left is taken where no word goes on
+  -- a storage class or an @ that was not read belongs to the symbol if it ends its word
   pub class_left : symbol_extent (codes "?x@@3PEBHEB\", <") 10 ≡ 11
   pub at_sign_left : symbol_extent (codes "?x@@3HA@") 7 ≡ 8
   pub small_letter_left : symbol_extent (codes "?x@@3HAb") 7 ≡ 7

@@ -17,15 +17,19 @@ use Rattle.msvc_nodes.specs.declared.kinds.VarStorageKind.TheVariants.{Global}
 use Rattle.msvc_grammar.specs.State.{Note}
 use Rattle.msvc_facts.specs.Symbols.{IsCounted, IsRefused, IsTree}
 
+-- a source name
 abbrev named : String → NameTree
 named text = spelled Source (codes text)
 
+-- a symbol with this name, this scope and this type
 abbrev symbol_of : NameTree → List NameTree → TypeTree → SymbolTree
 symbol_of n scope t = record { name = n; scope = name_trees scope; symbol_type = t }
 
+-- a pointer without qualifiers
 abbrev pointer_to : TypeTree → TypeTree
 pointer_to t = pointing Pointer t 0
 
+-- the note of a digit at this place, which stands for the bytes from start to end
 abbrev note_of : (at start end : ℕ) → Note
 note_of at start end = record { at = at; start = start; end = end }
 
@@ -41,24 +45,24 @@ pub record AreTrees : Type 0 where
   -- E is read before the qualifiers of what is pointed to (64), and after the type it is a storage class (4)
   pub pointer : IsTree "?x@@3PEBHEB"
       (symbol_of (named "x") [] (variable (pointer_to (base Int 65)) Global 4)) "B" []
-  -- a digit is the type of a whole parameter, and is noted with the bytes of that
+  -- a digit stands for the type of a whole parameter, and is noted with the bytes of this type
   pub parameters : IsTree "?f@@YAXPAH0@Z"
       (symbol_of (named "f") []
       (function Cdecl (type_trees (pointer_to (base Int 0) ∷ pointer_to (base Int 0) ∷ [])) 0 (base Void 0)))
       "" (note_of 10 7 10 ∷ [])
-  -- the bytes are those of the first of two equal types
+  -- a digit is noted with the bytes of the first of two equal types
   pub again : IsTree "?f@@YAXPAHPAH0@Z"
       (symbol_of (named "f") [] (function Cdecl (type_trees (pointer_to (base Int 0) ∷ pointer_to (base Int 0)
       ∷ pointer_to (base Int 0) ∷ [])) 0 (base Void 0)))
       "" (note_of 13 7 10 ∷ [])
-  -- each level of an array has the qualifiers of the array
+  -- each level of an array has the qualifiers of the whole array
   pub arrays : IsTree "?x@@3PAY01$$CCHA"
       (symbol_of (named "x") [] (variable (pointer_to (array (pos 2) (base Int 0) 3)) Global 0)) "" []
   -- a thunk has a number, which is dropped
   pub thunk : IsTree "?f@A@@GBA@AEHXZ"
       (symbol_of (named "f") (named "A" ∷ [])
       (member_function 164 Thiscall (type_trees (base Void 0 ∷ [])) 0 (base Int 0))) "" []
-  -- a digit is one more than itself, letters are digits to base 16
+  -- a digit stands for the number that is one larger; letters are digits to base 16
   pub descriptor : IsTree "??_R1A@?0A@EA@U@i@@8"
       (symbol_of (base_class_descriptor (pos 0) (negsuc 0) (pos 0) (pos 64)) (named "U" ∷ named "i" ∷ [])
       (plain plain_kind.Rtti)) "" []
@@ -80,9 +84,9 @@ pub record AreTrees : Type 0 where
       (symbol_of (named "x") []
       (variable (member_pointer (named "A") no_names 0 Cdecl (type_trees (base Void 0 ∷ [])) 65 (base Void 0))
       Global 0)) "" []
-  -- so many characters are read as the first number says, and the second is dropped
+  -- the first number is that of the characters to read; the second number is dropped
   pub string : IsTree "??_C@_02PCEFGMJL@hi?$AA@" (string_of (104 ∷ 105 ∷ 0 ∷ [])) "@" []
-  -- at most 32 of them, of one byte or of two
+  -- at most 32 characters are read, of one byte or of two
   pub long_string : IsTree "??_C@_0CF@A@aaaaaaaaaaaaaaaaaaaaaaaaaaaaaaaaaaaaaaaaaaaaaaaaaaaaaaaaaaaaaaaa"
       (string_of (replicate 32 97)) "aaaaaaaaaaaaaaaaaaaaaaaaaaaaaaaa" []
   pub wide_string : IsTree "??_C@_1EK@A@aaaaaaaaaaaaaaaaaaaaaaaaaaaaaaaaaaaaaaaaaaaaaaaaaaaaaaaaaaaaaaaa"
@@ -98,7 +102,7 @@ pub record AreTrees : Type 0 where
 pub record AreCounted : Type 0 where
   pub no_type : IsCounted "?f@@" 2 ""
   pub pointer : IsCounted "?x@@3PEBHEB" 4 "B"
-  -- each level of an array
+  -- each level of an array is a node
   pub arrays : IsCounted "?x@@3PEAY1NKM@5HEA" 6 "A"
   -- a digit counts for all nodes of its entry
   pub digit : IsCounted "?x@@3P6AHP6AHM@Z0@ZEA" 13 "A"

@@ -1,4 +1,4 @@
--- The filter's text: that of some bytes in which each symbol is replaced by its declaration.
+-- The text that the filter makes of some bytes: each symbol in them is replaced by its declaration.
 use Rattle.std.specs.Prelude.{ℕ, List, [], ◌∷◌, ◌++◌, ◌-◌, ◌≡◌, ◌≤◌, ◌==◌, true, false, length, drop, slice_index, take}
 use Rattle.std.specs.Prelude.{◌<◌, ◌⊎◌, Some, nat_le, if◌then◌else◌}
 use Rattle.msvc_nodes.specs.Trees.{SymbolTree}
@@ -10,15 +10,16 @@ use Rattle.msvc_grammar.specs.State.{Note}
 use Rattle.msvc_print.specs.Declaration.{declaration}
 use Rattle.msvc_filter.specs.SymbolBounds.{candidate, continues, is_start, symbol_extent, utf8_front}
 
--- a symbol of a text has at most so many nodes, and its declaration so many bytes
+-- the most nodes of a symbol that the filter replaces
 abbrev pub max_nodes : ℕ
 max_nodes = 10000
 
+-- the most bytes of a declaration that the filter writes
 abbrev pub max_declared : ℕ
 max_declared = 65536
 
--- The bytes at a start begin with a symbol: the grammar derives a tree from the candidate there that is not too large.
--- It takes so many bytes, after which it doesn't go on, and this is its declaration.
+-- The bytes `left` at a start begin with a symbol: the grammar derives a tree from the candidate there, and the tree
+-- and its declaration are not too large. The symbol takes `bytes` bytes and doesn't go on after these.
 pub record IsSymbol (flags : ℕ) (left : List ℕ) (bytes : ℕ) (text : List ℕ) : Type 0 where
   pub tree : SymbolTree
   pub rest : List ℕ
@@ -30,28 +31,31 @@ pub record IsSymbol (flags : ℕ) (left : List ℕ) (bytes : ℕ) (text : List �
   pub takes : bytes ≡ symbol_extent left (length (candidate left) - length rest)
   pub ends : continues (drop bytes left) ≡ false
 
+-- the bytes `left` begin with no symbol
 abbrev pub IsNoStart : (flags : ℕ) (left : List ℕ) → Type 0
 IsNoStart flags left = (bytes : ℕ) (text : List ℕ) → IsSymbol flags left bytes text → ⊥
 
--- A candidate has no declaration: no beginning of it is a symbol of so few nodes, or its declaration is too long.
+-- The input has no declaration within the default limits: it begins with no symbol of at most `max_nodes` nodes, or the
+-- declaration of this symbol has more than `max_declared` bytes.
 abbrev pub IsNoneWithin : (flags : ℕ) (input : List ℕ) → Type 0
 IsNoneWithin flags input = IsNoSymbol (Some max_nodes) input
     ⊎ ((tree : SymbolTree) × IsParsed input tree × (max_declared < length (declaration tree flags)))
 
--- A part of what the filter writes: a byte that stays, or the declaration that replaces a symbol.
+-- A part of the filter's text: a byte that stays, or the declaration that replaces a symbol.
 pub data Part : Type 0 where
   kept : ℕ → Part
   declared : List ℕ → Part
 
--- the bytes of parts
+-- the text of parts: their bytes, in order
 abbrev pub text_of_parts : List Part → List ℕ
 text_of_parts [] = []
 text_of_parts (kept b ∷ parts) = b ∷ text_of_parts parts
 text_of_parts (declared text ∷ parts) = text ++ text_of_parts parts
 
--- The parts that the filter makes of the bytes left. Bytes passed since the last symbol, or since the beginning, stand
--- before them, last first, and a byte before these. Each byte stays, unless a symbol begins at it: then the symbol's
--- declaration takes the place of the bytes that it takes, and a new word begins after these.
+-- The parts that the filter makes of the bytes `left`. Before these stand the bytes `passed` since the last symbol or
+-- since the beginning, last byte first, and before `passed` stands the byte `last`. Each byte stays, unless a symbol
+-- begins at it: then the symbol's declaration replaces the bytes that the symbol takes, and a new word begins after
+-- them.
 pub data IsFilteredFrom (flags : ℕ) : (last : ℕ) (passed left : List ℕ) → List Part → Type 0 where
   nothing : {last : ℕ} {passed : List ℕ} → IsFilteredFrom flags last passed [] []
   stays : {last b : ℕ} {passed left : List ℕ} {parts : List Part}
@@ -64,11 +68,11 @@ pub data IsFilteredFrom (flags : ℕ) : (last : ℕ) (passed left : List ℕ) �
       → IsFilteredFrom flags (slice_index (b ∷ left) (bytes - 1)) [] (drop bytes (b ∷ left)) parts
       → IsFilteredFrom flags last passed (b ∷ left) (declared text ∷ parts)
 
--- the parts that the filter makes of some bytes, which begin as after a line feed
+-- the parts that the filter makes of some bytes, as if these stood after a line feed
 abbrev pub AreParts : ℕ → List ℕ → List Part → Type 0
 AreParts flags bytes parts = IsFilteredFrom flags 10 [] bytes parts
 
--- and no other parts are that
+-- these parts, and no others, are those that the filter makes of some bytes
 abbrev pub AreOnlyParts : ℕ → List ℕ → List Part → Type 0
 AreOnlyParts flags bytes parts =
     AreParts flags bytes parts × ((others : List Part) → AreParts flags bytes others → others ≡ parts)
@@ -77,13 +81,13 @@ AreOnlyParts flags bytes parts =
 abbrev pub IsFilteredText : ℕ → List ℕ → List ℕ → Type 0
 IsFilteredText flags bytes text = (parts : List Part) × AreParts flags bytes parts × (text ≡ text_of_parts parts)
 
--- what the filter writes for some bytes, and no other text is that
+-- this text, and no other, is one that the filter makes of some bytes
 abbrev pub IsFiltered : ℕ → List ℕ → List ℕ → Type 0
 IsFiltered flags bytes text =
     IsFilteredText flags bytes text × ((other : List ℕ) → IsFilteredText flags bytes other → other ≡ text)
 
--- As much of these parts as fits into so many bytes: whole parts, and of a declaration that does not fit the longest
--- beginning that is UTF-8.
+-- The bytes of some parts that fit into `room` bytes: those of whole parts, and of a declaration that doesn't fit the
+-- longest beginning that is UTF-8.
 unfoldable pub fitting : (room : ℕ) → List Part → List ℕ
 fitting room [] = []
 fitting room (kept b ∷ parts) = if room == 0 then [] else b ∷ fitting (room - 1) parts

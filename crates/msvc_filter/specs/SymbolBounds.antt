@@ -5,63 +5,67 @@ use Rattle.std.specs.Char.{is_ascii_alphanumeric, is_ascii_uppercase}
 use Rattle.std.specs.List.{list_any, take_while}
 use Rattle.std.specs.Str.Lossy.{utf8_valid_len}
 
--- a word is an unbroken row of letters, digits, `_`, `$`, `@` and `?`
+-- whether a byte is part of a word: a word is an unbroken row of letters, digits, `_`, `$`, `@` and `?`
 abbrev pub is_word_byte : ℕ → Bool
 is_word_byte b = is_ascii_alphanumeric b || (b == 95 || (b == 36 || (b == 64 || b == 63)))
 
--- after a letter, a digit or a full stop no symbol begins
+-- whether a byte is one after which no symbol begins: a letter, a digit or a full stop
 abbrev pub blocks_start : ℕ → Bool
 blocks_start b = is_ascii_alphanumeric b || b == 46
 
--- the word that ends where these bytes end, which stand here last byte first: its bytes, last first
+-- the bytes of the word that ends where the bytes `passed` end; in both lists the last byte is first
 abbrev pub word_before : List ℕ → List ℕ
 word_before passed = take_while is_word_byte passed
 
+-- whether one of the bytes is a `?`
 abbrev pub has_question_mark : List ℕ → Bool
 has_question_mark bytes = list_any (λ b. b == 63) bytes
 
--- the byte before a place, from those passed since a beginning, last first, and the one before these
+-- the byte before a place, from the bytes `passed` up to this place, last byte first, and the byte `last` before them
 abbrev pub byte_before : (last : ℕ) (passed : List ℕ) → ℕ
 byte_before last [] = last
 byte_before last (b ∷ passed) = b
 
--- A symbol may start at a `?` that is the first of its word, unless the byte before it blocks the start.
+-- Whether a symbol may start at the byte `b`: whether this is the first `?` of its word, and the byte before it is none
+-- after which no symbol begins.
 abbrev pub is_start : (last : ℕ) (passed : List ℕ) (b : ℕ) → Bool
 is_start last passed b =
     b == 63 && not (has_question_mark (word_before passed) || blocks_start (byte_before last passed))
 
--- neither a space nor a control character
+-- whether a byte is neither a space nor a control character
 abbrev pub is_visible : ℕ → Bool
 is_visible b = nat_lt 32 b && not (b == 127)
 
--- the longest name that Microsoft's compiler gives
+-- the number of bytes of the longest name that Microsoft's compiler gives
 abbrev pub max_bytes : ℕ
 max_bytes = 4096
 
--- so much of some bytes as is UTF-8
+-- the longest beginning of some bytes that is UTF-8
 abbrev pub utf8_front : List ℕ → List ℕ
 utf8_front bytes = take (utf8_valid_len bytes) bytes
 
--- what may be a symbol at a start: the bytes from there that are visible and UTF-8, and of these the first
+-- the candidate for a symbol at a start: of the bytes from there the visible ones, of these at most `max_bytes`, and of
+-- these the longest beginning that is UTF-8
 abbrev pub candidate : List ℕ → List ℕ
 candidate left = utf8_front (take max_bytes (take_while is_visible left))
 
--- no byte of a word is next
+-- whether a word ends before these bytes: the first of them is not part of a word
 abbrev pub ends_word : List ℕ → Bool
 ends_word [] = true
 ends_word (b ∷ bs) = not (is_word_byte b)
 
--- an `@` or a capital is next, and ends its word
+-- whether the first of these bytes is an `@` or a capital that ends its word
 abbrev pub is_trailing_byte : List ℕ → Bool
 is_trailing_byte [] = false
 is_trailing_byte (b ∷ bs) = (b == 64 || is_ascii_uppercase b) && ends_word bs
 
--- A letter, a digit, an `_` or an `@` is next: a symbol before it continues in a way that the reader doesn't know.
+-- Whether the first of these bytes is a letter, a digit, an `_` or an `@`: a symbol before it then continues in a way
+-- that the grammar doesn't know.
 abbrev pub continues : List ℕ → Bool
 continues [] = false
 continues (b ∷ bs) = is_ascii_alphanumeric b || (b == 95 || b == 64)
 
--- How many bytes a symbol takes of which so many were read. Of real names the reader leaves at most one unread, which
--- is then an `@` or a storage class.
+-- The number of bytes that a symbol takes of which `read` bytes were read. Of real names at most one byte stays unread,
+-- an `@` or a storage class.
 abbrev pub symbol_extent : List ℕ → ℕ → ℕ
 symbol_extent left read = if is_trailing_byte (drop read left) then read + 1 else read

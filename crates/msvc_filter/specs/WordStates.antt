@@ -1,4 +1,4 @@
--- What the filter's scan keeps of the bytes before a place, and what it has found.
+-- What the filter's scan knows of the bytes before a place, and what it has found.
 use Rattle.std.specs.Prelude.{ℕ, List, [], ◌∷◌, ◌+◌, ◌++◌, ◌≡◌, ◌≢◌, ◌≤◌, ◌<◌, ◌⊎◌, All, Option, Some}
 use Rattle.std.specs.Prelude.{drop, length, map, take}
 use Rattle.msvc_filter.specs.Filtered.{IsFilteredFrom, IsSymbol, Part, declared, kept, text_of_parts}
@@ -6,7 +6,7 @@ use Rattle.msvc_filter.specs.FilterRuns.{max_held}
 use Rattle.msvc_filter.specs.SymbolBounds.{byte_before, has_question_mark, word_before}
 use Rattle.msvc_filter.specs.declared.symbol_bounds.WordState.{WordState}
 
--- what is kept of the bytes passed: whether the word that ends here has had a `?`, and the byte before
+-- the scan knows of the bytes passed whether the word that ends with them has a `?`, and which byte is the last
 pub record Keeps (scan : WordState) (last : ℕ) (passed : List ℕ) : Type 0 where
   pub seen : scan.seen_question_mark ≡ has_question_mark (word_before passed)
   pub before : scan.last ≡ byte_before last passed
@@ -15,32 +15,33 @@ pub record Keeps (scan : WordState) (last : ℕ) (passed : List ℕ) : Type 0 wh
 abbrev pub IsPlain : List ℕ → Type 0
 IsPlain bytes = All (λ b. b ≢ 63) bytes
 
--- the bytes passed, last first, after some more
+-- the bytes passed, last byte first, once some more bytes are passed
 abbrev pub past : (bytes passed : List ℕ) → List ℕ
 past [] passed = passed
 past (b ∷ bytes) passed = past bytes (b ∷ passed)
 
--- the parts of the bytes left, whatever bytes were passed of which the scan keeps this
+-- the parts of the bytes left, whatever bytes were passed of which the scan knows this
 abbrev pub AreRest : ℕ → WordState → List ℕ → List Part → Type 0
 AreRest flags scan left parts =
     (last : ℕ) (passed : List ℕ) → Keeps scan last passed → IsFilteredFrom flags last passed left parts
 
--- so many bytes from a start on decide whether a symbol begins there: a candidate, and two bytes after it
+-- the number of bytes that decide whether a symbol begins at the first of them: a candidate, and two bytes after it
 abbrev pub max_looked_at : ℕ
 max_looked_at = 4098
 
--- Whatever begins before a place is decided when these bytes follow: there are none, or enough bytes stand between.
+-- What begins before the place `until` of the bytes left is decided, also when the bytes `more` follow: these are none,
+-- or enough bytes stand between.
 abbrev pub IsDecided : (left : List ℕ) (until : ℕ) (more : List ℕ) → Type 0
 IsDecided left until more = (more ≡ []) ⊎ (until + max_looked_at ≤ length left)
 
--- The bytes left become these parts up to a place, after which the scan keeps something else: these parts stand before
--- whatever parts the bytes from there on have, also where more bytes follow.
+-- The bytes left become these parts up to the place `at`, where the scan is `after`: these parts stand before the parts
+-- of the bytes from there on, also if more bytes follow.
 abbrev pub ArePartsUpTo : ℕ → (scan : WordState) (left : List ℕ) (until : ℕ) → List Part → (at : ℕ) (after : WordState)
     → Type 0
 ArePartsUpTo flags scan left until parts at after = (more : List ℕ) (rest : List Part) → IsDecided left until more
     → AreRest flags after (drop at left ++ more) rest → AreRest flags scan (left ++ more) (parts ++ rest)
 
--- The first symbol stands after so many of the bytes left and takes so many, and this is its declaration.
+-- The first symbol stands after `before` of the bytes left and takes `bytes` bytes, and its declaration is shown.
 pub record IsFound (flags : ℕ) (scan : WordState) (left : List ℕ) (until before bytes : ℕ) (shown : Option (List ℕ))
     (after : WordState) : Type 0 where
   pub text : List ℕ
@@ -50,23 +51,23 @@ pub record IsFound (flags : ℕ) (scan : WordState) (left : List ℕ) (until bef
   pub parts : ArePartsUpTo flags scan left until (map kept (take before left) ++ declared text ∷ []) (before + bytes)
       after
 
--- these bytes of a text were filtered, and this is what they became
+-- the bytes left are filtered up to the place `at`, and the text is what they became
 abbrev pub IsFilteredUpTo : ℕ → (scan : WordState) (left : List ℕ) (until : ℕ) → List ℕ → (at : ℕ) (after : WordState) →
     Type 0
 IsFilteredUpTo flags scan left until text at after = (until ≤ at) × (at ≤ length left) × (parts : List Part)
     × (text ≡ text_of_parts parts) × ArePartsUpTo flags scan left until parts at after
 
--- The bytes at a start begin with a symbol, which takes so many of them, and its declaration is shown.
+-- The bytes left begin with a symbol that takes `bytes` bytes, and its declaration is shown.
 abbrev pub IsSymbolShown : ℕ → (left : List ℕ) (bytes : ℕ) (shown : Option (List ℕ)) → Type 0
 IsSymbolShown flags left bytes shown = (text : List ℕ) × (shown ≡ Some text) × IsSymbol flags left bytes text
     × (0 < bytes) × (bytes ≤ length left)
 
--- a text of the bytes left
+-- the text is that of parts of the bytes left
 abbrev pub IsRestText : ℕ → WordState → List ℕ → List ℕ → Type 0
 IsRestText flags scan left text = (parts : List Part) × AreRest flags scan left parts × (text ≡ text_of_parts parts)
 
--- This is written of the bytes left, of which the rest is left then. It stands before what that becomes, whatever
--- follows; and nothing is written of few bytes.
+-- The text is written for some of the bytes left, after which the rest is left. The text stands before that of the
+-- rest, whatever bytes follow. Nothing is written if at most `max_held` bytes are left.
 pub record IsDecidedText (flags : ℕ) (scan : WordState) (left text : List ℕ) (after : WordState) (rest : List ℕ) : Type
     0 where
   pub parts : List Part
@@ -76,6 +77,7 @@ pub record IsDecidedText (flags : ℕ) (scan : WordState) (left text : List ℕ)
   pub before_rest : (more : List ℕ) (others : List Part) → AreRest flags after (rest ++ more) others
       → AreRest flags scan (left ++ more) (parts ++ others)
 
+-- the text is written for some of the bytes left
 abbrev pub IsDecidedTextOf : ℕ → WordState → List ℕ → List ℕ → Type 0
 IsDecidedTextOf flags scan left text = (after : WordState) × (rest : List ℕ) × IsDecidedText flags scan left text after
     rest

@@ -1,4 +1,4 @@
--- What is answered to symbols and to lines.
+-- The answer of `undname` to a symbol, and its text for lines.
 use Rattle.std.specs.Prelude.{ℕ, List, [], ◌∷◌, ◌++◌, ◌≡◌, ◌⊎◌, None}
 use Rattle.std.specs.Str.{IsUtf8}
 use Rattle.msvc_nodes.specs.Trees.{SymbolTree}
@@ -12,21 +12,21 @@ use Rattle.msvc_lines.specs.Lines.{lines_of}
 abbrev pub line_flags : ℕ
 line_flags = 0xE00400
 
--- the tree, and the only one, that the grammar derives from a beginning of the symbol
+-- the tree is the only one that the grammar derives from a beginning of the symbol
 abbrev pub IsTreeOf : List ℕ → SymbolTree → Type 0
 IsTreeOf symbol tree =
     (rest : List ℕ) × (notes : List Note) × Derives symbol tree rest notes × IsOnly symbol tree rest notes
 
--- a symbol's answer: the declaration of its tree, or, where there is none, the symbol itself
+-- the text is the answer to the symbol: the declaration of its tree, or the symbol itself if it has no tree
 abbrev pub IsAnswer : List ℕ → List ℕ → Type 0
 IsAnswer symbol text = ((tree : SymbolTree) × IsTreeOf symbol tree × (text ≡ declaration tree line_flags))
     ⊎ (IsNoSymbol None symbol × (text ≡ symbol))
 
--- the answer and a line feed
+-- the text is the answer to the symbol and a line feed
 abbrev pub IsLineText : List ℕ → List ℕ → Type 0
 IsLineText symbol text = (answer : List ℕ) × IsAnswer symbol answer × (text ≡ answer ++ 10 ∷ [])
 
--- the text of lines: nothing for one that is not UTF-8, for each other its answer and a line feed
+-- the text is that of the lines: nothing for a line that is not UTF-8, the answer and a line feed for any other line
 pub data IsText : List (List ℕ) → List ℕ → Type 0 where
   nothing : IsText [] []
   left_out : {line : List ℕ} {lines : List (List ℕ)} {text : List ℕ} → ¬ (IsUtf8 line) → IsText lines text
@@ -34,7 +34,7 @@ pub data IsText : List (List ℕ) → List ℕ → Type 0 where
   answered : {line : List ℕ} {lines : List (List ℕ)} {first text : List ℕ} → IsUtf8 line → IsLineText line first
       → IsText lines text → IsText (line ∷ lines) (first ++ text)
 
--- what the filter writes for some bytes: the text of their lines, and no other text is that
+-- the text is that of the lines of some bytes, and no other text is
 abbrev pub IsFilterText : List ℕ → List ℕ → Type 0
 IsFilterText bytes text = IsText (lines_of bytes) text
     × ((other : List ℕ) → IsText (lines_of bytes) other → other ≡ text)

@@ -1,4 +1,4 @@
--- What is promised of the text of a tree.
+-- The text that a tree is printed as.
 use Rattle.std.specs.Prelude.{ℕ, List, ◌≡◌}
 use Rattle.std.specs.Str.{IsUtf8}
 use Rattle.std.specs.Str.Lossy.{utf8_lossy}
@@ -9,11 +9,11 @@ use Rattle.msvc_print.specs.Laws.{IsTextOfOtherTypes, IsTextUnderOtherBits}
 
 -- the text of a tree under a word of flags
 pub record IsTextOf (tree : SymbolTree) (flags : ℕ) (text : List ℕ) : Type 0 where
-  -- the declaration, where all names are UTF-8
+  -- if all names are UTF-8, the text is the declaration
   pub declared : EachName IsUtf8 tree → text ≡ declaration tree flags
-  -- in each case the declaration with U+FFFD for what is not UTF-8
+  -- the text is the declaration with U+FFFD for what is not UTF-8
   pub lossy : text ≡ utf8_lossy (declaration tree flags)
-  -- bits that no definition asks for change nothing
+  -- bits of the flags that no definition asks for do not change the text
   pub other_bits : IsTextUnderOtherBits text tree flags
-  -- under NAME_ONLY the type changes nothing, but for a conversion operator
+  -- under NAME_ONLY the type does not change the text, unless the name is a conversion operator
   pub name_only : IsTextOfOtherTypes text tree flags
