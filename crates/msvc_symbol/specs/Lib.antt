@@ -1,2 +1,3 @@
 pub mod Demangled
 pub mod Failures
+pub mod Steps

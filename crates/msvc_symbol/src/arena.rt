@@ -33,7 +33,7 @@ impl<A: Allocator + Copy> Arena<A> {
     }
 
     /// Makes an arena that has all the available memory, and is never made anew.
-    pub fn over(alloc: A, bump: Bump<Fuse<A>>) -> Arena<A> {
+    pub(crate) fn over(alloc: A, bump: Bump<Fuse<A>>) -> Arena<A> {
         Arena {
             alloc,
             bump,
@@ -42,13 +42,13 @@ impl<A: Allocator + Copy> Arena<A> {
     }
 
     /// Returns the allocator.
-    pub fn alloc(&self) -> A {
+    pub(crate) fn alloc(&self) -> A {
         self.alloc
     }
 
     /// Empties the arena and returns it.
     #[inline(always)]
-    pub fn emptied(&mut self) -> &Bump<Fuse<A>> {
+    pub(crate) fn emptied(&mut self) -> &Bump<Fuse<A>> {
         // An arena that some list was not given back to stays as it is, and can still be used.
         let _ = self.bump.reset();
         &self.bump
@@ -72,7 +72,7 @@ impl<A: Allocator + Copy> Arena<A> {
 
     /// Makes the next symbol use a new arena, unless this one is fixed: an arena that has failed once fails for good.
     #[cold]
-    pub fn drop_next(&mut self) {
+    pub(crate) fn drop_next(&mut self) {
         if self.began != FIXED {
             self.began = 0;
         }

@@ -4,8 +4,9 @@ ghost use Rattle.std.specs.Prelude.{IfErr, IfOk};
 ghost use Rattle.msvc_nodes.specs.NodeView.{typed_symbol_of};
 ghost use Rattle.msvc_cursor.specs.Errors.{IsInside};
 ghost use Rattle.msvc_print.specs.Declaration.{declaration};
-ghost use Rattle.msvc_symbol.specs.Failures.{IsFailure, IsUnprinted};
-ghost use Rattle.msvc_symbol.specs.Demangled.{IsDeclaredAs, IsPrinted};
+ghost use Rattle.msvc_symbol.specs.Failures.{IsFailure};
+ghost use Rattle.msvc_symbol.specs.Demangled.{IsDeclaredAs};
+ghost use Rattle.msvc_symbol.specs.Steps.{IsPrinted, IsUnprinted};
 
 use alloc_fuse::Fuse;
 use bumpalo::Bump;
@@ -57,7 +58,7 @@ pub fn print<'a, 'b, B: Allocator, A: Allocator>(
 ///
 /// Fails if `input` begins with no symbol, if its tree or its declaration exceeds a limit, or if an allocation fails.
 #[inline(always)]
-pub fn declare<B: Allocator, A: Allocator>(
+pub(crate) fn declare<B: Allocator, A: Allocator>(
     arena: &Bump<B>,
     input: &str,
     flags: DemangleFlags,
