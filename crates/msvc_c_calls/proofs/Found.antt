@@ -11,9 +11,10 @@ use Rattle.msvc_demangler.specs.Failures.{Fails, IsFailure, IsFailureText, limit
 use Rattle.msvc_demangler.specs.Failure.{Failure}
 use Rattle.msvc_demangler.specs.Failure.TheVariants as why
 use Rattle.msvc_c_calls.proofs.Rejected.{rejected}
-use Rattle.msvc_c_calls.specs.Calls.{IsFound, IsMeasured, IsNotRead, IsReason, IsRejection, IsStatusOf, Says, said, unsaid}
+use Rattle.msvc_c_calls.specs.Calls.{IsFound, IsMeasured, IsNotRead, IsRejection, Says}
 use Rattle.msvc_c_calls.specs.Calls.{not_measured, not_read, not_utf8, not_utf8_text, out_of_memory, out_of_memory_text}
 use Rattle.msvc_c_calls.specs.Calls.{too_long}
+use Rattle.msvc_c_calls.specs.Reasons.{IsReason, IsStatusOf, said, unsaid}
 use Rattle.msvc_c_calls.specs.Buffers.{IsWritten}
 
 unlimited : (nodes : Option ℕ) (symbol : List ℕ) (message : Message) (left : ℕ)

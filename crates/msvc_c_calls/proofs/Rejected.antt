@@ -9,7 +9,8 @@ use Rattle.msvc_demangler.specs.Errors.{message_limit}
 use Rattle.msvc_demangler.specs.Limit.{Limit}
 use Rattle.msvc_demangler.specs.Limit.TheVariants.{Bytes, Nodes}
 use Rattle.msvc_demangler.specs.Rejections.{IsNoSymbol}
-use Rattle.msvc_c_calls.specs.Calls.{IsNotRead, IsRejection, IsStatusOf, invalid, too_many_nodes}
+use Rattle.msvc_c_calls.specs.Calls.{IsNotRead, IsRejection, invalid, too_many_nodes}
+use Rattle.msvc_c_calls.specs.Reasons.{IsStatusOf}
 
 -- the message about the limit on nodes is one text
 nodes-first : (nodes bytes : Bool) → (if nodes then Some Nodes else if bytes then Some Bytes else None) ≡ Some Nodes

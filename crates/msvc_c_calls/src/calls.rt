@@ -6,8 +6,9 @@ ghost use Rattle.msvc_demangler.specs.Failures.{Fails, IsFailureText, IsInside};
 ghost use Rattle.msvc_demangler.specs.Failures.{limit_of_failure, offset_of_failure};
 ghost use Rattle.msvc_demangler.specs.CallLimits as spec;
 ghost use Rattle.msvc_c_calls.specs.Buffers.{IsWritten};
-ghost use Rattle.msvc_c_calls.specs.Calls.{IsFilteredInto, IsFound, IsMeasured, IsNotRead, IsReason, IsStatusOf};
+ghost use Rattle.msvc_c_calls.specs.Calls.{IsFilteredInto, IsFound, IsMeasured, IsNotRead};
 ghost use Rattle.msvc_c_calls.specs.Calls.{not_utf8_text, out_of_memory_text};
+ghost use Rattle.msvc_c_calls.specs.Reasons.{IsReason, IsStatusOf};
 
 use crate::{
     CallResult, NOT_UTF8, NOT_UTF8_TEXT, OK, OUT_OF_MEMORY, OUT_OF_MEMORY_TEXT, end_filtered,

@@ -4,7 +4,8 @@
 
 ghost use Rattle.std.specs.Prelude.{◌≡◌, IfErr, IfOk, length, set};
 ghost use Rattle.msvc_c_calls.specs.Buffers.{IsWritten};
-ghost use Rattle.msvc_c_calls.specs.Calls.{IsStatusOf, out_of_memory_text};
+ghost use Rattle.msvc_c_calls.specs.Calls.{out_of_memory_text};
+ghost use Rattle.msvc_c_calls.specs.Reasons.{IsStatusOf};
 
 mod calls;
 
@@ -18,7 +19,7 @@ use std::alloc::AllocError;
 pub const OK: u32 = 0;
 
 /// The status of an input that begins with no symbol.
-pub const INVALID: u32 = 1;
+const INVALID: u32 = 1;
 
 /// The status of an input that is not UTF-8.
 pub const NOT_UTF8: u32 = 2;
@@ -27,10 +28,10 @@ pub const NOT_UTF8: u32 = 2;
 pub const OUT_OF_MEMORY: u32 = 3;
 
 /// The status of a symbol with more nodes than allowed.
-pub const TOO_MANY_NODES: u32 = 4;
+const TOO_MANY_NODES: u32 = 4;
 
 /// The status of a symbol whose declaration has more bytes than allowed.
-pub const TOO_LONG: u32 = 5;
+const TOO_LONG: u32 = 5;
 
 /// The text of a symbol that is not UTF-8.
 const NOT_UTF8_TEXT: &str = "not UTF-8";

@@ -1,6 +1,7 @@
 use Rattle.std.proofs.Common.{refl, subst}
 use Rattle.msvc_c_calls.specs.Buffers.{IsWritten}
-use Rattle.msvc_c_calls.specs.Calls.{out_of_memory_text, said, unsaid}
+use Rattle.msvc_c_calls.specs.Calls.{out_of_memory_text}
+use Rattle.msvc_c_calls.specs.Reasons.{said, unsaid}
 use Rattle.msvc_c_calls.proofs.calls.write_reason.Goals as goal
 
 pub returns-in_default : goal.returns-in_default
