@@ -13,8 +13,9 @@ use Rattle.msvc_demangler.specs.Trees.{SymbolTree}
 use Rattle.msvc_c_calls.specs.Buffers.{IsWritten}
 use Rattle.msvc_c_calls.specs.Calls.{IsNotRead, not_utf8, not_utf8_text, out_of_memory_text}
 use Rattle.msvc_c_calls.proofs.Found.{no_memory}
-use Rattle.msvc_demangler_in.specs.Shown.{AreListed, IsListed, IsShown, IsTreeText, listed, made, not_listed, not_shown}
-use Rattle.msvc_demangler_in.specs.Shown.{reference_of, shown, unmade}
+use Rattle.msvc_demangler_in.specs.Shown.{AreListed, IsListed, IsShown, listed, not_listed, not_shown, reference_of}
+use Rattle.msvc_demangler_in.specs.Shown.{shown}
+use Rattle.msvc_demangler_in.specs.TreeTexts.{IsTreeText, made, unmade}
 use Rattle.msvc_demangler_in.specs.declared.references.Reference.{Reference}
 
 -- The tree

@@ -3,7 +3,8 @@
 ghost use Rattle.std.specs.Prelude.{◌≡◌, ℕ, List, length};
 ghost use Rattle.msvc_c_calls.specs.Buffers.{IsWritten};
 ghost use Rattle.msvc_c_calls.specs.Calls.{IsFilteredInto, IsFound, IsMeasured};
-ghost use Rattle.msvc_demangler_in.specs.Shown.{IsListed, IsShown, IsTreeText};
+ghost use Rattle.msvc_demangler_in.specs.Shown.{IsListed, IsShown};
+ghost use Rattle.msvc_demangler_in.specs.TreeTexts.{IsTreeText};
 
 use crate::memory::{arena_in, demangler_in, measurer_in};
 use crate::references::{Reference, write_references};

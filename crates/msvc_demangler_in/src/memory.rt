@@ -1,7 +1,7 @@
 //! Lent memory, and a demangler over it.
 
 ghost use Rattle.std.specs.Prelude.{◌≡◌, IsFalse, IsTrue};
-ghost use Rattle.lent_memory.specs.Ownership.{no_memory};
+ghost use Rattle.lent_memory.specs.Blocks.{no_memory};
 
 use bumpalo::Bump;
 use lent_memory::{Lent, Workspace};

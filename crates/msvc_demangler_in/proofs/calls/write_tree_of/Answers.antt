@@ -1,6 +1,6 @@
 use Rattle.std.proofs.Common.{refl}
 use Rattle.msvc_c_calls.specs.Calls.{out_of_memory_text}
-use Rattle.msvc_demangler_in.specs.Shown.{made, unmade}
+use Rattle.msvc_demangler_in.specs.TreeTexts.{made, unmade}
 use Rattle.msvc_demangler_in.proofs.calls.write_tree_of.Goals as goal
 
 pub returns-in-Ok : goal.returns-in-Ok
