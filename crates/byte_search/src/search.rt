@@ -12,7 +12,6 @@ const BLOCK: usize = 16;
 
 /// Returns the index of the first `byte`. Tests bytes one by one if they are few, else the first 16 at once, and calls
 /// `memchr` only for those after them.
-#[inline(always)]
 pub fn find_byte(byte: u8, bytes: &[u8]) -> Option<usize>
     ensures first { IsFirstByte (λ b. b == byte) bytes.now result }
     ensures inside { IfSome result (λ n. n < length bytes.now) }
@@ -36,7 +35,6 @@ pub fn find_byte(byte: u8, bytes: &[u8]) -> Option<usize>
 }
 
 /// Returns how many of the first bytes precede the first `byte`: all of them if it is not among them.
-#[inline(always)]
 fn bytes_before(byte: u8, bytes: &[u8]) -> usize
     requires { 16 ≤ length bytes.now }
     ensures { result ≡ position_or_len (λ b. b == byte) (take 16 bytes.now) }

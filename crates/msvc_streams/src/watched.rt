@@ -106,7 +106,6 @@ impl<T> Watched<T> {
 /// Polls the reader once, and returns the bytes that it shows: none only at its end. Takes none of them.
 ///
 /// Fails if the reader fails, also if it is interrupted, and if it was polled 2^64 - 1 times before.
-#[inline(always)]
 pub fn fill_buf<'a, R: BufRead>(
     input: &'a mut Watched<R>,
     polls: &mut Polls,
@@ -142,7 +141,6 @@ pub fn fail<R: BufRead>(input: &mut Watched<R>, failure: ReadFailure) -> Fault
 }
 
 /// Takes `count` of the bytes that the reader shows.
-#[inline(always)]
 pub fn consume<R: BufRead>(input: &mut Watched<R>, count: usize)
     ensures bytes { DropsConsumable (R.remaining input.old.stream) (R.remaining input.new.stream)
         (R.consumable_len input.old.stream) count }
@@ -185,7 +183,6 @@ pub fn read_piece<R: BufRead>(
 }
 
 /// Returns the number of the shown bytes that are taken at once, and their kind.
-#[inline(always)]
 pub fn line_end(shown: &[u8]) -> (usize, Taken)
     ensures bound { result.0 ≤ length shown.now }
     ensures taken { IsCut result.1 (take result.0 shown.now) }
