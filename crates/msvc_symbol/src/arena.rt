@@ -47,7 +47,6 @@ impl<A: Allocator + Copy> Arena<A> {
     }
 
     /// Empties the arena and returns it.
-    #[inline(always)]
     pub(crate) fn emptied(&mut self) -> &Bump<Fuse<A>> {
         // An arena that some list was not given back to stays as it is, and can still be used.
         let _ = self.bump.reset();

@@ -103,7 +103,6 @@ impl<A: Allocator + Copy> Demangler<A> {
 
     /// Returns the demangler's text: the declaration of the last symbol, in bytes, which are unspecified if that had
     /// none.
-    #[inline(always)]
     pub fn declared(&self) -> &[u8]
         ensures { (bytes : List ℕ) → self.now.text ≡ Some bytes → result.now ≡ bytes }
     {

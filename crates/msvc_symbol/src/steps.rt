@@ -79,7 +79,6 @@ pub(crate) fn declare<B: Allocator, A: Allocator>(
 /// # Errors
 ///
 /// Fails where [`declare`] does.
-#[inline(always)]
 pub fn declare_once<A: Allocator + Copy>(
     alloc: A,
     input: &str,
