@@ -6,7 +6,7 @@ ghost use Rattle.msvc_c_calls.specs.Calls.{IsFilteredInto, IsFound, IsMeasured};
 ghost use Rattle.msvc_demangler_in.specs.Shown.{IsListed, IsShown};
 ghost use Rattle.msvc_demangler_in.specs.TreeTexts.{IsTreeText};
 
-use crate::memory::{arena_in, demangler_in, measurer_in};
+use crate::memory::{demangler_in, demangler_without_text};
 use crate::references::{Reference, write_references};
 use bumpalo::Bump;
 use lent_memory::Lent;
@@ -40,15 +40,15 @@ pub(crate) fn show(memory: &Lent, symbol: &str, limits: Limits, out: &mut [u8]) 
     ensures { (shown : List ℕ) × IsShown limits symbol.now result.status result.offset shown
         × (result.length ≡ length shown) × IsWritten shown out.old out.new }
 {
-    let Some(mut arena) = arena_in(memory) else {
+    let Some(mut demangler) = demangler_without_text(memory) else {
         return out_of_memory(out);
     };
-    let failure = match read(&arena, symbol, limits) {
-        Ok(read) => return write_tree_of(&arena, &read.symbol, out),
+    let arena = demangler.arena();
+    let failure = match read(arena, symbol, limits) {
+        Ok(read) => return write_tree_of(arena, &read.symbol, out),
         Err(failure) => failure,
     };
-    let _ = arena.reset();
-    calls::write_reason(&arena, failure, symbol, out)
+    calls::write_reason(demangler.arena(), failure, symbol, out)
 }
 
 /// Writes the tree of a symbol, as a text that is made in the arena, or the message that memory ran out.
@@ -75,10 +75,10 @@ fn write_tree_of<'a, 'b, A: Allocator>(
 pub(crate) fn list(memory: &Lent, symbol: &str, limits: Limits, out: &mut [Reference]) -> CallResult
     ensures { IsListed limits symbol.now out.old out.new result.status result.offset result.length }
 {
-    let Some(arena) = arena_in(memory) else {
+    let Some(mut demangler) = demangler_without_text(memory) else {
         return unmeasured(OUT_OF_MEMORY, 0);
     };
-    match read(&arena, symbol, limits) {
+    match read(demangler.arena(), symbol, limits) {
         Ok(read) => CallResult {
             status: OK,
             offset: 0,
@@ -92,7 +92,7 @@ pub(crate) fn list(memory: &Lent, symbol: &str, limits: Limits, out: &mut [Refer
 pub(crate) fn measure(memory: &Lent, symbol: &str, limits: Limits) -> CallResult
     ensures { IsMeasured limits symbol.now result.status result.offset result.length }
 {
-    match measurer_in(memory) {
+    match demangler_without_text(memory) {
         Some(mut demangler) => calls::measure(&mut demangler, symbol, limits),
         None => unmeasured(OUT_OF_MEMORY, 0),
     }

@@ -40,7 +40,7 @@ pub(crate) fn give_back(lent: Lent, workspace: &mut Workspace) -> bool
 }
 
 /// Makes an arena of all the memory, if that has a page.
-pub(crate) fn arena_in(memory: &Lent) -> Option<Bump<Fuse<&Lent>>> {
+fn arena_in(memory: &Lent) -> Option<Bump<Fuse<&Lent>>> {
     let bytes = memory.size().saturating_add(UNREQUESTED) / PAGE * PAGE;
     match Bump::try_with_capacity(Fuse::new(memory), bytes.checked_sub(OVERHEAD)?) {
         Ok(arena) => Some(arena),
@@ -57,7 +57,7 @@ pub(crate) fn demangler_in<'a>(arena: &'a Lent, text: &'a Lent) -> Option<Demang
     }
 }
 
-/// Makes one that has no memory for a declaration, and can measure a symbol.
-pub(crate) fn measurer_in(arena: &Lent) -> Option<Demangler<&Lent>> {
+/// Makes a demangler of all the memory that has none for a declaration: it can read a symbol, but not print it.
+pub(crate) fn demangler_without_text(arena: &Lent) -> Option<Demangler<&Lent>> {
     Some(Demangler::over(arena, arena_in(arena)?, Text::new(arena)))
 }
