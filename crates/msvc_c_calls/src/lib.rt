@@ -1,5 +1,5 @@
-//! The libraries for C, but for their symbols and their memory: the calls, over a demangler of any memory, their results
-//! and statuses, and writing a text into a buffer.
+//! The libraries for C, but for their symbols and their memory: the calls, over a demangler of any memory, their
+//! results and statuses, and writing a text into a buffer.
 #![tactic(auto)]
 
 ghost use Rattle.std.specs.Prelude.{◌≡◌, IfErr, IfOk, length, set};

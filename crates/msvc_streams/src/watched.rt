@@ -1,8 +1,8 @@
 //! Streams that are watched: whether a call on a reader or a writer has failed. Only `consume` and `write_some` move
 //! bytes, and only `fail` and `write_some` set the failure flag of a stream.
 
-ghost use Rattle.std.specs.Prelude.{◌≡◌, ◌+◌, ◌-◌, ◌^◌, ◌≤◌, ◌<◌, ◌++◌, ℕ, List, [], Err, IfErr, IfOk, IfSome, IsTrue, ◌↔◌};
-ghost use Rattle.std.specs.Prelude.{OnErr, OnSome, false, length, take, true};
+ghost use Rattle.std.specs.Prelude.{◌≡◌, ◌+◌, ◌-◌, ◌^◌, ◌≤◌, ◌<◌, ◌++◌, ◌↔◌, ℕ, List, [], Err, false, true};
+ghost use Rattle.std.specs.Prelude.{IfErr, IfOk, IfSome, IsTrue, OnErr, OnSome, length, take};
 ghost use Rattle.std.specs.Borrow.{sem};
 ghost use Rattle.std.specs.Io.{StartsWith};
 ghost use Rattle.std.specs.Io.BufRead.{DropsConsumable, FillKeeps, Rests};

@@ -1,7 +1,7 @@
 //! `undname [-v] [symbols]` prints the declaration of each symbol on a line: `int ns::x` for `?x@ns@@3HA`. Without
 //! symbols it reads them from the lines of standard input, and prints the result of each line before it waits for the
-//! next. A rejected symbol is printed unchanged, and the error goes to standard error; `-v`, as the first argument, also
-//! prints each tree there. Any other argument is a symbol.
+//! next. A rejected symbol is printed unchanged, and the error goes to standard error; `-v`, as the first argument,
+//! also prints each tree there. Any other argument is a symbol.
 //!
 //! The exit status is 0, or 1 if standard input can't be read, a line can't be written, or an allocation fails, or 2 if
 //! an argument isn't UTF-8. Then standard error has a message, and the lines before are printed.

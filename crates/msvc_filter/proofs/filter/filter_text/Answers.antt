@@ -105,8 +105,8 @@ pieces-preserved-then-is_empty g c =
     let text = c.in_ok-put-in-Line.ensures.text in
     let joined = cut.2 ∙ ap (λ l. l ++ (cut.0 ++ 10 ∷ [])) (sym empty) in
     rw empty (
-      Streaming-line c.args.flags.0 c.pieces.scan c.new-scan-in-Line.result _ _ _ _ _ _ c.pieces.piece.items cut.0 text.0
-          c.pieces.invariant.0 (subst (Consumes _ _) cut.2 taken) text.1
+      Streaming-line c.args.flags.0 c.pieces.scan c.new-scan-in-Line.result _ _ _ _ _ _ c.pieces.piece.items cut.0
+          text.0 c.pieces.invariant.0 (subst (Consumes _ _) cut.2 taken) text.1
           (subst (λ l. IsRestText c.args.flags.0 c.pieces.scan l text.0) joined text.2) c.new-scan-in-Line.ensures,
       c.consume.ensures.failed ∙ c.fill_buf.follows.holds-at-none.1 ∙ c.pieces.invariant.1,
       c.in_ok-put-in-Line.ensures.sets_failed.1 ∙ c.pieces.invariant.2,
