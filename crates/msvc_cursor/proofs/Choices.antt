@@ -3,16 +3,17 @@ use Rattle.std.proofs.Common.{ℕ, List, [], ◌∷◌, Option, Some, None, Bool
 use Rattle.std.proofs.Common.{◌∙◌}
 use Rattle.std.specs.Prelude.{is_some}
 use Rattle.std.specs.Option.{option_map_or}
-use Rattle.msvc_cursor.specs.Parser.{byte_here}
-use Rattle.msvc_grammar.specs.State.{State}
-use Rattle.msvc_grammar.specs.Sorts.{Sort}
-use Rattle.msvc_grammar.specs.Rules.{holds, none_of, some_of, begins, after, lookup, Rule, begins_of, letter_or}
-use Rattle.msvc_grammar.specs.Rules.{literal_or, required}
+use Rattle.msvc_rules.specs.Readers.{Found, read_by, letter_here, with_value, after_literal, and_then, or_else}
+use Rattle.msvc_rules.specs.Rules.{holds, none_of, some_of, after, lookup, Rule, begins_of, letter_or, literal_or}
+use Rattle.msvc_rules.specs.Rules.{begins}
+use Rattle.msvc_rules.specs.Sorts.{Sort}
+use Rattle.msvc_rules.specs.State.{State}
 use Rattle.msvc_grammar.specs.Grammar.{grammar}
 use Rattle.msvc_grammar.specs.Letters.{rows_of}
-use Rattle.msvc_grammar.specs.Reads.{Found, read_name, read, read_by, letter_here, with_value, after_literal, and_then}
-use Rattle.msvc_grammar.specs.Reads.{or_else}
-use Rattle.msvc_grammar.proofs.FuelIndependence.{read_name-is}
+use Rattle.msvc_grammar.specs.Productions.{Production, required}
+use Rattle.msvc_grammar.specs.Reading.{read_name, read}
+use Rattle.msvc_grammar.proofs.Laws.{read_name-is}
+use Rattle.msvc_cursor.specs.Parser.{byte_here}
 
 pub or_none : {A : Type 0} (o : Found A) → or_else o None ≡ o
 or_none None = refl
@@ -54,7 +55,8 @@ choice (Some x) t bs s f q h = ap (λ z. or_else (f x bs s) (cond z q None)) (h.
     whole None = refl
     whole (Some y) = refl
 
-pub letter_or-is : {a : Sort} (table : List (ℕ × ℕ)) (f : ℕ → Rule a) (q : Rule a) (left : List ℕ) (s : State)
+pub letter_or-is : {a : Sort} (table : List (ℕ × ℕ)) (f : ℕ → Rule Production a) (q : Rule Production a)
+    (left : List ℕ) (s : State)
     → read (letter_or table f q) left s ≡ choose (letter_here table left s) (λ x. read (f x)) (read q left s)
 unfolding read read_by
 letter_or-is table f q [] s = ap (λ t. cond t (read q [] s) None) (go table)
@@ -66,7 +68,7 @@ letter_or-is table f q (b ∷ bs) s =
     choice (lookup b table) (holds (none_of (begins_of table)) (b ∷ bs)) bs s
     (λ x. read (f x)) (read q (b ∷ bs) s) (no_letter table b bs)
 
-pub literal_or-is : {a : Sort} (l : List ℕ) (r q : Rule a) (left : List ℕ) (s : State)
+pub literal_or-is : {a : Sort} (l : List ℕ) (r q : Rule Production a) (left : List ℕ) (s : State)
     → read (literal_or l r q) left s ≡ chosen (after l left) (λ rest. read r rest s) (read q left s)
 unfolding read read_by
 literal_or-is l r q left s = go (after l left)

@@ -6,21 +6,22 @@ use Rattle.msvc_nodes.specs.Trees as tree
 use Rattle.msvc_nodes.specs.declared.kinds.PrimitiveKind.TheVariants as base_kind
 use Rattle.msvc_nodes.specs.declared.kinds.PlainType.TheVariants as plain_kind
 use Rattle.msvc_nodes.specs.Trees.{function, name_trees, plain, type_trees}
-use Rattle.msvc_cursor.specs.Parser.{byte_here}
-use Rattle.msvc_grammar.specs.State.{State}
-use Rattle.msvc_grammar.specs.Sorts.{bits, type_tree, list}
-use Rattle.msvc_grammar.specs.Rules.{thunk_number, this_qualifiers, function_qualifiers, signature, return_qualifiers}
-use Rattle.msvc_grammar.specs.Rules.{returned, function_parameters, parameters, parameter, type_, qualified_name}
-use Rattle.msvc_grammar.specs.Rules.{number, holds, none_of, after, lookup, give, letter, literal, call, begins_of}
-use Rattle.msvc_grammar.specs.Rules.{optional, class_part, function_type, member_pointer, node}
+use Rattle.msvc_rules.specs.Readers.{read_by, letter_here, with_value, type_noted, noted_by, entered_by, and_then}
+use Rattle.msvc_rules.specs.Readers.{in_node, or_else}
+use Rattle.msvc_rules.specs.Rules.{holds, none_of, after, lookup, give, letter, literal, call, begins_of, optional}
+use Rattle.msvc_rules.specs.Rules.{node, ◌>>=◌, ◌>>◌}
+use Rattle.msvc_rules.specs.Sorts.{bits, type_tree, list}
+use Rattle.msvc_rules.specs.State.{State}
 use Rattle.msvc_grammar.specs.Grammar.{grammar, has, pointed_return_qualifiers}
 use Rattle.msvc_grammar.specs.Letters.{digits, pointer_sizes, restricts, alignments, reference_qualifiers, qualifiers}
 use Rattle.msvc_grammar.specs.Letters.{storage_classes, conventions, qualifiers_of_returns, function_classes, thunk}
-use Rattle.msvc_grammar.specs.Reads.{read_name, read, read_by, letter_here, with_value, type_noted, noted_by}
-use Rattle.msvc_grammar.specs.Reads.{entered_by, and_then, in_node, or_else}
-use Rattle.msvc_grammar.proofs.FuelIndependence.{read_name-is}
+use Rattle.msvc_grammar.specs.Productions.{thunk_number, this_qualifiers, function_qualifiers, signature}
+use Rattle.msvc_grammar.specs.Productions.{return_qualifiers, returned, function_parameters, parameters, parameter}
+use Rattle.msvc_grammar.specs.Productions.{type_, qualified_name, number, class_part, function_type, member_pointer}
+use Rattle.msvc_grammar.specs.Reading.{read_name, read}
+use Rattle.msvc_grammar.proofs.Laws.{read_name-is}
+use Rattle.msvc_cursor.specs.Parser.{byte_here}
 use Rattle.msvc_cursor.proofs.Choices.{or_none, choose, chosen, no_letter, literal_or-is, letter_following}
-use Rattle.msvc_grammar.specs.Rules.{◌>>=◌, ◌>>◌}
 use Rattle.msvc_grammar.specs.declared.forms.ObjectQualifiers.{ObjectQualifiers}
 use Rattle.msvc_grammar.specs.declared.forms.ObjectQualifiers.TheVariants as object_qualifiers
 use Rattle.msvc_grammar.specs.declared.forms.FunctionKind.{FunctionKind}

@@ -6,19 +6,18 @@ use Rattle.std.proofs.lemmas.Bool.{le-ltb, eqb-true}
 use Rattle.msvc_nodes.specs.declared.kinds.NumberedType.TheVariants as number_kind
 use Rattle.msvc_nodes.specs.Trees.{NameTree, SymbolTree, anonymous, discriminator, name_trees, nested, numbered}
 use Rattle.msvc_nodes.specs.Trees.{spelled, template, base_class_descriptor, guard, operator, type_descriptor}
-use Rattle.msvc_grammar.specs.State.{State}
-use Rattle.msvc_grammar.specs.Sorts.{bits}
-use Rattle.msvc_grammar.specs.Rules.{guard_index, scope, nested_name, number, after, give, literal, call, letter_or}
-use Rattle.msvc_grammar.specs.Rules.{decimal, is_nil, unsigned}
+use Rattle.msvc_nodes.specs.declared.kinds.Guard.{Guard}
+use Rattle.msvc_rules.specs.Readers.{Found, read_by, letter_here, with_value, after_literal, and_then, in_node, or_else}
+use Rattle.msvc_rules.specs.Rules.{after, give, literal, call, letter_or, is_nil, ◌>>◌}
+use Rattle.msvc_rules.specs.Sorts.{bits}
+use Rattle.msvc_rules.specs.State.{State}
 use Rattle.msvc_grammar.specs.Grammar.{grammar, is_guard, numbered_guard, with_index, guard_marker, is_in_range}
 use Rattle.msvc_grammar.specs.Letters.{at_sign, digits}
-use Rattle.msvc_grammar.specs.Reads.{Found, read_name, read, read_by, letter_here, with_value, after_literal, and_then}
-use Rattle.msvc_grammar.specs.Reads.{in_node, or_else}
-use Rattle.msvc_grammar.proofs.FuelIndependence.{read_name-is}
-use Rattle.msvc_nodes.specs.declared.kinds.Guard.{Guard}
+use Rattle.msvc_grammar.specs.Productions.{guard_index, scope, nested_name, number, decimal, unsigned}
+use Rattle.msvc_grammar.specs.Reading.{read_name, read}
+use Rattle.msvc_grammar.proofs.Laws.{read_name-is}
 use Rattle.msvc_cursor.specs.Parser.{indexed}
 use Rattle.msvc_cursor.proofs.Choices.{choose, chosen, letter_or-is, if_required, then_is}
-use Rattle.msvc_grammar.specs.Rules.{◌>>◌}
 
 pub guard_marker_step : (left : List ℕ) (s : State) → read guard_marker left s
     ≡ chosen (after (codes "4IA") left) (λ rest. Some (tt, rest, s)) (read (literal (codes "5")) left s)

@@ -7,21 +7,22 @@ use Rattle.std.proofs.lemmas.Bool.{lt-ltb, le-ltb, ltb-true, ltb-false}
 use Rattle.std.proofs.Math.Numerals.{one-add, add-one}
 use Rattle.msvc_nodes.specs.declared.kinds.Spelling.TheVariants as spelling_kind
 use Rattle.msvc_nodes.specs.Trees.{NameTree, anonymous, discriminator, nested, spelled, template, type_trees}
-use Rattle.msvc_cursor.specs.Parser.{cut_at, add_template_name, name_length}
-use Rattle.msvc_grammar.specs.State.{State, remember_name}
-use Rattle.msvc_grammar.specs.Sorts.{name_tree}
-use Rattle.msvc_grammar.specs.Rules.{symbol_body, parameters, qualified_name, unqualified_name, template_name, scope}
-use Rattle.msvc_grammar.specs.Rules.{nested_name, locally_scoped_name}
-use Rattle.msvc_grammar.specs.Rules.{anonymous_namespace, hexadecimal_digits, source_name, special_name}
-use Rattle.msvc_grammar.specs.Rules.{number, after, Rule, give, literal, known_name, call, literal_or, node}
+use Rattle.msvc_rules.specs.Readers.{Found, read_by, letter_here, with_byte, part_here, after_literal, and_then}
+use Rattle.msvc_rules.specs.Readers.{counting, in_node, name_known, put_apart}
+use Rattle.msvc_rules.specs.Reads.{emptied}
+use Rattle.msvc_rules.specs.Rules.{after, Rule, give, literal, known_name, call, literal_or, node, ◌>>=◌, ◌>>◌}
+use Rattle.msvc_rules.specs.Sorts.{name_tree}
+use Rattle.msvc_rules.specs.State.{State, remember_name}
 use Rattle.msvc_grammar.specs.Grammar.{grammar, entering_name, nested_symbol, new_interface, new_source_name}
 use Rattle.msvc_grammar.specs.Grammar.{template_inside, template_kept}
 use Rattle.msvc_grammar.specs.Letters.{at_sign, digits}
-use Rattle.msvc_grammar.specs.Reads.{Found, read_name, read, read_by, letter_here, with_byte, part_here}
-use Rattle.msvc_grammar.specs.Reads.{after_literal, and_then, counting, emptied, in_node, name_known, put_apart}
-use Rattle.msvc_grammar.proofs.FuelIndependence.{read_name-is}
+use Rattle.msvc_grammar.specs.Productions.{Production, symbol_body, parameters, qualified_name, unqualified_name}
+use Rattle.msvc_grammar.specs.Productions.{template_name, scope, nested_name, locally_scoped_name, anonymous_namespace}
+use Rattle.msvc_grammar.specs.Productions.{hexadecimal_digits, source_name, special_name, number}
+use Rattle.msvc_grammar.specs.Reading.{read_name, read}
+use Rattle.msvc_grammar.proofs.Laws.{read_name-is}
+use Rattle.msvc_cursor.specs.Parser.{cut_at, add_template_name, name_length}
 use Rattle.msvc_cursor.proofs.Choices.{choose, chosen, letter_or-is, literal_or-is}
-use Rattle.msvc_grammar.specs.Rules.{◌>>=◌, ◌>>◌}
 use Rattle.msvc_grammar.specs.declared.forms.TemplateNames.{TemplateNames}
 use Rattle.msvc_grammar.specs.declared.forms.TemplateNames.TheVariants as templates
 
@@ -80,7 +81,7 @@ unqualified_name_step kept left s =
     ∙ ap (chosen (after (codes "?$") left) (λ rest. read (template_kept kept) rest s))
     (literal_or-is {a = name_tree} (codes "?") (call special_name) new_source_name left s))
   where
-    special_or_new : Rule name_tree
+    special_or_new : Rule Production name_tree
     special_or_new = literal_or (codes "?") (call special_name) new_source_name
 
 kept_or_not : (kept : TemplateNames) (left : List ℕ) (s : State) → read (template_kept kept) left s
@@ -142,16 +143,16 @@ marked_name_step left s =
     ∙ ap (chosen (after (codes "A") left) (λ rest. read_name anonymous_namespace rest s))
     (literal_or-is {a = name_tree} (codes "Q") new_interface from_number left s)))
   where
-    from_number : Rule name_tree
+    from_number : Rule Production name_tree
     from_number = node (do z ← call number; give (discriminator z))
 
-    from_interface : Rule name_tree
+    from_interface : Rule Production name_tree
     from_interface = literal_or (codes "Q") new_interface from_number
 
-    from_anonymous : Rule name_tree
+    from_anonymous : Rule Production name_tree
     from_anonymous = literal_or (codes "A") (call anonymous_namespace) from_interface
 
-    from_template : Rule name_tree
+    from_template : Rule Production name_tree
     from_template = literal_or (codes "$") (template_kept templates.Memorized) from_anonymous
 
 pub nested_symbol_step : (left : List ℕ) (s : State) → read nested_symbol left s

@@ -16,9 +16,9 @@ use Rattle.std.proofs.Common.{cond, ◌∙◌}
 use Rattle.std.specs.Prelude.{◌&&◌}
 use Rattle.std.specs.List.{list_all}
 use Rattle.std.proofs.lemmas.Option.{slice_get-map}
-use Rattle.msvc_grammar.specs.Rules.{every}
-use Rattle.msvc_cursor.specs.Parser.{Frame}
+use Rattle.msvc_rules.specs.Rules.{every}
 use Rattle.msvc_grammar.specs.Grammar.{arrays}
+use Rattle.msvc_cursor.specs.Parser.{Frame}
 
 -- trees as lists have them
 

@@ -2,15 +2,16 @@
 use Rattle.std.proofs.Common.{ℕ, List, Some, ◌+◌, ◌≡◌, ◌∙◌}
 use Rattle.std.specs.Prelude.{codes}
 use Rattle.std.specs.Int.{cast_signed, int_wrapping_neg, w32}
-use Rattle.msvc_grammar.specs.State.{State}
-use Rattle.msvc_grammar.specs.Sorts.{integer}
-use Rattle.msvc_grammar.specs.Rules.{number, magnitude, after, give, call}
+use Rattle.msvc_rules.specs.Readers.{read_by, letter_here, and_then}
+use Rattle.msvc_rules.specs.Rules.{after, give, call, ◌>>=◌}
+use Rattle.msvc_rules.specs.Sorts.{integer}
+use Rattle.msvc_rules.specs.State.{State}
 use Rattle.msvc_grammar.specs.Grammar.{grammar, signed_letters}
 use Rattle.msvc_grammar.specs.Letters.{digits}
-use Rattle.msvc_grammar.specs.Reads.{read_name, read, read_by, letter_here, and_then}
-use Rattle.msvc_grammar.proofs.FuelIndependence.{read_name-is}
+use Rattle.msvc_grammar.specs.Productions.{number, magnitude}
+use Rattle.msvc_grammar.specs.Reading.{read_name, read}
+use Rattle.msvc_grammar.proofs.Laws.{read_name-is}
 use Rattle.msvc_cursor.proofs.Choices.{choose, chosen, letter_or-is, literal_or-is}
-use Rattle.msvc_grammar.specs.Rules.{◌>>=◌}
 
 pub number_step : (left : List ℕ) (s : State) → read_name number left s
     ≡ chosen (after (codes "?") left)

@@ -4,20 +4,20 @@ use Rattle.std.proofs.Common.{◌≡◌, ◌==◌, ◌<◌, refl, sym, ap, ◌�
 use Rattle.std.specs.Prelude.{is_some, codes}
 use Rattle.msvc_nodes.specs.declared.kinds.PlainType.TheVariants as plain_kind
 use Rattle.msvc_nodes.specs.Trees.{NameTree, TypeTree, plain}
+use Rattle.msvc_rules.specs.Readers.{Found, read_by, letter_here, after_literal, and_then, or_else, counting, in_node}
+use Rattle.msvc_rules.specs.Rules.{after, give, letter, call, ◌>>=◌}
+use Rattle.msvc_rules.specs.Sorts.{bits, name_tree, list}
+use Rattle.msvc_rules.specs.State.{State}
+use Rattle.msvc_grammar.specs.Grammar.{grammar}
+use Rattle.msvc_grammar.specs.Letters.{at_sign, ellipsis_letter, hexadecimal_codes}
+use Rattle.msvc_grammar.specs.Productions.{parameters, parameter, lengths, scope, nested_name, hexadecimal_digits}
+use Rattle.msvc_grammar.specs.Productions.{number}
+use Rattle.msvc_grammar.specs.Reading.{read_name, read}
+use Rattle.msvc_grammar.proofs.Laws.{read_name-is}
 use Rattle.msvc_cursor.specs.Parser.{counting_ellipsis, ellipsis_types, parameters_stop}
 use Rattle.msvc_grammar.specs.declared.forms.Ellipsis.{Ellipsis}
 use Rattle.msvc_grammar.specs.declared.forms.Ellipsis.TheVariants.{Absent, Present}
-use Rattle.msvc_grammar.specs.State.{State}
-use Rattle.msvc_grammar.specs.Sorts.{bits, name_tree, list}
-use Rattle.msvc_grammar.specs.Rules.{parameters, parameter, lengths, scope, nested_name, hexadecimal_digits, number}
-use Rattle.msvc_grammar.specs.Rules.{after, give, letter, call}
-use Rattle.msvc_grammar.specs.Grammar.{grammar}
-use Rattle.msvc_grammar.specs.Letters.{at_sign, ellipsis_letter, hexadecimal_codes}
-use Rattle.msvc_grammar.specs.Reads.{Found, read_name, read, read_by, letter_here, after_literal, and_then, or_else}
-use Rattle.msvc_grammar.specs.Reads.{counting, in_node}
-use Rattle.msvc_grammar.proofs.FuelIndependence.{read_name-is}
 use Rattle.msvc_cursor.proofs.Choices.{chosen, literal_or-is, or_none}
-use Rattle.msvc_grammar.specs.Rules.{◌>>=◌}
 
 -- elements that stand before those that are read
 abbrev pub with_front : {A : Type 0} → List A → Found (List A) → Found (List A)

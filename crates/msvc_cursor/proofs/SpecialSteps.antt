@@ -7,19 +7,20 @@ use Rattle.std.specs.Prelude.{codes}
 use Rattle.msvc_nodes.specs.declared.kinds.Guard.{Guard}
 use Rattle.msvc_nodes.specs.declared.kinds.PlainOperator.{PlainOperator}
 use Rattle.msvc_nodes.specs.Trees.{operator, guard, type_descriptor, base_class_descriptor}
+use Rattle.msvc_rules.specs.Readers.{and_then, counting, in_node, read_by}
+use Rattle.msvc_rules.specs.Rules.{after, call, literal, lookup, optional}
+use Rattle.msvc_rules.specs.State.{State}
+use Rattle.msvc_grammar.specs.Grammar.{grammar}
+use Rattle.msvc_grammar.specs.Letters.{under_special_letters, basic_special_letters, special_texts, storage_classes}
+use Rattle.msvc_grammar.specs.Letters.{type_information_letter, underscore, texts_after, double_under_special_letters}
+use Rattle.msvc_grammar.specs.Letters.{type_information_letters}
+use Rattle.msvc_grammar.specs.Productions.{type_, number, special_after, special_name}
+use Rattle.msvc_grammar.specs.Reading.{read, read_name}
+use Rattle.msvc_grammar.proofs.Checks.{no_code_begins_another}
+use Rattle.msvc_grammar.proofs.Laws.{read_name-is}
 use Rattle.msvc_grammar.specs.declared.forms.SpecialForm.{SpecialForm}
 use Rattle.msvc_grammar.specs.declared.forms.SpecialForm.TheVariants as special
 use Rattle.msvc_cursor.specs.Parser.{at_rest, letter_at, special_at_after_under, special_at, this_or, text_at}
-use Rattle.msvc_grammar.specs.State.{State}
-use Rattle.msvc_grammar.specs.Rules.{after, type_, call, literal, lookup, number, optional, special_after}
-use Rattle.msvc_grammar.specs.Rules.{special_name}
-use Rattle.msvc_grammar.specs.Grammar.{grammar}
-use Rattle.msvc_grammar.specs.Letters.{under_special_letters, basic_special_letters, special_texts, storage_classes}
-use Rattle.msvc_grammar.specs.Letters.{type_information_letter, underscore}
-use Rattle.msvc_grammar.specs.Letters.{texts_after, double_under_special_letters, type_information_letters}
-use Rattle.msvc_grammar.specs.Reads.{and_then, counting, in_node, read, read_by, read_name}
-use Rattle.msvc_grammar.proofs.Checks.{no_code_begins_another}
-use Rattle.msvc_grammar.proofs.FuelIndependence.{read_name-is}
 use Rattle.msvc_cursor.proofs.TypeSteps.{by_text, text_and-is}
 
 pub special_name_step : (left : List ℕ) (s : State) → read_name special_name left s

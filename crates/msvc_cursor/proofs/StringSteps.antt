@@ -3,16 +3,17 @@ use Rattle.std.proofs.Common.{ℕ, zero, suc, List, [], ◌∷◌, ◌++◌, Opt
 use Rattle.std.proofs.Common.{◌≡◌, ◌==◌, ◌<◌, ℤ, refl, sym, ap, ◌∙◌, arith, append-nil, ◌*◌}
 use Rattle.std.specs.Prelude.{codes}
 use Rattle.msvc_cursor.specs.Parser.{byte_here}
-use Rattle.msvc_grammar.specs.State.{State}
-use Rattle.msvc_grammar.specs.Sorts.{bits, encoded_string}
-use Rattle.msvc_grammar.specs.Rules.{encoding_after, number, after, lookup, letter, character, characters}
-use Rattle.msvc_grammar.specs.Grammar.{grammar, escaped_character, halves, string_length}
-use Rattle.msvc_grammar.specs.Letters.{character_sizes, escaped_characters, hexadecimal, plain_characters}
-use Rattle.msvc_grammar.specs.Reads.{Found, read_name, read, read_by, counting, letter_here, with_value, and_then}
-use Rattle.msvc_grammar.specs.Reads.{in_node}
-use Rattle.msvc_grammar.proofs.FuelIndependence.{read_name-is}
 use Rattle.std.proofs.lemmas.Bool.{eqb-true}
 use Rattle.msvc_nodes.specs.Trees.{constant_string}
+use Rattle.msvc_rules.specs.Readers.{Found, read_by, counting, letter_here, with_value, and_then, in_node}
+use Rattle.msvc_rules.specs.Rules.{after, lookup, letter}
+use Rattle.msvc_rules.specs.Sorts.{bits, encoded_string}
+use Rattle.msvc_rules.specs.State.{State}
+use Rattle.msvc_grammar.specs.Grammar.{grammar, escaped_character, halves, string_length}
+use Rattle.msvc_grammar.specs.Letters.{character_sizes, escaped_characters, hexadecimal, plain_characters}
+use Rattle.msvc_grammar.specs.Productions.{encoding_after, number, character, characters}
+use Rattle.msvc_grammar.specs.Reading.{read_name, read}
+use Rattle.msvc_grammar.proofs.Laws.{read_name-is}
 use Rattle.msvc_cursor.proofs.Choices.{chosen, literal_or-is}
 use Rattle.msvc_cursor.proofs.RowSteps.{with_front, front_none, front_first}
 

@@ -10,21 +10,22 @@ use Rattle.msvc_nodes.specs.Trees.{NameTree, SymbolTree, TypeTree, function, mem
 use Rattle.msvc_nodes.specs.Trees.{type_trees, variable, no_names, vcall_thunk}
 use Rattle.msvc_cursor.specs.Parser as parser
 use Rattle.msvc_cursor.specs.Parser.{byte_here, cut_at, name_length, hash_at}
-use Rattle.msvc_grammar.specs.State.{State}
-use Rattle.msvc_grammar.specs.Sorts.{symbol_tree, EncodingLetter, member_of, plain_function, untyped, variable_of}
-use Rattle.msvc_grammar.specs.Sorts.{table_of, type_information, virtual_call}
-use Rattle.msvc_grammar.specs.Rules.{symbol, symbol_body, guard_index, encoding, encoding_after, thunk_number}
-use Rattle.msvc_grammar.specs.Rules.{this_qualifiers, signature, type_, qualified_name, scope, number, after, lookup}
-use Rattle.msvc_grammar.specs.Rules.{Rule, literal, literal_or, optional, required, source_name}
+use Rattle.msvc_nodes.specs.declared.kinds.SpecialTableKind.{SpecialTableKind}
+use Rattle.msvc_nodes.specs.Trees.{md5_symbol}
+use Rattle.msvc_rules.specs.Readers.{Found, read_by, letter_here, with_value, after_literal, and_then, in_node}
+use Rattle.msvc_rules.specs.Rules.{after, lookup, Rule, literal, literal_or, optional}
+use Rattle.msvc_rules.specs.Sorts.{symbol_tree, EncodingLetter, member_of, plain_function, untyped, variable_of}
+use Rattle.msvc_rules.specs.Sorts.{table_of, type_information, virtual_call}
+use Rattle.msvc_rules.specs.State.{State}
 use Rattle.msvc_grammar.specs.Grammar.{grammar, has, named_symbol, hashed_symbol, is_guard, numbered_guard, with_index}
 use Rattle.msvc_grammar.specs.Grammar.{template_kept, template_symbol, is_hash, qualifiers_of_class}
 use Rattle.msvc_grammar.specs.Letters.{rows_of, qualifiers, storage_classes, conventions, function_classes}
 use Rattle.msvc_grammar.specs.Letters.{encoding_letters, thunk}
-use Rattle.msvc_grammar.specs.Reads.{Found, read_name, read, read_by, letter_here, with_value, after_literal, and_then}
-use Rattle.msvc_grammar.specs.Reads.{in_node}
-use Rattle.msvc_grammar.proofs.FuelIndependence.{read_name-is}
-use Rattle.msvc_nodes.specs.declared.kinds.SpecialTableKind.{SpecialTableKind}
-use Rattle.msvc_nodes.specs.Trees.{md5_symbol}
+use Rattle.msvc_grammar.specs.Productions.{Production, symbol, symbol_body, guard_index, encoding, encoding_after}
+use Rattle.msvc_grammar.specs.Productions.{thunk_number, this_qualifiers, signature, type_, qualified_name, scope}
+use Rattle.msvc_grammar.specs.Productions.{number, required, source_name}
+use Rattle.msvc_grammar.specs.Reading.{read_name, read}
+use Rattle.msvc_grammar.proofs.Laws.{read_name-is}
 use Rattle.msvc_cursor.proofs.Choices.{choose, chosen, literal_or-is, lookup-rows, if_required, or_none, then_is}
 use Rattle.msvc_cursor.proofs.NameSteps.{source_name_step}
 use Rattle.msvc_grammar.specs.declared.forms.FunctionKind.TheVariants as function_kind
@@ -56,10 +57,10 @@ symbol_body_step left s =
     ∙ ap (chosen (after (codes "$TSS") left) (λ rest. read numbered_guard rest s))
     (literal_or-is {a = symbol_tree} (codes "$") template_symbol named_symbol left s))
   where
-    from_template : Rule symbol_tree
+    from_template : Rule Production symbol_tree
     from_template = literal_or (codes "$") template_symbol named_symbol
 
-    from_guard : Rule symbol_tree
+    from_guard : Rule Production symbol_tree
     from_guard = literal_or (codes "$TSS") numbered_guard from_template
 
 pub template_symbol_step : (left : List ℕ) (s : State) → read template_symbol left s

@@ -12,30 +12,31 @@ use Rattle.msvc_nodes.specs.declared.kinds.NumberedType.TheVariants as number_ki
 use Rattle.msvc_nodes.specs.declared.kinds.PlainType.TheVariants as plain_kind
 use Rattle.msvc_nodes.specs.Trees.{TypeTree, name_trees, numbered, plain, pointing, tagged}
 use Rattle.msvc_cursor.specs.Parser.{byte_here, found_or, this_or, text_at}
-use Rattle.msvc_grammar.specs.State.{State}
-use Rattle.msvc_grammar.specs.Sorts.{Sort, bits, type_tree, TypeLetter, arrayed, based, extended, indexed, named}
-use Rattle.msvc_grammar.specs.Sorts.{points, referred}
-use Rattle.msvc_grammar.specs.Rules.{type_, plain_type, type_after, pointee, array, dimension, positive, lengths}
-use Rattle.msvc_grammar.specs.Rules.{qualified_name, number, some_of, begins, after, lookup, Rule, give, letter}
-use Rattle.msvc_grammar.specs.Rules.{literal}
-use Rattle.msvc_grammar.specs.Rules.{call, literal_or, optional, function_type, member_pointer, prefixed_type, every}
-use Rattle.msvc_grammar.specs.Rules.{text_and, text_or, texts_of}
+use Rattle.msvc_nodes.specs.declared.kinds.PointerAffinity.TheVariants as mark_kind
+use Rattle.msvc_nodes.specs.declared.kinds.TagKind.TheVariants as tag_kind
+use Rattle.msvc_rules.specs.Readers.{Found, read_by, letter_here, with_value, type_known, after_literal, and_then}
+use Rattle.msvc_rules.specs.Readers.{in_node, or_else}
+use Rattle.msvc_rules.specs.Rules.{some_of, begins, after, lookup, Rule, give, letter, literal, call, literal_or}
+use Rattle.msvc_rules.specs.Rules.{optional, every, text_and, text_or, texts_of, ◌>>=◌}
+use Rattle.msvc_rules.specs.Sorts.{Sort, bits, type_tree, TypeLetter, arrayed, based, extended, indexed, named, points}
+use Rattle.msvc_rules.specs.Sorts.{referred}
+use Rattle.msvc_rules.specs.State.{State}
 use Rattle.msvc_grammar.specs.Grammar.{grammar, array_class, arrays}
 use Rattle.msvc_grammar.specs.Letters.{rows_of, digits, pointer_sizes, qualifiers, storage_classes}
 use Rattle.msvc_grammar.specs.Letters.{qualifiers_of_arrays, base_types, extended_types, compound_letters, type_texts}
-use Rattle.msvc_grammar.specs.Reads.{Found, read_name, read, read_by, letter_here, with_value, type_known}
-use Rattle.msvc_grammar.specs.Reads.{after_literal, and_then, in_node, or_else}
-use Rattle.msvc_grammar.proofs.FuelIndependence.{read_name-is}
-use Rattle.msvc_nodes.specs.declared.kinds.PointerAffinity.TheVariants as mark_kind
-use Rattle.msvc_nodes.specs.declared.kinds.TagKind.TheVariants as tag_kind
+use Rattle.msvc_grammar.specs.Productions.{Production, type_, plain_type, type_after, pointee, array, dimension}
+use Rattle.msvc_grammar.specs.Productions.{positive, lengths, qualified_name, number, function_type, member_pointer}
+use Rattle.msvc_grammar.specs.Productions.{prefixed_type}
+use Rattle.msvc_grammar.specs.Reading.{read_name, read}
+use Rattle.msvc_rules.proofs.Checks.{apart_texts, differ}
+use Rattle.msvc_rules.proofs.FirstSets.{differ-never, if_both}
+use Rattle.msvc_grammar.proofs.Checks.{no_text_begins_another}
+use Rattle.msvc_grammar.proofs.Laws.{read_name-is}
 use Rattle.msvc_grammar.specs.declared.forms.TypePrefix.TheVariants as form
 use Rattle.msvc_grammar.specs.declared.forms.ObjectQualifiers.TheVariants as object_qualifiers
 use Rattle.msvc_grammar.specs.declared.forms.MemberPointerForm.TheVariants as pointer_form
 use Rattle.msvc_grammar.specs.declared.forms.TemplateNames.TheVariants as templates
-use Rattle.msvc_grammar.proofs.Checks.{apart_texts, differ, no_text_begins_another}
-use Rattle.msvc_grammar.proofs.FirstSets.{differ-never, if_both}
 use Rattle.msvc_cursor.proofs.Choices.{or_none, chosen, literal_or-is, lookup-rows, letter_step, letter_following}
-use Rattle.msvc_grammar.specs.Rules.{◌>>=◌}
 
 -- Tables of texts
 
@@ -59,7 +60,8 @@ none_at l left (row ∷ table) b h =
     go None e d ih = ih
     go (Some rest) e d ih = absurd (differ-never l row.0 left d b (ap is_some e))
 
-pub text_and-is : {a : Sort} {A : Type 0} (table : List (List ℕ × A)) (f : A → Rule a) (left : List ℕ) (s : State)
+pub text_and-is : {a : Sort} {A : Type 0} (table : List (List ℕ × A)) (f : A → Rule Production a) (left : List ℕ)
+    (s : State)
     → apart_texts table ≡ true
     → read (text_and table f) left s ≡ by_text (text_at table left) (λ x rest. read (f x) rest s) None
 unfolding read read_by text_at
@@ -92,7 +94,8 @@ some_text (row ∷ table) left = go (after row.0 left) (some_text table left)
     go None ih = ih
     go (Some rest) ih = refl
 
-pub text_or-is : {a : Sort} {A : Type 0} (table : List (List ℕ × A)) (f : A → Rule a) (q : Rule a) (left : List ℕ)
+pub text_or-is : {a : Sort} {A : Type 0} (table : List (List ℕ × A)) (f : A → Rule Production a)
+    (q : Rule Production a) (left : List ℕ)
     (s : State) → apart_texts table ≡ true
     → read (text_or table f q) left s
     ≡ by_text (text_at table left) (λ x rest. read (f x) rest s) (read q left s)
@@ -122,7 +125,7 @@ type_step q left s =
     ∙ ap (by_text (text_at type_texts left) (λ f rest. read_name (prefixed_type q f) rest s))
     (literal_or-is {a = type_tree} (codes "$") (call (plain_type q)) (call (plain_type q)) left s)
   where
-    dropped : Rule type_tree
+    dropped : Rule Production type_tree
     dropped = literal_or (codes "$") (call (plain_type q)) (call (plain_type q))
 
 -- Forms of a type, after its text

@@ -8,21 +8,22 @@ use Rattle.msvc_nodes.specs.NodeView.{name_at, type_at}
 use Rattle.std.specs.Borrow.{Bor}
 use Rattle.msvc_nodes.specs.declared.nodes.Name.{Name}
 use Rattle.msvc_nodes.specs.declared.nodes.Type.{«Type»}
-use Rattle.msvc_cursor.specs.NestedList.{current, enclosing}
+use Rattle.msvc_rules.specs.Readers.{Found, and_then, counting, in_node, type_known, with_value}
+use Rattle.msvc_rules.specs.Rules.{after, lookup}
 use Rattle.msvc_grammar.specs.Grammar.{is_guard, is_hash, with_index}
 use Rattle.msvc_grammar.specs.Letters.{at_sign, base_types, digits, dollar_sign, ellipsis_letter}
-use Rattle.msvc_grammar.specs.Letters.{type_information_letter, underscore}
-use Rattle.msvc_grammar.specs.Letters.{qualifiers, reference_qualifiers, under_special_letters, basic_special_letters}
-use Rattle.msvc_grammar.specs.Letters.{storage_classes, double_under_special_letters}
-use Rattle.msvc_grammar.specs.Letters.{type_information_letters, type_texts}
+use Rattle.msvc_grammar.specs.Letters.{type_information_letter, underscore, qualifiers, reference_qualifiers}
+use Rattle.msvc_grammar.specs.Letters.{under_special_letters, basic_special_letters, storage_classes}
+use Rattle.msvc_grammar.specs.Letters.{double_under_special_letters, type_information_letters, type_texts}
+use Rattle.msvc_grammar.specs.Productions.{guard_index}
+use Rattle.msvc_grammar.specs.Reading.{read_name}
+use Rattle.msvc_cursor.specs.NestedList.{current, enclosing}
 use Rattle.msvc_grammar.specs.declared.forms.SpecialForm.{SpecialForm}
-use Rattle.msvc_grammar.specs.Reads.{Found, and_then, counting, in_node, read_name, type_known, with_value}
 use Rattle.msvc_grammar.specs.declared.forms.TypePrefix.{TypePrefix}
 use Rattle.msvc_cursor.specs.declared.letters.OptionalLetters.{OptionalLetters}
 use Rattle.msvc_cursor.specs.declared.letters.OptionalLetters.TheVariants as letters
-use Rattle.msvc_grammar.specs.Rules.{after, guard_index, lookup}
-use Rattle.msvc_grammar.specs.State as state
-use Rattle.msvc_cursor.specs.declared.back_references.BackReference.{BackReference}
+use Rattle.msvc_rules.specs.State as state
+use Rattle.msvc_cursor.specs.Notes.{note_of}
 use Rattle.msvc_cursor.specs.declared.entries.MemorizedName.{MemorizedName}
 use Rattle.msvc_cursor.specs.declared.entries.MemorizedType.{MemorizedType}
 use Rattle.msvc_grammar.specs.declared.forms.Ellipsis.{Ellipsis}
@@ -41,10 +42,6 @@ known_name_of e = name_at e.memorized
 -- an entry of the table of types, as the grammar has it
 abbrev pub memorized_of : {L : Type 0} {g : _} → MemorizedType L g → state.Entry
 memorized_of e = record { entered = type_at e.memorized; start = e.start; end = e.end }
-
--- a digit that was read as a whole parameter, as the grammar notes it
-abbrev pub note_of : BackReference → state.Note
-note_of n = record { at = n.at; start = n.start; end = n.end }
 
 -- the nodes that a parser has counted
 abbrev pub count_of : {L A : Type 0} {g h : _} → Parser L A g h → state.Count

@@ -5,9 +5,9 @@ ghost use Rattle.std.specs.Prelude.{◌≡◌, ◌≤◌, ◌+◌, ◌-◌, ◌+
 ghost use Rattle.std.specs.Prelude.{take};
 ghost use Rattle.msvc_nodes.specs.Equality.{same_name, same_type};
 ghost use Rattle.msvc_nodes.specs.NodeView.{name_at, name_of, type_at, type_of};
-ghost use Rattle.msvc_grammar.specs.Counts.{name_count, type_count};
-ghost use Rattle.msvc_grammar.specs.Reads.{name_known, type_known, type_noted, with_value};
-ghost use Rattle.msvc_grammar.specs.State.{remember_name, remember_type, span_of};
+ghost use Rattle.msvc_rules.specs.Counts.{name_count, type_count};
+ghost use Rattle.msvc_rules.specs.Readers.{name_known, type_known, type_noted, with_value};
+ghost use Rattle.msvc_rules.specs.State.{remember_name, remember_type, span_of};
 ghost use Rattle.msvc_cursor.specs.Parser.{known_name_of, memorized_of, ReadsAs, Stays};
 ghost use Rattle.msvc_cursor.specs.NestedList.{current, enclosing};
 

@@ -3,7 +3,7 @@
 
 ghost use Rattle.std.specs.Prelude.{◌≡◌};
 ghost use Rattle.msvc_nodes.specs.NodeView.{name_of, type_of};
-ghost use Rattle.msvc_grammar.specs.Counts.{name_count, type_count};
+ghost use Rattle.msvc_rules.specs.Counts.{name_count, type_count};
 
 use crate::budget::NodeBudget;
 use msvc_nodes::nodes::{Name, Type};

@@ -5,13 +5,14 @@
 ghost use Rattle.std.specs.Option.{option_map};
 ghost use Rattle.std.specs.Prelude.{◌≡◌};
 ghost use Rattle.msvc_nodes.specs.NodeView.{type_at};
+ghost use Rattle.msvc_rules.specs.Rules.{lookup};
+ghost use Rattle.msvc_rules.specs.Sorts.{extended};
 ghost use Rattle.msvc_grammar.specs.Letters.{base_types, character_sizes, conventions, digits, escaped_characters};
 ghost use Rattle.msvc_grammar.specs.Letters.{extended_types, function_classes, hexadecimal, hexadecimal_codes};
 ghost use Rattle.msvc_grammar.specs.Letters.{plain_characters, qualifiers, qualifiers_of_arrays, qualifiers_of_returns};
 ghost use Rattle.msvc_grammar.specs.Letters.{reference_qualifiers, storage_classes};
-ghost use Rattle.msvc_grammar.specs.Reads.{read_name};
-ghost use Rattle.msvc_grammar.specs.Rules.{lookup, type_after};
-ghost use Rattle.msvc_grammar.specs.Sorts.{extended};
+ghost use Rattle.msvc_grammar.specs.Productions.{type_after};
+ghost use Rattle.msvc_grammar.specs.Reading.{read_name};
 ghost use Rattle.msvc_cursor.specs.Parser.{Consumes, ReadsAs, Stays, type_of_letter};
 
 use crate::budget::NodeBudget;

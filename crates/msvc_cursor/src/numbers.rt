@@ -2,8 +2,8 @@
 #![tactic(auto, using(crate::proofs::NumberSteps::steps, msvc_grammar::proofs::Hexadecimal::letters_go_on), unfolding(msvc_grammar::proofs::Hexadecimal::letters_at))]
 
 ghost use Rattle.msvc_grammar.specs.Grammar.{signed_letters};
-ghost use Rattle.msvc_grammar.specs.Reads.{read, read_name};
-ghost use Rattle.msvc_grammar.specs.Rules.{magnitude, number};
+ghost use Rattle.msvc_grammar.specs.Productions.{magnitude, number};
+ghost use Rattle.msvc_grammar.specs.Reading.{read, read_name};
 ghost use Rattle.msvc_cursor.specs.Parser.{Consumes, ReadsAs};
 
 use crate::budget::NodeBudget;

@@ -5,16 +5,17 @@
 //! the parser, never a value of many words, and functions that memorize a name or a type, record an error or store a
 //! node of several parts are never inlined. None of their variables is in a reader's frame while a nested part is read.
 //! Names of the source, which nest nothing, are memorized inline, by `add_name_inline`.
-#![tactic(auto, unfolding(crate::specs::Parser::byte_here, msvc_grammar::specs::Reads::counting, msvc_grammar::specs::Reads::read, msvc_grammar::specs::Reads::read_by))]
+#![tactic(auto, unfolding(crate::specs::Parser::byte_here, msvc_rules::specs::Readers::counting, msvc_grammar::specs::Reading::read, msvc_rules::specs::Readers::read_by))]
 
 ghost use Rattle.std.specs.Option.{option_map};
 ghost use Rattle.std.specs.Prelude.{◌≡◌, ◌≤◌, ◌<◌, ◌+◌, ◌∷◌, [], IfErr, IfOk, IfSome, IsTrue, length, MatchOption};
 ghost use Rattle.std.specs.Prelude.{None, Some, nat_lt, true};
 ghost use Rattle.msvc_nodes.specs.NodeView.{name_at, name_of, type_at, type_of};
+ghost use Rattle.msvc_rules.specs.Readers.{counting, letter_here, with_value};
+ghost use Rattle.msvc_rules.specs.Rules.{after, literal, optional};
+ghost use Rattle.msvc_rules.specs.State.{beginning_with, place};
 ghost use Rattle.msvc_grammar.specs.Letters.{digits};
-ghost use Rattle.msvc_grammar.specs.Reads.{counting, letter_here, read, with_value};
-ghost use Rattle.msvc_grammar.specs.Rules.{after, literal, optional};
-ghost use Rattle.msvc_grammar.specs.State.{beginning_with, place};
+ghost use Rattle.msvc_grammar.specs.Reading.{read};
 ghost use Rattle.msvc_cursor.specs.Messages.{limit_of_message};
 ghost use Rattle.msvc_cursor.specs.Parser.{byte_here, consumed, Consumes};
 ghost use Rattle.msvc_cursor.specs.Parser.{frame_of, optional_letters, ReadsAs, state_of};

@@ -3,12 +3,11 @@
 
 ghost use Rattle.std.specs.Option.{option_map};
 ghost use Rattle.std.specs.Prelude.{◌≡◌, ◌<◌, length, IfSome, None};
-ghost use Rattle.msvc_grammar.specs.Letters.{under_special_letters};
-ghost use Rattle.msvc_grammar.specs.Letters.{basic_special_letters, double_under_special_letters};
-ghost use Rattle.msvc_grammar.specs.Letters.{type_information_letters};
+ghost use Rattle.msvc_rules.specs.Rules.{lookup};
+ghost use Rattle.msvc_grammar.specs.Letters.{under_special_letters, basic_special_letters};
+ghost use Rattle.msvc_grammar.specs.Letters.{double_under_special_letters, type_information_letters};
 ghost use Rattle.msvc_cursor.specs.Messages.{limit_of_message};
 ghost use Rattle.msvc_cursor.specs.Parser.{at_rest, special_at_after_under, special_at};
-ghost use Rattle.msvc_grammar.specs.Rules.{lookup};
 
 use crate::failure::Message;
 use msvc_grammar::forms::SpecialForm;

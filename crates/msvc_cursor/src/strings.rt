@@ -3,11 +3,12 @@
 
 ghost use Rattle.std.specs.Prelude.{◌≡◌, ◌<◌, IfOk, length};
 ghost use Rattle.msvc_nodes.specs.NodeView.{type_at};
+ghost use Rattle.msvc_rules.specs.Readers.{letter_here};
+ghost use Rattle.msvc_rules.specs.Sorts.{encoded_string};
 ghost use Rattle.msvc_grammar.specs.Grammar.{escaped_character, halves, string_length};
 ghost use Rattle.msvc_grammar.specs.Letters.{character_sizes, hexadecimal};
-ghost use Rattle.msvc_grammar.specs.Reads.{letter_here, read, read_name};
-ghost use Rattle.msvc_grammar.specs.Rules.{character, characters, encoding_after};
-ghost use Rattle.msvc_grammar.specs.Sorts.{encoded_string};
+ghost use Rattle.msvc_grammar.specs.Productions.{character, characters, encoding_after};
+ghost use Rattle.msvc_grammar.specs.Reading.{read, read_name};
 ghost use Rattle.msvc_cursor.specs.Parser.{Consumes, MayConsume, ReadsAs};
 
 use crate::budget::NodeBudget;

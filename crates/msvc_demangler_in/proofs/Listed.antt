@@ -2,7 +2,7 @@
 use Rattle.std.proofs.Common.{◌≡◌, ◌≢◌, ◌≤◌, ◌<◌, ◌∙◌, ◌++◌, ℕ, zero, suc, List, [], ◌∷◌, ap}
 use Rattle.std.proofs.Common.{arith, drop, get_or, length, map, refl, set, subst, sym, take}
 use Rattle.std.specs.Str.{IsUtf8, IsValidUpTo}
-use Rattle.msvc_cursor.specs.Parser.{note_of}
+use Rattle.msvc_cursor.specs.Notes.{note_of}
 use Rattle.msvc_cursor.specs.declared.back_references.BackReference.{BackReference}
 use Rattle.msvc_demangler.specs.CallLimits.{Limits}
 use Rattle.msvc_demangler.specs.Counts.{node_count}

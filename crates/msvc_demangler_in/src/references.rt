@@ -1,7 +1,7 @@
 //! The list of back references, as C gets it.
 
 ghost use Rattle.std.specs.Prelude.{◌≡◌, length, map};
-ghost use Rattle.msvc_cursor.specs.Parser.{note_of};
+ghost use Rattle.msvc_cursor.specs.Notes.{note_of};
 ghost use Rattle.msvc_demangler_in.specs.Shown.{AreListed};
 
 use msvc_demangler::BackReference;

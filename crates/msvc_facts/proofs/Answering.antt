@@ -3,7 +3,7 @@ use Rattle.std.proofs.Common.{List, [], ◌++◌, ◌∷◌, ◌≡◌, ◌∙�
 use Rattle.std.proofs.Common.{subst, sym, true≢false}
 use Rattle.std.specs.Str.{is_utf8}
 use Rattle.std.proofs.lemmas.Str.{IsUtf8-from_is_utf8, is_utf8-from_IsUtf8}
-use Rattle.msvc_grammar.specs.Reads.{IsOnly}
+use Rattle.msvc_grammar.specs.Derived.{IsOnly}
 use Rattle.msvc_grammar.proofs.Laws.{derived-only}
 use Rattle.msvc_print.specs.Declaration.{declaration}
 use Rattle.msvc_demangler.specs.Answers.{IsAnswer, IsText, answered, left_out, line_flags, nothing}

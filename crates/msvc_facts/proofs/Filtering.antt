@@ -2,8 +2,8 @@
 use Rattle.std.proofs.Common.{ℕ, List, [], ◌∷◌, ◌≡◌, ◌≤◌, ◌-◌, ◌∙◌, Bool, true, false, Option, Some, None, ap, arith}
 use Rattle.std.proofs.Common.{drop, length, length-drop, nat_le, refl, slice_index, subst, suc, sym, true≢false, zero}
 use Rattle.std.proofs.lemmas.Bool.{leb-false, leb-true}
-use Rattle.msvc_grammar.specs.Counts.{node_count}
-use Rattle.msvc_grammar.specs.Reads.{Derives}
+use Rattle.msvc_rules.specs.Counts.{node_count}
+use Rattle.msvc_grammar.specs.Derived.{Derives}
 use Rattle.msvc_print.specs.Declaration.{declaration}
 use Rattle.msvc_demangler.specs.Filtered.{AreOnlyParts, IsFilteredFrom, IsFilteredText, IsNoStart}
 use Rattle.msvc_demangler.specs.Filtered.{IsSymbol, Part, declared, kept, max_declared, max_nodes, nothing, replaced}

@@ -4,9 +4,9 @@ use Rattle.std.specs.Prelude.{⊤}
 use Rattle.std.specs.Fmt.{digits}
 use Rattle.std.specs.Str.{chars, is_utf8}
 use Rattle.std.specs.Str.Lossy.{utf8_valid_len}
-use lib.Utf8.{encode}
+use Rattle.msvc_rules.specs.Readers.{counting, part_here}
 use Rattle.msvc_grammar.specs.Grammar.{arrays, grammar}
-use Rattle.msvc_grammar.specs.Reads.{counting, part_here}
+use lib.Utf8.{encode}
 use Rattle.msvc_print.specs.Declaration.{conversion, declaration, grown, is_empty_pack, name_pieces, parameters}
 use Rattle.msvc_print.specs.Declaration.{quoted_unless, scope_pieces, table_end}
 use Rattle.msvc_print.specs.Functions.{access_words, calling, convention_pieces, each_function_qualifier}

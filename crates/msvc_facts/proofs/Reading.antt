@@ -7,14 +7,17 @@ use Rattle.std.specs.List.{list_any}
 use mathlib.Core.Path.{fun_ext}
 use Rattle.msvc_nodes.specs.Equality.{same_name, same_type}
 use Rattle.msvc_nodes.specs.Trees.{NameTree, TypeTree}
-use Rattle.msvc_grammar.specs.Grammar.{grammar}
-use Rattle.msvc_grammar.specs.Reads.{Found, Reader, after_literal, and_then, emptied, in_node, letter_here, name_known}
-use Rattle.msvc_grammar.specs.Reads.{noted_here, or_else, part_here, put_apart, ranks, read_by, read_name, read_within}
-use Rattle.msvc_grammar.specs.Reads.{type_known}
-use Rattle.msvc_grammar.specs.Rules.{Production, Rule, after, apart, call, entering, give, here, holds, known_name}
-use Rattle.msvc_grammar.specs.Rules.{known_type, letter, literal, node, noted, remember, up_to, ◌>>=◌, ◌or◌}
-use Rattle.msvc_grammar.specs.Sorts.{Sort}
-use Rattle.msvc_grammar.specs.State.{State, most_memorized, span_of}
+use Rattle.msvc_rules.specs.Readers.{Found, Reader, after_literal, and_then, in_node, letter_here, name_known}
+use Rattle.msvc_rules.specs.Readers.{noted_here, or_else, part_here, put_apart, ranks, read_by, read_name_in}
+use Rattle.msvc_rules.specs.Readers.{read_within, type_known}
+use Rattle.msvc_rules.specs.Reads.{emptied}
+use Rattle.msvc_rules.specs.Rules.{Rule, after, apart, call, entering, give, here, holds, known_name, known_type}
+use Rattle.msvc_rules.specs.Rules.{letter, literal, node, noted, remember, up_to, ◌>>=◌, ◌or◌}
+use Rattle.msvc_rules.specs.Sorts.{Sort}
+use Rattle.msvc_rules.specs.State.{State, most_memorized, span_of}
+use Rattle.msvc_grammar.specs.Grammar.{crate_grammar, grammar}
+use Rattle.msvc_grammar.specs.Productions.{Production}
+use Rattle.msvc_grammar.specs.Reading.{read_name}
 use Rattle.msvc_facts.proofs.Same.{is_same_name, is_same_name-is, is_same_type, is_same_type-is}
 
 -- a table after an entry, by a test whether two entries are the same
@@ -37,7 +40,7 @@ abbrev entered_by : (TypeTree → TypeTree → Bool) → List ℕ → Found Type
 entered_by same left None = None
 entered_by same left (Some x) = Some (x.0, x.1, with_type same x.0 left x.1 x.2)
 
-unfoldable pub reading_by : ((b : Sort) → Production b → Reader b) → {a : Sort} → Rule a → Reader a
+unfoldable pub reading_by : ((b : Sort) → Production b → Reader b) → {a : Sort} → Rule Production a → Reader a
 reading_by calls (give v) left s = Some (v, left, s)
 reading_by calls (letter a table) left s = letter_here table left s
 reading_by calls (literal l) left s = after_literal (after l left) s
@@ -69,7 +72,8 @@ names-same = fun_ext (λ a. fun_ext (λ b. is_same_name-is a b))
 types-same : is_same_type ≡ same_type
 types-same = fun_ext (λ a. fun_ext (λ b. is_same_type-is a b))
 
-reading_by-is : (calls : (b : Sort) → Production b → Reader b) {a : Sort} (r : Rule a) (left : List ℕ) (s : State)
+reading_by-is : (calls : (b : Sort) → Production b → Reader b) {a : Sort} (r : Rule Production a) (left : List ℕ)
+    (s : State)
     → reading_by calls r left s ≡ read_by calls r left s
 unfolding read_by reading_by
 reading_by-is calls (give v) left s = refl
@@ -90,7 +94,7 @@ reading_by-is calls (entering r) left s = λ i. entered_by (types-same i) left (
 reading_by-is calls (apart r) left s = λ i. put_apart s (reading_by-is calls r left (emptied s) i)
 
 reading_within-is : (k : ℕ) {a : Sort} (n : Production a) (left : List ℕ) (s : State)
-    → reading_within k n left s ≡ read_within k n left s
+    → reading_within k n left s ≡ read_within crate_grammar k n left s
 unfolding read_within reading_within
 reading_within-is zero n left s = refl
 reading_within-is (suc k) n left s =
@@ -99,5 +103,5 @@ reading_within-is (suc k) n left s =
 
 pub reading_name-is : {a : Sort} (n : Production a) (left : List ℕ) (s : State)
     → reading_name n left s ≡ read_name n left s
-unfolding read_name reading_name
+unfolding read_name read_name_in reading_name
 reading_name-is n left s = reading_within-is (ranks * suc (length left)) n left s

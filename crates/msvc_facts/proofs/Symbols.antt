@@ -3,11 +3,11 @@ use Rattle.std.proofs.Common.{ℕ, List, Option, Some, None, ◌≡◌, ◌∙�
 use Rattle.std.specs.Prelude.{option_map}
 use Prim.Native.String.{String}
 use Rattle.msvc_nodes.specs.Trees.{SymbolTree}
-use Rattle.msvc_grammar.specs.Counts.{node_count}
-use Rattle.msvc_grammar.specs.Reads.{Derives}
+use Rattle.msvc_rules.specs.Counts.{node_count}
+use Rattle.msvc_rules.specs.State.{Note, State, beginning}
+use Rattle.msvc_grammar.specs.Derived.{Derives}
+use Rattle.msvc_grammar.specs.Productions.{symbol}
 use Rattle.msvc_grammar.specs.Rejections.{IsNoSymbol}
-use Rattle.msvc_grammar.specs.Rules.{symbol}
-use Rattle.msvc_grammar.specs.State.{Note, State, beginning}
 use Rattle.msvc_grammar.proofs.Laws.{symbol-derived, symbol-rejected}
 use Rattle.msvc_print.specs.Declaration.{declaration}
 use Rattle.msvc_facts.proofs.Reading.{reading_name, reading_name-is}

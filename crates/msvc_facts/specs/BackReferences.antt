@@ -5,8 +5,8 @@ use Rattle.msvc_nodes.specs.Trees.{NameTree, base, spelled}
 use Rattle.msvc_nodes.specs.declared.kinds.PrimitiveKind.{PrimitiveKind}
 use Rattle.msvc_nodes.specs.declared.kinds.PrimitiveKind.TheVariants.{Char, Int}
 use Rattle.msvc_nodes.specs.declared.kinds.Spelling.TheVariants.{Source}
-use Rattle.msvc_grammar.specs.State.{Entry, with_name, with_type}
-use Rattle.msvc_grammar.specs.Written.{written_out}
+use Rattle.msvc_rules.specs.State.{Entry, with_name, with_type}
+use Rattle.msvc_rules.specs.Written.{written_out}
 use Rattle.msvc_facts.specs.Symbols.{IsRefused, IsShown}
 
 abbrev Shows : String → String → Type 0

@@ -12,17 +12,17 @@ use Rattle.msvc_nodes.specs.declared.kinds.PrimitiveKind.TheVariants as base
 use Rattle.msvc_nodes.specs.declared.kinds.SpecialTableKind.TheVariants as table_kind
 use Rattle.msvc_nodes.specs.declared.kinds.TagKind.TheVariants as tag
 use Rattle.msvc_nodes.specs.declared.kinds.VarStorageKind.TheVariants as variables
-use Rattle.msvc_grammar.specs.declared.forms.SpecialForm.{SpecialForm}
-use Rattle.msvc_grammar.specs.declared.forms.SpecialForm.TheVariants as special
-use Rattle.msvc_grammar.specs.declared.forms.TypePrefix.TheVariants as form
+use Rattle.msvc_rules.specs.Sorts.{TypeLetter, arrayed, encoded_string, extended, indexed, member_of, named}
+use Rattle.msvc_rules.specs.Sorts.{plain_function, points, referred, table_of, type_information, untyped, variable_of}
+use Rattle.msvc_rules.specs.Sorts.{virtual_call}
 use Rattle.msvc_grammar.specs.Letters.{alignments, base_types, character_sizes, compound_letters, conventions, digits}
 use Rattle.msvc_grammar.specs.Letters.{encoding_letters, escaped_characters, extended_types, function_classes}
 use Rattle.msvc_grammar.specs.Letters.{hexadecimal, hexadecimal_codes, plain_characters, pointer_sizes, qualifiers}
 use Rattle.msvc_grammar.specs.Letters.{qualifiers_of_arrays, qualifiers_of_returns, reference_qualifiers, restricts}
 use Rattle.msvc_grammar.specs.Letters.{special_texts, storage_classes, type_letters, type_texts}
-use Rattle.msvc_grammar.specs.Sorts.{TypeLetter, arrayed, encoded_string, extended, indexed, member_of, named}
-use Rattle.msvc_grammar.specs.Sorts.{plain_function, points, referred, table_of, type_information, untyped}
-use Rattle.msvc_grammar.specs.Sorts.{variable_of, virtual_call}
+use Rattle.msvc_grammar.specs.declared.forms.SpecialForm.{SpecialForm}
+use Rattle.msvc_grammar.specs.declared.forms.SpecialForm.TheVariants as special
+use Rattle.msvc_grammar.specs.declared.forms.TypePrefix.TheVariants as form
 use Rattle.msvc_print.specs.Functions.{convention_word, member_words}
 use Rattle.msvc_print.specs.Operators.{guard_word, operator_word}
 use Rattle.msvc_print.specs.Pieces.{resolve}

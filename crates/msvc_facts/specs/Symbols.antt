@@ -2,10 +2,10 @@
 use Rattle.std.specs.Prelude.{ℕ, List, ◌≡◌, None, codes}
 use Prim.Native.String.{String}
 use Rattle.msvc_nodes.specs.Trees.{SymbolTree}
-use Rattle.msvc_grammar.specs.Counts.{node_count}
-use Rattle.msvc_grammar.specs.Reads.{Derives}
+use Rattle.msvc_rules.specs.Counts.{node_count}
+use Rattle.msvc_rules.specs.State.{Note}
+use Rattle.msvc_grammar.specs.Derived.{Derives}
 use Rattle.msvc_grammar.specs.Rejections.{IsNoSymbol}
-use Rattle.msvc_grammar.specs.State.{Note}
 use Rattle.msvc_print.specs.Declaration.{declaration}
 
 -- the text begins with a symbol of this tree and these notes, and the rest follows the symbol

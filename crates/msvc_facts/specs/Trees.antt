@@ -14,7 +14,7 @@ use Rattle.msvc_nodes.specs.declared.kinds.PlainOperator.TheVariants as plain_op
 use Rattle.msvc_nodes.specs.declared.kinds.PlainType.TheVariants as plain_kind
 use Rattle.msvc_nodes.specs.declared.kinds.Spelling.TheVariants.{Source}
 use Rattle.msvc_nodes.specs.declared.kinds.VarStorageKind.TheVariants.{Global}
-use Rattle.msvc_grammar.specs.State.{Note}
+use Rattle.msvc_rules.specs.State.{Note}
 use Rattle.msvc_facts.specs.Symbols.{IsCounted, IsRefused, IsTree}
 
 -- a source name

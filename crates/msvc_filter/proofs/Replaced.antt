@@ -9,10 +9,11 @@ use Rattle.std.specs.List.{prefix_len}
 use Rattle.std.proofs.lemmas.Bool.{leb-false, leb-true}
 use Rattle.std.proofs.lemmas.List.{drop-append-le, get_or_append_left}
 use Rattle.msvc_nodes.specs.Trees.{SymbolTree}
-use Rattle.msvc_grammar.specs.Counts.{node_count}
-use Rattle.msvc_grammar.specs.Reads.{Derives, read_name}
-use Rattle.msvc_grammar.specs.Rules.{symbol}
-use Rattle.msvc_grammar.specs.State.{State, beginning}
+use Rattle.msvc_rules.specs.Counts.{node_count}
+use Rattle.msvc_rules.specs.State.{State, beginning}
+use Rattle.msvc_grammar.specs.Derived.{Derives}
+use Rattle.msvc_grammar.specs.Productions.{symbol}
+use Rattle.msvc_grammar.specs.Reading.{read_name}
 use Rattle.msvc_grammar.proofs.Laws.{symbol-derived, symbol-rejected}
 use Rattle.msvc_print.specs.Declaration.{declaration}
 use Rattle.msvc_filter.specs.Filtered.{AreParts, IsFilteredFrom, IsFilteredText, IsNoStart, IsSymbol, Part}

@@ -11,7 +11,7 @@ use Rattle.std.proofs.lemmas.Bool.{ltb-false, ltb-true}
 use Rattle.std.proofs.lemmas.Bool.Decides.{nat_tests}
 use Rattle.std.proofs.lemmas.List.{drop-append-le, take-append-le, take-take}
 use Rattle.std.proofs.lemmas.List.Sums.{prefix_len_stops}
-use Rattle.msvc_grammar.specs.Reads.{Derives}
+use Rattle.msvc_grammar.specs.Derived.{Derives}
 use Rattle.msvc_filter.specs.Filtered.{IsNoStart, IsSymbol}
 use Rattle.msvc_filter.specs.WordStates.{max_looked_at}
 use Rattle.msvc_filter.specs.SymbolBounds.{candidate, continues, ends_word, is_trailing_byte, is_visible, max_bytes}

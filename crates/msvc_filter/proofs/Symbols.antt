@@ -4,14 +4,17 @@ use Rattle.std.proofs.Common.{Bool, Some, cond, arith, false, length-take, true}
 use Rattle.std.specs.List.{prefix_len, take_while}
 use Rattle.std.specs.Str.Lossy.{utf8_valid_len}
 use Rattle.msvc_nodes.specs.Trees.{SymbolTree}
-use Rattle.msvc_grammar.specs.Counts.{node_count}
+use Rattle.msvc_rules.specs.Counts.{node_count}
+use Rattle.msvc_rules.specs.Readers.{ranks}
+use Rattle.msvc_rules.specs.Rules.{call}
+use Rattle.msvc_rules.specs.State.{Note}
+use Rattle.msvc_grammar.specs.Derived.{Derives}
 use Rattle.msvc_grammar.specs.Parsed.{IsParsed, IsSymbolLength}
-use Rattle.msvc_grammar.specs.Reads.{Derives, ranks}
+use Rattle.msvc_grammar.specs.Productions.{symbol}
 use Rattle.msvc_grammar.specs.Rejections.{IsNoSymbol}
-use Rattle.msvc_grammar.specs.Rules.{call, symbol}
-use Rattle.msvc_grammar.specs.State.{Note}
-use Rattle.msvc_grammar.proofs.Checks.{Fine, consumer, consumes, rank}
-use Rattle.msvc_grammar.proofs.Progress.{Less, shorter}
+use Rattle.msvc_rules.proofs.Checks.{Fine, consumes}
+use Rattle.msvc_rules.proofs.Progress.{Less, shorter}
+use Rattle.msvc_grammar.proofs.Checks.{consumer, crate_figures, crate_fit, rank}
 use Rattle.msvc_grammar.proofs.Laws.{derived-only}
 use Rattle.msvc_print.specs.Declaration.{declaration}
 use Rattle.msvc_filter.specs.Filtered.{IsNoStart, IsNoneWithin, IsSymbol, max_declared, max_nodes}
@@ -37,7 +40,7 @@ symbol-consumes : (text : List ℕ) (tree : SymbolTree) (rest : List ℕ) (notes
     → length rest + 1 ≤ length text
 unfolding Fine consumes consumer rank
 symbol-consumes text tree rest notes d =
-    let less : Less text (consumes (call symbol)) rest = shorter d.1 ranks refl in omega arith
+    let less : Less text (consumes crate_figures (call symbol)) rest = shorter crate_fit d.1 ranks refl in omega arith
 
 -- symbols at one start take as many bytes
 as-many : (left : List ℕ) (tree other : SymbolTree) (rest remaining : List ℕ) (notes others : List Note)

@@ -2,11 +2,11 @@
 use Rattle.std.specs.Prelude.{ℕ, List, [], ◌∷◌, ◌++◌, ◌-◌, ◌≡◌, ◌≤◌, ◌==◌, true, false, length, drop, slice_index, take}
 use Rattle.std.specs.Prelude.{◌<◌, ◌⊎◌, Some, nat_le, if◌then◌else◌}
 use Rattle.msvc_nodes.specs.Trees.{SymbolTree}
-use Rattle.msvc_grammar.specs.Counts.{node_count}
+use Rattle.msvc_rules.specs.Counts.{node_count}
+use Rattle.msvc_rules.specs.State.{Note}
+use Rattle.msvc_grammar.specs.Derived.{Derives}
 use Rattle.msvc_grammar.specs.Parsed.{IsParsed}
-use Rattle.msvc_grammar.specs.Reads.{Derives}
 use Rattle.msvc_grammar.specs.Rejections.{IsNoSymbol}
-use Rattle.msvc_grammar.specs.State.{Note}
 use Rattle.msvc_print.specs.Declaration.{declaration}
 use Rattle.msvc_filter.specs.SymbolBounds.{candidate, continues, is_start, symbol_extent, utf8_front}
 

@@ -5,7 +5,7 @@ ghost use Rattle.std.specs.Prelude.{MatchResult};
 ghost use Rattle.std.specs.Prelude.{OnOk, OnSome, Some, drop, length, map, slice_index, take, true, vec_len};
 ghost use Rattle.std.specs.Io.KnownBytes.{Appends, Consumes, IsAtEnd};
 ghost use Rattle.msvc_nodes.specs.Trees.{SymbolTree};
-ghost use Rattle.msvc_grammar.specs.Counts.{node_count};
+ghost use Rattle.msvc_rules.specs.Counts.{node_count};
 ghost use Rattle.msvc_grammar.specs.Parsed.{IsParsed, IsSymbolLength};
 ghost use Rattle.msvc_print.specs.Declaration.{declaration};
 ghost use Rattle.msvc_streams.specs.Faults.{SetsFailureFlag, failure_flag, no_stream};

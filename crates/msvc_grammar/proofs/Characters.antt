@@ -2,8 +2,8 @@
 use Rattle.std.proofs.Common.{ℕ, List, [], ◌∷◌, ◌++◌, Some, None, Bool, true, false, cond, ◌==◌, ◌≡◌, refl}
 use Rattle.std.proofs.Common.{◌∙◌}
 use Rattle.std.specs.Prelude.{codes, drop, take}
+use Rattle.msvc_rules.specs.Rules.{lookup}
 use Rattle.msvc_grammar.specs.Letters.{escaped_characters, escaped_letters, escaped_signs, plain_characters, rows}
-use Rattle.msvc_grammar.specs.Rules.{lookup}
 
 -- what the first table does not have
 pub lookup-after : {A : Type 0} (b : ℕ) (table others : List (ℕ × A)) → lookup b table ≡ None

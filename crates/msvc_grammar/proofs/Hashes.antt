@@ -7,16 +7,18 @@ use Rattle.std.specs.Prelude.{is_some}
 use Rattle.msvc_nodes.specs.Trees.{SymbolTree}
 use Rattle.msvc_nodes.specs.declared.error.ErrorRepr.{ErrorRepr}
 use Rattle.msvc_nodes.specs.declared.error.ErrorRepr.TheVariants as error
-use Rattle.msvc_grammar.specs.State.{State, Note, beginning, counted}
-use Rattle.msvc_grammar.specs.Sorts.{symbol_tree}
-use Rattle.msvc_grammar.specs.Rules.{call, every, lookup, required}
-use Rattle.msvc_grammar.specs.Grammar.{grammar, hashed_symbol, is_hash}
-use Rattle.msvc_grammar.specs.Letters.{hexadecimal_codes}
 use Rattle.msvc_nodes.specs.Trees.{md5_symbol}
+use Rattle.msvc_rules.specs.Reads.{Reads, a_literal, a_node, a_part, called, given, in_a_row, the_first}
+use Rattle.msvc_rules.specs.Rules.{call, every, lookup}
+use Rattle.msvc_rules.specs.Sorts.{symbol_tree}
+use Rattle.msvc_rules.specs.State.{State, Note, beginning, counted}
+use Rattle.msvc_grammar.specs.Derived.{Derives}
+use Rattle.msvc_grammar.specs.Grammar.{crate_grammar, grammar, hashed_symbol, is_hash}
 use Rattle.msvc_grammar.specs.Hashes.{HashesAreRead, HashesStand, hashed_text}
+use Rattle.msvc_grammar.specs.Letters.{hexadecimal_codes}
+use Rattle.msvc_grammar.specs.Productions.{required}
 use Rattle.msvc_grammar.specs.Rejections.{IsRejectedRightly}
-use Rattle.msvc_grammar.specs.Reads.{Derives, Reads, a_literal, a_node, a_part, called, given, in_a_row, the_first}
-use Rattle.msvc_grammar.proofs.FirstSets.{both_if, if_both}
+use Rattle.msvc_rules.proofs.FirstSets.{both_if, if_both}
 use Rattle.msvc_grammar.proofs.Laws.{derived-only}
 
 -- no digit is an @
@@ -34,7 +36,7 @@ no_end (b ∷ digits) h =
         absurd (cc)
     go false e k = refl
 
-there : (t : Bool) (left : List ℕ) (s : State) → t ≡ true → Reads _ (call (required t)) left s tt left s
+there : (t : Bool) (left : List ℕ) (s : State) → t ≡ true → Reads crate_grammar _ (call (required t)) left s tt left s
 unfolding grammar
 there true left s e = called given
 there false left s e = absurd (cc)
@@ -44,7 +46,7 @@ abbrev two_counted : State → State
 two_counted s = counted s.count.weight (counted s.count.weight s)
 
 hash_read : (digits rest : List ℕ) (s : State) → is_hash digits ≡ true
-    → Reads symbol_tree hashed_symbol (digits ++ 64 ∷ rest) s (md5_symbol digits) rest (two_counted s)
+    → Reads crate_grammar symbol_tree hashed_symbol (digits ++ 64 ∷ rest) s (md5_symbol digits) rest (two_counted s)
 unfolding grammar
 hash_read digits rest s h =
     let parts : ((length digits == 32) ≡ true) × (every (λ b. is_some (lookup b hexadecimal_codes)) digits ≡ true) =

@@ -4,12 +4,14 @@ use Rattle.std.proofs.Common.{◌==◌, refl, sym, ap, ◌∙◌}
 use Rattle.std.specs.Int.{cast_signed, w32}
 use Rattle.std.proofs.Math.Nat.{mod-add-mod, mod-mod}
 use Rattle.std.proofs.lemmas.Nat.{mul-mod}
-use Rattle.msvc_grammar.specs.State.{State}
-use Rattle.msvc_grammar.specs.Rules.{letters, lookup}
+use Rattle.msvc_rules.specs.Readers.{Found, after_literal, with_value, and_then, or_else, read_by}
+use Rattle.msvc_rules.specs.Rules.{lookup}
+use Rattle.msvc_rules.specs.State.{State}
 use Rattle.msvc_grammar.specs.Grammar.{grammar, signed, signed_letters}
 use Rattle.msvc_grammar.specs.Letters.{hexadecimal}
-use Rattle.msvc_grammar.specs.Reads.{Found, after_literal, with_value, and_then, or_else, read_by, read_name, read}
-use Rattle.msvc_grammar.proofs.FuelIndependence.{read_name-is}
+use Rattle.msvc_grammar.specs.Productions.{letters}
+use Rattle.msvc_grammar.specs.Reading.{read_name, read}
+use Rattle.msvc_grammar.proofs.Laws.{read_name-is}
 
 -- the letters as a loop reads them
 abbrev pub letters_on : (ℕ → Found ℤ) → ℕ → Bool → Option ℕ → List ℕ → State → Found ℤ

@@ -17,37 +17,35 @@ use Rattle.msvc_nodes.specs.Trees.{plain}
 use Rattle.msvc_nodes.specs.Trees.{operator, guard, type_descriptor, base_class_descriptor, base, tagged, numbered}
 use Rattle.msvc_nodes.specs.Trees.{pointing, constant_string, vcall_thunk, function}
 use Rattle.msvc_nodes.specs.Trees.{member_function, variable, name_trees, type_trees}
-use Rattle.msvc_grammar.specs.declared.forms.TypePrefix.TheVariants as form
-use Rattle.msvc_grammar.specs.declared.forms.SpecialForm.TheVariants as special
+use Rattle.msvc_rules.specs.Rules.{none_of, at_end, Grammar, Rule, give, letter, literal, up_to, here, ◌>>=◌, ◌>>◌}
+use Rattle.msvc_rules.specs.Rules.{◌or◌, lookup, every, call, known_name, remember, known_type, noted, entering, apart}
+use Rattle.msvc_rules.specs.Rules.{begins_of, letter_or, literal_or, node, text_and, text_or, optional, never}
+use Rattle.msvc_rules.specs.Sorts.{based, extended, named, points, arrayed, indexed, referred, variable_of, table_of}
+use Rattle.msvc_rules.specs.Sorts.{type_information, untyped, encoded_string, virtual_call, plain_function, member_of}
+use Rattle.msvc_rules.specs.Sorts.{Sort, nothing, bits, integer, name_tree, base_type, type_letter, encoding_letter}
+use Rattle.msvc_rules.specs.Sorts.{convention, symbol_tree}
+use Rattle.msvc_grammar.specs.Letters.{digits, hexadecimal, hexadecimal_codes, qualifiers, storage_classes, alignments}
+use Rattle.msvc_grammar.specs.Letters.{qualifiers_of_returns, qualifiers_of_arrays, pointer_sizes, restricts, static}
+use Rattle.msvc_grammar.specs.Letters.{reference_qualifiers, extended_types, type_letters, type_texts, conventions}
+use Rattle.msvc_grammar.specs.Letters.{thunk, function_classes, encoding_letters, special_texts, character_sizes}
+use Rattle.msvc_grammar.specs.Letters.{plain_characters, escaped_characters, at_sign, decimal_base, hexadecimal_base}
+use Rattle.msvc_grammar.specs.Productions.{Production, symbol, symbol_body, guard_index, unsigned, decimal, encoding}
+use Rattle.msvc_grammar.specs.Productions.{encoding_after, characters, character, thunk_number, this_qualifiers}
+use Rattle.msvc_grammar.specs.Productions.{function_qualifiers, signature, return_qualifiers, returned}
+use Rattle.msvc_grammar.specs.Productions.{function_parameters, parameters, parameter, type_, plain_type, type_after}
+use Rattle.msvc_grammar.specs.Productions.{pointee, array, dimension, positive, lengths, qualified_name}
+use Rattle.msvc_grammar.specs.Productions.{unqualified_name, template_name, scope, nested_name, locally_scoped_name}
+use Rattle.msvc_grammar.specs.Productions.{anonymous_namespace, hexadecimal_digits, source_name, number, magnitude}
+use Rattle.msvc_grammar.specs.Productions.{letters, required, prefixed_type, function_type, member_pointer, class_part}
+use Rattle.msvc_grammar.specs.Productions.{special_name, special_after}
 use Rattle.msvc_grammar.specs.declared.forms.FunctionKind.TheVariants as function_kind
 use Rattle.msvc_grammar.specs.declared.forms.MemberPointerForm.TheVariants as pointer_form
 use Rattle.msvc_grammar.specs.declared.forms.ObjectQualifiers.{ObjectQualifiers}
 use Rattle.msvc_grammar.specs.declared.forms.ObjectQualifiers.TheVariants as object_qualifiers
 use Rattle.msvc_grammar.specs.declared.forms.TemplateNames.{TemplateNames}
 use Rattle.msvc_grammar.specs.declared.forms.TemplateNames.TheVariants as templates
-use Rattle.msvc_grammar.specs.Sorts.{based, extended, named, points, arrayed, indexed, referred}
-use Rattle.msvc_grammar.specs.Sorts.{variable_of, table_of, type_information, untyped, encoded_string}
-use Rattle.msvc_grammar.specs.Sorts.{virtual_call, plain_function, member_of, Sort, nothing, bits, integer}
-use Rattle.msvc_grammar.specs.Sorts.{name_tree, base_type, type_letter, encoding_letter, convention, symbol_tree}
-use Rattle.msvc_grammar.specs.Rules.{Production, symbol, symbol_body, guard_index, unsigned, decimal, encoding}
-use Rattle.msvc_grammar.specs.Rules.{encoding_after, characters, character, thunk_number, this_qualifiers}
-use Rattle.msvc_grammar.specs.Rules.{function_qualifiers, signature, return_qualifiers, returned, function_parameters}
-use Rattle.msvc_grammar.specs.Rules.{parameters, parameter, type_, plain_type, type_after, pointee, array, dimension}
-use Rattle.msvc_grammar.specs.Rules.{positive, lengths, qualified_name, unqualified_name, template_name, scope}
-use Rattle.msvc_grammar.specs.Rules.{nested_name}
-use Rattle.msvc_grammar.specs.Rules.{locally_scoped_name, anonymous_namespace, hexadecimal_digits}
-use Rattle.msvc_grammar.specs.Rules.{source_name, number, magnitude}
-use Rattle.msvc_grammar.specs.Rules.{letters, required, none_of, at_end, Rule, give, letter, literal, up_to, here}
-use Rattle.msvc_grammar.specs.Rules.{◌>>=◌, ◌>>◌, ◌or◌, lookup, every}
-use Rattle.msvc_grammar.specs.Rules.{call, known_name, remember, known_type, noted, entering, apart, begins_of}
-use Rattle.msvc_grammar.specs.Rules.{letter_or, literal_or, node, text_and, text_or, optional, never}
-use Rattle.msvc_grammar.specs.Rules.{prefixed_type, function_type, member_pointer}
-use Rattle.msvc_grammar.specs.Rules.{class_part, special_name, special_after}
-use Rattle.msvc_grammar.specs.Letters.{digits, hexadecimal, hexadecimal_codes, qualifiers, storage_classes, alignments}
-use Rattle.msvc_grammar.specs.Letters.{qualifiers_of_returns, qualifiers_of_arrays, pointer_sizes, restricts, static}
-use Rattle.msvc_grammar.specs.Letters.{reference_qualifiers, extended_types, type_letters, type_texts, conventions}
-use Rattle.msvc_grammar.specs.Letters.{thunk, function_classes, encoding_letters, special_texts, character_sizes}
-use Rattle.msvc_grammar.specs.Letters.{plain_characters, escaped_characters, at_sign, decimal_base, hexadecimal_base}
+use Rattle.msvc_grammar.specs.declared.forms.TypePrefix.TheVariants as form
+use Rattle.msvc_grammar.specs.declared.forms.SpecialForm.TheVariants as special
 
 -- What values are made of
 
@@ -107,63 +105,63 @@ with_index index n = n
 -- Parts of productions
 
 -- a name that enters the table of names
-abbrev pub entering_name : Rule name_tree → Rule name_tree
+abbrev pub entering_name : Rule Production name_tree → Rule Production name_tree
 entering_name r = do
   n ← r
   remember n
   give n
 
 -- a source name, which enters the table of names
-abbrev pub new_source_name : Rule name_tree
+abbrev pub new_source_name : Rule Production name_tree
 new_source_name = entering_name (node (do n ← call source_name; give (spelled spelling_kind.Source n)))
 
 -- a whole symbol inside a scope, after its own ?
-abbrev pub nested_symbol : Rule name_tree
+abbrev pub nested_symbol : Rule Production name_tree
 nested_symbol = node (do
   s ← call symbol_body
   give (nested s.name s.scope s.symbol_type))
 
 -- an interface, after its ?Q
-abbrev pub new_interface : Rule name_tree
+abbrev pub new_interface : Rule Production name_tree
 new_interface = entering_name (node (do
   n ← call source_name
   literal (codes "@")
   give (spelled spelling_kind.Interface n)))
 
 -- a name and arguments
-abbrev pub template_inside : Rule name_tree
+abbrev pub template_inside : Rule Production name_tree
 template_inside = node (do
   n ← call (unqualified_name templates.Memorized)
   ts ← call parameters
   give (template n (type_trees ts)))
 
 -- a template, whose name enters the table of names if template names are memorized
-abbrev pub template_kept : TemplateNames → Rule name_tree
+abbrev pub template_kept : TemplateNames → Rule Production name_tree
 template_kept templates.NotMemorized = call template_name
 template_kept templates.Memorized = entering_name (call template_name)
 
 -- letters to base 16, as a number of 32 bits
-abbrev pub signed_letters : Rule integer
+abbrev pub signed_letters : Rule Production integer
 signed_letters = do
   v ← call (letters 0)
   give (signed v)
 
 -- the qualifiers of what a function returns that is part of a type
-abbrev pub pointed_return_qualifiers : Rule bits
+abbrev pub pointed_return_qualifiers : Rule Production bits
 pointed_return_qualifiers = literal_or (codes "?") (optional storage_classes) (give 0)
 
 -- the qualifiers of each level of an array
-abbrev pub array_class : Rule bits
+abbrev pub array_class : Rule Production bits
 array_class = literal_or (codes "$$C") (letter bits qualifiers_of_arrays) (give 0)
 
 -- what follows the ?$ of a symbol that is a template and nothing else
-abbrev pub template_symbol : Rule symbol_tree
+abbrev pub template_symbol : Rule Production symbol_tree
 template_symbol = do
   n ← call template_name
   node (give (record { name = n; scope = no_names; symbol_type = plain plain_kind.None }))
 
 -- what follows the ? of a symbol that has a scope
-abbrev pub named_symbol : Rule symbol_tree
+abbrev pub named_symbol : Rule Production symbol_tree
 named_symbol = do
   n ← call (qualified_name templates.NotMemorized)
   index ← call (guard_index (is_guard n.0))
@@ -171,20 +169,20 @@ named_symbol = do
   give (record { name = with_index index n.0; scope = name_trees n.1; symbol_type = t })
 
 -- what follows the ??@ of a symbol of which there is a hash alone
-abbrev pub hashed_symbol : Rule symbol_tree
+abbrev pub hashed_symbol : Rule Production symbol_tree
 hashed_symbol = node (node (do
   n ← call source_name
   call (required (is_hash n))
   give (record { name = spelled spelling_kind.Md5 n; scope = no_names; symbol_type = plain plain_kind.None })))
 
 -- one decimal digit or more, up to an @
-abbrev pub guard_number : Rule bits
+abbrev pub guard_number : Rule Production bits
 guard_number = do
   d ← letter bits digits
   call (decimal d)
 
 -- what follows the ?$TSS of the guard of a thread-safe static variable
-abbrev pub numbered_guard : Rule symbol_tree
+abbrev pub numbered_guard : Rule Production symbol_tree
 numbered_guard = do
   z ← guard_number
   n ← call nested_name
@@ -193,23 +191,23 @@ numbered_guard = do
   node (give (record { name = n; scope = name_trees ns; symbol_type = numbered number_kind.ThreadSafeGuard (pos z) }))
 
 -- what stands after the name of a guard, as the type of a variable does after another name
-abbrev pub guard_marker : Rule nothing
+abbrev pub guard_marker : Rule Production nothing
 guard_marker = literal (codes "4IA") or literal (codes "5")
 
 -- the two halves of a byte
-abbrev pub halves : Rule bits
+abbrev pub halves : Rule Production bits
 halves = do
   high ← letter bits hexadecimal
   low ← letter bits hexadecimal
   give (high * hexadecimal_base + low)
 
 -- what stands for a byte after a ?
-abbrev pub escaped_character : Rule bits
+abbrev pub escaped_character : Rule Production bits
 escaped_character = literal_or (codes "$") halves (letter bits escaped_characters)
 
 -- The productions
 
-unfoldable pub grammar : {a : Sort} → Production a → Rule a
+unfoldable pub grammar : {a : Sort} → Production a → Rule Production a
 -- A ?, and what follows it.
 grammar symbol = do
   literal (codes "?")
@@ -478,3 +476,7 @@ grammar (letters value) =
 -- no byte is read where the condition holds; else the text is rejected
 grammar (required true) = give tt
 grammar (required false) = never
+
+-- the grammar of this crate
+abbrev pub crate_grammar : Grammar
+crate_grammar = record { family = Production; rule = grammar; start = symbol; parameter_type = type_ 0 }

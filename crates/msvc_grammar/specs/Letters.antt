@@ -14,13 +14,13 @@ use Rattle.msvc_nodes.specs.declared.kinds.SpecialTableKind.TheVariants as table
 use Rattle.msvc_nodes.specs.BaseTypes.{BaseRow, basic_types, under_types}
 use Rattle.msvc_nodes.specs.PlainOperators.{OperatorRow, basic_operators, under_operators, double_under_operators}
 use Rattle.msvc_nodes.specs.PlainOperators.{type_information_operators}
+use Rattle.msvc_rules.specs.Sorts.{TypeLetter, based, extended, named, points, arrayed, indexed, referred}
+use Rattle.msvc_rules.specs.Sorts.{EncodingLetter, variable_of, table_of, type_information, untyped, encoded_string}
+use Rattle.msvc_rules.specs.Sorts.{virtual_call, plain_function, member_of}
 use Rattle.msvc_grammar.specs.declared.forms.TypePrefix.{TypePrefix}
 use Rattle.msvc_grammar.specs.declared.forms.TypePrefix.TheVariants as form
 use Rattle.msvc_grammar.specs.declared.forms.SpecialForm.{SpecialForm}
 use Rattle.msvc_grammar.specs.declared.forms.SpecialForm.TheVariants as special
-use Rattle.msvc_grammar.specs.Sorts.{TypeLetter, based, extended, named, points, arrayed, indexed, referred}
-use Rattle.msvc_grammar.specs.Sorts.{EncodingLetter, variable_of, table_of, type_information, untyped, encoded_string}
-use Rattle.msvc_grammar.specs.Sorts.{virtual_call, plain_function, member_of}
 
 -- How tables are written
 

@@ -6,15 +6,18 @@ use Rattle.msvc_nodes.specs.EachName.{EachName}
 use Rattle.msvc_nodes.specs.Errors.{limit_of}
 use Rattle.msvc_nodes.specs.Trees.{SymbolTree}
 use Rattle.msvc_nodes.specs.declared.error.ErrorRepr.{ErrorRepr}
+use Rattle.msvc_rules.specs.Laws.{HasOneTreeIn, TablesAreHandedBackIn, TypesAreLocalIn}
+use Rattle.msvc_rules.specs.Parts.{NamesAreParts}
+use Rattle.msvc_rules.specs.Rules.{Grammar}
+use Rattle.msvc_rules.specs.Sorts.{type_tree}
+use Rattle.msvc_rules.specs.State.{Note}
+use Rattle.msvc_rules.specs.Written.{AreRising, DigitsCanBeWrittenOutIn}
+use Rattle.msvc_grammar.specs.Derived.{IsReadTo, Derives, IsOnly, CanBeWrittenOut}
+use Rattle.msvc_grammar.specs.Grammar.{crate_grammar}
 use Rattle.msvc_grammar.specs.Hashes.{HashesAreRead, HashesStand}
-use Rattle.msvc_grammar.specs.Laws.{HasOneTree, TablesAreHandedBack, TypesAreLocal}
 use Rattle.msvc_grammar.specs.Limits.{MayBeAbout}
-use Rattle.msvc_grammar.specs.Parts.{NamesAreParts}
-use Rattle.msvc_grammar.specs.Prefix.{IsReadTo}
-use Rattle.msvc_grammar.specs.Reads.{Derives, IsOnly}
+use Rattle.msvc_grammar.specs.Productions.{type_}
 use Rattle.msvc_grammar.specs.Rejections.{IsRejectionAt, IsRejectedRightly, begins_with}
-use Rattle.msvc_grammar.specs.State.{Note}
-use Rattle.msvc_grammar.specs.Written.{AreRising, CanBeWrittenOut, DigitsCanBeWrittenOut}
 
 -- The text begins with a symbol, and this is its tree.
 pub record IsParsed (text : List ℕ) (tree : SymbolTree) : Type 0 where
@@ -36,15 +39,18 @@ pub record IsParsed (text : List ℕ) (tree : SymbolTree) : Type 0 where
   pub begins : begins_with (codes "?") text
 
 -- What holds of the grammar at this text, whatever a call returns.
-pub record GrammarLaws (text : List ℕ) : Type 0 where
+pub record GrammarLawsIn (G : Grammar) (types : ℕ → G.family type_tree) (text : List ℕ) : Type 0 where
   -- the text has one tree at most
-  pub unique : HasOneTree text
+  pub unique : HasOneTreeIn G text
   -- a type that was read with some tables is read again with later ones, whatever follows it
-  pub local : TypesAreLocal
+  pub local : TypesAreLocalIn G types
   -- a template leaves the tables as they were before it
-  pub tables : TablesAreHandedBack
+  pub tables : TablesAreHandedBackIn G
   -- each digit that was read as a whole parameter can be written out
-  pub written_out : DigitsCanBeWrittenOut text
+  pub written_out : DigitsCanBeWrittenOutIn G text
+
+abbrev pub GrammarLaws : List ℕ → Type 0
+GrammarLaws text = GrammarLawsIn crate_grammar type_ text
 
 -- Reading the text fails with this error, under a limit on nodes or without one.
 pub record IsRejected (nodes : Option ℕ) (text : List ℕ) (e : ErrorRepr) : Type 0 where

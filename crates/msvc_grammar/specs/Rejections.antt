@@ -5,10 +5,10 @@ use Rattle.msvc_nodes.specs.Errors.{context_of}
 use Rattle.msvc_nodes.specs.Trees.{SymbolTree}
 use Rattle.msvc_nodes.specs.declared.error.ErrorRepr.{ErrorRepr}
 use Rattle.msvc_nodes.specs.declared.error.ErrorRepr.TheVariants as error
-use Rattle.msvc_grammar.specs.Counts.{node_count}
+use Rattle.msvc_rules.specs.Counts.{node_count}
+use Rattle.msvc_rules.specs.State.{Note}
+use Rattle.msvc_grammar.specs.Derived.{Derives}
 use Rattle.msvc_grammar.specs.Limits.{IsBeyond}
-use Rattle.msvc_grammar.specs.Reads.{Derives}
-use Rattle.msvc_grammar.specs.State.{Note}
 
 abbrev pub begins_with : List ℕ → List ℕ → Type 0
 begins_with literal text = (rest : List ℕ) × (text ≡ literal ++ rest)

@@ -2,9 +2,9 @@
 use Rattle.std.specs.Prelude.{ℕ, List, [], ◌∷◌, ◌++◌, ◌≡◌, ◌⊎◌, None}
 use Rattle.std.specs.Str.{IsUtf8}
 use Rattle.msvc_nodes.specs.Trees.{SymbolTree}
-use Rattle.msvc_grammar.specs.Reads.{Derives, IsOnly}
+use Rattle.msvc_rules.specs.State.{Note}
+use Rattle.msvc_grammar.specs.Derived.{Derives, IsOnly}
 use Rattle.msvc_grammar.specs.Rejections.{IsNoSymbol}
-use Rattle.msvc_grammar.specs.State.{Note}
 use Rattle.msvc_print.specs.Declaration.{declaration}
 use Rattle.msvc_lines.specs.Lines.{lines_of}
 

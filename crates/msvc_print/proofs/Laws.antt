@@ -31,8 +31,9 @@ use Rattle.msvc_print.specs.Laws.{Agree, HashIsItsText, NameOnlyAsksNoType, Othe
 use Rattle.msvc_print.specs.Operators.{base_class_pieces, name_kind, unqualified_name, scoped}
 use Rattle.msvc_print.specs.Pieces.{Piece, resolve, settle_all, space, text}
 use Rattle.msvc_print.specs.Sides.{Sides, alone, around, between, kept, kept_left, kept_right}
-use Rattle.msvc_print.specs.Words.{base_word, base_words, chosen_word, closing, kind_word, mark_space, mark_word, marked}
-use Rattle.msvc_print.specs.Words.{name_space, opening, qualifier, qualifier_space, qualifiers, tag_word, variable_word}
+use Rattle.msvc_print.specs.Words.{base_word, base_words, chosen_word, closing, kind_word, mark_space, mark_word}
+use Rattle.msvc_print.specs.Words.{marked, name_space, opening, qualifier, qualifier_space, qualifiers, tag_word}
+use Rattle.msvc_print.specs.Words.{variable_word}
 use Rattle.msvc_print.specs.declared.operators.NameKind.{NameKind}
 use Rattle.msvc_print.specs.declared.operators.NameKind.TheVariants as name_kinds
 use Rattle.msvc_print.specs.declared.spaces.Space.TheVariants.{AfterPointer, AfterReference, AfterWord, UnlessOpen}

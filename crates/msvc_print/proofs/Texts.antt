@@ -47,8 +47,8 @@ use Rattle.msvc_print.specs.Functions.{parameter_list, separator, wide_qualifier
 use Rattle.msvc_print.specs.Pieces.{Piece, blank, text, space, settle, settle_all}
 use Rattle.msvc_print.specs.Pieces.{is_written_after, last_byte}
 use Rattle.msvc_print.specs.Sides.{Sides, alone, around, between, kept, kept_left, kept_right}
-use Rattle.msvc_print.specs.Words.{base_word, base_words, chosen_word, closing, kind_word, mark_space, mark_word, marked}
-use Rattle.msvc_print.specs.Words.{name_space, opening, qualifiers, tag_word, variable_word}
+use Rattle.msvc_print.specs.Words.{base_word, base_words, chosen_word, closing, kind_word, mark_space, mark_word}
+use Rattle.msvc_print.specs.Words.{marked, name_space, opening, qualifiers, tag_word, variable_word}
 use Rattle.msvc_print.specs.declared.spaces.Space.{Space}
 use Rattle.msvc_print.specs.declared.spaces.Space.TheVariants.{AfterPointer}
 

@@ -7,8 +7,8 @@
 //! stack. Each step is a method of `Printer` in `qualified_names` or `types`; these call `simple_types`,
 //! `function_types`, `operators` and `words`; `spaces` writes the spaces, and `text` the bytes.
 //!
-//! A method `print_*` works on the stack and the text, a function `write_*` on the text alone, and a function `push_*` on
-//! the stack alone.
+//! A method `print_*` works on the stack and the text, a function `write_*` on the text alone, and a function `push_*`
+//! on the stack alone.
 #![tactic(auto, using(crate::proofs::Stack::pushes))]
 
 mod function_types;

@@ -230,8 +230,8 @@ fn fill_ahead<A: Allocator>(bytes: &mut Vec<u8, A>, max: usize) -> usize
     }
 }
 
-/// Writes bytes as they are, behind those that were written, if the limit allows them. Once a piece was left out, writes
-/// nothing more and requests no memory.
+/// Writes bytes as they are, behind those that were written, if the limit allows them. Once a piece was left out,
+/// writes nothing more and requests no memory.
 #[cold]
 fn write_text_beyond<A: Allocator>(out: &mut Text<A>, bytes: &[u8]) -> Result<(), AllocError>
     ensures { OnOk result (Writes (text bytes.now ∷ []) out.old out.new) }

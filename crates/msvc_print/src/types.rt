@@ -74,8 +74,8 @@ impl<'a, 'b, 't, S: Allocator, A: Allocator> Printer<'a, 'b, 't, S, A> {
         }
     }
 
-    /// Prints what a base type, a number, a class or an enumeration has before the name. Returns whether the type is one
-    /// of these, which have nothing after the name.
+    /// Prints what a base type, a number, a class or an enumeration has before the name. Returns whether the type is
+    /// one of these, which have nothing after the name.
     #[inline(always)]
     fn print_innermost(&mut self, t: &'b Type<'a, 'b>) -> Result<bool, AllocError>
         ensures text { IfOk result (λ is. is ≡ true → (pointed : Bool) →

@@ -12,25 +12,25 @@ use Rattle.msvc_nodes.specs.declared.error.Limit.{Limit}
 use Rattle.msvc_nodes.specs.declared.error.Limit.TheVariants.{Bytes}
 use Rattle.std.proofs.lemmas.Str.{IsCharBoundary-at_seam}
 use Rattle.std.proofs.Math.Seq.{take-append_seam}
-use Rattle.msvc_grammar.proofs.Hashes.{hashes-read, hashes-stand}
-use Rattle.msvc_grammar.proofs.Laws.{derived-alone, derived-only, symbol-derived, symbol-rejected}
-use Rattle.msvc_grammar.proofs.Laws.{tables-are-handed-back}
-use Rattle.msvc_grammar.proofs.Locality.{types-are-local}
-use Rattle.msvc_grammar.proofs.NamesInText.{derived-parts, derived-utf8, rest-utf8}
-use Rattle.msvc_grammar.proofs.NodeLimits.{at_most, within_derived, within_rejected}
-use Rattle.msvc_grammar.proofs.NotesIncreasing.{derived_rising}
-use Rattle.msvc_grammar.proofs.Progress.{IsTail, tail}
-use Rattle.msvc_grammar.proofs.Soundness.{after-is}
-use Rattle.msvc_grammar.proofs.WrittenOut.{all_written_out}
-use Rattle.msvc_grammar.specs.Counts.{node_count}
+use Rattle.msvc_rules.specs.Counts.{node_count}
+use Rattle.msvc_rules.specs.Readers.{Found}
+use Rattle.msvc_rules.specs.Rules.{after}
+use Rattle.msvc_rules.specs.State.{Count, State, Note, beginning, beginning_with, uncounted}
+use Rattle.msvc_grammar.specs.Derived.{IsReadTo, Derives}
 use Rattle.msvc_grammar.specs.Hashes.{HashesAreRead}
 use Rattle.msvc_grammar.specs.Limits.{IsWithin, MayBeAbout}
 use Rattle.msvc_grammar.specs.Parsed.{AreReferences, GrammarLaws, IsParsed, IsRejected, IsSymbolLength}
-use Rattle.msvc_grammar.specs.Prefix.{IsReadTo}
-use Rattle.msvc_grammar.specs.Reads.{Derives, Found, read_name}
+use Rattle.msvc_grammar.specs.Productions.{symbol, symbol_body}
+use Rattle.msvc_grammar.specs.Reading.{read_name}
 use Rattle.msvc_grammar.specs.Rejections.{IsNoSymbol, IsRejectedRightly, IsRejectionAt, begins_with}
-use Rattle.msvc_grammar.specs.Rules.{after, symbol, symbol_body}
-use Rattle.msvc_grammar.specs.State.{Count, State, Note, beginning, beginning_with, uncounted}
+use Rattle.msvc_rules.proofs.NodeLimits.{at_most}
+use Rattle.msvc_rules.proofs.Progress.{IsTail, tail}
+use Rattle.msvc_rules.proofs.Soundness.{after-is}
+use Rattle.msvc_grammar.proofs.Checks.{crate_fit}
+use Rattle.msvc_grammar.proofs.Hashes.{hashes-read, hashes-stand}
+use Rattle.msvc_grammar.proofs.Laws.{derived-alone, derived-only, symbol-derived, symbol-rejected}
+use Rattle.msvc_grammar.proofs.Laws.{tables-are-handed-back, types-are-local, derived-parts, derived-utf8, rest-utf8}
+use Rattle.msvc_grammar.proofs.Laws.{within_derived, within_rejected, derived_rising, all_written_out}
 use Rattle.msvc_cursor.proofs.Choices.{chosen}
 use Rattle.msvc_cursor.proofs.SymbolSteps.{symbol_step}
 use Rattle.msvc_cursor.proofs.Messages.{not-bytes, words-limit}
@@ -103,7 +103,7 @@ left-after : (text : List ℕ) (tree : SymbolTree) (n : ℕ) → DerivedTo text 
     → (consumed : List ℕ) × (text ≡ consumed ++ rest) × (length consumed ≡ n)
 left-after text tree n found other rest notes d =
     let same : rest ≡ found.0 = (derived-only text other tree rest found.0 notes found.1 d found.2).1 in
-    let consumed : IsTail text rest = tail d.1 in
+    let consumed : IsTail text rest = tail crate_fit d.1 in
     (consumed.0, consumed.1, front text consumed.0 rest n consumed.1 (ap (λ z. length text - length z) same ∙ found.3))
 
 read-to : (text : List ℕ) (tree : SymbolTree) (n : ℕ) → DerivedTo text tree n

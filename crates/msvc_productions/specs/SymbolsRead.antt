@@ -1,10 +1,10 @@
 -- What is read of a text that begins with a symbol.
 use Rattle.std.specs.Prelude.{ℕ, List, ◌≡◌, ◌≤◌, Option, length}
 use Rattle.msvc_nodes.specs.Trees.{SymbolTree}
-use Rattle.msvc_grammar.specs.Counts.{node_count}
+use Rattle.msvc_rules.specs.Counts.{node_count}
+use Rattle.msvc_rules.specs.State.{Note}
 use Rattle.msvc_grammar.specs.Limits.{IsWithin}
 use Rattle.msvc_grammar.specs.Parsed.{AreReferences, IsParsed, IsSymbolLength}
-use Rattle.msvc_grammar.specs.State.{Note}
 
 -- The text begins with a symbol of this tree, which is within the limit on nodes. The symbol takes this many bytes, and
 -- the notes are its back references.

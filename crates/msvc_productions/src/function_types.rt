@@ -4,11 +4,12 @@ ghost use Rattle.std.specs.Prelude.{◌≡◌, ◌≤◌, IfOk, length, map, Som
 ghost use Rattle.msvc_nodes.specs.NodeView.{name_at, name_of, type_at, type_of};
 ghost use Rattle.msvc_nodes.specs.Trees.{name_trees, type_trees};
 ghost use Rattle.msvc_nodes.specs.Trees as tree;
+ghost use Rattle.msvc_rules.specs.Readers.{letter_here, with_value};
+ghost use Rattle.msvc_rules.specs.Sorts.{member_of, plain_function};
 ghost use Rattle.msvc_grammar.specs.Grammar.{has, pointed_return_qualifiers, qualifiers_of_class};
 ghost use Rattle.msvc_grammar.specs.Letters.{conventions, thunk};
-ghost use Rattle.msvc_grammar.specs.Reads.{letter_here, read, read_name, with_value};
-ghost use Rattle.msvc_grammar.specs.Rules as rules;
-ghost use Rattle.msvc_grammar.specs.Sorts.{member_of, plain_function};
+ghost use Rattle.msvc_grammar.specs.Reading.{read, read_name};
+ghost use Rattle.msvc_grammar.specs.Productions as production;
 ghost use Rattle.msvc_cursor.specs.Parser.{Consumes, frame_of, MayConsume, ReadsAs, state_of, Stays};
 ghost use Rattle.msvc_cursor.specs.Rows.{EndsTypes, parts_at};
 ghost use Rattle.msvc_cursor.specs.NestedList.{current, enclosing};
@@ -33,7 +34,8 @@ use std::alloc::Allocator;
 pub fn function<'a, 'b, L: NodeBudget, A: Allocator>(
     parser: &mut Parser<'a, 'b, L, A>,
 ) -> Result<&'b Type<'a, 'b>, Failed>
-    ensures value { ReadsAs type_at parser.old parser.new result (read_name (rules.encoding_after plain_function)) }
+    ensures value { ReadsAs type_at parser.old parser.new result
+        (read_name (production.encoding_after plain_function)) }
     ensures consumes { MayConsume parser.old parser.new result }
 {
     parser.count_node()?;
@@ -53,7 +55,7 @@ pub fn member<'a, 'b, L: NodeBudget, A: Allocator>(
     class: FuncClass,
 ) -> Result<&'b Type<'a, 'b>, Failed>
     ensures value { ReadsAs type_at parser.old parser.new result
-        (read_name (rules.encoding_after (member_of class.0))) }
+        (read_name (production.encoding_after (member_of class.0))) }
     ensures consumes { MayConsume parser.old parser.new result }
 {
     parser.count_node()?;
@@ -70,7 +72,7 @@ pub fn function_type<'a, 'b, L: NodeBudget, A: Allocator>(
     qualifiers: ObjectQualifiers,
 ) -> Result<&'b Type<'a, 'b>, Failed>
     ensures value { ReadsAs type_at parser.old parser.new result
-        (read_name (rules.function_type qualifiers)) }
+        (read_name (production.function_type qualifiers)) }
     ensures consumes { Consumes parser.old parser.new result }
 {
     parser.count_node()?;
@@ -89,7 +91,7 @@ pub fn member_pointer<'a, 'b, L: NodeBudget, A: Allocator>(
     form: MemberPointerForm,
 ) -> Result<&'b Type<'a, 'b>, Failed>
     ensures value { ReadsAs type_at parser.old parser.new result
-        (read_name (rules.member_pointer form)) }
+        (read_name (production.member_pointer form)) }
     ensures consumes { Consumes parser.old parser.new result }
 {
     parser.count_node()?;
@@ -108,7 +110,7 @@ pub fn member_pointer<'a, 'b, L: NodeBudget, A: Allocator>(
 /// Stores a function type of these parts and of the parameters on the list. It stands outside the cycle, as
 /// `put_tagged` does.
 #[inline(never)]
-pub fn put_function_type<'a, 'b, L: NodeBudget, A: Allocator>(
+fn put_function_type<'a, 'b, L: NodeBudget, A: Allocator>(
     parser: &mut Parser<'a, 'b, L, A>,
     convention: CallingConv,
     this_qualifiers: StorageClass,
@@ -135,7 +137,7 @@ pub fn put_function_type<'a, 'b, L: NodeBudget, A: Allocator>(
 
 /// Stores a pointer to a member function of these parts. It stands outside the cycle, as `put_tagged` does.
 #[inline(never)]
-pub fn put_member_pointer<'a, 'b, L: NodeBudget, A: Allocator>(
+fn put_member_pointer<'a, 'b, L: NodeBudget, A: Allocator>(
     parser: &mut Parser<'a, 'b, L, A>,
     symbol: &'b Symbol<'a, 'b>,
     f: &'b Function<'a, 'b>,
@@ -150,7 +152,7 @@ pub fn put_member_pointer<'a, 'b, L: NodeBudget, A: Allocator>(
 }
 
 /// Stores the parts of a function, with the parameters on the list.
-pub fn put_parts<'a, 'b, L: NodeBudget, A: Allocator>(
+fn put_parts<'a, 'b, L: NodeBudget, A: Allocator>(
     parser: &mut Parser<'a, 'b, L, A>,
     convention: CallingConv,
     class: FuncClass,
@@ -178,7 +180,7 @@ pub fn put_parts<'a, 'b, L: NodeBudget, A: Allocator>(
 }
 
 /// Reads the qualifiers of the return type of a function type.
-pub fn pointed_return_qualifiers<'a, 'b, L: NodeBudget, A: Allocator>(
+fn pointed_return_qualifiers<'a, 'b, L: NodeBudget, A: Allocator>(
     parser: &mut Parser<'a, 'b, L, A>,
 ) -> StorageClass
     ensures value { read pointed_return_qualifiers parser.old.rest.now (state_of parser.old)
@@ -194,12 +196,12 @@ pub fn pointed_return_qualifiers<'a, 'b, L: NodeBudget, A: Allocator>(
 
 /// Reads `CLASS_PART = [qualifier] | function class [THUNK_NUMBER]`: a pointer to a member function has qualifiers or a
 /// class.
-pub fn class_part<'a, 'b, L: NodeBudget, A: Allocator>(
+fn class_part<'a, 'b, L: NodeBudget, A: Allocator>(
     parser: &mut Parser<'a, 'b, L, A>,
     form: MemberPointerForm,
 ) -> Result<(FuncClass, StorageClass), Failed>
     ensures value { ReadsAs (λ c. (c.0.0, c.1.0)) parser.old parser.new result
-        (read_name (rules.class_part form)) }
+        (read_name (production.class_part form)) }
     ensures consumes { MayConsume parser.old parser.new result }
 {
     match form {
@@ -212,11 +214,11 @@ pub fn class_part<'a, 'b, L: NodeBudget, A: Allocator>(
 }
 
 /// Reads the class of the member function that a pointer refers to, and its number if it is a thunk.
-pub fn class_of_member<'a, 'b, L: NodeBudget, A: Allocator>(
+fn class_of_member<'a, 'b, L: NodeBudget, A: Allocator>(
     parser: &mut Parser<'a, 'b, L, A>,
 ) -> Result<FuncClass, Failed>
     ensures value { ReadsAs (λ c. (c.0, 0)) parser.old parser.new result
-        (read_name (rules.class_part MemberPointerForm.OfClass)) }
+        (read_name (production.class_part MemberPointerForm.OfClass)) }
     ensures consumes { MayConsume parser.old parser.new result }
 {
     let letter = parser.byte()?;
@@ -228,12 +230,12 @@ pub fn class_of_member<'a, 'b, L: NodeBudget, A: Allocator>(
 }
 
 /// Reads `THUNK_NUMBER = NUMBER`: the number of a thunk, which is dropped. Other functions have none.
-pub fn thunk_number<'a, 'b, L: NodeBudget, A: Allocator>(
+fn thunk_number<'a, 'b, L: NodeBudget, A: Allocator>(
     parser: &mut Parser<'a, 'b, L, A>,
     class: FuncClass,
 ) -> Result<(), Failed>
     ensures value { ReadsAs (λ _. tt) parser.old parser.new result
-        (read_name (rules.thunk_number (has class.0 thunk))) }
+        (read_name (production.thunk_number (has class.0 thunk))) }
     ensures consumes { MayConsume parser.old parser.new result }
 {
     if class.contains(FuncClass::THUNK) {
@@ -243,11 +245,11 @@ pub fn thunk_number<'a, 'b, L: NodeBudget, A: Allocator>(
 }
 
 /// Reads `THIS_QUALIFIERS = FUNCTION_QUALIFIERS`. A function without an object has none.
-pub fn this_qualifiers<'a, 'b, L: NodeBudget, A: Allocator>(
+fn this_qualifiers<'a, 'b, L: NodeBudget, A: Allocator>(
     parser: &mut Parser<'a, 'b, L, A>,
     qualifiers: ObjectQualifiers,
 ) -> StorageClass
-    ensures value { read_name (rules.this_qualifiers qualifiers) parser.old.rest.now (state_of parser.old)
+    ensures value { read_name (production.this_qualifiers qualifiers) parser.old.rest.now (state_of parser.old)
         ≡ Some (result.0, parser.new.rest.now, state_of parser.new) }
     ensures shorter { length parser.new.rest.now ≤ length parser.old.rest.now }
     ensures kept { frame_of parser.new ≡ frame_of parser.old }
@@ -260,13 +262,13 @@ pub fn this_qualifiers<'a, 'b, L: NodeBudget, A: Allocator>(
 
 /// Reads `SIGNATURE = convention RETURN_QUALIFIERS RETURNED FUNCTION_PARAMETERS`.
 #[cycle(readers)]
-pub fn signature<'a, 'b, L: NodeBudget, A: Allocator>(
+fn signature<'a, 'b, L: NodeBudget, A: Allocator>(
     parser: &mut Parser<'a, 'b, L, A>,
     kind: FunctionKind,
     class: FuncClass,
     this_qualifiers: StorageClass,
 ) -> Result<&'b Function<'a, 'b>, Failed>
-    ensures value { ReadsAs parts_at parser.old parser.new result (read_name (rules.signature kind)) }
+    ensures value { ReadsAs parts_at parser.old parser.new result (read_name (production.signature kind)) }
     ensures given { IfOk result (λ f. (f.now.class.0 ≡ class.0) × (f.now.qualifiers.0 ≡ this_qualifiers.0)) }
     ensures consumes { MayConsume parser.old parser.new result }
 {
@@ -299,10 +301,10 @@ pub fn convention<'a, 'b, L: NodeBudget, A: Allocator>(
 }
 
 /// Reads `RETURN_QUALIFIERS = ["?" qualifier of what is returned]`.
-pub fn return_qualifiers<'a, 'b, L: NodeBudget, A: Allocator>(
+fn return_qualifiers<'a, 'b, L: NodeBudget, A: Allocator>(
     parser: &mut Parser<'a, 'b, L, A>,
 ) -> Result<StorageClass, Failed>
-    ensures value { ReadsAs (λ q. q.0) parser.old parser.new result (read_name rules.return_qualifiers) }
+    ensures value { ReadsAs (λ q. q.0) parser.old parser.new result (read_name production.return_qualifiers) }
     ensures consumes { MayConsume parser.old parser.new result }
 {
     if !parser.consume(b"?") {
@@ -317,12 +319,12 @@ pub fn return_qualifiers<'a, 'b, L: NodeBudget, A: Allocator>(
 
 /// Reads `RETURNED = "@" | TYPE`: of a member function, an `@` means no return type, as of a constructor.
 #[cycle(readers)]
-pub fn returned<'a, 'b, L: NodeBudget, A: Allocator>(
+fn returned<'a, 'b, L: NodeBudget, A: Allocator>(
     parser: &mut Parser<'a, 'b, L, A>,
     kind: FunctionKind,
     qualifiers: StorageClass,
 ) -> Result<&'b Type<'a, 'b>, Failed>
-    ensures value { ReadsAs type_at parser.old parser.new result (read_name (rules.returned kind qualifiers.0)) }
+    ensures value { ReadsAs type_at parser.old parser.new result (read_name (production.returned kind qualifiers.0)) }
     ensures consumes { Consumes parser.old parser.new result }
 {
     match kind {
@@ -334,12 +336,12 @@ pub fn returned<'a, 'b, L: NodeBudget, A: Allocator>(
 /// Reads the return type of a member function: an `@` means none, as of a constructor. It is a function apart from
 /// `returned`, so that the prover meets each case by itself.
 #[cycle(readers)]
-pub fn member_returned<'a, 'b, L: NodeBudget, A: Allocator>(
+fn member_returned<'a, 'b, L: NodeBudget, A: Allocator>(
     parser: &mut Parser<'a, 'b, L, A>,
     qualifiers: StorageClass,
 ) -> Result<&'b Type<'a, 'b>, Failed>
     ensures value { ReadsAs type_at parser.old parser.new result
-        (read_name (rules.returned FunctionKind.Member qualifiers.0)) }
+        (read_name (production.returned FunctionKind.Member qualifiers.0)) }
     ensures consumes { Consumes parser.old parser.new result }
 {
     if parser.consume(b"@") {
@@ -349,10 +351,10 @@ pub fn member_returned<'a, 'b, L: NodeBudget, A: Allocator>(
 }
 
 /// Reads `FUNCTION_QUALIFIERS = ["E"] ["I"] ["F"] ["G" | "H"] [qualifier]`.
-pub fn function_qualifiers<'a, 'b, L: NodeBudget, A: Allocator>(
+fn function_qualifiers<'a, 'b, L: NodeBudget, A: Allocator>(
     parser: &mut Parser<'a, 'b, L, A>,
 ) -> StorageClass
-    ensures value { read_name rules.function_qualifiers parser.old.rest.now (state_of parser.old)
+    ensures value { read_name production.function_qualifiers parser.old.rest.now (state_of parser.old)
         ≡ Some (result.0, parser.new.rest.now, state_of parser.new) }
     ensures shorter { length parser.new.rest.now ≤ length parser.old.rest.now }
     ensures kept { frame_of parser.new ≡ frame_of parser.old }

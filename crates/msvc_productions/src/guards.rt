@@ -5,10 +5,12 @@ ghost use Rattle.std.specs.Prelude.{Some, true};
 ghost use Rattle.msvc_nodes.specs.NodeView.{name_at, name_of};
 ghost use Rattle.msvc_nodes.specs.Trees.{name_trees, numbered};
 ghost use Rattle.msvc_nodes.specs.declared.kinds.NumberedType.TheVariants as number_kind;
+ghost use Rattle.msvc_rules.specs.Readers.{and_then, in_node, letter_here, with_value};
 ghost use Rattle.msvc_grammar.specs.Grammar.{greatest_number, guard_marker, is_in_range, numbered_guard};
 ghost use Rattle.msvc_grammar.specs.Letters.{digits};
-ghost use Rattle.msvc_grammar.specs.Reads.{and_then, in_node, letter_here, read, read_name, with_value};
-ghost use Rattle.msvc_grammar.specs.Rules as rules;
+ghost use Rattle.msvc_grammar.specs.Reading.{read, read_name};
+ghost use Rattle.msvc_rules.specs.Rules as rules;
+ghost use Rattle.msvc_grammar.specs.Productions as production;
 ghost use Rattle.msvc_cursor.specs.Parser.{Consumes, indexed, MayConsume, ReadsAs};
 ghost use Rattle.msvc_cursor.specs.Rows.{EndsNames, named_at, typed_symbol_at};
 ghost use Rattle.msvc_cursor.specs.NestedList.{current, enclosing};
@@ -50,10 +52,10 @@ pub fn indexed_symbol<'a, 'b, L: NodeBudget, A: Allocator>(
 }
 
 /// Reads `GUARD_INDEX = GUARD_MARKER end | GUARD_MARKER NUMBER`: the number is at least 0.
-pub fn guard_index<'a, 'b, L: NodeBudget, A: Allocator>(
+fn guard_index<'a, 'b, L: NodeBudget, A: Allocator>(
     parser: &mut Parser<'a, 'b, L, A>,
 ) -> Result<Option<u32>, Failed>
-    ensures value { ReadsAs (λ i. i) parser.old parser.new result (read_name (rules.guard_index true)) }
+    ensures value { ReadsAs (λ i. i) parser.old parser.new result (read_name (production.guard_index true)) }
     ensures consumes { Consumes parser.old parser.new result }
 {
     guard_marker(parser)?;
@@ -68,7 +70,7 @@ pub fn guard_index<'a, 'b, L: NodeBudget, A: Allocator>(
 }
 
 /// Reads `GUARD_MARKER = "4IA" | "5"`.
-pub fn guard_marker<'a, 'b, L: NodeBudget, A: Allocator>(
+fn guard_marker<'a, 'b, L: NodeBudget, A: Allocator>(
     parser: &mut Parser<'a, 'b, L, A>,
 ) -> Result<(), Failed>
     ensures value { ReadsAs (λ _. tt) parser.old parser.new result (read guard_marker) }
@@ -97,7 +99,7 @@ pub fn numbered_guard<'a, 'b, L: NodeBudget, A: Allocator>(
 
 /// Reads the `4HA` of a numbered guard and stores the guard, whose scope is on the list.
 #[inline(never)]
-pub fn guard_of_number<'a, 'b, L: NodeBudget, A: Allocator>(
+fn guard_of_number<'a, 'b, L: NodeBudget, A: Allocator>(
     parser: &mut Parser<'a, 'b, L, A>,
     number: i32,
     name: &'b Name<'a, 'b>,
@@ -125,7 +127,7 @@ pub fn guard_of_number<'a, 'b, L: NodeBudget, A: Allocator>(
 
 /// Stores a numbered guard of these parts. It stands outside the cycle, as `put_tagged` does.
 #[inline(never)]
-pub fn put_guard<'a, 'b, L: NodeBudget, A: Allocator>(
+fn put_guard<'a, 'b, L: NodeBudget, A: Allocator>(
     parser: &mut Parser<'a, 'b, L, A>,
     number: i32,
     name: &'b Name<'a, 'b>,
@@ -148,11 +150,11 @@ pub fn put_guard<'a, 'b, L: NodeBudget, A: Allocator>(
 
 /// Reads `GUARD_NUMBER = digit {digit} "@"`: base 10, at most 2,147,483,647.
 #[tactic(auto, using(msvc_cursor::proofs::GuardSteps::decimal_steps))]
-pub fn guard_number<'a, 'b, L: NodeBudget, A: Allocator>(
+fn guard_number<'a, 'b, L: NodeBudget, A: Allocator>(
     parser: &mut Parser<'a, 'b, L, A>,
 ) -> Result<u32, Failed>
     ensures value { ReadsAs (λ n. n) parser.old parser.new result
-        (λ left s. and_then (letter_here digits left s) (λ d. read_name (rules.decimal d))) }
+        (λ left s. and_then (letter_here digits left s) (λ d. read_name (production.decimal d))) }
     ensures consumes { Consumes parser.old parser.new result }
     ensures small { IfOk result (λ n. n ≤ greatest_number) }
 {
@@ -170,7 +172,7 @@ pub fn guard_number<'a, 'b, L: NodeBudget, A: Allocator>(
 }
 
 /// Reads a digit of a guard's number.
-pub fn guard_digit<'a, 'b, L: NodeBudget, A: Allocator>(
+fn guard_digit<'a, 'b, L: NodeBudget, A: Allocator>(
     parser: &mut Parser<'a, 'b, L, A>,
 ) -> Result<u8, Failed>
     ensures value { ReadsAs (λ d. d) parser.old parser.new result (letter_here digits) }

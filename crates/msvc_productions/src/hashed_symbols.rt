@@ -3,8 +3,9 @@
 ghost use Rattle.std.specs.Prelude.{◌≡◌, is_some};
 ghost use Rattle.msvc_grammar.specs.Grammar.{hashed_symbol, is_hash};
 ghost use Rattle.msvc_grammar.specs.Letters.{hexadecimal_codes};
-ghost use Rattle.msvc_grammar.specs.Reads.{read};
-ghost use Rattle.msvc_grammar.specs.Rules as rules;
+ghost use Rattle.msvc_grammar.specs.Reading.{read};
+ghost use Rattle.msvc_rules.specs.Rules as rules;
+ghost use Rattle.msvc_grammar.specs.Productions as production;
 ghost use Rattle.msvc_cursor.specs.Parser.{Consumes, hash_at, name_length, ReadsAs};
 ghost use Rattle.msvc_cursor.specs.Rows.{typed_symbol_at};
 
@@ -32,7 +33,7 @@ pub fn hashed_symbol<'a, 'b, L: NodeBudget, A: Allocator>(
 }
 
 /// Reads the digits of a hash up to and including the next `@`, and returns them without it.
-pub fn hash<'a, 'b, L: NodeBudget, A: Allocator>(
+fn hash<'a, 'b, L: NodeBudget, A: Allocator>(
     parser: &mut Parser<'a, 'b, L, A>,
 ) -> Result<&'a [u8], Failed>
     ensures value { ReadsAs (λ n. n.now) parser.old parser.new result (λ left s. hash_at (name_length left) left s) }

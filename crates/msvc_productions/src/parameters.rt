@@ -5,8 +5,9 @@ ghost use Rattle.std.specs.Prelude.{◌≡◌, ◌≤◌, ◌<◌, ◌-◌, ◌�
 ghost use Rattle.msvc_nodes.specs.NodeView.{type_at};
 ghost use Rattle.msvc_nodes.specs.Trees.{base};
 ghost use Rattle.msvc_nodes.specs.declared.kinds.PrimitiveKind.TheVariants as base_kind;
-ghost use Rattle.msvc_grammar.specs.Reads.{read_name, with_value};
-ghost use Rattle.msvc_grammar.specs.Rules as rules;
+ghost use Rattle.msvc_rules.specs.Readers.{with_value};
+ghost use Rattle.msvc_grammar.specs.Reading.{read_name};
+ghost use Rattle.msvc_grammar.specs.Productions as production;
 ghost use Rattle.msvc_cursor.specs.Parser.{counting_ellipsis, Consumes, ellipsis_types};
 ghost use Rattle.msvc_cursor.specs.Parser.{frame_of, parameters_stop, ReadsAs};
 ghost use Rattle.msvc_cursor.specs.Parser.{state_of};
@@ -32,7 +33,7 @@ pub fn function_parameters<'a, 'b, L: NodeBudget, A: Allocator>(
     parser: &mut Parser<'a, 'b, L, A>,
 ) -> Result<Checkpoint, Failed>
     ensures value { ReadsAs (λ _. map type_at (current parser.new.listed_types)) parser.old parser.new result
-        (read_name rules.function_parameters) }
+        (read_name production.function_parameters) }
     ensures shorter { IfOk result (λ _. length parser.new.rest.now < length parser.old.rest.now) }
     ensures lists { ListsTypes parser.old parser.new result }
 {
@@ -48,7 +49,7 @@ pub fn function_parameters<'a, 'b, L: NodeBudget, A: Allocator>(
 
 /// Puts one `void`, which is already counted, on a new part of the list. The result ends that part.
 #[inline(never)]
-pub fn no_parameters<'a, 'b, L: NodeBudget, A: Allocator>(
+fn no_parameters<'a, 'b, L: NodeBudget, A: Allocator>(
     parser: &mut Parser<'a, 'b, L, A>,
 ) -> Result<Checkpoint, Failed>
     ensures value { ReadsAs (λ _. map type_at (current parser.new.listed_types)) parser.old parser.new result
@@ -69,7 +70,7 @@ pub fn parameters<'a, 'b, L: NodeBudget, A: Allocator>(
     parser: &mut Parser<'a, 'b, L, A>,
 ) -> Result<Checkpoint, Failed>
     ensures value { ReadsAs (λ _. map type_at (current parser.new.listed_types)) parser.old parser.new result
-        (read_name rules.parameters) }
+        (read_name production.parameters) }
     ensures shorter { IfOk result (λ _. length parser.new.rest.now ≤ length parser.old.rest.now) }
     ensures lists { ListsTypes parser.old parser.new result }
 {
@@ -90,7 +91,7 @@ pub fn parameters<'a, 'b, L: NodeBudget, A: Allocator>(
 pub fn parameter<'a, 'b, L: NodeBudget, A: Allocator>(
     parser: &mut Parser<'a, 'b, L, A>,
 ) -> Result<&'b Type<'a, 'b>, Failed>
-    ensures value { ReadsAs type_at parser.old parser.new result (read_name rules.parameter) }
+    ensures value { ReadsAs type_at parser.old parser.new result (read_name production.parameter) }
     ensures consumes { Consumes parser.old parser.new result }
 {
     let start = parser.rest;
@@ -107,7 +108,7 @@ pub fn parameter<'a, 'b, L: NodeBudget, A: Allocator>(
 }
 
 /// Appends a type to the list of parameters.
-pub fn list_type<'a, 'b, L: NodeBudget, A: Allocator>(
+fn list_type<'a, 'b, L: NodeBudget, A: Allocator>(
     parser: &mut Parser<'a, 'b, L, A>,
     parameter: &'b Type<'a, 'b>,
 ) -> Result<(), Failed>
@@ -125,7 +126,7 @@ pub fn list_type<'a, 'b, L: NodeBudget, A: Allocator>(
 
 /// Appends an ellipsis to the list of parameters, if there is one, and counts it as a node.
 #[inline(never)]
-pub fn list_ellipsis<'a, 'b, L: NodeBudget, A: Allocator>(
+fn list_ellipsis<'a, 'b, L: NodeBudget, A: Allocator>(
     parser: &mut Parser<'a, 'b, L, A>,
     ellipsis: Ellipsis,
 ) -> Result<(), Failed>

@@ -4,11 +4,12 @@ ghost use Rattle.std.specs.Prelude.{◌≡◌, ◌≤◌, ◌<◌, ◌++◌, cod
 ghost use Rattle.std.specs.Prelude.{string_bytes};
 ghost use Rattle.msvc_nodes.specs.NodeView.{name_at, name_of, type_at, typed_symbol_of};
 ghost use Rattle.msvc_nodes.specs.Trees.{discriminator, nested, template, type_trees};
-ghost use Rattle.msvc_grammar.specs.Counts.{name_count};
+ghost use Rattle.msvc_rules.specs.Counts.{name_count};
+ghost use Rattle.msvc_rules.specs.Readers.{and_then, in_node, letter_here, with_value};
 ghost use Rattle.msvc_grammar.specs.Grammar.{new_interface, new_source_name, template_inside, template_kept};
 ghost use Rattle.msvc_grammar.specs.Letters.{hexadecimal_codes};
-ghost use Rattle.msvc_grammar.specs.Reads.{and_then, in_node, letter_here, read, read_name, with_value};
-ghost use Rattle.msvc_grammar.specs.Rules as rules;
+ghost use Rattle.msvc_grammar.specs.Reading.{read, read_name};
+ghost use Rattle.msvc_grammar.specs.Productions as production;
 ghost use Rattle.msvc_cursor.specs.Parser.{add_template_name, Consumes, ReadsAs, Stays};
 ghost use Rattle.msvc_cursor.specs.Rows.{EndsNames, EndsTypes, ListsNames, named_at};
 ghost use Rattle.msvc_cursor.specs.NestedList.{current, enclosing};
@@ -27,7 +28,7 @@ use msvc_nodes::nodes::{Name, Symbol, Template, TypedSymbol};
 use std::alloc::Allocator;
 
 /// Reads a source name and memorizes it.
-pub fn new_source_name<'a, 'b, L: NodeBudget, A: Allocator>(
+fn new_source_name<'a, 'b, L: NodeBudget, A: Allocator>(
     parser: &mut Parser<'a, 'b, L, A>,
 ) -> Result<&'b Name<'a, 'b>, Failed>
     ensures value { ReadsAs name_at parser.old parser.new result (read new_source_name) }
@@ -41,7 +42,7 @@ pub fn new_source_name<'a, 'b, L: NodeBudget, A: Allocator>(
 
 /// Memorizes a template name that has `nodes` nodes, unless `templates` says not to, and returns it.
 #[inline(never)]
-pub fn add_template_name<'a, 'b, L: NodeBudget, A: Allocator>(
+fn add_template_name<'a, 'b, L: NodeBudget, A: Allocator>(
     parser: &mut Parser<'a, 'b, L, A>,
     name: &'b Name<'a, 'b>,
     nodes: L,
@@ -62,12 +63,12 @@ pub fn add_template_name<'a, 'b, L: NodeBudget, A: Allocator>(
 /// Reads `UNQUALIFIED_NAME = digit | "?$" TEMPLATE_NAME | "?" SPECIAL_NAME | SOURCE_NAME`.
 #[cycle(readers)]
 #[inline(always)]
-pub fn unqualified_name<'a, 'b, L: NodeBudget, A: Allocator>(
+fn unqualified_name<'a, 'b, L: NodeBudget, A: Allocator>(
     parser: &mut Parser<'a, 'b, L, A>,
     templates: TemplateNames,
 ) -> Result<&'b Name<'a, 'b>, Failed>
     ensures value { ReadsAs name_at parser.old parser.new result
-        (read_name (rules.unqualified_name templates)) }
+        (read_name (production.unqualified_name templates)) }
     ensures consumes { Consumes parser.old parser.new result }
 {
     if let Some(digit) = parser.digit() {
@@ -116,7 +117,7 @@ pub fn template<'a, 'b, L: NodeBudget, A: Allocator>(
 
 /// Stores a template of its name and of the arguments on the list. It stands outside the cycle, as `put_tagged` does.
 #[inline(never)]
-pub fn put_template<'a, 'b, L: NodeBudget, A: Allocator>(
+fn put_template<'a, 'b, L: NodeBudget, A: Allocator>(
     parser: &mut Parser<'a, 'b, L, A>,
     name: &'b Name<'a, 'b>,
     checkpoint: Checkpoint,
@@ -143,7 +144,7 @@ pub fn put_template<'a, 'b, L: NodeBudget, A: Allocator>(
 pub fn nested_name<'a, 'b, L: NodeBudget, A: Allocator>(
     parser: &mut Parser<'a, 'b, L, A>,
 ) -> Result<&'b Name<'a, 'b>, Failed>
-    ensures value { ReadsAs name_at parser.old parser.new result (read_name rules.nested_name) }
+    ensures value { ReadsAs name_at parser.old parser.new result (read_name production.nested_name) }
     ensures consumes { Consumes parser.old parser.new result }
 {
     if let Some(digit) = parser.digit() {
@@ -158,10 +159,10 @@ pub fn nested_name<'a, 'b, L: NodeBudget, A: Allocator>(
 /// Reads `LOCALLY_SCOPED_NAME = "?" SYMBOL_BODY | "$" TEMPLATE_NAME | "A" ANONYMOUS_NAMESPACE | "Q" SOURCE_NAME "@" |
 /// NUMBER`.
 #[cycle(readers)]
-pub fn locally_scoped_name<'a, 'b, L: NodeBudget, A: Allocator>(
+fn locally_scoped_name<'a, 'b, L: NodeBudget, A: Allocator>(
     parser: &mut Parser<'a, 'b, L, A>,
 ) -> Result<&'b Name<'a, 'b>, Failed>
-    ensures value { ReadsAs name_at parser.old parser.new result (read_name rules.locally_scoped_name) }
+    ensures value { ReadsAs name_at parser.old parser.new result (read_name production.locally_scoped_name) }
     ensures consumes { Consumes parser.old parser.new result }
 {
     if parser.consume(b"?") {
@@ -183,11 +184,11 @@ pub fn locally_scoped_name<'a, 'b, L: NodeBudget, A: Allocator>(
 
 /// Reads the number that distinguishes a scope.
 #[inline(never)]
-pub fn discriminator<'a, 'b, L: NodeBudget, A: Allocator>(
+fn discriminator<'a, 'b, L: NodeBudget, A: Allocator>(
     parser: &mut Parser<'a, 'b, L, A>,
 ) -> Result<&'b Name<'a, 'b>, Failed>
     ensures value { ReadsAs name_at parser.old parser.new result
-        (λ left s. in_node left s (λ left s. and_then (read_name rules.number left s)
+        (λ left s. in_node left s (λ left s. and_then (read_name production.number left s)
         (λ z left s. Some (discriminator z, left, s)))) }
     ensures consumes { Consumes parser.old parser.new result }
 {
@@ -198,7 +199,7 @@ pub fn discriminator<'a, 'b, L: NodeBudget, A: Allocator>(
 
 /// Stores a symbol as a name.
 #[inline(never)]
-pub fn put_nested<'a, 'b, L: NodeBudget, A: Allocator>(
+fn put_nested<'a, 'b, L: NodeBudget, A: Allocator>(
     parser: &mut Parser<'a, 'b, L, A>,
     symbol: &'b TypedSymbol<'a, 'b>,
 ) -> Result<&'b Name<'a, 'b>, Failed>
@@ -212,7 +213,7 @@ pub fn put_nested<'a, 'b, L: NodeBudget, A: Allocator>(
 
 /// Reads the name of an interface, after its `?Q`.
 #[inline(never)]
-pub fn interface<'a, 'b, L: NodeBudget, A: Allocator>(
+fn interface<'a, 'b, L: NodeBudget, A: Allocator>(
     parser: &mut Parser<'a, 'b, L, A>,
 ) -> Result<&'b Name<'a, 'b>, Failed>
     ensures value { ReadsAs name_at parser.old parser.new result (read new_interface) }
@@ -226,10 +227,10 @@ pub fn interface<'a, 'b, L: NodeBudget, A: Allocator>(
 
 /// Reads `ANONYMOUS_NAMESPACE = ["0x" {hexadecimal digit}] "@"`, after its `?A`.
 #[inline(never)]
-pub fn anonymous_namespace<'a, 'b, L: NodeBudget, A: Allocator>(
+fn anonymous_namespace<'a, 'b, L: NodeBudget, A: Allocator>(
     parser: &mut Parser<'a, 'b, L, A>,
 ) -> Result<&'b Name<'a, 'b>, Failed>
-    ensures value { ReadsAs name_at parser.old parser.new result (read_name rules.anonymous_namespace) }
+    ensures value { ReadsAs name_at parser.old parser.new result (read_name production.anonymous_namespace) }
     ensures consumes { Consumes parser.old parser.new result }
 {
     if !parser.consume(b"0x") {
@@ -243,11 +244,11 @@ pub fn anonymous_namespace<'a, 'b, L: NodeBudget, A: Allocator>(
 }
 
 /// Reads the digits after `0x` and stores them in the arena, with the `0x`.
-pub fn hexadecimal_digits<'a, 'b, L: NodeBudget, A: Allocator>(
+fn hexadecimal_digits<'a, 'b, L: NodeBudget, A: Allocator>(
     parser: &mut Parser<'a, 'b, L, A>,
 ) -> Result<&'b str, Failed>
     ensures value { ReadsAs (λ t. t.now) parser.old parser.new result
-        (λ left s. and_then (read_name rules.hexadecimal_digits left s)
+        (λ left s. and_then (read_name production.hexadecimal_digits left s)
         (λ ds left s. Some (codes "0x" ++ ds, left, s))) }
     ensures consumes { Consumes parser.old parser.new result }
 {
@@ -259,11 +260,11 @@ pub fn hexadecimal_digits<'a, 'b, L: NodeBudget, A: Allocator>(
 }
 
 /// Reads `HEXADECIMAL_DIGITS = {hexadecimal digit} "@"`, and returns `0x` and the digits.
-pub fn hex_digit_string<'a, 'b, L: NodeBudget, A: Allocator>(
+fn hex_digit_string<'a, 'b, L: NodeBudget, A: Allocator>(
     parser: &mut Parser<'a, 'b, L, A>,
 ) -> Result<String<&'b Bump<A>>, Failed>
     ensures value { ReadsAs string_bytes parser.old parser.new result
-        (λ left s. and_then (read_name rules.hexadecimal_digits left s)
+        (λ left s. and_then (read_name production.hexadecimal_digits left s)
         (λ ds left s. Some (codes "0x" ++ ds, left, s))) }
     ensures consumes { Consumes parser.old parser.new result }
 {
@@ -282,7 +283,7 @@ pub fn hex_digit_string<'a, 'b, L: NodeBudget, A: Allocator>(
 }
 
 /// Reads a base 16 digit, and returns its byte unchanged.
-pub fn hexadecimal_digit<'a, 'b, L: NodeBudget, A: Allocator>(
+fn hexadecimal_digit<'a, 'b, L: NodeBudget, A: Allocator>(
     parser: &mut Parser<'a, 'b, L, A>,
 ) -> Result<u8, Failed>
     ensures value { ReadsAs (λ d. d) parser.old parser.new result (letter_here hexadecimal_codes) }
@@ -306,7 +307,7 @@ pub fn scope<'a, 'b, L: NodeBudget, A: Allocator>(
     parser: &mut Parser<'a, 'b, L, A>,
 ) -> Result<Checkpoint, Failed>
     ensures value { ReadsAs (λ _. map name_at (current parser.new.listed_names)) parser.old parser.new result
-        (read_name rules.scope) }
+        (read_name production.scope) }
     ensures shorter { IfOk result (λ _. length parser.new.rest.now < length parser.old.rest.now) }
     ensures lists { ListsNames parser.old parser.new result }
 {
@@ -329,7 +330,7 @@ pub fn qualified_name<'a, 'b, L: NodeBudget, A: Allocator>(
     templates: TemplateNames,
 ) -> Result<&'b Symbol<'a, 'b>, Failed>
     ensures value { ReadsAs named_at parser.old parser.new result
-        (read_name (rules.qualified_name templates)) }
+        (read_name (production.qualified_name templates)) }
     ensures consumes { Consumes parser.old parser.new result }
 {
     let name = unqualified_name(parser, templates)?;

@@ -2,14 +2,16 @@
 
 ghost use Rattle.std.specs.Prelude.{◌≡◌, codes, IfErr, IfOk, None, Err, length, map, true};
 ghost use Rattle.msvc_nodes.specs.NodeView.{typed_symbol_of};
+ghost use Rattle.msvc_rules.specs.Rules.{after};
+ghost use Rattle.msvc_rules.specs.State.{beginning_with};
 ghost use Rattle.msvc_grammar.specs.Parsed.{GrammarLaws};
-ghost use Rattle.msvc_grammar.specs.Reads.{read_name};
-ghost use Rattle.msvc_grammar.specs.Rules.{after, symbol};
-ghost use Rattle.msvc_grammar.specs.State.{beginning_with};
+ghost use Rattle.msvc_grammar.specs.Productions.{symbol};
+ghost use Rattle.msvc_grammar.specs.Reading.{read_name};
 ghost use Rattle.msvc_cursor.specs.Errors.{IsInside};
 ghost use Rattle.msvc_cursor.specs.Failures.{Fails};
 ghost use Rattle.msvc_cursor.specs.Messages.{may_fail_for};
-ghost use Rattle.msvc_cursor.specs.Parser.{IsRead, note_of, with_length};
+ghost use Rattle.msvc_cursor.specs.Notes.{note_of};
+ghost use Rattle.msvc_cursor.specs.Parser.{IsRead, with_length};
 ghost use Rattle.msvc_productions.specs.SymbolsRead.{IsSymbolRead};
 
 use crate::symbols::symbol;

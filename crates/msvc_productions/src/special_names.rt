@@ -3,9 +3,10 @@
 ghost use Rattle.std.specs.Prelude.{◌<◌, None, Some};
 ghost use Rattle.msvc_nodes.specs.NodeView.{name_at};
 ghost use Rattle.msvc_nodes.specs.Trees.{base_class_descriptor, guard, operator};
-ghost use Rattle.msvc_grammar.specs.Reads.{in_node, read_name, with_value};
-ghost use Rattle.msvc_grammar.specs.Rules as rules;
-ghost use Rattle.msvc_grammar.specs.State.{place};
+ghost use Rattle.msvc_rules.specs.Readers.{in_node, with_value};
+ghost use Rattle.msvc_rules.specs.State.{place};
+ghost use Rattle.msvc_grammar.specs.Reading.{read_name};
+ghost use Rattle.msvc_grammar.specs.Productions as production;
 ghost use Rattle.msvc_grammar.specs.declared.forms.SpecialForm.TheVariants as special;
 ghost use Rattle.msvc_cursor.specs.Parser.{Consumes, ReadsAs, Stays};
 
@@ -26,7 +27,7 @@ use std::alloc::Allocator;
 pub fn special_name<'a, 'b, L: NodeBudget, A: Allocator>(
     parser: &mut Parser<'a, 'b, L, A>,
 ) -> Result<&'b Name<'a, 'b>, Failed>
-    ensures value { ReadsAs name_at parser.old parser.new result (read_name rules.special_name) }
+    ensures value { ReadsAs name_at parser.old parser.new result (read_name production.special_name) }
     ensures consumes { Consumes parser.old parser.new result }
 {
     let Some((form, rest)) = special_form(parser.rest) else {
@@ -43,7 +44,7 @@ pub fn special_name<'a, 'b, L: NodeBudget, A: Allocator>(
 
 /// Records that the text continues with no code of a special name.
 #[inline(never)]
-pub fn no_special_name<'a, 'b, L: NodeBudget, A: Allocator>(
+fn no_special_name<'a, 'b, L: NodeBudget, A: Allocator>(
     parser: &mut Parser<'a, 'b, L, A>,
 ) -> Result<&'b Name<'a, 'b>, Failed>
     ensures value { ReadsAs name_at parser.old parser.new result (λ left s. None) }
@@ -55,7 +56,7 @@ pub fn no_special_name<'a, 'b, L: NodeBudget, A: Allocator>(
 
 /// Counts and stores an operator without parts.
 #[inline(never)]
-pub fn new_operator<'a, 'b, L: NodeBudget, A: Allocator>(
+fn new_operator<'a, 'b, L: NodeBudget, A: Allocator>(
     parser: &mut Parser<'a, 'b, L, A>,
     kind: PlainOperator,
 ) -> Result<&'b Name<'a, 'b>, Failed>
@@ -69,7 +70,7 @@ pub fn new_operator<'a, 'b, L: NodeBudget, A: Allocator>(
 
 /// Counts and stores a guard without an index.
 #[inline(never)]
-pub fn new_guard<'a, 'b, L: NodeBudget, A: Allocator>(
+fn new_guard<'a, 'b, L: NodeBudget, A: Allocator>(
     parser: &mut Parser<'a, 'b, L, A>,
     kind: Guard,
 ) -> Result<&'b Name<'a, 'b>, Failed>
@@ -84,11 +85,11 @@ pub fn new_guard<'a, 'b, L: NodeBudget, A: Allocator>(
 /// Reads `"?" [storage class] TYPE`: a type descriptor, after its code.
 #[cycle(readers)]
 #[inline(never)]
-pub fn type_descriptor<'a, 'b, L: NodeBudget, A: Allocator>(
+fn type_descriptor<'a, 'b, L: NodeBudget, A: Allocator>(
     parser: &mut Parser<'a, 'b, L, A>,
 ) -> Result<&'b Name<'a, 'b>, Failed>
     ensures value { ReadsAs name_at parser.old parser.new result
-        (read_name (rules.special_after special.TypeDescriptor)) }
+        (read_name (production.special_after special.TypeDescriptor)) }
     ensures consumes { Consumes parser.old parser.new result }
 {
     parser.count_node()?;
@@ -100,10 +101,11 @@ pub fn type_descriptor<'a, 'b, L: NodeBudget, A: Allocator>(
 
 /// Reads four numbers: the place of a base class, after its code.
 #[inline(never)]
-pub fn base_class_descriptor<'a, 'b, L: NodeBudget, A: Allocator>(
+fn base_class_descriptor<'a, 'b, L: NodeBudget, A: Allocator>(
     parser: &mut Parser<'a, 'b, L, A>,
 ) -> Result<&'b Name<'a, 'b>, Failed>
-    ensures value { ReadsAs name_at parser.old parser.new result (read_name (rules.special_after special.BaseClass)) }
+    ensures value { ReadsAs name_at parser.old parser.new result
+        (read_name (production.special_after special.BaseClass)) }
     ensures consumes { Consumes parser.old parser.new result }
 {
     parser.count_node()?;
@@ -123,7 +125,7 @@ pub fn base_class_descriptor<'a, 'b, L: NodeBudget, A: Allocator>(
 }
 
 /// Stores the place of a base class as a name. It stands outside the cycle, as `put_tagged` does.
-pub fn put_base_class<'a, 'b, L: NodeBudget, A: Allocator>(
+fn put_base_class<'a, 'b, L: NodeBudget, A: Allocator>(
     parser: &mut Parser<'a, 'b, L, A>,
     place: BaseClass,
 ) -> Result<&'b Name<'a, 'b>, Failed>

@@ -4,10 +4,12 @@ ghost use Rattle.std.specs.Prelude.{◌≡◌, ◌≤◌, codes, IfOk, length, m
 ghost use Rattle.msvc_nodes.specs.NodeView.{name_at, name_of, type_at, type_of, typed_symbol_of};
 ghost use Rattle.msvc_nodes.specs.Trees.{name_trees, no_names, plain, table};
 ghost use Rattle.msvc_nodes.specs.declared.kinds.PlainType.TheVariants as plain_kind;
+ghost use Rattle.msvc_rules.specs.Readers.{with_value};
+ghost use Rattle.msvc_rules.specs.Sorts.{table_of, variable_of, virtual_call};
 ghost use Rattle.msvc_grammar.specs.Grammar.{named_symbol, template_symbol};
-ghost use Rattle.msvc_grammar.specs.Reads.{read, read_name, with_value};
-ghost use Rattle.msvc_grammar.specs.Rules as rules;
-ghost use Rattle.msvc_grammar.specs.Sorts.{table_of, variable_of, virtual_call};
+ghost use Rattle.msvc_grammar.specs.Reading.{read, read_name};
+ghost use Rattle.msvc_rules.specs.Rules as rules;
+ghost use Rattle.msvc_grammar.specs.Productions as production;
 ghost use Rattle.msvc_cursor.specs.Parser.{Consumes, MayConsume, ReadsAs, Stays};
 ghost use Rattle.msvc_cursor.specs.Rows.{EndsNames, typed_symbol_at};
 ghost use Rattle.msvc_cursor.specs.NestedList.{current, enclosing};
@@ -33,7 +35,7 @@ use std::alloc::Allocator;
 pub fn symbol<'a, 'b, L: NodeBudget, A: Allocator>(
     parser: &mut Parser<'a, 'b, L, A>,
 ) -> Result<TypedSymbol<'a, 'b>, Failed>
-    ensures value { ReadsAs typed_symbol_of parser.old parser.new result (read_name rules.symbol) }
+    ensures value { ReadsAs typed_symbol_of parser.old parser.new result (read_name production.symbol) }
     ensures start { rules.after (codes "?") parser.old.rest.now ≡ None
         → (IfOk result (λ _. ⊥))
         × (parser.new.last_error.reason ≡ Failure.Rejected Message.NoQuestionMark (length parser.old.rest.now)) }
@@ -50,7 +52,7 @@ pub fn symbol<'a, 'b, L: NodeBudget, A: Allocator>(
 pub fn symbol_body<'a, 'b, L: NodeBudget, A: Allocator>(
     parser: &mut Parser<'a, 'b, L, A>,
 ) -> Result<&'b TypedSymbol<'a, 'b>, Failed>
-    ensures value { ReadsAs typed_symbol_at parser.old parser.new result (read_name rules.symbol_body) }
+    ensures value { ReadsAs typed_symbol_at parser.old parser.new result (read_name production.symbol_body) }
     ensures consumes { Consumes parser.old parser.new result }
 {
     if parser.consume(b"?@") {
@@ -68,7 +70,7 @@ pub fn symbol_body<'a, 'b, L: NodeBudget, A: Allocator>(
 /// Reads a symbol that is a template.
 #[cycle(readers)]
 #[inline(never)]
-pub fn template_symbol<'a, 'b, L: NodeBudget, A: Allocator>(
+fn template_symbol<'a, 'b, L: NodeBudget, A: Allocator>(
     parser: &mut Parser<'a, 'b, L, A>,
 ) -> Result<&'b TypedSymbol<'a, 'b>, Failed>
     ensures value { ReadsAs typed_symbol_at parser.old parser.new result (read template_symbol) }
@@ -104,7 +106,7 @@ pub fn untyped_symbol<'a, 'b, L: NodeBudget, A: Allocator>(
 /// Reads a name in its scope, the index of a guard, and an encoding.
 #[cycle(readers)]
 #[inline(never)]
-pub fn named_symbol<'a, 'b, L: NodeBudget, A: Allocator>(
+fn named_symbol<'a, 'b, L: NodeBudget, A: Allocator>(
     parser: &mut Parser<'a, 'b, L, A>,
 ) -> Result<&'b TypedSymbol<'a, 'b>, Failed>
     ensures value { ReadsAs typed_symbol_at parser.old parser.new result (read named_symbol) }
@@ -140,10 +142,10 @@ pub fn put_typed_symbol<'a, 'b, L: NodeBudget, A: Allocator>(
 /// Reads `ENCODING = end | letter of encodings, and what its row asks for`.
 #[cycle(readers)]
 #[tactic(auto, using(msvc_cursor::proofs::SymbolSteps::encoding_steps), unfolding(msvc_cursor::proofs::SymbolSteps::encoding_by, msvc_nodes::specs::NodeView::type_of))]
-pub fn encoding<'a, 'b, L: NodeBudget, A: Allocator>(
+fn encoding<'a, 'b, L: NodeBudget, A: Allocator>(
     parser: &mut Parser<'a, 'b, L, A>,
 ) -> Result<&'b Type<'a, 'b>, Failed>
-    ensures value { ReadsAs type_at parser.old parser.new result (read_name rules.encoding) }
+    ensures value { ReadsAs type_at parser.old parser.new result (read_name production.encoding) }
     ensures consumes { MayConsume parser.old parser.new result }
 {
     let Some(letter) = parser.next_byte() else {
@@ -171,11 +173,12 @@ pub fn encoding<'a, 'b, L: NodeBudget, A: Allocator>(
 
 /// Reads `VARIABLE = TYPE [storage class]`.
 #[cycle(readers)]
-pub fn variable<'a, 'b, L: NodeBudget, A: Allocator>(
+fn variable<'a, 'b, L: NodeBudget, A: Allocator>(
     parser: &mut Parser<'a, 'b, L, A>,
     kind: VarStorageKind,
 ) -> Result<&'b Type<'a, 'b>, Failed>
-    ensures value { ReadsAs type_at parser.old parser.new result (read_name (rules.encoding_after (variable_of kind))) }
+    ensures value { ReadsAs type_at parser.old parser.new result
+        (read_name (production.encoding_after (variable_of kind))) }
     ensures consumes { MayConsume parser.old parser.new result }
 {
     parser.count_node()?;
@@ -190,7 +193,8 @@ pub fn table<'a, 'b, L: NodeBudget, A: Allocator>(
     parser: &mut Parser<'a, 'b, L, A>,
     table: SpecialTableKind,
 ) -> Result<&'b Type<'a, 'b>, Failed>
-    ensures value { ReadsAs type_at parser.old parser.new result (read_name (rules.encoding_after (table_of table))) }
+    ensures value { ReadsAs type_at parser.old parser.new result
+        (read_name (production.encoding_after (table_of table))) }
     ensures consumes { MayConsume parser.old parser.new result }
 {
     parser.count_node()?;
@@ -202,7 +206,7 @@ pub fn table<'a, 'b, L: NodeBudget, A: Allocator>(
 /// Stores the table of a class, whose scope is on the list.
 #[tactic(auto, using(msvc_cursor::proofs::Nodes::views))]
 #[inline(never)]
-pub fn put_table<'a, 'b, L: NodeBudget, A: Allocator>(
+fn put_table<'a, 'b, L: NodeBudget, A: Allocator>(
     parser: &mut Parser<'a, 'b, L, A>,
     kind: SpecialTableKind,
     class: StorageClass,
@@ -222,10 +226,10 @@ pub fn put_table<'a, 'b, L: NodeBudget, A: Allocator>(
 }
 
 /// Reads `VIRTUAL_CALL = "B" NUMBER "A" convention`: a thunk that calls a virtual function.
-pub fn virtual_call<'a, 'b, L: NodeBudget, A: Allocator>(
+fn virtual_call<'a, 'b, L: NodeBudget, A: Allocator>(
     parser: &mut Parser<'a, 'b, L, A>,
 ) -> Result<&'b Type<'a, 'b>, Failed>
-    ensures value { ReadsAs type_at parser.old parser.new result (read_name (rules.encoding_after virtual_call)) }
+    ensures value { ReadsAs type_at parser.old parser.new result (read_name (production.encoding_after virtual_call)) }
     ensures consumes { MayConsume parser.old parser.new result }
 {
     parser.count_node()?;

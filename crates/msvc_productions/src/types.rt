@@ -5,10 +5,12 @@ ghost use Rattle.std.specs.Prelude.{codes, map, Some};
 ghost use Rattle.msvc_nodes.specs.NodeView.{name_at, name_of, type_at, type_of};
 ghost use Rattle.msvc_nodes.specs.Trees.{name_trees, numbered, plain, pointing, tagged};
 ghost use Rattle.msvc_nodes.specs.declared.kinds.NumberedType.TheVariants as number_kind;
+ghost use Rattle.msvc_rules.specs.Readers.{and_then, in_node, with_value};
 ghost use Rattle.msvc_grammar.specs.Grammar.{array_class, arrays};
 ghost use Rattle.msvc_grammar.specs.Letters.{qualifiers};
-ghost use Rattle.msvc_grammar.specs.Reads.{and_then, in_node, read, read_name, with_value};
-ghost use Rattle.msvc_grammar.specs.Rules as rules;
+ghost use Rattle.msvc_grammar.specs.Reading.{read, read_name};
+ghost use Rattle.msvc_rules.specs.Rules as rules;
+ghost use Rattle.msvc_grammar.specs.Productions as production;
 ghost use Rattle.msvc_cursor.specs.Parser.{Consumes, MayConsume, ReadsAs, Stays};
 
 use crate::function_types::{function_type, member_pointer};
@@ -32,7 +34,7 @@ pub fn type_<'a, 'b, L: NodeBudget, A: Allocator>(
     parser: &mut Parser<'a, 'b, L, A>,
     qualifiers: StorageClass,
 ) -> Result<&'b Type<'a, 'b>, Failed>
-    ensures value { ReadsAs type_at parser.old parser.new result (read_name (rules.type_ qualifiers.0)) }
+    ensures value { ReadsAs type_at parser.old parser.new result (read_name (production.type_ qualifiers.0)) }
     ensures consumes { Consumes parser.old parser.new result }
 {
     if let Some((form, rest)) = type_prefix(parser.rest) {
@@ -49,12 +51,13 @@ pub fn type_<'a, 'b, L: NodeBudget, A: Allocator>(
 /// Reads what follows the text of a form. Each case ends in a call, so that this frame is gone while parts are read.
 #[cycle(readers)]
 #[inline(never)]
-pub fn prefixed_type<'a, 'b, L: NodeBudget, A: Allocator>(
+fn prefixed_type<'a, 'b, L: NodeBudget, A: Allocator>(
     parser: &mut Parser<'a, 'b, L, A>,
     form: TypePrefix,
     qualifiers: StorageClass,
 ) -> Result<&'b Type<'a, 'b>, Failed>
-    ensures value { ReadsAs type_at parser.old parser.new result (read_name (rules.prefixed_type qualifiers.0 form)) }
+    ensures value { ReadsAs type_at parser.old parser.new result
+        (read_name (production.prefixed_type qualifiers.0 form)) }
     ensures consumes { MayConsume parser.old parser.new result }
 {
     match form {
@@ -101,11 +104,12 @@ pub fn prefixed_type<'a, 'b, L: NodeBudget, A: Allocator>(
 /// Reads `[qualifier] PLAIN_TYPE`: the qualifiers replace those that were read before.
 #[cycle(readers)]
 #[inline(never)]
-pub fn cv_type<'a, 'b, L: NodeBudget, A: Allocator>(
+fn cv_type<'a, 'b, L: NodeBudget, A: Allocator>(
     parser: &mut Parser<'a, 'b, L, A>,
 ) -> Result<&'b Type<'a, 'b>, Failed>
     ensures value { ReadsAs type_at parser.old parser.new result
-        (λ left s. and_then (read (rules.optional qualifiers) left s) (λ q l t. read_name (rules.plain_type q) l t)) }
+        (λ left s. and_then (read (rules.optional qualifiers) left s)
+        (λ q l t. read_name (production.plain_type q) l t)) }
     ensures consumes { Consumes parser.old parser.new result }
 {
     let qualifiers = parser.optional(OptionalLetters::Qualifiers);
@@ -115,12 +119,12 @@ pub fn cv_type<'a, 'b, L: NodeBudget, A: Allocator>(
 /// Reads `"?" MEMBER_POINTER`, with the class of the member function.
 #[cycle(readers)]
 #[inline(never)]
-pub fn marked_member_pointer<'a, 'b, L: NodeBudget, A: Allocator>(
+fn marked_member_pointer<'a, 'b, L: NodeBudget, A: Allocator>(
     parser: &mut Parser<'a, 'b, L, A>,
 ) -> Result<&'b Type<'a, 'b>, Failed>
     ensures value { ReadsAs type_at parser.old parser.new result
         (λ left s. and_then (read (rules.literal (codes "?")) left s)
-        (λ _ l t. read_name (rules.member_pointer MemberPointerForm.OfClass) l t)) }
+        (λ _ l t. read_name (production.member_pointer MemberPointerForm.OfClass) l t)) }
     ensures consumes { Consumes parser.old parser.new result }
 {
     parser.expect(b"?", Message::QuestionMarkExpected)?;
@@ -143,14 +147,14 @@ pub fn new_plain<'a, 'b, L: NodeBudget, A: Allocator>(
 
 /// Reads a class, struct, union, enumeration or alias by its name.
 #[cycle(readers)]
-pub fn tagged_type<'a, 'b, L: NodeBudget, A: Allocator>(
+fn tagged_type<'a, 'b, L: NodeBudget, A: Allocator>(
     parser: &mut Parser<'a, 'b, L, A>,
     tag: TagKind,
     templates: TemplateNames,
     qualifiers: StorageClass,
 ) -> Result<&'b Type<'a, 'b>, Failed>
     ensures value { ReadsAs type_at parser.old parser.new result
-        (λ left s. in_node left s (λ left s. and_then (read_name (rules.qualified_name templates) left s)
+        (λ left s. in_node left s (λ left s. and_then (read_name (production.qualified_name templates) left s)
         (λ n left s. Some (tagged tag n.0 (name_trees n.1) qualifiers.0, left, s)))) }
     ensures consumes { Consumes parser.old parser.new result }
 {
@@ -178,13 +182,13 @@ pub fn put_tagged<'a, 'b, L: NodeBudget, A: Allocator>(
 
 /// Reads `POINTEE = ["E"] [storage class] TYPE`, and stores a pointer or reference to it.
 #[cycle(readers)]
-pub fn pointing_type<'a, 'b, L: NodeBudget, A: Allocator>(
+fn pointing_type<'a, 'b, L: NodeBudget, A: Allocator>(
     parser: &mut Parser<'a, 'b, L, A>,
     affinity: PointerAffinity,
     qualifiers: StorageClass,
 ) -> Result<&'b Type<'a, 'b>, Failed>
     ensures value { ReadsAs type_at parser.old parser.new result
-        (λ left s. in_node left s (λ left s. and_then (read_name rules.pointee left s)
+        (λ left s. in_node left s (λ left s. and_then (read_name production.pointee left s)
         (λ t left s. Some (pointing affinity t qualifiers.0, left, s)))) }
     ensures consumes { Consumes parser.old parser.new result }
 {
@@ -197,13 +201,14 @@ pub fn pointing_type<'a, 'b, L: NodeBudget, A: Allocator>(
 
 /// Reads a pointer or reference to a function.
 #[cycle(readers)]
-pub fn pointed_function<'a, 'b, L: NodeBudget, A: Allocator>(
+fn pointed_function<'a, 'b, L: NodeBudget, A: Allocator>(
     parser: &mut Parser<'a, 'b, L, A>,
     affinity: PointerAffinity,
     qualifiers: StorageClass,
 ) -> Result<&'b Type<'a, 'b>, Failed>
     ensures value { ReadsAs type_at parser.old parser.new result
-        (λ left s. in_node left s (λ left s. and_then (read_name (rules.function_type ObjectQualifiers.Absent) left s)
+        (λ left s. in_node left s
+        (λ left s. and_then (read_name (production.function_type ObjectQualifiers.Absent) left s)
         (λ t left s. Some (pointing affinity t qualifiers.0, left, s)))) }
     ensures consumes { Consumes parser.old parser.new result }
 {
@@ -213,12 +218,12 @@ pub fn pointed_function<'a, 'b, L: NodeBudget, A: Allocator>(
 }
 
 /// Reads a template argument that is a number.
-pub fn numbered_type<'a, 'b, L: NodeBudget, A: Allocator>(
+fn numbered_type<'a, 'b, L: NodeBudget, A: Allocator>(
     parser: &mut Parser<'a, 'b, L, A>,
     kind: NumberedType,
 ) -> Result<&'b Type<'a, 'b>, Failed>
     ensures value { ReadsAs type_at parser.old parser.new result
-        (λ left s. in_node left s (λ left s. and_then (read_name rules.number left s)
+        (λ left s. in_node left s (λ left s. and_then (read_name production.number left s)
         (λ z left s. Some (numbered kind z, left, s)))) }
     ensures consumes { Consumes parser.old parser.new result }
 {
@@ -231,11 +236,11 @@ pub fn numbered_type<'a, 'b, L: NodeBudget, A: Allocator>(
 #[cycle(readers)]
 #[tactic(auto, using(msvc_cursor::proofs::TypeSteps::plain_type_steps), unfolding(msvc_cursor::proofs::TypeSteps::type_by, msvc_nodes::specs::NodeView::type_of))]
 #[inline(always)]
-pub fn plain_type<'a, 'b, L: NodeBudget, A: Allocator>(
+fn plain_type<'a, 'b, L: NodeBudget, A: Allocator>(
     parser: &mut Parser<'a, 'b, L, A>,
     qualifiers: StorageClass,
 ) -> Result<&'b Type<'a, 'b>, Failed>
-    ensures value { ReadsAs type_at parser.old parser.new result (read_name (rules.plain_type qualifiers.0)) }
+    ensures value { ReadsAs type_at parser.old parser.new result (read_name (production.plain_type qualifiers.0)) }
     ensures consumes { Consumes parser.old parser.new result }
 {
     let letter = parser.byte()?;
@@ -266,10 +271,10 @@ pub fn plain_type<'a, 'b, L: NodeBudget, A: Allocator>(
 /// functions that read the parts before the elements are not inlined, so that arrays of arrays take little stack.
 #[cycle(readers)]
 #[inline(never)]
-pub fn array<'a, 'b, L: NodeBudget, A: Allocator>(
+fn array<'a, 'b, L: NodeBudget, A: Allocator>(
     parser: &mut Parser<'a, 'b, L, A>,
 ) -> Result<&'b Type<'a, 'b>, Failed>
-    ensures value { ReadsAs type_at parser.old parser.new result (read_name rules.array) }
+    ensures value { ReadsAs type_at parser.old parser.new result (read_name production.array) }
     ensures consumes { Consumes parser.old parser.new result }
 {
     let dimension = dimension(parser)?;
@@ -281,10 +286,10 @@ pub fn array<'a, 'b, L: NodeBudget, A: Allocator>(
 
 /// Reads a number greater than 0.
 #[inline(never)]
-pub fn dimension<'a, 'b, L: NodeBudget, A: Allocator>(
+fn dimension<'a, 'b, L: NodeBudget, A: Allocator>(
     parser: &mut Parser<'a, 'b, L, A>,
 ) -> Result<u32, Failed>
-    ensures value { ReadsAs (λ n. n) parser.old parser.new result (read_name rules.dimension) }
+    ensures value { ReadsAs (λ n. n) parser.old parser.new result (read_name production.dimension) }
     ensures consumes { Consumes parser.old parser.new result }
 {
     let dimension = parser.number()?;
@@ -296,7 +301,7 @@ pub fn dimension<'a, 'b, L: NodeBudget, A: Allocator>(
 
 /// Reads the qualifiers of each level of an array.
 #[inline(never)]
-pub fn array_class<'a, 'b, L: NodeBudget, A: Allocator>(
+fn array_class<'a, 'b, L: NodeBudget, A: Allocator>(
     parser: &mut Parser<'a, 'b, L, A>,
 ) -> Result<StorageClass, Failed>
     ensures value { ReadsAs (λ q. q.0) parser.old parser.new result (read array_class) }
@@ -317,11 +322,11 @@ pub fn array_class<'a, 'b, L: NodeBudget, A: Allocator>(
 
 /// Reads exactly `count` lengths of arrays, and counts each array as a node.
 #[inline(never)]
-pub fn lengths<'a, 'b, L: NodeBudget, A: Allocator>(
+fn lengths<'a, 'b, L: NodeBudget, A: Allocator>(
     parser: &mut Parser<'a, 'b, L, A>,
     count: u32,
 ) -> Result<&'b [i32], Failed>
-    ensures value { ReadsAs (λ zs. zs.now) parser.old parser.new result (read_name (rules.lengths count)) }
+    ensures value { ReadsAs (λ zs. zs.now) parser.old parser.new result (read_name (production.lengths count)) }
     ensures consumes { MayConsume parser.old parser.new result }
 {
     let mut lengths = Vec::new(parser.arena);
@@ -337,7 +342,7 @@ pub fn lengths<'a, 'b, L: NodeBudget, A: Allocator>(
 
 /// Stores an array of these lengths, the outermost first, with qualifiers at each level. It is recursive, since the
 /// borrow checker rejects a reference that a loop reassigns.
-pub fn nested_arrays<'a, 'b, L: NodeBudget, A: Allocator>(
+fn nested_arrays<'a, 'b, L: NodeBudget, A: Allocator>(
     parser: &mut Parser<'a, 'b, L, A>,
     lengths: &[i32],
     element: &'b Type<'a, 'b>,
@@ -356,11 +361,11 @@ pub fn nested_arrays<'a, 'b, L: NodeBudget, A: Allocator>(
 
 /// Reads the negated number of a template parameter.
 #[inline(never)]
-pub fn template_parameter<'a, 'b, L: NodeBudget, A: Allocator>(
+fn template_parameter<'a, 'b, L: NodeBudget, A: Allocator>(
     parser: &mut Parser<'a, 'b, L, A>,
 ) -> Result<&'b Type<'a, 'b>, Failed>
     ensures value { ReadsAs type_at parser.old parser.new result
-        (λ left s. in_node left s (λ left s. and_then (read_name rules.number left s)
+        (λ left s. in_node left s (λ left s. and_then (read_name production.number left s)
         (λ z left s. Some (numbered number_kind.TemplateParameter (int_wrapping_neg w32 z), left, s)))) }
     ensures consumes { Consumes parser.old parser.new result }
 {

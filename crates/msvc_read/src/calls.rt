@@ -3,14 +3,14 @@
 ghost use Rattle.std.specs.Prelude.{◌≤◌, ℕ, List, map, IfOk, IfErr, None, Some};
 ghost use Rattle.msvc_nodes.specs.NodeView.{typed_symbol_of};
 ghost use Rattle.msvc_nodes.specs.Trees.{SymbolTree};
-ghost use Rattle.msvc_tree.specs.View.{tree_of};
-ghost use Rattle.msvc_grammar.specs.Counts.{node_count};
+ghost use Rattle.msvc_rules.specs.Counts.{node_count};
+ghost use Rattle.msvc_rules.specs.State.{Note};
 ghost use Rattle.msvc_grammar.specs.Limits.{IsWithin, limit_of_number};
+ghost use Rattle.msvc_tree.specs.View.{tree_of};
 ghost use Rattle.msvc_grammar.specs.Parsed as spec;
-ghost use Rattle.msvc_grammar.specs.State.{Note};
 ghost use Rattle.msvc_cursor.specs.Errors.{IsInside};
 ghost use Rattle.msvc_cursor.specs.Failures.{Fails};
-ghost use Rattle.msvc_cursor.specs.Parser.{note_of};
+ghost use Rattle.msvc_cursor.specs.Notes.{note_of};
 ghost use Rattle.msvc_productions.specs.SymbolsRead.{IsSymbolRead};
 
 use alloc_fuse::Fuse;

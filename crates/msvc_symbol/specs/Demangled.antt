@@ -3,7 +3,7 @@ use Rattle.std.specs.Prelude.{ℕ, List, [], true, ◌≡◌, ◌⊎◌, Option,
 use Rattle.msvc_nodes.specs.Errors.{IsRejectionOrMemory, context_text_of, too_long}
 use Rattle.msvc_nodes.specs.Trees.{SymbolTree}
 use Rattle.msvc_nodes.specs.declared.error.ErrorRepr.{ErrorRepr}
-use Rattle.msvc_grammar.specs.Counts.{node_count}
+use Rattle.msvc_rules.specs.Counts.{node_count}
 use Rattle.msvc_grammar.specs.Grammar.{is_hash}
 use Rattle.msvc_grammar.specs.Hashes.{hashed_text}
 use Rattle.msvc_grammar.specs.Limits.{IsBeyond, IsWithin}

@@ -2,7 +2,7 @@
 
 ghost use Rattle.std.specs.Prelude.{◌≡◌, ℕ, List, IfErr, IfOk, None, Some};
 ghost use Rattle.msvc_nodes.specs.Trees.{SymbolTree};
-ghost use Rattle.msvc_grammar.specs.Counts.{node_count};
+ghost use Rattle.msvc_rules.specs.Counts.{node_count};
 ghost use Rattle.msvc_grammar.specs.Parsed.{GrammarLaws, IsParsed, IsRejected, IsSymbolLength};
 ghost use Rattle.msvc_cursor.specs.Errors.{IsInside};
 ghost use Rattle.msvc_cursor.specs.Failures.{Fails};

@@ -3,7 +3,8 @@ use Rattle.std.proofs.Common.{◌≡◌, ◌↔◌, IsTrue}
 use mathlib.Core.Bool.{decide_iff}
 use Rattle.msvc_nodes.proofs.Decisions.{same_name-is, same_type-is}
 use Rattle.msvc_nodes.specs.Decided.{names_discrete, types_discrete, symbol_discrete, typed_symbol_discrete}
-use Rattle.msvc_tree.specs.Equality.{name_eq, operator_eq, type_eq, scope_eq, params_eq, symbol_eq, result_eq, symbol_of}
+use Rattle.msvc_tree.specs.Equality.{name_eq, operator_eq, type_eq, scope_eq, params_eq, symbol_eq, result_eq}
+use Rattle.msvc_tree.specs.Equality.{symbol_of}
 use Rattle.msvc_tree.specs.View.{name_of, operator_of, type_of, scope_of, params_of, tree_of}
 use Rattle.msvc_tree.specs.declared.tree.Name.{Name}
 use Rattle.msvc_tree.specs.declared.tree.NameSequence.{NameSequence}

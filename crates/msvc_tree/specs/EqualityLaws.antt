@@ -4,7 +4,8 @@ use mathlib.Core.Bool.{decide, decide_iff}
 use Rattle.msvc_nodes.specs.Decided.{name_discrete, names_discrete, type_discrete, types_discrete, symbol_discrete}
 use Rattle.msvc_nodes.specs.Decided.{typed_symbol_discrete}
 use Rattle.msvc_nodes.specs.Equality.{same_name, same_type}
-use Rattle.msvc_tree.specs.Equality.{name_eq, operator_eq, type_eq, scope_eq, params_eq, symbol_eq, result_eq, symbol_of}
+use Rattle.msvc_tree.specs.Equality.{name_eq, operator_eq, type_eq, scope_eq, params_eq, symbol_eq, result_eq}
+use Rattle.msvc_tree.specs.Equality.{symbol_of}
 use Rattle.msvc_tree.specs.View.{name_of, operator_of, type_of, scope_of, params_of, tree_of}
 
 -- a decision whether two values are equal is an equivalence

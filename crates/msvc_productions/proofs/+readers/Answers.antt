@@ -5,28 +5,31 @@ use Rattle.std.specs.Prelude.{codes, map, slice_get}
 use Rattle.msvc_nodes.specs.Trees.{NameTree, TypeTree, base}
 use Rattle.std.specs.Option.{option_map}
 use Rattle.msvc_nodes.specs.NodeView.{name_at, type_at}
-use Rattle.msvc_grammar.proofs.NodesCounted.{template_made, type_made}
+use Rattle.msvc_rules.specs.Counts.{name_count, type_count}
+use Rattle.msvc_rules.specs.Readers.{and_then, put_apart, type_known, with_value}
+use Rattle.msvc_rules.specs.Reads.{emptied, put_back}
+use Rattle.msvc_rules.specs.Rules.{after, lookup}
+use Rattle.msvc_rules.specs.Sorts.{member_of}
+use Rattle.msvc_rules.specs.State.{State}
+use Rattle.msvc_grammar.specs.Grammar.{named_symbol, template_inside, template_kept}
+use Rattle.msvc_grammar.specs.Letters.{base_types, compound_letters, digits, encoding_letters, function_classes}
+use Rattle.msvc_grammar.specs.Letters.{rows_of}
+use Rattle.msvc_grammar.specs.Productions.{encoding, encoding_after, nested_name, parameter, parameters, plain_type}
+use Rattle.msvc_grammar.specs.Productions.{qualified_name, scope}
+use Rattle.msvc_grammar.specs.Reading.{read, read_name}
+use Rattle.msvc_grammar.proofs.Laws.{template_made, type_made}
 use Rattle.msvc_cursor.proofs.NameSteps.{template_kept_step}
 use Rattle.msvc_cursor.proofs.Nodes.{frame_names, frame_types, map_last}
 use Rattle.msvc_cursor.proofs.RowSteps.{parameters_more, scope_ends, scope_more, with_front}
 use Rattle.msvc_cursor.proofs.SymbolSteps.{encoding_first, member_letter, named_symbol_is, no_member_letter}
 use Rattle.msvc_cursor.proofs.SymbolSteps.{encoding_by, symbol_of}
 use Rattle.msvc_cursor.proofs.TypeSteps.{plain_letter, referred_step, type_by}
-use Rattle.msvc_grammar.specs.Counts.{name_count, type_count}
-use Rattle.msvc_grammar.specs.Grammar.{named_symbol, template_inside, template_kept}
-use Rattle.msvc_grammar.specs.Letters.{base_types, compound_letters, digits, encoding_letters, function_classes}
-use Rattle.msvc_grammar.specs.Letters.{rows_of}
 use Rattle.msvc_cursor.specs.Parser.{Frame, byte_here, frame_of, indexed}
 use Rattle.msvc_cursor.specs.Parser.{add_template_name, known_name_of, memorized_of}
 use Rattle.msvc_cursor.specs.Parser.{found_or, parameters_stop, state_of, type_of_letter}
-use Rattle.msvc_grammar.specs.Reads.{and_then, emptied, put_apart, put_back, read, read_name, type_known, with_value}
-use Rattle.msvc_grammar.specs.Rules.{after, encoding, encoding_after, lookup, nested_name, parameter, parameters}
-use Rattle.msvc_grammar.specs.Rules.{plain_type, qualified_name, scope}
 use Rattle.msvc_grammar.specs.declared.forms.TemplateNames.TheVariants.{NotMemorized}
-use Rattle.msvc_grammar.specs.Sorts.{member_of}
 use Rattle.msvc_cursor.specs.Rows.{named_at}
 use Rattle.msvc_cursor.specs.NestedList.{current, enclosing}
-use Rattle.msvc_grammar.specs.State.{State}
 use Rattle.msvc_cursor.specs.declared.entries.MemorizedName.{MemorizedName}
 use Rattle.msvc_cursor.specs.declared.entries.MemorizedType.{MemorizedType}
 use Rattle.msvc_productions.proofs.+readers.Goals as goal

@@ -1,10 +1,10 @@
 use Rattle.std.proofs.Common.{ℕ, List, ◌≡◌, ◌≤◌, ◌+◌, ◌*◌, ◌++◌, length}
 use Rattle.std.specs.Prelude.{map}
 use Rattle.msvc_nodes.specs.NodeView.{name_at, type_at}
+use Rattle.msvc_grammar.specs.Productions.{parameters, scope}
+use Rattle.msvc_grammar.specs.Reading.{read_name}
 use Rattle.msvc_cursor.specs.Parser.{frame_of, state_of}
 use Rattle.msvc_cursor.specs.NestedList.{current, enclosing}
-use Rattle.msvc_grammar.specs.Reads.{read_name}
-use Rattle.msvc_grammar.specs.Rules.{parameters, scope}
 use Rattle.msvc_cursor.proofs.RowSteps.{with_front}
 use Rattle.msvc_productions.proofs.+readers.Given as goal
 

@@ -1,6 +1,6 @@
 use Rattle.std.proofs.Common.{rules, None, Some, ◌≡◌, sym, ◌∙◌, arith}
 use Rattle.std.proofs.lemmas.Grind.{common_steps}
-use Rattle.msvc_grammar.specs.Rules.{lookup}
+use Rattle.msvc_rules.specs.Rules.{lookup}
 use Rattle.msvc_grammar.proofs.Characters.{capital_first, capital_rows, digit_rows, other_rows, plain_other, small_rows}
 use Rattle.msvc_cursor.proofs.letters.character.Goals as goal
 

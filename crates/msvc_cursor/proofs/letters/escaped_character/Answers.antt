@@ -1,5 +1,5 @@
 use Rattle.std.proofs.Common.{rules, None, ◌≡◌, sym, ◌∙◌}
-use Rattle.msvc_grammar.specs.Rules.{lookup}
+use Rattle.msvc_rules.specs.Rules.{lookup}
 use Rattle.msvc_grammar.specs.Letters.{escaped_signs}
 use Rattle.msvc_grammar.proofs.Characters.{escaped_other, first_escapes, last_escapes}
 use Rattle.msvc_cursor.proofs.letters.escaped_character.Goals as goal

@@ -1,6 +1,6 @@
 use Rattle.std.proofs.Common.{refl, subst, sym}
 use Rattle.std.specs.Prelude.{List, map}
-use Rattle.msvc_cursor.specs.Parser.{note_of}
+use Rattle.msvc_cursor.specs.Notes.{note_of}
 use Rattle.msvc_cursor.specs.declared.back_references.BackReference.{BackReference}
 use Rattle.msvc_demangler.specs.Counts.{node_count}
 use Rattle.msvc_demangler.specs.Limits.{IsWithin}

@@ -1,6 +1,6 @@
 use Rattle.std.proofs.Common.{◌≡◌, ◌≤◌, ◌∙◌, arith, length, map, sym}
 use Rattle.std.proofs.lemmas.List.{length-map}
-use Rattle.msvc_cursor.specs.Parser.{note_of}
+use Rattle.msvc_cursor.specs.Notes.{note_of}
 use Rattle.msvc_demangler_in.proofs.Listed.{all_written, written_on}
 use Rattle.msvc_demangler_in.proofs.references.write_references.Goals as goal
 

@@ -1,5 +1,5 @@
 use Rattle.std.proofs.Common.{◌≡◌, ◌++◌, drop, map, take}
-use Rattle.msvc_cursor.specs.Parser.{note_of}
+use Rattle.msvc_cursor.specs.Notes.{note_of}
 use Rattle.msvc_demangler_in.specs.Shown.{reference_of}
 use Rattle.msvc_demangler_in.proofs.references.write_references.Given as goal
 

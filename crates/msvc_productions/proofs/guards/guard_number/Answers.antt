@@ -1,9 +1,10 @@
 use Rattle.std.proofs.Common.{rules, ◌≡◌, ◌+◌, ◌*◌, ◌<◌, None, Some, false, sym, ap, ◌∙◌, arith, length}
+use Rattle.msvc_rules.specs.Readers.{letter_here}
 use Rattle.msvc_grammar.specs.Grammar.{is_in_range}
 use Rattle.msvc_grammar.specs.Letters.{digits}
+use Rattle.msvc_grammar.specs.Productions.{decimal}
+use Rattle.msvc_grammar.specs.Reading.{read_name}
 use Rattle.msvc_cursor.specs.Parser.{state_of}
-use Rattle.msvc_grammar.specs.Reads.{letter_here, read_name}
-use Rattle.msvc_grammar.specs.Rules.{decimal}
 use Rattle.msvc_cursor.proofs.GuardSteps.{decimal_more, decimal_too_large, kept}
 use Rattle.msvc_productions.proofs.guards.guard_number.Goals as goal
 

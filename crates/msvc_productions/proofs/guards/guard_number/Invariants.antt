@@ -1,8 +1,9 @@
 use Rattle.std.proofs.Common.{◌≡◌, ◌≤◌, length}
+use Rattle.msvc_rules.specs.Readers.{and_then, letter_here}
 use Rattle.msvc_grammar.specs.Letters.{digits}
+use Rattle.msvc_grammar.specs.Productions.{decimal}
+use Rattle.msvc_grammar.specs.Reading.{read_name}
 use Rattle.msvc_cursor.specs.Parser.{frame_of, state_of}
-use Rattle.msvc_grammar.specs.Reads.{and_then, letter_here, read_name}
-use Rattle.msvc_grammar.specs.Rules.{decimal}
 use Rattle.msvc_productions.proofs.guards.guard_number.Given as goal
 
 -- what is read of the rest, after the value so far, is what is read of all

@@ -4,9 +4,9 @@ use Rattle.std.specs.Prelude.{map}
 use Rattle.msvc_nodes.specs.declared.kinds.NumberedType.TheVariants as number_kind
 use Rattle.msvc_nodes.specs.Trees.{NameTree, TypeTree, numbered}
 use Rattle.msvc_nodes.specs.NodeView.{name_at, type_at, type_of}
+use Rattle.msvc_rules.specs.Readers.{and_then}
 use Rattle.msvc_cursor.proofs.SymbolSteps.{symbol_of}
 use Rattle.msvc_cursor.specs.Parser.{state_of}
-use Rattle.msvc_grammar.specs.Reads.{and_then}
 use Rattle.msvc_cursor.specs.Rows.{named_at}
 use Rattle.msvc_cursor.specs.NestedList.{current}
 use Rattle.msvc_productions.proofs.guards.put_guard.Goals as goal

@@ -2,9 +2,9 @@ use Rattle.std.proofs.Common.{rules, tests, ◌∙◌}
 use Rattle.std.proofs.lemmas.Iterator.{YieldsList-from_slice}
 use Rattle.std.proofs.lemmas.Iterator.Search.{all_from_yields_List}
 use Rattle.std.specs.Prelude.{is_some}
-use Rattle.msvc_cursor.proofs.Nodes.{all-every}
+use Rattle.msvc_rules.specs.Rules.{lookup}
 use Rattle.msvc_grammar.specs.Letters.{hexadecimal_codes}
-use Rattle.msvc_grammar.specs.Rules.{lookup}
+use Rattle.msvc_cursor.proofs.Nodes.{all-every}
 use Rattle.msvc_productions.proofs.hashed_symbols.are_digits.Goals as goal
 
 pub returns : goal.returns

@@ -1,10 +1,12 @@
 use Rattle.std.proofs.Common.{rules, ◌≡◌, ◌∷◌, [], ◌++◌, ◌<◌, Some, None, sym, ap, ◌∙◌, arith, length}
 use Rattle.std.specs.Prelude.{codes, string_bytes}
-use Rattle.msvc_cursor.proofs.RowSteps.{digits_more, with_front}
+use Rattle.msvc_rules.specs.Readers.{letter_here}
+use Rattle.msvc_rules.specs.Rules.{after}
 use Rattle.msvc_grammar.specs.Letters.{hexadecimal_codes}
+use Rattle.msvc_grammar.specs.Productions.{hexadecimal_digits}
+use Rattle.msvc_grammar.specs.Reading.{read_name}
+use Rattle.msvc_cursor.proofs.RowSteps.{digits_more, with_front}
 use Rattle.msvc_cursor.specs.Parser.{state_of}
-use Rattle.msvc_grammar.specs.Reads.{letter_here, read_name}
-use Rattle.msvc_grammar.specs.Rules.{after, hexadecimal_digits}
 use Rattle.msvc_productions.proofs.qualified_names.hex_digit_string.Goals as goal
 
 -- the new digit goes after those so far

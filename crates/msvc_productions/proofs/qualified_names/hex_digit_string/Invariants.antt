@@ -1,8 +1,9 @@
 use Rattle.std.proofs.Common.{Some, ◌≡◌, ◌≤◌, ◌++◌, length}
 use Rattle.std.specs.Prelude.{codes, string_bytes}
+use Rattle.msvc_rules.specs.Readers.{and_then}
+use Rattle.msvc_grammar.specs.Productions.{hexadecimal_digits}
+use Rattle.msvc_grammar.specs.Reading.{read_name}
 use Rattle.msvc_cursor.specs.Parser.{frame_of, state_of}
-use Rattle.msvc_grammar.specs.Reads.{and_then, read_name}
-use Rattle.msvc_grammar.specs.Rules.{hexadecimal_digits}
 use Rattle.msvc_cursor.proofs.RowSteps.{with_front}
 use Rattle.msvc_productions.proofs.qualified_names.hex_digit_string.Given as goal
 

@@ -1,9 +1,9 @@
 use Rattle.std.proofs.Common.{◌≡◌, ℕ, List, None, Some, map}
 use Rattle.msvc_nodes.specs.NodeView.{typed_symbol_of}
 use Rattle.msvc_nodes.specs.Trees.{SymbolTree}
-use Rattle.msvc_grammar.specs.State.{Note}
+use Rattle.msvc_rules.specs.State.{Note}
 use Rattle.msvc_cursor.proofs.Messages.{unlimited}
-use Rattle.msvc_cursor.specs.Parser.{note_of}
+use Rattle.msvc_cursor.specs.Notes.{note_of}
 use Rattle.msvc_productions.proofs.WholeTexts.{laws, result-fails, result-inside, result-read}
 use Rattle.msvc_productions.specs.declared.reading.SymbolRead.{SymbolRead}
 use Rattle.msvc_productions.proofs.reading.read.Goals as goal

@@ -3,11 +3,13 @@ use Rattle.std.specs.Prelude.{codes}
 use Rattle.msvc_nodes.specs.NodeView.{type_at, type_of}
 use Rattle.msvc_nodes.specs.Trees.{TypeTree, vcall_thunk}
 use Rattle.msvc_nodes.specs.declared.kinds.CallingConv.{CallingConv}
+use Rattle.msvc_rules.specs.Readers.{Found, counting, letter_here}
+use Rattle.msvc_rules.specs.Rules.{literal}
+use Rattle.msvc_rules.specs.Sorts.{virtual_call}
+use Rattle.msvc_rules.specs.State.{State}
 use Rattle.msvc_grammar.specs.Letters.{conventions}
-use Rattle.msvc_grammar.specs.Reads.{Found, counting, letter_here, read, read_name}
-use Rattle.msvc_grammar.specs.Rules.{encoding_after, literal, number}
-use Rattle.msvc_grammar.specs.Sorts.{virtual_call}
-use Rattle.msvc_grammar.specs.State.{State}
+use Rattle.msvc_grammar.specs.Productions.{encoding_after, number}
+use Rattle.msvc_grammar.specs.Reading.{read, read_name}
 use Rattle.msvc_cursor.proofs.SymbolSteps.{virtual_call_step}
 use Rattle.msvc_cursor.specs.Parser.{Gives, state_of}
 use Rattle.msvc_productions.proofs.symbols.virtual_call.Goals as goal

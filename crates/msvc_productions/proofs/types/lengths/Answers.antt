@@ -1,9 +1,10 @@
 use Rattle.std.proofs.Common.{rules, ◌≡◌, ◌∷◌, ◌+◌, ◌-◌, suc, List, [], ◌++◌, Some, sym, ap, ◌∙◌, arith, length, ℤ}
 use Rattle.std.proofs.lemmas.Grind.{common_steps}
+use Rattle.msvc_rules.specs.Readers.{counting}
+use Rattle.msvc_grammar.specs.Productions.{lengths, number}
+use Rattle.msvc_grammar.specs.Reading.{read_name}
 use Rattle.msvc_cursor.proofs.RowSteps.{lengths_more, with_front}
 use Rattle.msvc_cursor.specs.Parser.{state_of}
-use Rattle.msvc_grammar.specs.Reads.{counting, read_name}
-use Rattle.msvc_grammar.specs.Rules.{lengths, number}
 use Rattle.msvc_productions.proofs.types.lengths.Goals as goal
 
 -- the new length goes after those so far

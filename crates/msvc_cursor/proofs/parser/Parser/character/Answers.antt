@@ -1,7 +1,7 @@
 use Rattle.std.proofs.Common.{◌≡◌, Some, None, sym}
+use Rattle.msvc_grammar.specs.Productions.{character}
+use Rattle.msvc_grammar.specs.Reading.{read_name}
 use Rattle.msvc_cursor.specs.Parser.{byte_here, state_of}
-use Rattle.msvc_grammar.specs.Reads.{read_name}
-use Rattle.msvc_grammar.specs.Rules.{character}
 use Rattle.msvc_cursor.proofs.StringSteps.{character_other}
 use Rattle.msvc_cursor.proofs.parser.Parser.character.Goals as goal
 

@@ -1,8 +1,8 @@
 use Rattle.std.proofs.Common.{rules, ◌≡◌, subst, sym}
 use Rattle.msvc_nodes.specs.NodeView.{type_at, type_of}
 use Rattle.msvc_nodes.specs.Trees.{TypeTree}
+use Rattle.msvc_rules.specs.Readers.{Found}
 use Rattle.msvc_grammar.specs.Grammar.{string_length}
-use Rattle.msvc_grammar.specs.Reads.{Found}
 use Rattle.msvc_cursor.proofs.StringSteps.{encoded_string_parts}
 use Rattle.msvc_cursor.specs.Parser.{Gives, state_of}
 use Rattle.msvc_cursor.proofs.parser.Parser.encoded_string.Goals as goal

@@ -1,7 +1,7 @@
 use Rattle.std.proofs.Common.{◌≡◌, Some, None, sym}
-use Rattle.msvc_cursor.specs.Parser.{byte_here, state_of}
-use Rattle.msvc_grammar.specs.Reads.{read}
 use Rattle.msvc_grammar.specs.Grammar.{escaped_character}
+use Rattle.msvc_grammar.specs.Reading.{read}
+use Rattle.msvc_cursor.specs.Parser.{byte_here, state_of}
 use Rattle.msvc_cursor.proofs.StringSteps.{escaped_other}
 use Rattle.msvc_cursor.proofs.parser.Parser.escaped_character.Goals as goal
 

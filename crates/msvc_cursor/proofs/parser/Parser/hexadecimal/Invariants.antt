@@ -1,8 +1,8 @@
 use Rattle.std.proofs.Common.{◌≡◌, ◌≤◌, length}
-use Rattle.msvc_cursor.specs.Parser.{frame_of, state_of}
 use Rattle.msvc_grammar.specs.Grammar.{signed_letters}
-use Rattle.msvc_grammar.specs.Reads.{read}
+use Rattle.msvc_grammar.specs.Reading.{read}
 use Rattle.msvc_grammar.proofs.Hexadecimal.{letters_at}
+use Rattle.msvc_cursor.specs.Parser.{frame_of, state_of}
 use Rattle.msvc_cursor.proofs.parser.Parser.hexadecimal.Given as goal
 
 -- the letters left, after the value so far, give what all the letters give

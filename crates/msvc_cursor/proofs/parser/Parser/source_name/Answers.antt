@@ -1,8 +1,8 @@
 use Rattle.std.proofs.Common.{ℕ, List, ◌≡◌, ◌+◌, ◌-◌, ◌∙◌, None, Some, ap, arith, drop, length, sym, take}
 use Rattle.std.proofs.lemmas.List.{length-drop, take_all}
-use Rattle.msvc_grammar.specs.Letters.{at_sign}
 use Rattle.msvc_cursor.specs.Parser.{cut_at, name_length, state_of}
 use Rattle.byte_search.proofs.FirstByte.{first_position}
+use Rattle.msvc_grammar.specs.Letters.{at_sign}
 use Rattle.msvc_cursor.proofs.parser.Parser.source_name.Goals as goal
 
 -- the bytes before the first at sign, and all those after it

@@ -1,16 +1,16 @@
--- What the grammar promises of every text, whatever a call answers, memory or none. `proofs/Laws` and `proofs/Locality`
+-- What a grammar that passes the checks promises of every text. `proofs/Laws`, `proofs/Locality` and `proofs/WrittenOut`
 -- prove it.
 use Rattle.std.specs.Prelude.{ℕ, List, [], ◌∷◌, ◌++◌, ◌≡◌}
 use Rattle.msvc_nodes.specs.Trees.{SymbolTree, TypeTree}
-use Rattle.msvc_grammar.specs.Reads.{Derives, Reads}
-use Rattle.msvc_grammar.specs.Rules.{Rule, type_, apart, call}
-use Rattle.msvc_grammar.specs.Sorts.{Sort, Value}
-use Rattle.msvc_grammar.specs.State.{Entry, Note, State}
+use Rattle.msvc_rules.specs.Reads.{DerivesIn, Reads}
+use Rattle.msvc_rules.specs.Rules.{Grammar, Rule, apart, call}
+use Rattle.msvc_rules.specs.Sorts.{Sort, Value, type_tree}
+use Rattle.msvc_rules.specs.State.{Entry, Note, State}
 
 -- a text has at most one tree, with one rest and one list of notes
-abbrev pub HasOneTree : List ℕ → Type 0
-HasOneTree text = (tree other : SymbolTree) (rest remaining : List ℕ) (notes others : List Note)
-    → Derives text tree rest notes → Derives text other remaining others
+abbrev pub HasOneTreeIn : Grammar → List ℕ → Type 0
+HasOneTreeIn G text = (tree other : SymbolTree) (rest remaining : List ℕ) (notes others : List Note)
+    → DerivesIn G text tree rest notes → DerivesIn G text other remaining others
     → (tree ≡ other) × (rest ≡ remaining) × (notes ≡ others)
 
 -- the second list begins with the first
@@ -32,13 +32,14 @@ SameTables s t = (s.names ≡ t.names) × (s.types ≡ t.types)
 
 -- A type that was read with some tables is read again with later tables, whatever bytes follow, and leaves the later
 -- tables as they are.
-abbrev pub TypesAreLocal : Type 0
-TypesAreLocal = (q : ℕ) (left rest : List ℕ) (s : State) (v : TypeTree) (t : State)
-    → Reads _ (call (type_ q)) (left ++ rest) s v rest t
+abbrev pub TypesAreLocalIn : (G : Grammar) → (ℕ → G.family type_tree) → Type 0
+TypesAreLocalIn G types = (q : ℕ) (left rest : List ℕ) (s : State) (v : TypeTree) (t : State)
+    → Reads G _ (call (types q)) (left ++ rest) s v rest t
     → (others : List ℕ) (later : State) → Later t later
-    → (next : State) × Reads _ (call (type_ q)) (left ++ others) later v others next × SameTables next later
+    → (next : State) × Reads G _ (call (types q)) (left ++ others) later v others next × SameTables next later
 
 -- a rule with tables of its own, as a template has, leaves the tables before it as they were
-abbrev pub TablesAreHandedBack : Type 0
-TablesAreHandedBack = (a : Sort) (r : Rule a) (left : List ℕ) (s : State) (v : Value a) (rest : List ℕ) (t : State)
-    → Reads a (apart r) left s v rest t → SameTables t s
+abbrev pub TablesAreHandedBackIn : Grammar → Type 0
+TablesAreHandedBackIn G = (a : Sort) (r : Rule G.family a) (left : List ℕ) (s : State) (v : Value a) (rest : List ℕ)
+    (t : State)
+    → Reads G a (apart r) left s v rest t → SameTables t s

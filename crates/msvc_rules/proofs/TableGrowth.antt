@@ -5,10 +5,10 @@ use Rattle.std.proofs.lemmas.Bool.{le-ltb, ltb-false}
 use Rattle.std.specs.List.{list_any}
 use Rattle.std.specs.Prelude.{slice_get, if◌then◌else◌, ◌||◌, ◌⊎◌}
 use Rattle.msvc_nodes.specs.Trees.{NameTree, TypeTree}
-use Rattle.msvc_grammar.specs.Laws.{GoesOn, trees}
-use Rattle.msvc_grammar.specs.State.{Entry, most_memorized, with_name, with_type}
-use Rattle.msvc_nodes.proofs.Decisions.{same_name-is, same_type-is}
 use Rattle.msvc_nodes.specs.Equality.{same_name, same_type}
+use Rattle.msvc_nodes.proofs.Decisions.{same_name-is, same_type-is}
+use Rattle.msvc_rules.specs.Laws.{GoesOn, trees}
+use Rattle.msvc_rules.specs.State.{Entry, most_memorized, with_name, with_type}
 
 pub goes-refl : {A : Type 0} (xs : List A) → GoesOn xs xs
 goes-refl xs = ([], sym (append-nil xs))

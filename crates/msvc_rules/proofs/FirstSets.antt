@@ -5,20 +5,18 @@ use Rattle.std.proofs.Common.{◌<◌, ◌≤◌, ◌+◌, ◌==◌, nat_lt, len
 use Rattle.std.proofs.Common.{length-append}
 use Rattle.std.specs.Prelude.{is_some, ◌⊎◌}
 use Rattle.std.proofs.lemmas.Bool.{eqb-true, eq-eqb, ltb-false, ltb-true}
-use Rattle.msvc_grammar.specs.Sorts.{Sort, Value}
-use Rattle.msvc_grammar.specs.State.{State}
-use Rattle.msvc_grammar.specs.Rules.{Condition, none_of, at_end, holds, every, some_of, begins, is_nil, after, lookup}
-use Rattle.msvc_grammar.specs.Rules.{Rule}
-use Rattle.msvc_grammar.specs.Reads.{Reads, given, a_letter, a_literal, a_part, where_it_holds, in_a_row, the_first}
-use Rattle.msvc_grammar.specs.Reads.{a_node, the_second, called, a_known_name, remembered, a_known_type, a_noted_type}
-use Rattle.msvc_grammar.specs.Reads.{entered}
-use Rattle.msvc_grammar.specs.Reads.{set_apart, ranks}
-use Rattle.msvc_grammar.proofs.Checks.{some_value, rank, Row, Fine, Even, fine, consumes, consumer, firsts, firsts_by}
-use Rattle.msvc_grammar.proofs.Checks.{firsts_within, differ, is_prefix, bars, clash, exclude, settled, decided, After}
-use Rattle.msvc_grammar.proofs.Checks.{the_same, others, anything}
-use Rattle.msvc_grammar.proofs.Progress.{Less, shorter}
-
--- Tests
+use Rattle.msvc_rules.specs.Readers.{ranks}
+use Rattle.msvc_rules.specs.Reads.{Reads, given, a_letter, a_literal, a_part, where_it_holds, in_a_row, the_first}
+use Rattle.msvc_rules.specs.Reads.{a_node, the_second, called, a_known_name, remembered, a_known_type, a_noted_type}
+use Rattle.msvc_rules.specs.Reads.{entered, set_apart}
+use Rattle.msvc_rules.specs.Rules.{Grammar, Condition, none_of, at_end, holds, every, some_of, begins, is_nil, after}
+use Rattle.msvc_rules.specs.Rules.{lookup, Rule}
+use Rattle.msvc_rules.specs.Sorts.{Sort, Value}
+use Rattle.msvc_rules.specs.State.{State}
+use Rattle.msvc_rules.proofs.Checks.{some_value, Row, Fine, Even, fine, consumes, firsts, firsts_by, firsts_within}
+use Rattle.msvc_rules.proofs.Checks.{differ, is_prefix, bars, clash, exclude, settled, decided, After, the_same, others}
+use Rattle.msvc_rules.proofs.Checks.{anything, Figures, Fit}
+use Rattle.msvc_rules.proofs.Progress.{Less, shorter}
 
 pub if_both : (t u : Bool) → cond t u false ≡ true → (t ≡ true) × (u ≡ true)
 if_both true u h = (refl, h)
@@ -79,8 +77,6 @@ none (x ∷ xs) h = none xs h
 meet : {A : Type 0} (p q : A → Bool) (xs : List A) → ((x : A) → q x ≡ true → p x ≡ true → ⊥) → every q xs ≡ true
     → some_of p xs ≡ true → ⊥
 meet p q xs go k h = none xs (some-every p q (λ x. false) xs (λ x a b. absurd (go x a b)) k h)
-
--- Texts that begin
 
 pub begins-both : (x a : ℕ) (left l : List ℕ) → begins (x ∷ left) (a ∷ l) ≡ true → ((x == a) ≡ true)
     × (begins left l ≡ true)
@@ -143,8 +139,6 @@ prefix-begins (a ∷ m) (b ∷ l) (x ∷ left) d h =
     both-begins x a left m (eq-eqb x a (eqb-true x b first.0 ∙ sym (eqb-true a b same.0)))
     (prefix-begins m l left same.1 first.1)
 
--- Rows
-
 -- a row that p says yes of, that stands at the bytes left, and whose count of bytes was consumed
 abbrev pub First : (Row → Bool) → List ℕ → List ℕ → Type 0
 First p left rest =
@@ -173,94 +167,6 @@ single p x h = (if_both (p x) true h).0
 pub letter-begins : (b : ℕ) (rest : List ℕ) → begins (b ∷ rest) (b ∷ []) ≡ true
 letter-begins b rest = both-begins b b rest [] (eq-eqb b b refl) refl
 
-pub first_of : {a : Sort} {r : Rule a} {left : List ℕ} {s : State} {v : Value a} {rest : List ℕ} {t : State}
-    → Reads a r left s v rest t → (floor : ℕ) → Fine floor r → (k : ℕ) (p : Row → Bool)
-    → every p (firsts_by (λ b m. firsts_within k m) r) ≡ true → First p left rest
-unfolding firsts_by firsts_within Fine consumes Even
-first_of (a_letter {table = table} {b = b} {v = v} {rest = rest} e) floor f k p h =
-    ((b ∷ [], [], 1), of_letter p (λ _. 1) table b v e h, letter-begins b rest, refl, omega arith)
-first_of (a_literal {l = l} {left = left} {rest = rest} e) floor f k p h = (
-  (l, [], length l),
-  single p (l, [], length l) h,
-  ap (λ z. is_some (after l z)) e
-      ∙ ap (λ o. is_some o) (after-text l rest),
-  refl,
-  omega (arith, ap length e, length-append l rest),
-)
-first_of (where_it_holds {c = c} {r = r} {left = left} e d) floor f k p h =
-    let first : First (λ row. p (row.0, c ∷ row.1, row.2)) left _ =
-    first_of d floor f k
-    (λ row. p (row.0, c ∷ row.1, row.2))
-    (every-map p (λ row. (row.0, c ∷ row.1, row.2)) (firsts_by (λ b m. firsts_within k m) r) h) in
-    ((first.0.0, c ∷ first.0.1, first.0.2), first.1, first.2, both_if (holds c left) _ e first.3, first.4)
-first_of (in_a_row {f = g} (a_letter {table = table} {b = b} {v = v} {rest = l} e) d) floor f k p h = (
-  (b ∷ [], [], 1 + consumes (g v)),
-  of_letter p (λ x. 1 + consumes (g x)) table b v e h,
-  letter-begins b l,
-  refl,
-  omega (arith, shorter d ranks (f.1 v)),
-)
-first_of (in_a_row {f = g} {rest = rest} (a_literal {l = m} {left = left} {rest = l} e) d) floor f k p h =
-    let first : First (λ row. p (m ++ row.0, [], length m + row.2)) l rest =
-    first_of d (cond (nat_lt 0 (length m)) ranks floor) (f.1 tt) k (λ row. p (m ++ row.0, [], length m + row.2))
-    (every-map p (λ row. (m ++ row.0, [], length m + row.2)) (firsts_by (λ b n. firsts_within k n) (g tt)) h) in (
-      (m ++ first.0.0, [], length m + first.0.2),
-      first.1,
-      begins-text m first.0.0 left l e first.2,
-      refl,
-      omega (arith, first.4, ap length e, length-append m l),
-    )
-first_of (in_a_row {a = a} {r = r} {f = g} {v = v} {left = left} {l = l} c d) floor f k p h =
-    let first : First (λ row. p (row.0, row.1, row.2 + consumes (g (some_value a)))) left l =
-    first_of c floor f.0 k (λ row. p (row.0, row.1, row.2 + consumes (g (some_value a))))
-    (every-map p (λ row. (row.0, row.1, row.2 + consumes (g (some_value a))))
-    (firsts_by (λ b m. firsts_within k m) r) h) in (
-      (first.0.0, first.0.1, first.0.2 + consumes (g (some_value a))),
-      first.1,
-      first.2,
-      first.3,
-      omega (
-        arith,
-        first.4,
-        shorter d (cond (nat_lt 0 (consumes r)) ranks floor) (f.1 v),
-        ltb-false (consumes (g v)) (consumes (g (some_value a))) (f.2 v),
-      ),
-    )
-first_of (the_first {r = r} {q = q} d) floor f k p h =
-    first_of d floor f.1 k p
-    (every-both p (firsts_by (λ b m. firsts_within k m) r) (firsts_by (λ b m. firsts_within k m) q) h).0
-first_of (the_second {r = r} {q = q} d) floor f k p h =
-    first_of d floor f.2 k p
-    (every-both p (firsts_by (λ b m. firsts_within k m) r) (firsts_by (λ b m. firsts_within k m) q) h).1
-first_of (called {n = n} d) floor f zero p h =
-    (([], [], consumer n), single p ([], [], consumer n) h, refl, refl, shorter (called {n = n} d) floor f)
-first_of (called {n = n} d) floor f (suc k) p h = first_of d (rank n) (fine n) k p h
-first_of (a_noted_type {table = table} {b = b} {i = i} {rest = rest} e d) floor f k p h =
-    ((b ∷ [], [], 1), of_letter p (λ _. 1) table b i e h, letter-begins b rest, refl, omega arith)
-first_of (a_node d) floor f k p h = first_of d floor f k p h
-first_of (entered d) floor f k p h = first_of d floor f k p h
-first_of (set_apart d) floor f k p h = first_of d floor f k p h
-first_of given floor f k p h = (([], [], 0), single p ([], [], 0) h, refl, refl, omega arith)
-first_of (a_part {b = b} {v = []} {rest = rest} e d) floor f k p h = (
-  (b ∷ [], [], 1),
-  (if_both (p (b ∷ [], [], 1)) (every p (([], [], 2) ∷ [])) h).0,
-  ap (λ z. begins z (b ∷ [])) e ∙ letter-begins b rest,
-  refl,
-  omega (arith, ap length e),
-)
-first_of (a_part {b = b} {v = x ∷ v} {rest = rest} e d) floor f k p h = (
-  ([], [], 2),
-  single p ([], [], 2) (if_both (p (b ∷ [], [], 1)) (every p (([], [], 2) ∷ [])) h).1,
-  refl,
-  refl,
-  omega (arith, ap length e, length-append v (b ∷ rest)),
-)
-first_of (a_known_name e) floor f k p h = (([], [], 0), single p ([], [], 0) h, refl, refl, omega arith)
-first_of remembered floor f k p h = (([], [], 0), single p ([], [], 0) h, refl, refl, omega arith)
-first_of (a_known_type e) floor f k p h = (([], [], 0), single p ([], [], 0) h, refl, refl, omega arith)
-
--- Alternatives
-
 pub barred : (l left : List ℕ) (c : Condition) → begins left l ≡ true → holds c left ≡ true → bars l c ≡ true → ⊥
 barred l left (none_of ms) b h e =
     let yes : some_of (begins left) ms ≡ true =
@@ -281,19 +187,6 @@ clash-never r q left b d h k e = go (if_either (differ r.0 q.0) _ e)
     go : (differ r.0 q.0 ≡ true) ⊎ (cond (some_of (bars r.0) q.1) true (some_of (bars q.0) r.1) ≡ true) → ⊥
     go (inl e) = differ-never r.0 q.0 left e b d
     go (inr e) = guards (if_either (some_of (bars r.0) q.1) (some_of (bars q.0) r.1) e)
-
-pub exclude-never : {a : Sort} {r q : Rule a} {left : List ℕ} {s : State} {v w : Value a} {rest l : List ℕ}
-    {t u : State}
-    → (floor : ℕ) → exclude (firsts r) (firsts q) ≡ true → Fine floor r → Fine floor q
-    → Reads a r left s v rest t → Reads a q left s w l u → ⊥
-unfolding exclude firsts
-exclude-never {r = r} {q = q} {left = left} {rest = rest} {l = l} floor e f g h k =
-    let one : First (λ x. every (clash x) (firsts q)) left rest =
-    first_of h floor f 3 (λ x. every (clash x) (firsts q)) e in
-    let other : First (clash one.0) left l = first_of k floor g 3 (clash one.0) one.1 in
-    clash-never one.0 other.0 left one.2 other.2 one.3 other.3 other.1
-
--- Guards
 
 settled_same : (l : List ℕ) (followed : ℕ) (left rest w w' : List ℕ) → followed ≤ length rest
     → First (λ row. cond (nat_lt (followed + row.2) (length l)) (differ row.0 l) true) left rest
@@ -321,25 +214,124 @@ Follows the_same w w' = w ≡ w'
 Follows others w w' = 0 < length w
 Follows anything w w' = Unit {0}
 
-pub holds_same : {a : Sort} {r : Rule a} {left rest : List ℕ} {s t : State} {v : Value a} (k : After) (c : Condition)
-    (followed floor : ℕ) (w w' : List ℕ) → Follows k w w'
-    → decided k followed (consumes r) (firsts r) c ≡ true → followed ≤ length rest → Fine floor r
-    → Reads a r left s v rest t
-    → holds c (left ++ w) ≡ true → holds c (left ++ w') ≡ true
-unfolding decided settled firsts
-holds_same {left = left} the_same c followed floor w w' same d some f h k =
-    subst (λ z. holds c (left ++ z) ≡ true) same k
-holds_same {left = left} {rest = rest} others (none_of ls) followed floor w w' more d some f h k =
-    not_if (some_of (begins (left ++ w')) ls) (some_of (begins (left ++ w)) ls)
-    (some-every (begins (left ++ w')) (settled followed _) (begins (left ++ w)) ls
-    (λ l e b. settled_same l followed left rest w w' some (first_of h floor f 3 _ e) b) d) k
-holds_same {left = left} others at_end followed floor w w' more d some f h k =
-    let clash : true ≡ false = sym k ∙ nil_after left w more in absurd (cc)
-holds_same {left = left} {rest = rest} anything (none_of ls) followed floor w w' whatever d some f h k =
-    not_if (some_of (begins (left ++ w')) ls) (some_of (begins (left ++ w)) ls)
-    (some-every (begins (left ++ w')) (settled followed _) (begins (left ++ w)) ls
-    (λ l e b. settled_same l followed left rest w w' some (first_of h floor f 3 _ e) b) d) k
-holds_same {r = r} {left = left} anything at_end followed floor w w' whatever d some f h k =
-    let clash : true ≡ false =
-    sym k ∙ nil_more left w (omega (arith, some, shorter h floor f, ltb-true 0 (followed + consumes r) d)) in
-    absurd (cc)
+module _ {G : Grammar} {F : Figures G} (C : Fit F) where
+  pub first_of : {a : Sort} {r : Rule G.family a} {left : List ℕ} {s : State} {v : Value a} {rest : List ℕ} {t : State}
+      → Reads G a r left s v rest t → (floor : ℕ) → Fine F floor r → (k : ℕ) (p : Row → Bool)
+      → every p (firsts_by F (λ b m. firsts_within F k m) r) ≡ true → First p left rest
+  unfolding firsts_by firsts_within Fine consumes Even
+  first_of (a_letter {table = table} {b = b} {v = v} {rest = rest} e) floor f k p h =
+      ((b ∷ [], [], 1), of_letter p (λ _. 1) table b v e h, letter-begins b rest, refl, omega arith)
+  first_of (a_literal {l = l} {left = left} {rest = rest} e) floor f k p h = (
+    (l, [], length l),
+    single p (l, [], length l) h,
+    ap (λ z. is_some (after l z)) e
+        ∙ ap (λ o. is_some o) (after-text l rest),
+    refl,
+    omega (arith, ap length e, length-append l rest),
+  )
+  first_of (where_it_holds {c = c} {r = r} {left = left} e d) floor f k p h =
+      let first : First (λ row. p (row.0, c ∷ row.1, row.2)) left _ =
+      first_of d floor f k
+      (λ row. p (row.0, c ∷ row.1, row.2))
+      (every-map p (λ row. (row.0, c ∷ row.1, row.2)) (firsts_by F (λ b m. firsts_within F k m) r) h) in
+      ((first.0.0, c ∷ first.0.1, first.0.2), first.1, first.2, both_if (holds c left) _ e first.3, first.4)
+  first_of (in_a_row {f = g} (a_letter {table = table} {b = b} {v = v} {rest = l} e) d) floor f k p h = (
+    (b ∷ [], [], 1 + consumes F (g v)),
+    of_letter p (λ x. 1 + consumes F (g x)) table b v e h,
+    letter-begins b l,
+    refl,
+    omega (arith, shorter C d ranks (f.1 v)),
+  )
+  first_of (in_a_row {f = g} {rest = rest} (a_literal {l = m} {left = left} {rest = l} e) d) floor f k p h =
+      let first : First (λ row. p (m ++ row.0, [], length m + row.2)) l rest =
+      first_of d (cond (nat_lt 0 (length m)) ranks floor) (f.1 tt) k (λ row. p (m ++ row.0, [], length m + row.2))
+      (every-map p (λ row. (m ++ row.0, [], length m + row.2)) (firsts_by F (λ b n. firsts_within F k n) (g tt)) h) in (
+        (m ++ first.0.0, [], length m + first.0.2),
+        first.1,
+        begins-text m first.0.0 left l e first.2,
+        refl,
+        omega (arith, first.4, ap length e, length-append m l),
+      )
+  first_of (in_a_row {a = a} {r = r} {f = g} {v = v} {left = left} {l = l} c d) floor f k p h =
+      let first : First (λ row. p (row.0, row.1, row.2 + consumes F (g (some_value a)))) left l =
+      first_of c floor f.0 k (λ row. p (row.0, row.1, row.2 + consumes F (g (some_value a))))
+      (every-map p (λ row. (row.0, row.1, row.2 + consumes F (g (some_value a))))
+      (firsts_by F (λ b m. firsts_within F k m) r) h) in (
+        (first.0.0, first.0.1, first.0.2 + consumes F (g (some_value a))),
+        first.1,
+        first.2,
+        first.3,
+        omega (
+          arith,
+          first.4,
+          shorter C d (cond (nat_lt 0 (consumes F r)) ranks floor) (f.1 v),
+          ltb-false (consumes F (g v)) (consumes F (g (some_value a))) (f.2 v),
+        ),
+      )
+  first_of (the_first {r = r} {q = q} d) floor f k p h =
+      first_of d floor f.1 k p
+      (every-both p (firsts_by F (λ b m. firsts_within F k m) r) (firsts_by F (λ b m. firsts_within F k m) q) h).0
+  first_of (the_second {r = r} {q = q} d) floor f k p h =
+      first_of d floor f.2 k p
+      (every-both p (firsts_by F (λ b m. firsts_within F k m) r) (firsts_by F (λ b m. firsts_within F k m) q) h).1
+  first_of (called {n = n} d) floor f zero p h =
+      (([], [], F.consumer n), single p ([], [], F.consumer n) h, refl, refl, shorter C (called {n = n} d) floor f)
+  first_of (called {n = n} d) floor f (suc k) p h = first_of d (F.rank n) (fine C n) k p h
+  first_of (a_noted_type {table = table} {b = b} {i = i} {rest = rest} e d) floor f k p h =
+      ((b ∷ [], [], 1), of_letter p (λ _. 1) table b i e h, letter-begins b rest, refl, omega arith)
+  first_of (a_node d) floor f k p h = first_of d floor f k p h
+  first_of (entered d) floor f k p h = first_of d floor f k p h
+  first_of (set_apart d) floor f k p h = first_of d floor f k p h
+  first_of given floor f k p h = (([], [], 0), single p ([], [], 0) h, refl, refl, omega arith)
+  first_of (a_part {b = b} {v = []} {rest = rest} e d) floor f k p h = (
+    (b ∷ [], [], 1),
+    (if_both (p (b ∷ [], [], 1)) (every p (([], [], 2) ∷ [])) h).0,
+    ap (λ z. begins z (b ∷ [])) e ∙ letter-begins b rest,
+    refl,
+    omega (arith, ap length e),
+  )
+  first_of (a_part {b = b} {v = x ∷ v} {rest = rest} e d) floor f k p h = (
+    ([], [], 2),
+    single p ([], [], 2) (if_both (p (b ∷ [], [], 1)) (every p (([], [], 2) ∷ [])) h).1,
+    refl,
+    refl,
+    omega (arith, ap length e, length-append v (b ∷ rest)),
+  )
+  first_of (a_known_name e) floor f k p h = (([], [], 0), single p ([], [], 0) h, refl, refl, omega arith)
+  first_of remembered floor f k p h = (([], [], 0), single p ([], [], 0) h, refl, refl, omega arith)
+  first_of (a_known_type e) floor f k p h = (([], [], 0), single p ([], [], 0) h, refl, refl, omega arith)
+
+  pub exclude-never : {a : Sort} {r q : Rule G.family a} {left : List ℕ} {s : State} {v w : Value a} {rest l : List ℕ}
+      {t u : State}
+      → (floor : ℕ) → exclude (firsts F r) (firsts F q) ≡ true → Fine F floor r → Fine F floor q
+      → Reads G a r left s v rest t → Reads G a q left s w l u → ⊥
+  unfolding exclude firsts
+  exclude-never {r = r} {q = q} {left = left} {rest = rest} {l = l} floor e f g h k =
+      let one : First (λ x. every (clash x) (firsts F q)) left rest =
+      first_of h floor f 3 (λ x. every (clash x) (firsts F q)) e in
+      let other : First (clash one.0) left l = first_of k floor g 3 (clash one.0) one.1 in
+      clash-never one.0 other.0 left one.2 other.2 one.3 other.3 other.1
+
+  pub holds_same : {a : Sort} {r : Rule G.family a} {left rest : List ℕ} {s t : State} {v : Value a} (k : After)
+      (c : Condition)
+      (followed floor : ℕ) (w w' : List ℕ) → Follows k w w'
+      → decided k followed (consumes F r) (firsts F r) c ≡ true → followed ≤ length rest → Fine F floor r
+      → Reads G a r left s v rest t
+      → holds c (left ++ w) ≡ true → holds c (left ++ w') ≡ true
+  unfolding decided settled firsts
+  holds_same {left = left} the_same c followed floor w w' same d some f h k =
+      subst (λ z. holds c (left ++ z) ≡ true) same k
+  holds_same {left = left} {rest = rest} others (none_of ls) followed floor w w' more d some f h k =
+      not_if (some_of (begins (left ++ w')) ls) (some_of (begins (left ++ w)) ls)
+      (some-every (begins (left ++ w')) (settled followed _) (begins (left ++ w)) ls
+      (λ l e b. settled_same l followed left rest w w' some (first_of h floor f 3 _ e) b) d) k
+  holds_same {left = left} others at_end followed floor w w' more d some f h k =
+      let clash : true ≡ false = sym k ∙ nil_after left w more in absurd (cc)
+  holds_same {left = left} {rest = rest} anything (none_of ls) followed floor w w' whatever d some f h k =
+      not_if (some_of (begins (left ++ w')) ls) (some_of (begins (left ++ w)) ls)
+      (some-every (begins (left ++ w')) (settled followed _) (begins (left ++ w)) ls
+      (λ l e b. settled_same l followed left rest w w' some (first_of h floor f 3 _ e) b) d) k
+  holds_same {r = r} {left = left} anything at_end followed floor w w' whatever d some f h k =
+      let clash : true ≡ false =
+      sym k ∙ nil_more left w (omega (arith, some, shorter C h floor f, ltb-true 0 (followed + consumes F r) d)) in
+      absurd (cc)

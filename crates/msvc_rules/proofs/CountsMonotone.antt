@@ -6,13 +6,13 @@ use Rattle.msvc_nodes.specs.Trees.{NameTree, NameTrees, TypeTree, TypeTrees, spe
 use Rattle.msvc_nodes.specs.Trees.{base_class_descriptor, template, discriminator, nested, anonymous, no_names, names}
 use Rattle.msvc_nodes.specs.Trees.{plain, base, tagged, numbered, constant_string, pointing, array, function}
 use Rattle.msvc_nodes.specs.Trees.{member_function, member_pointer, variable, table, vcall_thunk, no_types, types}
-use Rattle.msvc_grammar.specs.Sorts.{Sort, Value}
-use Rattle.msvc_grammar.specs.State.{Count, State, Entry, is_allowed, more, remember_type, span_of, uncounted}
-use Rattle.msvc_grammar.specs.Counts.{name_count, names_count, type_count, types_count}
-use Rattle.msvc_grammar.specs.Reads.{Reads, given, a_letter, a_literal, a_part, where_it_holds, in_a_row, the_first}
-use Rattle.msvc_grammar.specs.Reads.{the_second, called, a_node, a_known_name, remembered, a_known_type, a_noted_type}
-use Rattle.msvc_grammar.specs.Reads.{entered, set_apart}
-use Rattle.msvc_grammar.specs.Rules.{Rule}
+use Rattle.msvc_rules.specs.Counts.{name_count, names_count, type_count, types_count}
+use Rattle.msvc_rules.specs.Reads.{Reads, given, a_letter, a_literal, a_part, where_it_holds, in_a_row, the_first}
+use Rattle.msvc_rules.specs.Reads.{the_second, called, a_node, a_known_name, remembered, a_known_type, a_noted_type}
+use Rattle.msvc_rules.specs.Reads.{entered, set_apart}
+use Rattle.msvc_rules.specs.Rules.{Grammar, Rule}
+use Rattle.msvc_rules.specs.Sorts.{Sort, Value}
+use Rattle.msvc_rules.specs.State.{Count, State, Entry, is_allowed, more, remember_type, span_of, uncounted}
 
 -- the second count has the weight and the limit of the first, and no fewer nodes
 abbrev pub Rises : Count → Count → Type 0
@@ -37,38 +37,12 @@ rises_if : (t : Bool) (c : Count) (e : Entry) (s : State) → Rises c s.count
 rises_if true c e s h = h
 rises_if false c e s h = h
 
-pub rises : {a : Sort} {r : Rule a} {left : List ℕ} {s : State} {v : Value a} {rest : List ℕ} {t : State}
-    → Reads a r left s v rest t → Rises s.count t.count
-rises (given {s = s}) = stays s.count
-rises (a_letter {s = s} e) = stays s.count
-rises (a_literal {s = s} e) = stays s.count
-rises (a_part {s = s} e h) = stays s.count
-rises (where_it_holds e d) = rises d
-rises (in_a_row {s = s} {t = t} {u = u} d e) = both_rise s.count t.count u.count (rises d) (rises e)
-rises (the_first d) = rises d
-rises (the_second d) = rises d
-rises (called d) = rises d
-rises (a_node {s = s} {t = t} d) =
-    both_rise s.count (more s.count.weight s.count) t.count (rises_by s.count.weight s.count) (rises d)
-rises (a_known_name {n = n} {s = s} e) = rises_by (name_count s.count.weight n) s.count
-rises (remembered {s = s}) = stays s.count
-rises (a_known_type {e = e} {s = s} h) = rises_by (type_count s.count.weight e.entered) s.count
-rises (a_noted_type {e = e} {s = s} h k) = rises_by (type_count s.count.weight e.entered) s.count
-rises (entered {v = v} {left = left} {rest = rest} {s = s} {t = t} d) =
-    rises_if (nat_lt 1 (length left - length rest)) s.count (span_of v left rest t) t (rises d)
-rises (set_apart d) = rises d
-
 allowed_below : (c d : Count) → Rises c d → is_allowed d ≡ true → is_allowed c ≡ true
 allowed_below c d h ok = go (nat_lt d.max d.used) refl ok
   where
     go : (t : Bool) → nat_lt d.max d.used ≡ t → not t ≡ true → is_allowed c ≡ true
     go true e k = absurd (cc)
     go false e k = ap not (le-ltb c.max c.used (omega (arith, h.1, h.2, ltb-false d.max d.used e)))
-
--- where the count after is allowed, so is the one before
-pub allowed_before : {a : Sort} {r : Rule a} {left : List ℕ} {s : State} {v : Value a} {rest : List ℕ} {t : State}
-    → Reads a r left s v rest t → is_allowed t.count ≡ true → is_allowed s.count ≡ true
-allowed_before {s = s} {t = t} d ok = allowed_below s.count t.count (rises d) ok
 
 -- where nodes count for nothing, no tree counts
 mutual
@@ -115,28 +89,58 @@ no_type_counts : (t : TypeTree) (c : Count) → c ≡ uncounted → more (type_c
 no_type_counts t c none =
     ap (λ (d : Count). more (type_count d.weight t) d) none ∙ ap (λ k. more k uncounted) (type_nothing t)
 
--- a state without limit has none after either
-pub uncounted_stays : {a : Sort} {r : Rule a} {left : List ℕ} {s : State} {v : Value a} {rest : List ℕ} {t : State}
-    → Reads a r left s v rest t → s.count ≡ uncounted → t.count ≡ uncounted
-uncounted_stays given none = none
-uncounted_stays (a_letter e) none = none
-uncounted_stays (a_literal e) none = none
-uncounted_stays (a_part e h) none = none
-uncounted_stays (where_it_holds e d) none = uncounted_stays d none
-uncounted_stays (in_a_row d e) none = uncounted_stays e (uncounted_stays d none)
-uncounted_stays (the_first d) none = uncounted_stays d none
-uncounted_stays (the_second d) none = uncounted_stays d none
-uncounted_stays (called d) none = uncounted_stays d none
-uncounted_stays (a_node d) none = uncounted_stays d (ap (λ (c : Count). more c.weight c) none)
-uncounted_stays (a_known_name {n = n} {s = s} e) none = no_name_counts n s.count none
-uncounted_stays remembered none = none
-uncounted_stays (a_known_type {e = e} {s = s} h) none = no_type_counts e.entered s.count none
-uncounted_stays (a_noted_type {e = e} {s = s} h k) none = no_type_counts e.entered s.count none
-uncounted_stays (entered {v = v} {left = left} {rest = rest} {t = t} d) none =
-    count_if (nat_lt 1 (length left - length rest)) (span_of v left rest t) t ∙ uncounted_stays d none
-uncounted_stays (set_apart d) none = uncounted_stays d none
+module _ (G : Grammar) where
+  pub rises : {a : Sort} {r : Rule G.family a} {left : List ℕ} {s : State} {v : Value a} {rest : List ℕ} {t : State}
+      → Reads G a r left s v rest t → Rises s.count t.count
+  rises (given {s = s}) = stays s.count
+  rises (a_letter {s = s} e) = stays s.count
+  rises (a_literal {s = s} e) = stays s.count
+  rises (a_part {s = s} e h) = stays s.count
+  rises (where_it_holds e d) = rises d
+  rises (in_a_row {s = s} {t = t} {u = u} d e) = both_rise s.count t.count u.count (rises d) (rises e)
+  rises (the_first d) = rises d
+  rises (the_second d) = rises d
+  rises (called d) = rises d
+  rises (a_node {s = s} {t = t} d) =
+      both_rise s.count (more s.count.weight s.count) t.count (rises_by s.count.weight s.count) (rises d)
+  rises (a_known_name {n = n} {s = s} e) = rises_by (name_count s.count.weight n) s.count
+  rises (remembered {s = s}) = stays s.count
+  rises (a_known_type {e = e} {s = s} h) = rises_by (type_count s.count.weight e.entered) s.count
+  rises (a_noted_type {e = e} {s = s} h k) = rises_by (type_count s.count.weight e.entered) s.count
+  rises (entered {v = v} {left = left} {rest = rest} {s = s} {t = t} d) =
+      rises_if (nat_lt 1 (length left - length rest)) s.count (span_of v left rest t) t (rises d)
+  rises (set_apart d) = rises d
 
--- so it is allowed
-pub uncounted_allowed : {a : Sort} {r : Rule a} {left : List ℕ} {s : State} {v : Value a} {rest : List ℕ} {t : State}
-    → Reads a r left s v rest t → s.count ≡ uncounted → is_allowed t.count ≡ true
-uncounted_allowed d none = ap is_allowed (uncounted_stays d none)
+  -- where the count after is allowed, so is the one before
+  pub allowed_before : {a : Sort} {r : Rule G.family a} {left : List ℕ} {s : State} {v : Value a} {rest : List ℕ}
+      {t : State}
+      → Reads G a r left s v rest t → is_allowed t.count ≡ true → is_allowed s.count ≡ true
+  allowed_before {s = s} {t = t} d ok = allowed_below s.count t.count (rises d) ok
+
+  -- a state without limit has none after either
+  pub uncounted_stays : {a : Sort} {r : Rule G.family a} {left : List ℕ} {s : State} {v : Value a} {rest : List ℕ}
+      {t : State}
+      → Reads G a r left s v rest t → s.count ≡ uncounted → t.count ≡ uncounted
+  uncounted_stays given none = none
+  uncounted_stays (a_letter e) none = none
+  uncounted_stays (a_literal e) none = none
+  uncounted_stays (a_part e h) none = none
+  uncounted_stays (where_it_holds e d) none = uncounted_stays d none
+  uncounted_stays (in_a_row d e) none = uncounted_stays e (uncounted_stays d none)
+  uncounted_stays (the_first d) none = uncounted_stays d none
+  uncounted_stays (the_second d) none = uncounted_stays d none
+  uncounted_stays (called d) none = uncounted_stays d none
+  uncounted_stays (a_node d) none = uncounted_stays d (ap (λ (c : Count). more c.weight c) none)
+  uncounted_stays (a_known_name {n = n} {s = s} e) none = no_name_counts n s.count none
+  uncounted_stays remembered none = none
+  uncounted_stays (a_known_type {e = e} {s = s} h) none = no_type_counts e.entered s.count none
+  uncounted_stays (a_noted_type {e = e} {s = s} h k) none = no_type_counts e.entered s.count none
+  uncounted_stays (entered {v = v} {left = left} {rest = rest} {t = t} d) none =
+      count_if (nat_lt 1 (length left - length rest)) (span_of v left rest t) t ∙ uncounted_stays d none
+  uncounted_stays (set_apart d) none = uncounted_stays d none
+
+  -- so it is allowed
+  pub uncounted_allowed : {a : Sort} {r : Rule G.family a} {left : List ℕ} {s : State} {v : Value a} {rest : List ℕ}
+      {t : State}
+      → Reads G a r left s v rest t → s.count ≡ uncounted → is_allowed t.count ≡ true
+  uncounted_allowed d none = ap is_allowed (uncounted_stays d none)

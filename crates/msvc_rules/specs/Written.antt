@@ -3,8 +3,9 @@ use Rattle.std.specs.Prelude.{ℕ, suc, List, ◌++◌, ◌-◌, take, drop, map
 use Rattle.std.specs.List.{All}
 use Rattle.std.specs.List.Sorted.{IsStrictlyIncreasing}
 use Rattle.msvc_nodes.specs.Trees.{SymbolTree}
-use Rattle.msvc_grammar.specs.Reads.{Derives}
-use Rattle.msvc_grammar.specs.State.{Note}
+use Rattle.msvc_rules.specs.Reads.{DerivesIn}
+use Rattle.msvc_rules.specs.Rules.{Grammar}
+use Rattle.msvc_rules.specs.State.{Note}
 
 -- the text with the bytes that entered a digit's type in place of that digit
 abbrev pub written_out : List ℕ → Note → List ℕ
@@ -16,12 +17,12 @@ abbrev pub AreRising : List Note → Type 0
 AreRising notes = IsStrictlyIncreasing (map (λ note. note.at) notes)
 
 -- with any of the digits written out, the text begins with the same symbol, and has the same rest
-abbrev pub CanBeWrittenOut : List ℕ → SymbolTree → List ℕ → List Note → Type 0
-CanBeWrittenOut text tree rest notes =
-    All (λ note. (others : List Note) × Derives (written_out text note) tree rest others) notes
+abbrev pub CanBeWrittenOutIn : Grammar → List ℕ → SymbolTree → List ℕ → List Note → Type 0
+CanBeWrittenOutIn G text tree rest notes =
+    All (λ note. (others : List Note) × DerivesIn G (written_out text note) tree rest others) notes
 
 -- whatever symbol the text begins with, each digit that was read as a whole parameter can be written out
-abbrev pub DigitsCanBeWrittenOut : List ℕ → Type 0
-DigitsCanBeWrittenOut text =
-    (tree : SymbolTree) (rest : List ℕ) (notes : List Note) → Derives text tree rest notes
-    → CanBeWrittenOut text tree rest notes
+abbrev pub DigitsCanBeWrittenOutIn : Grammar → List ℕ → Type 0
+DigitsCanBeWrittenOutIn G text =
+    (tree : SymbolTree) (rest : List ℕ) (notes : List Note) → DerivesIn G text tree rest notes
+    → CanBeWrittenOutIn G text tree rest notes

@@ -1,0 +1,13 @@
+pub use Rattle.msvc_nodes.specs.EachName
+pub use Rattle.msvc_nodes.specs.Equality
+pub use Rattle.msvc_nodes.specs.Trees
+pub mod Counts
+pub mod Laws
+pub mod Parts
+pub mod Prefix
+pub mod Readers
+pub mod Reads
+pub mod Rules
+pub mod Sorts
+pub mod State
+pub mod Written
