@@ -1,5 +1,5 @@
 -- What C sees of a failure of the library is right of the symbol.
-use Rattle.std.proofs.Common.{◌≡◌, ◌≢◌, ◌-◌, ℕ, List, [], Option, Some, None, IfSome, arith, codes, length, refl}
+use Rattle.std.proofs.Common.{◌≡◌, ◌≢◌, ◌-◌, ℕ, List, [], Option, Some, None, IfSome, arith, length, refl}
 use Rattle.std.proofs.Common.{subst, sym}
 use Rattle.std.specs.Str.{IsAscii, IsUtf8, IsValidUpTo}
 use Rattle.msvc_cursor.specs.declared.failure.Message.{Message}
