@@ -57,7 +57,7 @@ pub enum ObjectQualifiers {
     Present,
 }
 
-/// What precedes the signature of a pointer to a member function.
+/// Tells what precedes the signature of a pointer to a member function.
 #[derive(Clone, Copy)]
 pub enum MemberPointerForm {
     /// Qualifiers, if the pointer is a type.

@@ -98,7 +98,7 @@ pub fn write_qualifiers<A: Allocator>(
     write_set_qualifiers(out, qualifiers, flags)
 }
 
-/// Writes `const` and `volatile`, of which one bit or both are set.
+/// Writes `const`, `volatile` or both, as their bits are set. At least one bit is.
 fn write_set_qualifiers<A: Allocator>(
     out: &mut Text<A>,
     qualifiers: StorageClass,
