@@ -4,9 +4,9 @@
 //     node .ci/web-page.mjs PAGE MAP WANTED [FOLDER]
 //
 // PAGE is the page's file. MAP is a large file to drop, WANTED what msvcfilt writes for it. Fails if the page makes a
-// request, or if a task of the page's thread takes more than LONGEST milliseconds of the processor (default 250: other
-// checks, on the other threads of the same cores, slow it down). Writes screenshots to FOLDER: light.png, dark.png,
-// phone.png, phone_dark.png, and web.png for docs.
+// request, or if a task of the page's thread takes more than LONGEST milliseconds of the processor (default 100, twice
+// what the longest takes if no other check runs beside). Writes screenshots to FOLDER: light.png, dark.png, phone.png,
+// phone_dark.png, and web.png for docs.
 import assert from 'node:assert/strict';
 import { mkdirSync, mkdtempSync, readFileSync, rmSync, writeFileSync } from 'node:fs';
 import { tmpdir } from 'node:os';
@@ -15,7 +15,7 @@ import { pathToFileURL } from 'node:url';
 import { openPage } from './web-chromium.mjs';
 
 const [file, map, wanted, folder] = process.argv.slice(2);
-const longest = Number(process.env.LONGEST ?? 250);
+const longest = Number(process.env.LONGEST ?? 100);
 const address = pathToFileURL(resolve(file)).href;
 const downloads = mkdtempSync(join(tmpdir(), 'downloads-'));
 const page = await openPage();
