@@ -6,6 +6,7 @@ use Rattle.std.proofs.lemmas.Bool.{le-ltb, eqb-true}
 use Rattle.msvc_nodes.specs.declared.kinds.NumberedType.TheVariants as number_kind
 use Rattle.msvc_nodes.specs.Trees.{NameTree, SymbolTree, anonymous, discriminator, name_trees, nested, numbered}
 use Rattle.msvc_nodes.specs.Trees.{spelled, template, base_class_descriptor, guard, operator, type_descriptor}
+use Rattle.msvc_nodes.specs.Trees.{shaped}
 use Rattle.msvc_nodes.specs.declared.kinds.Guard.{Guard}
 use Rattle.msvc_rules.specs.Readers.{Found, read_by, letter_here, with_value, after_literal, and_then, in_node, or_else}
 use Rattle.msvc_rules.specs.Rules.{after, give, literal, call, letter_or, is_nil, ◌>>◌}
@@ -98,6 +99,8 @@ indexed_other (template n ts) ns left s e = other_name (template n ts) ns left s
 indexed_other (discriminator z) ns left s e = other_name (discriminator z) ns left s refl (λ _. refl)
 indexed_other (nested n ms x) ns left s e = other_name (nested n ms x) ns left s refl (λ _. refl)
 indexed_other (anonymous text) ns left s e = other_name (anonymous text) ns left s refl (λ _. refl)
+indexed_other (shaped row q zs text ms ts) ns left s e =
+    other_name (shaped row q zs text ms ts) ns left s refl (λ _. refl)
 
 -- the index after the name of a guard
 pub indexed_guard : (n : NameTree) (ns : List NameTree) (left : List ℕ) (s : State) (kind : Guard)
@@ -115,6 +118,7 @@ indexed_guard (template n ts) ns left s kind e = absurd (cc)
 indexed_guard (discriminator z) ns left s kind e = absurd (cc)
 indexed_guard (nested n ms x) ns left s kind e = absurd (cc)
 indexed_guard (anonymous text) ns left s kind e = absurd (cc)
+indexed_guard (shaped row q zs text ms ts) ns left s kind e = absurd (cc)
 
 -- the digits of a number, as the readers take them
 abbrev pub decimals : List ℕ → State → Found ℕ

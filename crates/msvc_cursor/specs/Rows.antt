@@ -6,7 +6,7 @@ use Rattle.msvc_nodes.specs.NodeView.{name_at, type_at, typed_symbol_of}
 use Rattle.msvc_nodes.specs.declared.nodes.Function.{Function}
 use Rattle.msvc_nodes.specs.declared.nodes.Symbol.{Symbol}
 use Rattle.msvc_nodes.specs.declared.nodes.TypedSymbol.{TypedSymbol}
-use Rattle.msvc_nodes.specs.declared.kinds.CallingConv.{CallingConv}
+use Rattle.msvc_nodes.specs.declared.kinds.Convention.{Convention}
 use Rattle.msvc_cursor.specs.Parser.{frame_of}
 use Rattle.msvc_cursor.specs.NestedList.{current, enclosing}
 use Rattle.msvc_cursor.specs.declared.nested_list.Checkpoint.{Checkpoint}
@@ -58,7 +58,7 @@ abbrev pub named_at : Bor Symbol → NameTree × List NameTree
 named_at n = (name_at n.now.name, map name_at n.now.scope.now)
 
 -- convention, return type and parameters of a function
-abbrev pub parts_at : Bor Function → CallingConv × (TypeTree × List TypeTree)
+abbrev pub parts_at : Bor Function → Convention × (TypeTree × List TypeTree)
 parts_at f = (f.now.convention, (type_at f.now.returned, map type_at f.now.parameters.now))
 
 -- a symbol with its type

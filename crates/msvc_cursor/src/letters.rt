@@ -21,7 +21,7 @@ use crate::parser::Parser;
 use bitflags::Flags;
 use msvc_nodes::base_types;
 use msvc_nodes::flags::{FuncClass, StorageClass};
-use msvc_nodes::kinds::{CallingConv, PrimitiveKind};
+use msvc_nodes::kinds::{Convention, PrimitiveKind};
 use msvc_nodes::nodes::Type;
 use std::alloc::Allocator;
 
@@ -242,15 +242,15 @@ pub fn escaped_character(letter: u8) -> Option<u8>
 }
 
 /// Returns how a function is called.
-pub fn convention(letter: u8) -> Option<CallingConv>
+pub fn convention(letter: u8) -> Option<Convention>
     ensures { result ≡ lookup letter conventions }
 {
     match letter {
-        b'A' | b'B' => Some(CallingConv::Cdecl),
-        b'C' => Some(CallingConv::Pascal),
-        b'E' => Some(CallingConv::Thiscall),
-        b'G' => Some(CallingConv::Stdcall),
-        b'I' => Some(CallingConv::Fastcall),
+        b'A' | b'B' => Some(Convention::Cdecl),
+        b'C' => Some(Convention::Pascal),
+        b'E' => Some(Convention::Thiscall),
+        b'G' => Some(Convention::Stdcall),
+        b'I' => Some(Convention::Fastcall),
         _ => None,
     }
 }

@@ -1,11 +1,11 @@
 //! Writes a tree. No function here calls itself: the parts of a tree go onto a stack, so a deep tree takes only memory.
 
 use crate::words::{
-    mark_word, numbered_word, plain_word, push_guard, push_literal, push_place, push_set,
-    push_spelled, table_word,
+    mark_word, numbered_word, plain_word, push_guard, push_literal, push_numbers, push_place,
+    push_set, push_spelled, table_word,
 };
 use msvc_nodes::flags::StorageClass;
-use msvc_nodes::nodes::{Function, Name, Scope, Symbol, Type, TypedSymbol};
+use msvc_nodes::nodes::{Function, Name, Scope, Shape, Symbol, Type, TypedSymbol};
 use std::alloc::{AllocError, Allocator};
 
 /// Types of a list.
@@ -21,6 +21,8 @@ enum Item<'a, 'b> {
     Name(&'b Name<'a, 'b>),
     /// The names of a scope, the innermost first; they are shown from the outermost on, each with `::` after it.
     Scope(Scope<'a, 'b>),
+    /// Names in their order, with commas between them.
+    Names(Scope<'a, 'b>),
     Type(&'b Type<'a, 'b>),
     /// The types of a list, with commas between them.
     Types(Types<'a, 'b>),
@@ -60,6 +62,7 @@ fn show<'a, 'b, A: Allocator + Copy>(
         Item::Text(word) => text.push_str(word),
         Item::Name(name) => show_name(alloc, stack, text, name),
         Item::Scope(scope) => show_scope(stack, scope.names),
+        Item::Names(list) => show_names(stack, list.names),
         Item::Type(shown) => show_type(alloc, stack, text, shown),
         Item::Types(list) => show_types(stack, list.types),
         Item::Function(function) => show_function(stack, text, function),
@@ -76,6 +79,20 @@ fn show_scope<'a, 'b, A: Allocator>(
     push(stack, Item::Text("::"))?;
     push(stack, Item::Name(*innermost))?;
     push_scope(stack, outer)
+}
+
+fn show_names<'a, 'b, A: Allocator>(
+    stack: &mut Vec<Item<'a, 'b>, A>,
+    names: &'b [&'b Name<'a, 'b>],
+) -> Result<(), AllocError> {
+    let Some((first, rest)) = names.split_first() else {
+        return Ok(());
+    };
+    if !rest.is_empty() {
+        push_names(stack, rest)?;
+        push(stack, Item::Text(", "))?;
+    }
+    push(stack, Item::Name(*first))
 }
 
 fn show_types<'a, 'b, A: Allocator>(
@@ -106,6 +123,13 @@ fn push_scope<'a, 'b, A: Allocator>(
     names: &'b [&'b Name<'a, 'b>],
 ) -> Result<(), AllocError> {
     push(stack, Item::Scope(Scope { names }))
+}
+
+fn push_names<'a, 'b, A: Allocator>(
+    stack: &mut Vec<Item<'a, 'b>, A>,
+    names: &'b [&'b Name<'a, 'b>],
+) -> Result<(), AllocError> {
+    push(stack, Item::Names(Scope { names }))
 }
 
 fn push_types<'a, 'b, A: Allocator>(
@@ -169,6 +193,7 @@ fn show_name<'a, 'b, A: Allocator + Copy>(
             push_typed_symbol(stack, *symbol)?;
             text.push('(')
         }
+        Name::Shape(shape) => show_shape(alloc, stack, text, *shape),
     }
 }
 
@@ -230,7 +255,27 @@ fn show_type<'a, 'b, A: Allocator + Copy>(
         Type::VcallThunk(offset, convention) => {
             write!(text, "VCallThunk({offset} {convention:?})")
         }
+        Type::Shape(shape) => show_shape(alloc, stack, text, *shape),
     }
+}
+
+/// Shows the row of a shape, its qualifiers, numbers and bytes, and pushes its names and its types, both in square
+/// brackets.
+fn show_shape<'a, 'b, A: Allocator + Copy>(
+    alloc: A,
+    stack: &mut Vec<Item<'a, 'b>, A>,
+    text: &mut String<A>,
+    shape: &Shape<'a, 'b>,
+) -> Result<(), AllocError> {
+    let row = shape.row;
+    write!(text, "Shape({row} ")?;
+    push_set(text, shape.qualifiers)?;
+    push_numbers(text, shape.numbers)?;
+    push_spelled(alloc, text, "\"", shape.text, "\" [")?;
+    push(stack, Item::Text("])"))?;
+    push_types(stack, shape.types)?;
+    push(stack, Item::Text("] ["))?;
+    push_names(stack, shape.names)
 }
 
 /// Shows the qualifiers of a type, and pushes the type inside and the bracket that closes it.

@@ -2,7 +2,7 @@
 
 use bitflags::Flags;
 use msvc_nodes::kinds::{Guard, NumberedType, PlainType, PointerAffinity, SpecialTableKind};
-use msvc_nodes::nodes::BaseClass;
+use msvc_nodes::nodes::{BaseClass, Number};
 use std::alloc::{AllocError, Allocator};
 use std::str::from_utf8;
 
@@ -72,6 +72,21 @@ pub(crate) fn push_place<A: Allocator>(
         text,
         "RTTIBaseClassDescriptor({member} {pointer} {entry} {attributes})"
     )
+}
+
+/// Appends numbers, each with its sign and with a space after it.
+pub(crate) fn push_numbers<A: Allocator>(
+    text: &mut String<A>,
+    numbers: &[Number],
+) -> Result<(), AllocError> {
+    for number in numbers {
+        let Number { is_negative, value } = *number;
+        if is_negative {
+            text.push('-')?;
+        }
+        write!(text, "{value} ")?;
+    }
+    Ok(())
 }
 
 pub(crate) fn plain_word(plain: PlainType) -> &'static str {

@@ -1,5 +1,5 @@
 -- Whether two trees are the same, as a test that a proof computes.
-use Rattle.std.proofs.Common.{ℕ, ℤ, pos, negsuc, List, Option, Some, None, ◌≡◌, Bool, true, false, refl, sym, ap}
+use Rattle.std.proofs.Common.{ℕ, ℤ, pos, negsuc, List, [], ◌∷◌, Option, Some, None, ◌≡◌, Bool, true, false, refl, sym, ap}
 use Rattle.std.proofs.Common.{true≢false}
 use Rattle.std.specs.Prelude.{is_some, unwrap_or}
 use Rattle.std.specs.Str.{bytes_eq}
@@ -18,8 +18,9 @@ use Rattle.msvc_nodes.specs.contracts.kinds.PlainType.{the_type as plains}
 use Rattle.msvc_nodes.specs.contracts.kinds.Spelling.{the_type as spellings}
 use Rattle.msvc_nodes.specs.contracts.kinds.SpecialTableKind.{the_type as tables}
 use Rattle.msvc_nodes.specs.contracts.kinds.TagKind.{the_type as tags}
-use Rattle.msvc_nodes.specs.contracts.kinds.CallingConv.{the_type as conventions}
+use Rattle.msvc_nodes.specs.contracts.kinds.Convention.{the_type as conventions}
 use Rattle.msvc_nodes.specs.contracts.kinds.VarStorageKind.{the_type as kinds}
+use Rattle.msvc_nodes.specs.declared.nodes.Number.{Number}
 use Rattle.msvc_nodes.proofs.Decisions.{name-from, type-from}
 
 -- what a map decides that takes two values to one only if they are the same
@@ -72,17 +73,41 @@ integer (pos m) (negsuc n) = no (λ e. true≢false (ap is_pos e))
 integer (negsuc m) (pos n) = no (λ e. true≢false (sym (ap is_pos e)))
 integer (negsuc m) (negsuc n) = negative m n (ℕ_discrete m n)
 
+sign : Discrete Bool
+sign true true = yes refl
+sign true false = no true≢false
+sign false true = no (λ e. true≢false (sym e))
+sign false false = yes refl
+
+number : (a b : Number) → Dec (a.is_negative ≡ b.is_negative) → Dec (a.value ≡ b.value) → Dec (a ≡ b)
+number a b (yes p) (yes q) = yes (λ i. record { is_negative = p i; value = q i })
+number a b (yes p) (no n) = no (λ e. n (ap (λ (x : Number). x.value) e))
+number a b (no n) q = no (λ e. n (ap (λ (x : Number). x.is_negative) e))
+
+first_and_rest : (a b : Number) (xs ys : List Number) → Dec (a ≡ b) → Dec (xs ≡ ys) → Dec (a ∷ xs ≡ b ∷ ys)
+first_and_rest a b xs ys (yes p) (yes q) = yes (λ i. p i ∷ q i)
+first_and_rest a b xs ys (yes p) (no n) = no (λ e. n (cc))
+first_and_rest a b xs ys (no n) q = no (λ e. n (cc))
+
+signed : Discrete (List Number)
+signed [] [] = yes refl
+signed [] (b ∷ ys) = no (λ e. absurd (cc))
+signed (a ∷ xs) [] = no (λ e. absurd (cc))
+signed (a ∷ xs) (b ∷ ys) =
+    first_and_rest a b xs ys (number a b (sign a.is_negative b.is_negative) (ℕ_discrete a.value b.value))
+    (signed xs ys)
+
 names : Discrete NameTree
 names =
     NameTree-discrete (bare spellings tt) text (bare operators tt) (bare guards tt) (option ℕ_discrete) ℕ_discrete
-    integer (option text) (bare plains tt) (bare bases tt) (bare tags tt) (bare numbers tt) (bare marks tt)
-    (bare conventions tt) (bare kinds tt) (bare tables tt)
+    integer (option text) signed (bare plains tt) (bare bases tt) (bare tags tt) (bare numbers tt)
+    (bare marks tt) (bare conventions tt) (bare kinds tt) (bare tables tt)
 
 types : Discrete TypeTree
 types =
     TypeTree-discrete (bare spellings tt) text (bare operators tt) (bare guards tt) (option ℕ_discrete) ℕ_discrete
-    integer (option text) (bare plains tt) (bare bases tt) (bare tags tt) (bare numbers tt) (bare marks tt)
-    (bare conventions tt) (bare kinds tt) (bare tables tt)
+    integer (option text) signed (bare plains tt) (bare bases tt) (bare tags tt) (bare numbers tt)
+    (bare marks tt) (bare conventions tt) (bare kinds tt) (bare tables tt)
 
 is_yes : {A : Type 0} → Dec A → Bool
 is_yes (yes a) = true
@@ -99,7 +124,8 @@ holds-yes (yes a) e = refl
 holds-yes (no n) e = absurd (n e)
 
 unfoldable pub is_same_name : NameTree → NameTree → Bool
-unfolding bare by by_test integer is_yes names negative option positive some text ℕ_discrete
+unfolding bare by by_test first_and_rest integer is_yes names negative number option positive sign signed some text
+    ℕ_discrete
 is_same_name a b = is_yes (names a b)
 
 pub is_same_name-is : (a b : NameTree) → is_same_name a b ≡ same_name a b
@@ -107,7 +133,8 @@ unfolding is_same_name
 is_same_name-is a b = name-from (is_yes (names a b)) a b (yes-holds (names a b)) (holds-yes (names a b))
 
 unfoldable pub is_same_type : TypeTree → TypeTree → Bool
-unfolding bare by by_test integer is_yes types negative option positive some text ℕ_discrete
+unfolding bare by by_test first_and_rest integer is_yes types negative number option positive sign signed some text
+    ℕ_discrete
 is_same_type a b = is_yes (types a b)
 
 pub is_same_type-is : (a b : TypeTree) → is_same_type a b ≡ same_type a b

@@ -4,7 +4,7 @@ use Prim.Native.String.{String}
 use Rattle.msvc_nodes.specs.Trees.{TypeTree, base, function, member_function, no_names, no_types, pointing, spelled}
 use Rattle.msvc_nodes.specs.Trees.{types}
 use Rattle.msvc_nodes.specs.declared.kinds.PrimitiveKind.TheVariants.{Int, Void}
-use Rattle.msvc_nodes.specs.declared.kinds.CallingConv.TheVariants.{Cdecl, _Regcall}
+use Rattle.msvc_nodes.specs.declared.kinds.Convention.TheVariants.{Cdecl, _Regcall}
 use Rattle.msvc_nodes.specs.declared.kinds.PointerAffinity.TheVariants.{Pointer}
 use Rattle.msvc_nodes.specs.declared.kinds.Spelling.TheVariants.{Source}
 use Rattle.msvc_print.specs.Declaration.{declaration}

@@ -2,7 +2,7 @@
 -- where that prints words, these words.
 use Rattle.std.specs.Prelude.{ℕ, List, [], ◌∷◌, ◌≡◌, None, Some, codes, map}
 use Prim.Native.String.{String}
-use Rattle.msvc_nodes.specs.declared.kinds.CallingConv.TheVariants as convention
+use Rattle.msvc_nodes.specs.declared.kinds.Convention.TheVariants as convention
 use Rattle.msvc_nodes.specs.declared.kinds.Guard.TheVariants as guards
 use Rattle.msvc_nodes.specs.declared.kinds.PlainOperator.{PlainOperator}
 use Rattle.msvc_nodes.specs.declared.kinds.PlainOperator.TheVariants as o

@@ -6,7 +6,7 @@ use Rattle.msvc_nodes.specs.Trees.{base_class_descriptor, discriminator, guard, 
 use Rattle.msvc_nodes.specs.Trees.{array, base, constant_string, function, member_function, member_pointer, numbered}
 use Rattle.msvc_nodes.specs.Trees.{plain, pointing, variable}
 use Rattle.msvc_nodes.specs.declared.kinds.PrimitiveKind.TheVariants.{Int, Void}
-use Rattle.msvc_nodes.specs.declared.kinds.CallingConv.TheVariants.{Cdecl, Thiscall}
+use Rattle.msvc_nodes.specs.declared.kinds.Convention.TheVariants.{Cdecl, Thiscall}
 use Rattle.msvc_nodes.specs.declared.kinds.Guard.TheVariants.{Static}
 use Rattle.msvc_nodes.specs.declared.kinds.PointerAffinity.TheVariants.{Pointer}
 use Rattle.msvc_nodes.specs.declared.kinds.NumberedType.TheVariants.{ThreadSafeGuard}

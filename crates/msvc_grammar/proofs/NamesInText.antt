@@ -5,7 +5,7 @@ use Rattle.std.proofs.Common.{false, refl}
 use Rattle.msvc_nodes.specs.EachName.{EachNameOfName, EachNameOfNames, EachNameOfType, EachNameOfTypes}
 use Rattle.msvc_nodes.specs.Trees.{NameTree, TypeTree, spelled, operator, guard, type_descriptor}
 use Rattle.msvc_nodes.specs.Trees.{base_class_descriptor, template, discriminator, nested, anonymous, name_trees}
-use Rattle.msvc_nodes.specs.Trees.{type_trees}
+use Rattle.msvc_nodes.specs.Trees.{type_trees, shaped}
 use Rattle.msvc_rules.specs.Rules.{call}
 use Rattle.msvc_rules.specs.Sorts.{Sort, bits, based, extended, named, points, arrayed, indexed, referred, variable_of}
 use Rattle.msvc_rules.specs.Sorts.{table_of, type_information, untyped, encoded_string, virtual_call, plain_function}
@@ -50,6 +50,7 @@ module _ (P : List ℕ → Type 0) where
   in-indexed index (discriminator z) h = h
   in-indexed index (nested n ns t) h = h
   in-indexed index (anonymous digits) h = h
+  in-indexed index (shaped row q zs bytes ns ts) h = h
 
   no-names : (table : List (ℕ × ℕ)) → Each (λ row. In P bits row.1) table
   no-names [] = tt

@@ -2,7 +2,7 @@
 use Rattle.std.proofs.Common.{Option, ℕ, ℤ, zero, suc, pos, negsuc, List, [], ◌∷◌, true, false}
 use Rattle.std.proofs.Common.{◌≡◌, ◌+◌, refl, arith}
 use Rattle.msvc_nodes.specs.Trees.{NameTree, TypeTree, spelled, operator, guard, type_descriptor}
-use Rattle.msvc_nodes.specs.Trees.{base_class_descriptor, template, discriminator, nested, anonymous}
+use Rattle.msvc_nodes.specs.Trees.{base_class_descriptor, template, discriminator, nested, anonymous, shaped}
 use Rattle.msvc_rules.specs.Counts.{name_count, type_count}
 use Rattle.msvc_rules.specs.Rules.{call}
 use Rattle.msvc_rules.specs.Sorts.{Sort, based, extended, named, points, arrayed, indexed, referred, variable_of}
@@ -46,6 +46,7 @@ module _ (w : ℕ) where
   in_indexed index (discriminator z) = refl
   in_indexed index (nested n ns t) = refl
   in_indexed index (anonymous code) = refl
+  in_indexed index (shaped row q zs bytes ns ts) = refl
 
   pub makes_source : Makes crate_grammar w 0 new_source_name
   unfolding Makes

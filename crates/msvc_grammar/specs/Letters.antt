@@ -2,8 +2,8 @@
 -- productions of Grammar go by. A row has a letter, or some letters, and what each of them stands for.
 use Rattle.std.specs.Prelude.{ℕ, List, [], ◌∷◌, ◌++◌, ◌+◌, Some, None, codes}
 use Prim.Native.Char.{code}
-use Rattle.msvc_nodes.specs.declared.kinds.CallingConv.{CallingConv}
-use Rattle.msvc_nodes.specs.declared.kinds.CallingConv.TheVariants.{Cdecl, Pascal, Thiscall, Stdcall, Fastcall}
+use Rattle.msvc_nodes.specs.declared.kinds.Convention.{Convention}
+use Rattle.msvc_nodes.specs.declared.kinds.Convention.TheVariants.{Cdecl, Pascal, Thiscall, Stdcall, Fastcall}
 use Rattle.msvc_nodes.specs.declared.kinds.VarStorageKind.TheVariants.{PrivateStatic, ProtectedStatic, PublicStatic}
 use Rattle.msvc_nodes.specs.declared.kinds.VarStorageKind.TheVariants.{Global, FunctionLocalStatic}
 use Rattle.msvc_nodes.specs.declared.kinds.TagKind.TheVariants as tag_kind
@@ -234,7 +234,7 @@ type_texts =
 
 -- Functions and symbols
 
-abbrev pub conventions : List (ℕ × CallingConv)
+abbrev pub conventions : List (ℕ × Convention)
 conventions = by_letter (
     (codes "AB", Cdecl)
     ∷ (codes "C", Pascal)

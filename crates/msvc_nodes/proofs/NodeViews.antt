@@ -15,6 +15,7 @@ use Rattle.msvc_nodes.specs.declared.nodes.Name.TheBlock.{hidden-the_row-Functio
 use Rattle.msvc_nodes.specs.declared.nodes.Name.TheBlock.{hidden-the_row-Scope-names-1-1}
 use Rattle.msvc_nodes.specs.declared.nodes.Function.{Function}
 use Rattle.msvc_nodes.specs.declared.nodes.Scope.{Scope}
+use Rattle.msvc_nodes.specs.declared.nodes.Shape.{Shape}
 use Rattle.msvc_nodes.specs.declared.nodes.Symbol.{Symbol}
 use Rattle.msvc_nodes.specs.declared.nodes.Template.{Template}
 use Rattle.msvc_nodes.specs.declared.nodes.Type as t
@@ -96,6 +97,30 @@ pub type_of-Table : (k : SpecialTableKind) (q : StorageClass) (b : Bor Scope)
 unfolding type_of names_of
 type_of-Table k q b = ap (λ ns. tree.table k ns q.0) (names_of-hidden b.now.names.now)
 
+pub name_of-Shape : (b : Bor Shape)
+    → name_of (n.Shape b)
+    ≡ tree.shaped b.now.row b.now.qualifiers.0 b.now.numbers.now b.now.text.now (names_in b.now.names.now)
+    (types_in b.now.types.now)
+unfolding name_of names_of types_of
+name_of-Shape b =
+    ap (λ x. tree.shaped b.now.row b.now.qualifiers.0 b.now.numbers.now b.now.text.now x
+    (types_of (hidden-the_row-Function-parameters-1-0 b.now.types.now)))
+    (names_of-hidden b.now.names.now)
+    ∙ ap (λ x. tree.shaped b.now.row b.now.qualifiers.0 b.now.numbers.now b.now.text.now
+    (names_in b.now.names.now) x) (types_of-hidden b.now.types.now)
+
+pub type_of-Shape : (b : Bor Shape)
+    → type_of (t.Shape b)
+    ≡ tree.shape b.now.row b.now.qualifiers.0 b.now.numbers.now b.now.text.now (names_in b.now.names.now)
+    (types_in b.now.types.now)
+unfolding type_of names_of types_of
+type_of-Shape b =
+    ap (λ x. tree.shape b.now.row b.now.qualifiers.0 b.now.numbers.now b.now.text.now x
+    (types_of (hidden-the_row-Function-parameters-1-0 b.now.types.now)))
+    (names_of-hidden b.now.names.now)
+    ∙ ap (λ x. tree.shape b.now.row b.now.qualifiers.0 b.now.numbers.now b.now.text.now
+    (names_in b.now.names.now) x) (types_of-hidden b.now.types.now)
+
 pub ruleset views = (
   types_of-hidden,
   names_of-hidden,
@@ -106,4 +131,6 @@ pub ruleset views = (
   type_of-MemberFunction,
   type_of-MemberPointer,
   type_of-Table,
+  name_of-Shape,
+  type_of-Shape,
 )

@@ -4,7 +4,7 @@ use Rattle.std.specs.Prelude.{◌≡◌, ℕ, List, Option, Some, None, is_some,
 use denote.Enum.Bare.{Bare, tag_one}
 use denote.Enum.Declared.{Declared, tag_of}
 use lib.IntN.{ℤ_discrete}
-use mathlib.Core.Bool.{true≢false}
+use mathlib.Core.Bool.{Bool-discrete, true≢false}
 use mathlib.Core.HLevel.{×_discrete}
 use mathlib.Core.List.{List-discrete}
 use mathlib.Core.Path.{ap, refl, sym}
@@ -20,7 +20,7 @@ use Rattle.msvc_nodes.specs.contracts.kinds.PlainType.{the_type as plains}
 use Rattle.msvc_nodes.specs.contracts.kinds.Spelling.{the_type as spellings}
 use Rattle.msvc_nodes.specs.contracts.kinds.SpecialTableKind.{the_type as tables}
 use Rattle.msvc_nodes.specs.contracts.kinds.TagKind.{the_type as tags}
-use Rattle.msvc_nodes.specs.contracts.kinds.CallingConv.{the_type as conventions}
+use Rattle.msvc_nodes.specs.contracts.kinds.Convention.{the_type as conventions}
 use Rattle.msvc_nodes.specs.contracts.kinds.VarStorageKind.{the_type as kinds}
 use Rattle.msvc_nodes.specs.declared.kinds.PrimitiveKind.{PrimitiveKind}
 use Rattle.msvc_nodes.specs.declared.kinds.Guard.{Guard}
@@ -31,8 +31,9 @@ use Rattle.msvc_nodes.specs.declared.kinds.PlainType.{PlainType}
 use Rattle.msvc_nodes.specs.declared.kinds.Spelling.{Spelling}
 use Rattle.msvc_nodes.specs.declared.kinds.SpecialTableKind.{SpecialTableKind}
 use Rattle.msvc_nodes.specs.declared.kinds.TagKind.{TagKind}
-use Rattle.msvc_nodes.specs.declared.kinds.CallingConv.{CallingConv}
+use Rattle.msvc_nodes.specs.declared.kinds.Convention.{Convention}
 use Rattle.msvc_nodes.specs.declared.kinds.VarStorageKind.{VarStorageKind}
+use Rattle.msvc_nodes.specs.declared.nodes.Number.{Number}
 
 -- a decision for an enumeration with nothing in its variants, by the tags of its values
 by_tags : (D : Declared) → Bare D.parts → (a b : D.D) → Dec (tag_of D a ≡ tag_of D b) → Dec (a ≡ b)
@@ -69,7 +70,7 @@ table_discrete = bare_discrete tables tt
 tag_discrete : Discrete TagKind
 tag_discrete = bare_discrete tags tt
 
-convention_discrete : Discrete CallingConv
+convention_discrete : Discrete Convention
 convention_discrete = bare_discrete conventions tt
 
 kind_discrete : Discrete VarStorageKind
@@ -88,28 +89,37 @@ option_discrete d (Some a) (Some b) = some_discrete a b (d a b)
 text_discrete : Discrete (List ℕ)
 text_discrete = List-discrete ℕ_discrete
 
+number_of : (a b : Number) → Dec (a.is_negative ≡ b.is_negative) → Dec (a.value ≡ b.value) → Dec (a ≡ b)
+number_of a b (yes p) (yes q) = yes (λ i. record { is_negative = p i; value = q i })
+number_of a b (yes p) (no n) = no (λ e. n (ap (λ x. x.value) e))
+number_of a b (no n) q = no (λ e. n (ap (λ x. x.is_negative) e))
+
+numbers_discrete : Discrete (List Number)
+numbers_discrete =
+    List-discrete (λ a b. number_of a b (Bool-discrete a.is_negative b.is_negative) (ℕ_discrete a.value b.value))
+
 pub name_discrete : Discrete NameTree
 name_discrete =
     NameTree-discrete spelling_discrete text_discrete operator_discrete guard_discrete (option_discrete ℕ_discrete)
-    ℕ_discrete ℤ_discrete (option_discrete text_discrete) plain_discrete base_discrete tag_discrete number_discrete
+    ℕ_discrete ℤ_discrete (option_discrete text_discrete) numbers_discrete plain_discrete base_discrete tag_discrete number_discrete
     mark_discrete convention_discrete kind_discrete table_discrete
 
 pub names_discrete : Discrete NameTrees
 names_discrete =
     NameTrees-discrete spelling_discrete text_discrete operator_discrete guard_discrete (option_discrete ℕ_discrete)
-    ℕ_discrete ℤ_discrete (option_discrete text_discrete) plain_discrete base_discrete tag_discrete number_discrete
+    ℕ_discrete ℤ_discrete (option_discrete text_discrete) numbers_discrete plain_discrete base_discrete tag_discrete number_discrete
     mark_discrete convention_discrete kind_discrete table_discrete
 
 pub type_discrete : Discrete TypeTree
 type_discrete =
     TypeTree-discrete spelling_discrete text_discrete operator_discrete guard_discrete (option_discrete ℕ_discrete)
-    ℕ_discrete ℤ_discrete (option_discrete text_discrete) plain_discrete base_discrete tag_discrete number_discrete
+    ℕ_discrete ℤ_discrete (option_discrete text_discrete) numbers_discrete plain_discrete base_discrete tag_discrete number_discrete
     mark_discrete convention_discrete kind_discrete table_discrete
 
 pub types_discrete : Discrete TypeTrees
 types_discrete =
     TypeTrees-discrete spelling_discrete text_discrete operator_discrete guard_discrete (option_discrete ℕ_discrete)
-    ℕ_discrete ℤ_discrete (option_discrete text_discrete) plain_discrete base_discrete tag_discrete number_discrete
+    ℕ_discrete ℤ_discrete (option_discrete text_discrete) numbers_discrete plain_discrete base_discrete tag_discrete number_discrete
     mark_discrete convention_discrete kind_discrete table_discrete
 
 pub symbol_discrete : Discrete (NameTree × NameTrees)

@@ -1,10 +1,11 @@
--- A fact P about every name that is spelled in a tree: a source name, the name of an interface, or a hash.
+-- A fact P about every name that is spelled in a tree: a source name, the name of an interface, a hash, or the bytes of a
+-- shape.
 use Rattle.std.specs.Prelude.{ℕ, List}
 use Rattle.msvc_nodes.specs.Trees.{NameTree, NameTrees, TypeTree, TypeTrees, SymbolTree, spelled, operator, guard}
 use Rattle.msvc_nodes.specs.Trees.{type_descriptor, base_class_descriptor, template, discriminator, nested, anonymous}
 use Rattle.msvc_nodes.specs.Trees.{no_names, names, plain, base, tagged, numbered, constant_string, pointing, array}
 use Rattle.msvc_nodes.specs.Trees.{function, member_function, member_pointer, variable, table, vcall_thunk, no_types}
-use Rattle.msvc_nodes.specs.Trees.{types}
+use Rattle.msvc_nodes.specs.Trees.{types, shape, shaped}
 
 abbrev mutual
   -- P holds of every name that is spelled in a name
@@ -18,6 +19,7 @@ abbrev mutual
   EachNameOfName P (discriminator z) = Unit {0}
   EachNameOfName P (nested n ns t) = EachNameOfName P n × EachNameOfNames P ns × EachNameOfType P t
   EachNameOfName P (anonymous digits) = Unit {0}
+  EachNameOfName P (shaped row q zs bytes ns ts) = P bytes × EachNameOfNames P ns × EachNameOfTypes P ts
 
   -- P holds of every name that is spelled in the names of a scope
   pub EachNameOfNames : (List ℕ → Type 0) → NameTrees → Type 0
@@ -40,6 +42,7 @@ abbrev mutual
   EachNameOfType P (variable t kind class) = EachNameOfType P t
   EachNameOfType P (table k ns q) = EachNameOfNames P ns
   EachNameOfType P (vcall_thunk z c) = Unit {0}
+  EachNameOfType P (shape row q zs bytes ns ts) = P bytes × EachNameOfNames P ns × EachNameOfTypes P ts
 
   -- P holds of every name that is spelled in a list of types
   pub EachNameOfTypes : (List ℕ → Type 0) → TypeTrees → Type 0

@@ -5,7 +5,7 @@ use Rattle.msvc_nodes.specs.Trees.{NameTree, NameTrees, TypeTree, TypeTrees, Sym
 use Rattle.msvc_nodes.specs.Trees.{type_descriptor, base_class_descriptor, template, discriminator, nested, anonymous}
 use Rattle.msvc_nodes.specs.Trees.{no_names, names, plain, base, tagged, numbered, constant_string, pointing, array}
 use Rattle.msvc_nodes.specs.Trees.{function, member_function, member_pointer, variable, table, vcall_thunk, no_types}
-use Rattle.msvc_nodes.specs.Trees.{types}
+use Rattle.msvc_nodes.specs.Trees.{types, shape, shaped}
 use Rattle.msvc_nodes.specs.declared.kinds.Spelling.TheVariants as spelling_kind
 use Rattle.msvc_nodes.specs.declared.nodes.Name.{Name, Row_of-Function-parameters-1, Row_of-Scope-names-1}
 use Rattle.msvc_nodes.specs.declared.nodes.Name as n
@@ -27,6 +27,7 @@ unfoldable mutual
   name_of (n.Template' p pn n pl s r) = template (name_of n) (types_of r)
   name_of (n.Discriminator z) = discriminator z
   name_of (n.Nested' p pn n pl s r pt t) = nested (name_of n) (names_of r) (type_of t)
+  name_of (n.Shape' p k q zs x pn s r pt s' r') = shaped k q.0 zs.now x.now (names_of r) (types_of r')
 
   -- a type of the program as a tree
   pub type_of : t.«Type» → TypeTree
@@ -44,6 +45,7 @@ unfoldable mutual
   type_of (t.Variable' k q p t) = variable (type_of t) k q.0
   type_of (t.Table' k q p pl s r) = table k (names_of r) q.0
   type_of (t.VcallThunk z c) = vcall_thunk z c
+  type_of (t.Shape' p k q zs x pn s r pt s' r') = shape k q.0 zs.now x.now (names_of r) (types_of r')
 
   -- a row of names, as a scope holds it, as a tree
   pub names_of : {m : _} → Row_of-Scope-names-1 m → NameTrees

@@ -13,8 +13,9 @@ use Rattle.msvc_nodes.specs.declared.kinds.Spelling.{Spelling}
 use Rattle.msvc_nodes.specs.declared.kinds.Spelling.TheVariants as spelling_kind
 use Rattle.msvc_nodes.specs.declared.kinds.SpecialTableKind.{SpecialTableKind}
 use Rattle.msvc_nodes.specs.declared.kinds.TagKind.{TagKind}
-use Rattle.msvc_nodes.specs.declared.kinds.CallingConv.{CallingConv}
+use Rattle.msvc_nodes.specs.declared.kinds.Convention.{Convention}
 use Rattle.msvc_nodes.specs.declared.kinds.VarStorageKind.{VarStorageKind}
+use Rattle.msvc_nodes.specs.declared.nodes.Number.{Number}
 
 mutual
   pub data NameTree : Type 0 where
@@ -29,6 +30,8 @@ mutual
     -- a whole symbol: its name, its scope and its type
     nested : NameTree → NameTrees → TypeTree → NameTree
     anonymous : Option (List ℕ) → NameTree
+    -- a row of the table of shapes, its qualifiers, numbers, bytes, names and types
+    shaped : ℕ → ℕ → List Number → List ℕ → NameTrees → TypeTrees → NameTree
     deriving Discrete as NameTree-discrete
 
   -- the names of a scope, the innermost first
@@ -48,17 +51,19 @@ mutual
     -- the length of the outermost level, the elements, the qualifiers of the level
     array : ℤ → TypeTree → ℕ → TypeTree
     -- convention, parameters, the function's qualifiers, what it returns
-    function : CallingConv → TypeTrees → ℕ → TypeTree → TypeTree
+    function : Convention → TypeTrees → ℕ → TypeTree → TypeTree
     -- the class of the member function, its convention, its parameters, its qualifiers, what it returns
-    member_function : ℕ → CallingConv → TypeTrees → ℕ → TypeTree → TypeTree
+    member_function : ℕ → Convention → TypeTrees → ℕ → TypeTree → TypeTree
     -- the name and the scope of the class, then the class of the member function, its convention, its parameters, its
     -- qualifiers, what it returns
-    member_pointer : NameTree → NameTrees → ℕ → CallingConv → TypeTrees → ℕ → TypeTree → TypeTree
+    member_pointer : NameTree → NameTrees → ℕ → Convention → TypeTrees → ℕ → TypeTree → TypeTree
     -- the type, who may name the variable and where it lives, the storage class after the type
     variable : TypeTree → VarStorageKind → ℕ → TypeTree
     -- what the table is of, the scope of the base that it is for, the qualifiers
     table : SpecialTableKind → NameTrees → ℕ → TypeTree
-    vcall_thunk : ℤ → CallingConv → TypeTree
+    vcall_thunk : ℤ → Convention → TypeTree
+    -- a row of the table of shapes, its qualifiers, numbers, bytes, names and types
+    shape : ℕ → ℕ → List Number → List ℕ → NameTrees → TypeTrees → TypeTree
     deriving Discrete as TypeTree-discrete
 
   pub data TypeTrees : Type 0 where

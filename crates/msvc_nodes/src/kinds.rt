@@ -313,7 +313,7 @@ pub enum SpecialTableKind {
     Bases,
 }
 
-/// How a function is called.
+/// How a function is called, in owned trees.
 #[derive(Clone, Copy, PartialEq, Eq, Debug)]
 pub enum CallingConv {
     /// `__cdecl`, by the letters `A` and `B`.
@@ -328,6 +328,39 @@ pub enum CallingConv {
     Fastcall,
     /// `__regcall`. No letter gives it.
     _Regcall,
+}
+
+/// How a function is called.
+#[derive(Clone, Copy, PartialEq, Eq, Debug)]
+pub enum Convention {
+    /// `__cdecl`.
+    Cdecl,
+    /// `__pascal`.
+    Pascal,
+    /// `__thiscall`.
+    Thiscall,
+    /// `__stdcall`.
+    Stdcall,
+    /// `__fastcall`.
+    Fastcall,
+    /// `__regcall`.
+    _Regcall,
+    /// `__clrcall`. This and those below are read by no letter of the crate's grammar.
+    Clrcall,
+    /// `__eabi`.
+    Eabi,
+    /// `__vectorcall`.
+    Vectorcall,
+    /// `__attribute__((__swiftcall__))`.
+    Swift,
+    /// `__attribute__((__swiftasynccall__))`.
+    SwiftAsync,
+    /// `__attribute__((__preserve_most__))`.
+    PreserveMost,
+    /// `__attribute__((__preserve_none__))`.
+    PreserveNone,
+    /// `__regcall4`.
+    Regcall4,
 }
 
 /// Where a variable lives, and who may name it.

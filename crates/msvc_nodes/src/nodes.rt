@@ -3,7 +3,7 @@
 
 use crate::flags::{FuncClass, StorageClass};
 use crate::kinds::{
-    CallingConv, Guard, NumberedType, PlainOperator, PlainType, PointerAffinity, PrimitiveKind,
+    Convention, Guard, NumberedType, PlainOperator, PlainType, PointerAffinity, PrimitiveKind,
     SpecialTableKind, TagKind, VarStorageKind,
 };
 
@@ -35,6 +35,35 @@ pub enum Name<'a, 'b> {
     Discriminator(i32),
     /// A symbol with its type as a scope, in the arena, as that of the function around a local variable.
     Nested(&'b TypedSymbol<'a, 'b>),
+    /// A name whose parts are those of a row of the table of shapes, in the arena.
+    Shape(&'b Shape<'a, 'b>),
+}
+
+/// A number of 64 bits and its sign, which nothing can have too.
+#[derive(Clone, Copy, PartialEq, Eq)]
+pub struct Number {
+    /// Whether the number has a minus.
+    pub is_negative: bool,
+    /// The number without its sign.
+    pub value: u64,
+}
+
+/// The parts of a name or a type of the table of shapes. Its row says which of them it has and what they mean.
+#[derive(Clone, Copy)]
+#[cycle(nodes)]
+pub struct Shape<'a, 'b> {
+    /// The row of the table.
+    pub row: u8,
+    /// The qualifiers; empty if the row has none.
+    pub qualifiers: StorageClass,
+    /// The numbers in their order, in the arena.
+    pub numbers: &'b [Number],
+    /// The bytes, a part of the text; empty if the row has none.
+    pub text: &'a [u8],
+    /// The names in their order, a list of references in the arena. A symbol is a [`Name::Nested`].
+    pub names: &'b [&'b Name<'a, 'b>],
+    /// The types in their order, a list of references in the arena.
+    pub types: &'b [&'b Type<'a, 'b>],
 }
 
 /// The place of a base class in an object. Offsets are in bytes; -1 stands for none.
@@ -85,7 +114,7 @@ pub struct TypedSymbol<'a, 'b> {
 #[cycle(nodes)]
 pub struct Function<'a, 'b> {
     /// How the function is called.
-    pub convention: CallingConv,
+    pub convention: Convention,
     /// The access, the kind and the thunks of a member function; empty for a plain function.
     pub class: FuncClass,
     /// The function's qualifiers; empty for a plain function and for a static member function.
@@ -134,5 +163,7 @@ pub enum Type<'a, 'b> {
     /// A table of virtual functions or bases, its qualifiers, and the scope of the base that it is for, in the arena.
     Table(SpecialTableKind, StorageClass, &'b Scope<'a, 'b>),
     /// A thunk of a virtual call: the offset in the table of virtual functions, in bytes, and the convention.
-    VcallThunk(i32, CallingConv),
+    VcallThunk(i32, Convention),
+    /// A type, or what stands in the place of one, whose parts are those of a row of the table of shapes, in the arena.
+    Shape(&'b Shape<'a, 'b>),
 }

@@ -7,7 +7,7 @@ ghost use Rattle.msvc_nodes.specs.NodeView.{name_of, type_of, names_in, types_in
 
 use crate::flags::StorageClass;
 use crate::kinds::{SpecialTableKind, TagKind};
-use crate::nodes::{BaseClass, Function, Name, Scope, Symbol, Template, Type, TypedSymbol};
+use crate::nodes::{BaseClass, Function, Name, Number, Scope, Shape, Symbol, Template, Type, TypedSymbol};
 
 /// Tests whether two names are seen as the same.
 #[inline(always)]
@@ -119,6 +119,10 @@ fn same_name<'a, 'b>(left: &'b Name<'a, 'b>, right: &'b Name<'a, 'b>) -> bool
             Name::Nested(other) => same_typed_symbol(*symbol, *other),
             _ => false,
         },
+        Name::Shape(shape) => match right {
+            Name::Shape(other) => same_shape(*shape, *other),
+            _ => false,
+        },
     }
 }
 
@@ -147,6 +151,37 @@ fn same_scope<'a, 'b>(left: &'b Scope<'a, 'b>, right: &'b Scope<'a, 'b>) -> bool
     ensures { IsTrue result ↔ (names_in left.now.names.now ≡ names_in right.now.names.now) }
 {
     same_names(left.names, right.names)
+}
+
+/// Tests whether two lists have the same numbers, in their order.
+fn same_numbers(left: &[Number], right: &[Number]) -> bool
+    ensures { IsTrue result ↔ (left.now ≡ right.now) }
+{
+    left == right
+}
+
+/// Tests whether two shapes are of one row, with the same qualifiers, numbers and bytes.
+fn same_leaves<'a, 'b>(left: &'b Shape<'a, 'b>, right: &'b Shape<'a, 'b>) -> bool
+    ensures { IsTrue result ↔ ((left.now.row ≡ right.now.row) × (left.now.qualifiers.0 ≡ right.now.qualifiers.0)
+        × (left.now.numbers.now ≡ right.now.numbers.now) × (left.now.text.now ≡ right.now.text.now)) }
+{
+    left.row == right.row
+        && left.qualifiers == right.qualifiers
+        && same_numbers(left.numbers, right.numbers)
+        && same_text(left.text, right.text)
+}
+
+/// Tests whether two shapes are of one row, with the same parts.
+#[cycle(same)]
+fn same_shape<'a, 'b>(left: &'b Shape<'a, 'b>, right: &'b Shape<'a, 'b>) -> bool
+    ensures { IsTrue result ↔ ((left.now.row ≡ right.now.row) × (left.now.qualifiers.0 ≡ right.now.qualifiers.0)
+        × (left.now.numbers.now ≡ right.now.numbers.now) × (left.now.text.now ≡ right.now.text.now)
+        × (names_in left.now.names.now ≡ names_in right.now.names.now)
+        × (types_in left.now.types.now ≡ types_in right.now.types.now)) }
+{
+    same_leaves(left, right)
+        && same_names(left.names, right.names)
+        && same_types(left.types, right.types)
 }
 
 /// Tests whether two functions have the same class, and are the same but for that.
@@ -301,6 +336,10 @@ fn same_type<'a, 'b>(left: &'b Type<'a, 'b>, right: &'b Type<'a, 'b>) -> bool
         },
         Type::VcallThunk(number, convention) => match right {
             Type::VcallThunk(other, call) => *number == *other && *convention == *call,
+            _ => false,
+        },
+        Type::Shape(shape) => match right {
+            Type::Shape(other) => same_shape(*shape, *other),
             _ => false,
         },
     }

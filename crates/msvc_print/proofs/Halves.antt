@@ -1,20 +1,27 @@
 -- A type puts on the left and on the right of a name what the printer prints before and after it.
 use Rattle.std.proofs.Common.{◌≡◌, ℕ, List, [], ◌∷◌, ◌++◌, Bool, true, false, refl, ap, sym, ◌∙◌, codes}
+use Rattle.std.proofs.Common.{Option, Some, None}
 use Rattle.std.proofs.lemmas.List.{append-nil, append_assoc}
 use Rattle.msvc_nodes.specs.Trees.{NameTree, NameTrees, TypeTree, plain, base, tagged, numbered, pointing, array}
 use Rattle.msvc_nodes.specs.Trees.{function, member_function, member_pointer, variable, table, vcall_thunk}
+use Rattle.msvc_nodes.specs.Trees.{TypeTrees, no_types, shape, types}
 use Rattle.msvc_nodes.specs.declared.kinds.NumberedType.TheVariants as number_kind
 use Rattle.msvc_nodes.specs.declared.kinds.PlainType.TheVariants as plain_kind
 use Rattle.msvc_print.specs.Declaration.{conversion, grown, length_pieces, parameters, symbol_name, symbol_pieces}
+use Rattle.msvc_print.specs.Declaration.{grown_around}
 use Rattle.msvc_print.specs.Functions.{calling, member_start, function_qualifier, function_qualifiers, parameter_list}
-use Rattle.msvc_print.specs.Halves.{after, before, function_end, member_pointer_end, pointed_name}
+use Rattle.msvc_print.specs.Halves.{after, before, function_end, member_pointer_end, pieces_around, pointed_name}
+use Rattle.msvc_print.specs.Halves.{shape_parts}
 use Rattle.msvc_print.specs.Pieces.{Piece, text}
+use Rattle.msvc_print.specs.Shapes.{laid}
 use Rattle.msvc_print.specs.Sides.{Sides, alone, around, between, kept_left, kept_right}
 use Rattle.msvc_print.specs.Words.{closing, mark_word, marked, opening, qualifiers, variable_word}
 use Rattle.msvc_print.specs.Flags.{has, name_only, no_function_returns}
 use Rattle.msvc_print.proofs.Dropped.{kept_left-all, kept_left-name_only, kept_left-no_returns}
 use Rattle.msvc_print.proofs.Dropped.{kept_right-all, kept_right-dropped}
 use Rattle.msvc_print.proofs.Stack.{pushes}
+use Rattle.msvc_shapes.specs.Layouts.{layout_of, slots}
+use Rattle.msvc_shapes.specs.declared.layouts.Side.TheVariants as side
 
 -- pieces around pieces
 between-twice : (a b c d : List Piece) (s : Sides) → between a (between b s c) d ≡ between (a ++ b) s (c ++ d)
@@ -41,9 +48,20 @@ member_pointer_end-parts ps set returned =
     ap (λ x. text (codes ")(") ∷ x) (ap (λ x. x ++ const) (append_assoc ps (text (codes ")") ∷ []) returned)
     ∙ append_assoc ps (text (codes ")") ∷ returned) const)
 
+-- the first type around a shape, by the two sides of that type
+around_shape-halves : (w : Option Bool) (t : TypeTree) (ts : TypeTrees) (more end : List Piece) (inside : Sides)
+    (flags : ℕ) → ((p : Bool) (s : Sides) → grown t p s flags ≡ between (before t p flags) s (after t p flags)) →
+    grown_around (types t ts) w (between more inside end) flags
+    ≡ between (pieces_around w (λ p. before t p flags) ++ more) inside
+    (end ++ pieces_around w (λ p. after t p flags))
+unfolding grown_around
+around_shape-halves None t ts more end inside flags h = ap (λ x. between more inside x) (sym (append-nil end))
+around_shape-halves (Some p) t ts more end inside flags h =
+    h p (between more inside end) ∙ between-twice (before t p flags) more end (after t p flags) inside
+
 pub grown-halves : (t : TypeTree) (pointed : Bool) (inside : Sides) (flags : ℕ) →
     grown t pointed inside flags ≡ between (before t pointed flags) inside (after t pointed flags)
-unfolding grown conversion before after
+unfolding grown grown_around conversion before after
 grown-halves (base b set) pointed inside flags = refl
 grown-halves (tagged tag n scope set) pointed inside flags = refl
 grown-halves (pointing m t set) pointed inside flags =
@@ -101,6 +119,11 @@ grown-halves (numbered number_kind.TemplateParameter n) pointed inside flags = r
 grown-halves (numbered number_kind.ThreadSafeGuard n) pointed inside flags = refl
 grown-halves (plain plain_kind.Variadic) pointed inside flags = refl
 grown-halves (plain plain_kind.Nullptr) pointed inside flags = refl
+grown-halves (shape row set zs bytes ns no_types) pointed inside flags = refl
+grown-halves (shape row set zs bytes ns (types t ts)) pointed inside flags =
+    around_shape-halves (layout_of row).around t ts (laid (slots row side.Left) pointed (shape_parts set zs ns flags) flags)
+    (laid (slots row side.Right) pointed (shape_parts set zs ns flags) flags) inside flags
+    (λ p s. grown-halves t p s flags)
 grown-halves _ pointed inside flags = between-nothing inside
 
 -- the two sides of a name

@@ -8,18 +8,20 @@ use Rattle.msvc_nodes.specs.Trees.{NameTree, NameTrees, TypeTree, TypeTrees, spe
 use Rattle.msvc_nodes.specs.Trees.{type_descriptor, base_class_descriptor, template, discriminator, nested, anonymous}
 use Rattle.msvc_nodes.specs.Trees.{no_names, names, no_types, types, base, tagged, pointing, array, function}
 use Rattle.msvc_nodes.specs.Trees.{member_function, member_pointer, plain, numbered, variable, table, vcall_thunk}
+use Rattle.msvc_nodes.specs.Trees.{shape, shaped}
+use Rattle.msvc_nodes.specs.declared.nodes.Number.{Number}
 use Rattle.msvc_nodes.specs.declared.kinds.PrimitiveKind.{PrimitiveKind}
 use Rattle.msvc_nodes.specs.declared.kinds.NumberedType.TheVariants as number_kind
 use Rattle.msvc_nodes.specs.declared.kinds.PlainType.TheVariants as plain_kind
 use Rattle.msvc_nodes.specs.declared.kinds.PlainOperator.TheVariants as plain_operator
 use Rattle.msvc_nodes.specs.declared.kinds.Spelling.TheVariants as spelling_kind
 use Rattle.msvc_nodes.specs.declared.kinds.TagKind.{TagKind}
-use Rattle.msvc_nodes.specs.declared.kinds.CallingConv.{CallingConv}
+use Rattle.msvc_nodes.specs.declared.kinds.Convention.{Convention}
 use Rattle.msvc_print.proofs.Dropped.{kept_left-name_only, kept_right-dropped}
 use Rattle.msvc_print.specs.Declaration.{ScopePieces, angled, conversion, declaration, grown, is_empty_pack}
 use Rattle.msvc_print.specs.Declaration.{length_pieces, name_pieces, named, parameters, pointed_class, quoted_unless}
 use Rattle.msvc_print.specs.Declaration.{scope_path, scope_pieces, scope_prefix, symbol_name, symbol_pieces, table_end}
-use Rattle.msvc_print.specs.Declaration.{with_inner}
+use Rattle.msvc_print.specs.Declaration.{each_name, grown_around, with_inner}
 use Rattle.msvc_print.specs.Flags.{has, hug_type, ms_type_names, name_only, no_access_specifiers, no_class_type}
 use Rattle.msvc_print.specs.Flags.{no_function_returns, no_member_type, no_ms_keywords, no_this_type}
 use Rattle.msvc_print.specs.Flags.{space_after_comma, space_before_pointer, with_ptr64}
@@ -30,6 +32,7 @@ use Rattle.msvc_print.specs.Functions.{function_qualifier, function_qualifiers, 
 use Rattle.msvc_print.specs.Laws.{Agree, HashIsItsText, NameOnlyAsksNoType, OtherBitsChangeNothing, obeyed_flags}
 use Rattle.msvc_print.specs.Operators.{base_class_pieces, name_kind, unqualified_name, scoped}
 use Rattle.msvc_print.specs.Pieces.{Piece, resolve, settle_all, space, text}
+use Rattle.msvc_print.specs.Shapes.{Parts, laid, parts, slot_pieces}
 use Rattle.msvc_print.specs.Sides.{Sides, alone, around, between, kept, kept_left, kept_right}
 use Rattle.msvc_print.specs.Words.{base_word, base_words, chosen_word, closing, kind_word, mark_space, mark_word}
 use Rattle.msvc_print.specs.Words.{marked, name_space, opening, qualifier, qualifier_space, qualifiers, tag_word}
@@ -37,6 +40,9 @@ use Rattle.msvc_print.specs.Words.{variable_word}
 use Rattle.msvc_print.specs.declared.operators.NameKind.{NameKind}
 use Rattle.msvc_print.specs.declared.operators.NameKind.TheVariants as name_kinds
 use Rattle.msvc_print.specs.declared.spaces.Space.TheVariants.{AfterPointer, AfterReference, AfterWord, UnlessOpen}
+use Rattle.msvc_shapes.specs.Layouts.{Slot, layout_of, slots}
+use Rattle.msvc_shapes.specs.Layouts as slot
+use Rattle.msvc_shapes.specs.declared.layouts.Side.TheVariants as side
 
 -- two words give the same answer to each question that a definition asks
 record Same (a b : ℕ) : Type 0 where
@@ -167,7 +173,7 @@ function_qualifiers-same set a b e = same-unless (has a no_this_type) (has b no_
     ++ (function_qualifier 128 (codes "&") set ++ function_qualifier 256 (codes "&&") set)))))
     (wide_qualifier-same set a b e))
 
-calling-same : (pointed : Bool) (convention : CallingConv) (a b : ℕ) → Same a b →
+calling-same : (pointed : Bool) (convention : Convention) (a b : ℕ) → Same a b →
     calling pointed convention a ≡ calling pointed convention b
 unfolding calling convention_pieces
 calling-same pointed convention a b e =
@@ -212,9 +218,38 @@ around_kept-same s s' x x' a b hs hx e = same-append _ _ _ _
     (kept_left-same s.left s'.left a b (ap (λ z. z.left) hs) e)
     (same-append _ _ _ _ hx (kept_right-same s.right s'.right a b (ap (λ z. z.right) hs) e))
 
+-- shapes
+slot_pieces-same : (s : Slot) (pointed : Bool) (p : Parts) (a b : ℕ) → Same a b →
+    slot_pieces s pointed p a ≡ slot_pieces s pointed p b
+unfolding slot_pieces
+slot_pieces-same (slot.kind_word w) pointed p a b e =
+    same-unless (has a no_member_type) (has b no_member_type) _ _ e.member refl
+slot_pieces-same slot.qualifiers pointed p a b e = qualifiers-same p.set a b e
+slot_pieces-same slot.pointer_qualifiers pointed p a b e = qualifiers-same p.set a b e
+slot_pieces-same _ pointed p a b e = refl
+
+laid-flags : (ss : List Slot) (pointed : Bool) (p : Parts) (a b : ℕ) → Same a b →
+    laid ss pointed p a ≡ laid ss pointed p b
+unfolding laid
+laid-flags [] pointed p a b e = refl
+laid-flags (s ∷ ss) pointed p a b e =
+    same-append _ _ _ _ (slot_pieces-same s pointed p a b e) (laid-flags ss pointed p a b e)
+
+laid-same : (ss : List Slot) (pointed : Bool) (p p' : Parts) (a b : ℕ) → p ≡ p' → Same a b →
+    laid ss pointed p a ≡ laid ss pointed p' b
+laid-same ss pointed p p' a b h e = ap (λ z. laid ss pointed z a) h ∙ laid-flags ss pointed p' a b e
+
+parts-same : (set : ℕ) (zs : List Number) (ns ns' os os' : List (List Piece)) → ns ≡ ns' → os ≡ os' →
+    parts set zs ns os ≡ parts set zs ns' os'
+parts-same set zs ns ns' os os' h h' = ap (λ z. parts set zs z os) h ∙ ap (λ z. parts set zs ns' z) h'
+
+same-cons : (x x' : List Piece) (xs xs' : List (List Piece)) → x ≡ x' → xs ≡ xs' →
+    Path (List (List Piece)) (x ∷ xs) (x' ∷ xs')
+same-cons x x' xs xs' h hs = ap (λ z. z ∷ xs) h ∙ ap (λ z. x' ∷ z) hs
+
 -- names, scopes, types and their lists
 mutual
-  unfolding name_pieces scope_pieces conversion grown parameters
+  unfolding name_pieces scope_pieces conversion grown grown_around each_name parameters
 
   name_pieces-same : (n : NameTree) (of_symbol : Bool) (a b : ℕ) → Same a b →
       name_pieces n of_symbol a ≡ name_pieces n of_symbol b
@@ -235,6 +270,14 @@ mutual
       ap (λ s. space AfterPointer ∷ (s.left ++ text (codes "::`RTTI Type Descriptor'") ∷ []))
       (grown-same t false alone alone a b refl e)
   name_pieces-same (base_class_descriptor k l m n) of_symbol a b e = base_class-same k l m n a b e
+  name_pieces-same (shaped row set zs bytes ns ts) of_symbol a b e = laid-same (slots row side.Left) false _ _ a b
+      (parts-same set zs _ _ _ _ (each_name-same ns true a b e) (each_name-same ns false a b e)) e
+
+  each_name-same : (ns : NameTrees) (of_symbol : Bool) (a b : ℕ) → Same a b →
+      each_name ns of_symbol a ≡ each_name ns of_symbol b
+  each_name-same no_names of_symbol a b e = refl
+  each_name-same (names n ns) of_symbol a b e =
+      same-cons _ _ _ _ (name_pieces-same n of_symbol a b e) (each_name-same ns of_symbol a b e)
 
   scope_pieces-same : (ns : NameTrees) (a b : ℕ) → Same a b → scope_pieces ns a ≡ scope_pieces ns b
   scope_pieces-same no_names a b e = refl
@@ -295,7 +338,16 @@ mutual
   grown-same (plain plain_kind.Variadic) pointed s s' a b h e = ap (λ x. between (text (codes "...") ∷ []) x []) h
   grown-same (plain plain_kind.Nullptr) pointed s s' a b h e =
       ap (λ x. between (text (codes "std::nullptr_t") ∷ []) x []) h
+  grown-same (shape row set zs bytes ns ts) pointed s s' a b h e =
+      let p = parts-same set zs _ _ _ _ (each_name-same ns true a b e) (each_name-same ns false a b e) in
+      grown_around-same ts (layout_of row).around _ _ a b (between-same _ _ s s' _ _
+      (laid-same (slots row side.Left) pointed _ _ a b p e) h (laid-same (slots row side.Right) pointed _ _ a b p e)) e
   grown-same _ pointed s s' a b h e = h
+
+  grown_around-same : (ts : TypeTrees) (w : Option Bool) (s s' : Sides) (a b : ℕ) → s ≡ s' → Same a b →
+      grown_around ts w s a ≡ grown_around ts w s' b
+  grown_around-same (types t ts) (Some pointed) s s' a b h e = grown-same t pointed s s' a b h e
+  grown_around-same _ _ s s' a b h e = h
 
   parameters-same : (ts : TypeTrees) (first : Bool) (a b : ℕ) → Same a b → parameters ts first a ≡ parameters ts first b
   parameters-same no_types first a b e = refl

@@ -2,6 +2,7 @@ pub mod Settling
 pub mod Copies
 pub mod Halves
 pub mod Stack
+pub mod ShapePieces
 pub mod Dropped
 pub mod SimpleTypes
 pub mod Longer

@@ -27,14 +27,16 @@ use Rattle.msvc_nodes.specs.Trees.{NameTree, NameTrees, SymbolTree, TypeTree, Ty
 use Rattle.msvc_nodes.specs.Trees.{type_descriptor, base_class_descriptor, template, discriminator, nested, anonymous}
 use Rattle.msvc_nodes.specs.Trees.{no_names, names, no_types, types, plain, base, tagged, numbered, pointing, array}
 use Rattle.msvc_nodes.specs.Trees.{function, member_function, member_pointer, variable, table, vcall_thunk}
-use Rattle.msvc_nodes.specs.declared.kinds.CallingConv.{CallingConv}
-use Rattle.msvc_nodes.specs.declared.kinds.CallingConv.TheVariants.{Cdecl}
+use Rattle.msvc_nodes.specs.Trees.{shape, shaped}
+use Rattle.msvc_nodes.specs.declared.nodes.Number.{Number}
+use Rattle.msvc_nodes.specs.declared.kinds.Convention.{Convention}
+use Rattle.msvc_nodes.specs.declared.kinds.Convention.TheVariants.{Cdecl}
 use Rattle.msvc_nodes.specs.declared.kinds.VarStorageKind.{VarStorageKind}
 use Rattle.msvc_nodes.specs.declared.kinds.VarStorageKind.TheVariants.{PrivateStatic}
 use Rattle.msvc_print.specs.Declaration.{ScopePieces, angled, class_after, conversion, declaration, grown}
 use Rattle.msvc_print.specs.Declaration.{is_empty_pack, length_pieces, name_pieces, named, parameters, pointed_class}
 use Rattle.msvc_print.specs.Declaration.{quoted, quoted_unless, scope_pieces, spelled_name, symbol_pieces, table_end}
-use Rattle.msvc_print.specs.Declaration.{thunk_end, tilde, with_inner}
+use Rattle.msvc_print.specs.Declaration.{each_name, grown_around, thunk_end, tilde, with_inner}
 use Rattle.msvc_print.specs.Operators.{base_class_pieces, guard_number, guard_pieces, guard_word, listed, operator_word}
 use Rattle.msvc_print.specs.Operators.{name_kind, unqualified_name, scoped, spaced}
 use Rattle.msvc_print.specs.declared.operators.NameKind.{NameKind}
@@ -46,11 +48,18 @@ use Rattle.msvc_print.specs.Functions.{kind_words, member_start, member_words, f
 use Rattle.msvc_print.specs.Functions.{parameter_list, separator, wide_qualifier}
 use Rattle.msvc_print.specs.Pieces.{Piece, blank, text, space, settle, settle_all}
 use Rattle.msvc_print.specs.Pieces.{is_written_after, last_byte}
+use Rattle.msvc_print.specs.Shapes.{Parts, each_level, laid, level_pieces, number_at, number_pieces, parts, pieces_at}
+use Rattle.msvc_print.specs.Shapes.{slot_pieces}
 use Rattle.msvc_print.specs.Sides.{Sides, alone, around, between, kept, kept_left, kept_right}
 use Rattle.msvc_print.specs.Words.{base_word, base_words, chosen_word, closing, kind_word, mark_space, mark_word}
 use Rattle.msvc_print.specs.Words.{marked, name_space, opening, qualifiers, tag_word, variable_word}
 use Rattle.msvc_print.specs.declared.spaces.Space.{Space}
 use Rattle.msvc_print.specs.declared.spaces.Space.TheVariants.{AfterPointer}
+use Rattle.msvc_shapes.proofs.PlainWords.{EachWord, WordOfSlot, slots-ascii}
+use Rattle.msvc_shapes.specs.Layouts.{Slot, layout_of, slots}
+use Rattle.msvc_shapes.specs.Layouts as slot
+use Rattle.msvc_shapes.specs.declared.layouts.Side.{Side}
+use Rattle.msvc_shapes.specs.declared.layouts.Side.TheVariants as side
 
 -- the bytes of a piece, if it has some, are UTF-8
 abbrev IsText : Piece → Type 0
@@ -163,7 +172,7 @@ unfolding lib.Utf8.encode
 mark_word-utf8 mark_kind.Pointer = (mark_word mark_kind.Pointer, (refl, refl))
 mark_word-utf8 mark = (mark_word mark, (refl, refl))
 
-convention_word-utf8 : (convention : CallingConv) → IsUtf8 (convention_word convention)
+convention_word-utf8 : (convention : Convention) → IsUtf8 (convention_word convention)
 unfolding lib.Utf8.encode
 convention_word-utf8 Cdecl = (convention_word Cdecl, (refl, refl))
 convention_word-utf8 convention = (convention_word convention, (refl, refl))
@@ -252,12 +261,12 @@ function_qualifiers-texts : (set flags : ℕ) → AreTexts (function_qualifiers 
 unfolding function_qualifiers
 function_qualifiers-texts set flags = AreTexts-unless _ _ (each_function_qualifier-texts set flags)
 
-convention-texts : (convention : CallingConv) (flags : ℕ) → AreTexts (convention_pieces convention flags)
+convention-texts : (convention : Convention) (flags : ℕ) → AreTexts (convention_pieces convention flags)
 unfolding convention_pieces
 convention-texts convention flags =
     AreTexts-unless _ _ (AreTexts-text _ _ (convention_word-utf8 convention) AreTexts-none)
 
-calling-texts : (pointed : Bool) (convention : CallingConv) (flags : ℕ) → AreTexts (calling pointed convention flags)
+calling-texts : (pointed : Bool) (convention : Convention) (flags : ℕ) → AreTexts (calling pointed convention flags)
 unfolding calling
 calling-texts pointed convention flags =
     AreTexts-append _ _ (opening-texts pointed) (AreTexts-space _ _ (convention-texts convention flags))
@@ -451,9 +460,68 @@ unfolding lib.Utf8.encode
 angled-texts arguments h = AreTexts-text (codes "<") _ (codes "<", (refl, refl)) (AreTexts-append _ _ h
     (AreTexts-space _ _ (AreTexts-text (codes ">") [] (codes ">", (refl, refl)) AreTexts-none)))
 
+-- numbers of shapes
+number_pieces-texts : (n : Number) → AreTexts (number_pieces n)
+unfolding lib.Utf8.encode
+number_pieces-texts n = AreTexts-append _ _ (AreTexts-word n.is_negative (codes "-") (codes "-", (refl, refl)))
+    (AreTexts-text _ [] (signed_decimal-utf8 (pos n.value)) AreTexts-none)
+
+number_at-texts : (ns : List Number) (i : ℕ) → AreTexts (number_at ns i)
+number_at-texts [] i = AreTexts-none
+number_at-texts (n ∷ ns) zero = number_pieces-texts n
+number_at-texts (n ∷ ns) (suc i) = number_at-texts ns i
+
+level_pieces-texts : (n : Number) → AreTexts (level_pieces n)
+unfolding lib.Utf8.encode
+level_pieces-texts n = AreTexts-text (codes "[") _ (codes "[", (refl, refl)) (AreTexts-append _ _
+    (AreTexts-unless (n.value == 0) _ (number_pieces-texts n))
+    (AreTexts-text (codes "]") [] (codes "]", (refl, refl)) AreTexts-none))
+
+each_level-texts : (ns : List Number) → AreTexts (each_level ns)
+each_level-texts [] = AreTexts-none
+each_level-texts (n ∷ ns) = AreTexts-append _ _ (level_pieces-texts n) (each_level-texts ns)
+
+-- names of shapes
+abbrev EachAreTexts : List (List Piece) → Type 0
+EachAreTexts [] = Unit {0}
+EachAreTexts (x ∷ xs) = AreTexts x × EachAreTexts xs
+
+pieces_at-texts : (xs : List (List Piece)) (i : ℕ) → EachAreTexts xs → AreTexts (pieces_at xs i)
+pieces_at-texts [] i h = AreTexts-none
+pieces_at-texts (x ∷ xs) zero h = h.0
+pieces_at-texts (x ∷ xs) (suc i) h = pieces_at-texts xs i h.1
+
+-- slots
+slot-texts : (s : Slot) (pointed : Bool) (p : Parts) (flags : ℕ) → WordOfSlot IsAscii s → EachAreTexts p.symbols →
+    EachAreTexts p.names → AreTexts (slot_pieces s pointed p flags)
+unfolding slot_pieces
+slot-texts (slot.word w) pointed p flags h hs hn = AreTexts-text w [] (IsUtf8-from_ascii w h) AreTexts-none
+slot-texts (slot.kind_word w) pointed p flags h hs hn =
+    AreTexts-unless _ _ (AreTexts-text w [] (IsUtf8-from_ascii w h) AreTexts-none)
+slot-texts (slot.number i) pointed p flags h hs hn = number_at-texts p.numbers i
+slot-texts slot.lengths pointed p flags h hs hn = each_level-texts p.numbers
+slot-texts slot.qualifiers pointed p flags h hs hn = qualifiers-texts p.set flags
+slot-texts slot.pointer_qualifiers pointed p flags h hs hn = qualifiers-texts p.set flags
+slot-texts slot.opening pointed p flags h hs hn = opening-texts pointed
+slot-texts slot.closing pointed p flags h hs hn = closing-texts pointed
+slot-texts (slot.symbol i) pointed p flags h hs hn = pieces_at-texts p.symbols i hs
+slot-texts (slot.name i) pointed p flags h hs hn = pieces_at-texts p.names i hn
+
+laid-texts : (ss : List Slot) (pointed : Bool) (p : Parts) (flags : ℕ) → EachWord IsAscii ss → EachAreTexts p.symbols →
+    EachAreTexts p.names → AreTexts (laid ss pointed p flags)
+unfolding laid
+laid-texts [] pointed p flags h hs hn = AreTexts-none
+laid-texts (s ∷ ss) pointed p flags h hs hn =
+    AreTexts-append _ _ (slot-texts s pointed p flags h.0 hs hn) (laid-texts ss pointed p flags h.1 hs hn)
+
+slots-texts : (row : ℕ) (s : Side) (pointed : Bool) (set : ℕ) (zs : List Number) (ns os : List (List Piece))
+    (flags : ℕ) → EachAreTexts ns → EachAreTexts os → AreTexts (laid (slots row s) pointed (parts set zs ns os) flags)
+slots-texts row s pointed set zs ns os flags hs hn =
+    laid-texts (slots row s) pointed (parts set zs ns os) flags (slots-ascii row s) hs hn
+
 -- names, scopes, types and their lists
 mutual
-  unfolding name_pieces scope_pieces conversion grown parameters lib.Utf8.encode
+  unfolding name_pieces scope_pieces conversion grown grown_around each_name parameters lib.Utf8.encode
 
   name_pieces-texts : (n : NameTree) (of_symbol : Bool) (flags : ℕ) → EachNameOfName IsUtf8 n →
       AreTexts (name_pieces n of_symbol flags)
@@ -476,6 +544,14 @@ mutual
       AreTexts-space _ _ (AreTexts-append _ _ whole.left (AreTexts-text (codes "::`RTTI Type Descriptor'") []
       (codes "::`RTTI Type Descriptor'", (refl, refl)) AreTexts-none))
   name_pieces-texts (base_class_descriptor a b c d) of_symbol flags h = base_class_pieces-texts a b c d flags
+  name_pieces-texts (shaped row set zs bytes ns ts) of_symbol flags h = slots-texts row side.Left false set zs _ _ flags
+      (each_name-texts ns true flags h.1) (each_name-texts ns false flags h.1)
+
+  each_name-texts : (ns : NameTrees) (of_symbol : Bool) (flags : ℕ) → EachNameOfNames IsUtf8 ns →
+      EachAreTexts (each_name ns of_symbol flags)
+  each_name-texts no_names of_symbol flags h = tt
+  each_name-texts (names n ns) of_symbol flags h =
+      (name_pieces-texts n of_symbol flags h.0, each_name-texts ns of_symbol flags h.1)
 
   scope_pieces-texts : (ns : NameTrees) (flags : ℕ) → EachNameOfNames IsUtf8 ns → ScopeIsText (scope_pieces ns flags)
   scope_pieces-texts no_names flags h = no_scope-texts
@@ -539,7 +615,18 @@ mutual
       before-texts _ s (AreTexts-text (codes "...") [] (codes "...", (refl, refl)) AreTexts-none) hs
   grown-texts (plain plain_kind.Nullptr) pointed s flags hs h = before-texts _ s
       (AreTexts-text (codes "std::nullptr_t") [] (codes "std::nullptr_t", (refl, refl)) AreTexts-none) hs
+  grown-texts (shape row set zs bytes ns ts) pointed s flags hs h =
+      let symbols = each_name-texts ns true flags h.1 in
+      let names = each_name-texts ns false flags h.1 in
+      grown_around-texts ts (layout_of row).around _ flags (between-texts _ s _
+      (slots-texts row side.Left pointed set zs _ _ flags symbols names) hs
+      (slots-texts row side.Right pointed set zs _ _ flags symbols names)) h.2
   grown-texts _ pointed s flags hs h = hs
+
+  grown_around-texts : (ts : TypeTrees) (w : Option Bool) (s : Sides) (flags : ℕ) → SidesAreTexts s →
+      EachNameOfTypes IsUtf8 ts → SidesAreTexts (grown_around ts w s flags)
+  grown_around-texts (types t ts) (Some pointed) s flags hs h = grown-texts t pointed s flags hs h.0
+  grown_around-texts _ _ s flags hs h = hs
 
   parameters-texts : (ts : TypeTrees) (first : Bool) (flags : ℕ) → EachNameOfTypes IsUtf8 ts →
       AreTexts (parameters ts first flags)

@@ -13,15 +13,19 @@ use Rattle.msvc_nodes.specs.Trees.{NameTree, NameTrees, SymbolTree, TypeTree, Ty
 use Rattle.msvc_nodes.specs.Trees.{type_descriptor, base_class_descriptor, template, discriminator, nested, anonymous}
 use Rattle.msvc_nodes.specs.Trees.{no_names, names, no_types, types, plain, base, tagged, numbered, pointing, array}
 use Rattle.msvc_nodes.specs.Trees.{function, member_function, member_pointer, variable, table, vcall_thunk}
+use Rattle.msvc_nodes.specs.Trees.{shape, shaped}
 use Rattle.msvc_print.specs.Functions.{calling, member_start, function_qualifier, parameter_list, separator}
 use Rattle.msvc_print.specs.Operators.{base_class_pieces, guard_pieces, name_kind, operator_word, scoped, spaced}
 use Rattle.msvc_print.specs.Operators.{unqualified_name}
 use Rattle.msvc_print.specs.declared.operators.NameKind.{NameKind}
 use Rattle.msvc_print.specs.Pieces.{Piece, text, space, resolve}
+use Rattle.msvc_print.specs.Shapes.{laid, parts}
 use Rattle.msvc_print.specs.Sides.{Sides, alone, around, between, kept}
 use Rattle.msvc_print.specs.declared.spaces.Space.TheVariants.{AfterAngle, AfterPointer}
 use Rattle.msvc_print.specs.Words.{base_word, variable_word, tag_word, mark_word, qualifiers, marked}
 use Rattle.msvc_print.specs.Words.{opening, closing}
+use Rattle.msvc_shapes.specs.Layouts.{layout_of, slots}
+use Rattle.msvc_shapes.specs.declared.layouts.Side.TheVariants as side
 
 -- the pieces of a name that is spelled in the mangled text
 abbrev pub spelled_name : Spelling → List ℕ → List Piece
@@ -115,6 +119,13 @@ unfoldable mutual
   name_pieces (type_descriptor set t) of_symbol flags =
       space AfterPointer ∷ ((grown t false alone flags).left ++ text (codes "::`RTTI Type Descriptor'") ∷ [])
   name_pieces (base_class_descriptor a b c d) of_symbol flags = base_class_pieces a b c d flags
+  name_pieces (shaped row set zs bytes ns ts) of_symbol flags = laid (slots row side.Left) false
+      (parts set zs (each_name ns true flags) (each_name ns false flags)) flags
+
+  -- the pieces of each name of a list, with `of_symbol` for each
+  pub each_name : NameTrees → Bool → ℕ → List (List Piece)
+  each_name no_names of_symbol flags = []
+  each_name (names n ns) of_symbol flags = name_pieces n of_symbol flags ∷ each_name ns of_symbol flags
 
   -- the pieces of a scope, whose innermost name stands first in the tree
   pub scope_pieces : NameTrees → ℕ → ScopePieces
@@ -170,7 +181,19 @@ unfoldable mutual
       between (text (codes "TSS") ∷ text (signed_decimal n) ∷ []) sides []
   grown (plain plain_kind.Variadic) pointed sides flags = between (text (codes "...") ∷ []) sides []
   grown (plain plain_kind.Nullptr) pointed sides flags = between (text (codes "std::nullptr_t") ∷ []) sides []
+  -- A shape has what its row prints on both sides, and around these the first of its types, if its layout says so.
+  grown (shape row set zs bytes ns ts) pointed sides flags = grown_around ts (layout_of row).around (between
+      (laid (slots row side.Left) pointed (parts set zs (each_name ns true flags) (each_name ns false flags)) flags)
+      sides
+      (laid (slots row side.Right) pointed (parts set zs (each_name ns true flags) (each_name ns false flags)) flags))
+      flags
   grown _ pointed sides flags = sides
+
+  -- the sides of a name with the first of some types around them, which is told `pointed`; the same sides where no type is
+  -- around them
+  pub grown_around : TypeTrees → Option Bool → Sides → ℕ → Sides
+  grown_around (types t ts) (Some pointed) sides flags = grown t pointed sides flags
+  grown_around _ _ sides flags = sides
 
   -- The types of a list, each on both sides of no name, with a comma before each but the first. `first` says whether
   -- none of the list was printed before.

@@ -1,8 +1,9 @@
 -- The words, qualifiers and commas that the declaration of a function has beside its types.
 use Rattle.std.specs.Prelude.{ℕ, List, [], ◌∷◌, ◌++◌, Bool, cond, codes}
-use Rattle.msvc_nodes.specs.declared.kinds.CallingConv.{CallingConv}
-use Rattle.msvc_nodes.specs.declared.kinds.CallingConv.TheVariants.{Cdecl, Pascal, Thiscall, Stdcall, Fastcall}
-use Rattle.msvc_nodes.specs.declared.kinds.CallingConv.TheVariants.{_Regcall}
+use Rattle.msvc_nodes.specs.declared.kinds.Convention.{Convention}
+use Rattle.msvc_nodes.specs.declared.kinds.Convention.TheVariants.{Cdecl, Pascal, Thiscall, Stdcall, Fastcall}
+use Rattle.msvc_nodes.specs.declared.kinds.Convention.TheVariants.{_Regcall, Clrcall, Eabi, Vectorcall, Swift}
+use Rattle.msvc_nodes.specs.declared.kinds.Convention.TheVariants.{SwiftAsync, PreserveMost, PreserveNone, Regcall4}
 use Rattle.msvc_print.specs.Flags.{has, no_access_specifiers, no_member_type, no_ms_keywords, no_this_type}
 use Rattle.msvc_print.specs.Flags.{space_after_comma, with_ptr64}
 use Rattle.msvc_print.specs.Pieces.{Piece, text, space}
@@ -10,13 +11,21 @@ use Rattle.msvc_print.specs.Words.{opening, closing, qualifier}
 use Rattle.msvc_print.specs.declared.spaces.Space.TheVariants.{AfterPointer, UnlessOpen}
 
 -- the word of a calling convention, with one space after it
-abbrev pub convention_word : CallingConv → List ℕ
+abbrev pub convention_word : Convention → List ℕ
 convention_word Cdecl = codes "__cdecl "
 convention_word Pascal = codes "__pascal "
 convention_word Thiscall = codes "__thiscall "
 convention_word Stdcall = codes "__stdcall "
 convention_word Fastcall = codes "__fastcall "
 convention_word _Regcall = codes "__regcall "
+convention_word Clrcall = codes "__clrcall "
+convention_word Eabi = codes "__eabi "
+convention_word Vectorcall = codes "__vectorcall "
+convention_word Swift = codes "__attribute__((__swiftcall__)) "
+convention_word SwiftAsync = codes "__attribute__((__swiftasynccall__)) "
+convention_word PreserveMost = codes "__attribute__((__preserve_most__)) "
+convention_word PreserveNone = codes "__attribute__((__preserve_none__)) "
+convention_word Regcall4 = codes "__regcall4 "
 
 -- a word of a member function, where the set `class` has its bit
 abbrev pub member_word : ℕ → List ℕ → ℕ → List Piece
@@ -66,11 +75,11 @@ unfoldable pub function_qualifiers : ℕ → ℕ → List Piece
 function_qualifiers set flags = cond (has flags no_this_type) [] (each_function_qualifier set flags)
 
 -- the word of a calling convention, which NO_MS_KEYWORDS drops
-unfoldable pub convention_pieces : CallingConv → ℕ → List Piece
+unfoldable pub convention_pieces : Convention → ℕ → List Piece
 convention_pieces convention flags = cond (has flags no_ms_keywords) [] (text (convention_word convention) ∷ [])
 
 -- the calling convention of a function, after the parenthesis before the mark of a pointer to the function
-unfoldable pub calling : Bool → CallingConv → ℕ → List Piece
+unfoldable pub calling : Bool → Convention → ℕ → List Piece
 calling pointed convention flags = opening pointed ++ (space UnlessOpen ∷ convention_pieces convention flags)
 
 -- the pieces on the right of the name of a function: its parameters, and the qualifiers of the function itself

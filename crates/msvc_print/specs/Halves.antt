@@ -2,18 +2,23 @@
 -- the left of a name, the type nearest the name last; `after` has what they put on the right, the type nearest the name
 -- first. No public contract speaks of these definitions. `proofs/Halves` shows that they are what `grown` puts on the
 -- two sides.
-use Rattle.std.specs.Prelude.{ℕ, List, [], ◌∷◌, ◌++◌, Bool, true, false, codes}
+use Rattle.std.specs.Prelude.{ℕ, List, [], ◌∷◌, ◌++◌, Bool, true, false, codes, Option, Some, None}
 use Rattle.std.specs.Fmt.{signed_decimal}
 use Rattle.msvc_nodes.specs.declared.kinds.NumberedType.TheVariants as number_kind
 use Rattle.msvc_nodes.specs.declared.kinds.PlainType.TheVariants as plain_kind
 use Rattle.msvc_nodes.specs.Trees.{NameTree, NameTrees, TypeTree, plain, base, tagged, numbered, pointing, array}
 use Rattle.msvc_nodes.specs.Trees.{function, member_function, member_pointer, variable, table, vcall_thunk}
+use Rattle.msvc_nodes.specs.Trees.{shape, no_types, types}
+use Rattle.msvc_nodes.specs.declared.nodes.Number.{Number}
 use Rattle.msvc_print.specs.Declaration.{length_pieces, parameters, pointed_class, scope_path, symbol_name, table_end}
-use Rattle.msvc_print.specs.Declaration.{thunk_end}
+use Rattle.msvc_print.specs.Declaration.{each_name, thunk_end}
 use Rattle.msvc_print.specs.Functions.{calling, member_start, function_qualifier, function_qualifiers}
 use Rattle.msvc_print.specs.Pieces.{Piece, text}
+use Rattle.msvc_print.specs.Shapes.{Parts, laid, parts}
 use Rattle.msvc_print.specs.Words.{base_word, variable_word, tag_word, mark_word, qualifiers, marked}
 use Rattle.msvc_print.specs.Words.{opening, closing}
+use Rattle.msvc_shapes.specs.Layouts.{layout_of, slots}
+use Rattle.msvc_shapes.specs.declared.layouts.Side.TheVariants as side
 
 -- the name `n` of a symbol without a type, in the scope of the symbol
 abbrev pub plain_name : NameTree → NameTrees → ℕ → List Piece
@@ -34,6 +39,15 @@ function_end pointed parameters set flags returned = closing pointed
 unfoldable pub member_pointer_end : List Piece → ℕ → List Piece → List Piece
 member_pointer_end parameters set returned = text (codes ")(") ∷ (parameters
     ++ (text (codes ")") ∷ (returned ++ function_qualifier 1 (codes "const") set)))
+
+-- the parts of a shape, by its qualifiers, its numbers and its names
+abbrev pub shape_parts : ℕ → List Number → NameTrees → ℕ → Parts
+shape_parts set zs ns flags = parts set zs (each_name ns true flags) (each_name ns false flags)
+
+-- the pieces of the type around a shape, which is told whether the shape stands under it as the mark of a pointer does
+abbrev pub pieces_around : Option Bool → (Bool → List Piece) → List Piece
+pieces_around None pieces = []
+pieces_around (Some pointed) pieces = pieces pointed
 
 -- the pieces of a type before the name
 unfoldable pub before : TypeTree → Bool → ℕ → List Piece
@@ -56,6 +70,11 @@ before (plain plain_kind.Nullptr) pointed flags = text (codes "std::nullptr_t") 
 before (table k scope set) pointed flags = qualifiers set flags
 before (vcall_thunk n convention) pointed flags = text (codes "[thunk]: ") ∷ calling false convention flags
 before (variable t kind set) pointed flags = text (variable_word kind) ∷ (before t false flags ++ qualifiers set flags)
+before (shape row set zs bytes ns no_types) pointed flags =
+    laid (slots row side.Left) pointed (shape_parts set zs ns flags) flags
+before (shape row set zs bytes ns (types t ts)) pointed flags =
+    pieces_around (layout_of row).around (λ p. before t p flags)
+    ++ laid (slots row side.Left) pointed (shape_parts set zs ns flags) flags
 before _ pointed flags = []
 
 -- the pieces of a type after the name
@@ -71,4 +90,9 @@ after (member_pointer n scope class convention ts set t) pointed flags =
 after (variable t kind set) pointed flags = after t false flags
 after (table k scope set) pointed flags = table_end k scope (scope_path scope flags)
 after (vcall_thunk n convention) pointed flags = thunk_end n flags
+after (shape row set zs bytes ns no_types) pointed flags =
+    laid (slots row side.Right) pointed (shape_parts set zs ns flags) flags
+after (shape row set zs bytes ns (types t ts)) pointed flags =
+    laid (slots row side.Right) pointed (shape_parts set zs ns flags) flags
+    ++ pieces_around (layout_of row).around (λ p. after t p flags)
 after _ pointed flags = []

@@ -6,6 +6,7 @@ pub mod Words
 pub mod Operators
 pub mod Functions
 pub mod Sides
+pub mod Shapes
 pub mod Declaration
 pub mod Within
 pub mod Laws
@@ -13,4 +14,5 @@ pub mod Halves
 pub mod SimpleTypes
 pub mod Weights
 pub mod SymbolNodes
+pub mod ShapeNodes
 pub mod Work

@@ -3,7 +3,10 @@
 use Rattle.std.specs.Prelude.{ℕ, ◌+◌}
 use Rattle.msvc_nodes.specs.Trees.{NameTree, NameTrees, TypeTree, TypeTrees, type_descriptor}
 use Rattle.msvc_nodes.specs.Trees.{template, nested, no_names, names, no_types, types, tagged, pointing, array}
-use Rattle.msvc_nodes.specs.Trees.{function, member_function, member_pointer, variable, table}
+use Rattle.msvc_nodes.specs.Trees.{function, member_function, member_pointer, variable, table, shape, shaped}
+use Rattle.msvc_print.specs.Shapes.{slots_weight}
+use Rattle.msvc_shapes.specs.Layouts.{slots}
+use Rattle.msvc_shapes.specs.declared.layouts.Side.TheVariants as side
 
 -- the weight of a name in its scope, by the weights of the name, the scope and the type of the symbol
 abbrev pub scoped_weight : ℕ → ℕ → ℕ → ℕ
@@ -20,6 +23,7 @@ unfoldable mutual
   name_weight (nested n ns t) = 3 + typed_symbol_weight
       (scoped_weight (name_weight n) (scope_weight ns) (type_weight t)) (type_weight t)
   name_weight (type_descriptor set t) = 3 + type_weight t
+  name_weight (shaped row set zs bytes ns ts) = slots_weight (slots row side.Left) (scope_weight ns)
   name_weight _ = 1
 
   -- the weight of the names of a scope
@@ -38,6 +42,8 @@ unfoldable mutual
       6 + types_weight ts + type_weight t + scoped_weight (name_weight n) (scope_weight scope) 1
   type_weight (variable t kind set) = 3 + type_weight t
   type_weight (table k scope set) = 3 + scope_weight scope
+  type_weight (shape row set zs bytes ns ts) = slots_weight (slots row side.Left) (scope_weight ns)
+      + slots_weight (slots row side.Right) (scope_weight ns) + types_weight ts
   type_weight _ = 1
 
   -- the weight of a list of types, each of which is printed on both sides of no name

@@ -12,6 +12,7 @@ use Rattle.msvc_print.specs.Halves.{after, before}
 use Rattle.msvc_print.specs.Operators.{spaced}
 use Rattle.msvc_print.specs.Limited.{LimitedText, add_all}
 use Rattle.msvc_print.specs.Pieces.{Piece, text, space}
+use Rattle.msvc_print.specs.ShapeNodes.{rest_of_slots, rest_weight}
 use Rattle.msvc_print.specs.Weights.{name_weight, scope_weight, type_weight, types_weight}
 use Rattle.msvc_print.specs.SymbolNodes.{class_pieces_of, class_weight_of, symbol_name_of, symbol_weight_of}
 use Rattle.msvc_print.specs.SymbolNodes.{type_or_none}
@@ -19,7 +20,7 @@ use Rattle.msvc_print.specs.Words.{qualifiers, marked, opening}
 use Rattle.msvc_print.specs.declared.item.Item.{Item}
 use Rattle.msvc_print.specs.declared.item.Item.TheVariants.{Text, Spaced, Name, Scope, Symbol, Class}
 use Rattle.msvc_print.specs.declared.item.Item.TheVariants.{Qualifiers, Mark, ArrayLevel, Calling, Parameters}
-use Rattle.msvc_print.specs.declared.item.Item.TheVariants.{Before, After}
+use Rattle.msvc_print.specs.declared.item.Item.TheVariants.{Before, After, Slots}
 use Rattle.msvc_print.specs.declared.item.ListEnd.{ListEnd}
 use Rattle.msvc_print.specs.declared.item.ListEnd.TheVariants.{Round, Bare, Angle}
 use Rattle.msvc_print.specs.declared.printer.Printer.{Printer}
@@ -55,6 +56,7 @@ item_pieces (Calling pointed convention) flags = calling pointed convention flag
 item_pieces (Parameters list) flags = rest_of_parameters list.types.now list.first list.end flags
 item_pieces (Before t pointed) flags = before (type_of t.now) pointed flags
 item_pieces (After t pointed) flags = after (type_of t.now) pointed flags
+item_pieces (Slots s side pointed at) flags = rest_of_slots s.now side pointed at flags
 
 -- the weight of an item
 abbrev pub item_weight : Item → ℕ
@@ -71,6 +73,7 @@ item_weight (Calling pointed convention) = 1
 item_weight (Parameters list) = types_weight (types_in list.types.now)
 item_weight (Before t pointed) = type_weight (type_of t.now)
 item_weight (After t pointed) = type_weight (type_of t.now)
+item_weight (Slots s side pointed at) = rest_weight s.now side at
 
 -- the text `out` once all items of a stack, the last item first, are written after it
 unfoldable pub finished : List Item → LimitedText → ℕ → LimitedText

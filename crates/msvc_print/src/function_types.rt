@@ -11,20 +11,28 @@ use crate::spaces::{Space, write_opening, write_qualifier, write_space};
 use crate::text::{Text, write_text};
 use bitflags::Flags;
 use msvc_nodes::flags::{DemangleFlags, FuncClass, StorageClass};
-use msvc_nodes::kinds::CallingConv;
+use msvc_nodes::kinds::Convention;
 use std::alloc::{AllocError, Allocator};
 
 /// Returns the word of a calling convention, with one space after it.
-fn convention_word<'t>(convention: CallingConv) -> &'t [u8]
+fn convention_word<'t>(convention: Convention) -> &'t [u8]
     ensures { result.now ≡ spec.convention_word convention }
 {
     match convention {
-        CallingConv::Cdecl => b"__cdecl ",
-        CallingConv::Pascal => b"__pascal ",
-        CallingConv::Thiscall => b"__thiscall ",
-        CallingConv::Stdcall => b"__stdcall ",
-        CallingConv::Fastcall => b"__fastcall ",
-        CallingConv::_Regcall => b"__regcall ",
+        Convention::Cdecl => b"__cdecl ",
+        Convention::Pascal => b"__pascal ",
+        Convention::Thiscall => b"__thiscall ",
+        Convention::Stdcall => b"__stdcall ",
+        Convention::Fastcall => b"__fastcall ",
+        Convention::_Regcall => b"__regcall ",
+        Convention::Clrcall => b"__clrcall ",
+        Convention::Eabi => b"__eabi ",
+        Convention::Vectorcall => b"__vectorcall ",
+        Convention::Swift => b"__attribute__((__swiftcall__)) ",
+        Convention::SwiftAsync => b"__attribute__((__swiftasynccall__)) ",
+        Convention::PreserveMost => b"__attribute__((__preserve_most__)) ",
+        Convention::PreserveNone => b"__attribute__((__preserve_none__)) ",
+        Convention::Regcall4 => b"__regcall4 ",
     }
 }
 
@@ -33,7 +41,7 @@ fn convention_word<'t>(convention: CallingConv) -> &'t [u8]
 pub fn write_calling<A: Allocator>(
     out: &mut Text<A>,
     pointed: bool,
-    convention: CallingConv,
+    convention: Convention,
     flags: DemangleFlags,
 ) -> Result<(), AllocError>
     ensures { OnOk result (Writes (spec.calling pointed convention flags.0) out.old out.new) }

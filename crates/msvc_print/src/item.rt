@@ -3,8 +3,9 @@
 ghost use Rattle.std.specs.Prelude.{◌≡◌, ◌++◌, ◌∷◌, [], OnOk};
 
 use msvc_nodes::flags::StorageClass;
-use msvc_nodes::kinds::CallingConv;
-use msvc_nodes::nodes::{Name, Scope, Symbol, Type};
+use msvc_nodes::kinds::Convention;
+use msvc_nodes::nodes::{Name, Scope, Shape, Symbol, Type};
+use msvc_shapes::layouts::Side;
 use std::alloc::{AllocError, Allocator};
 
 /// The end of a list of types.
@@ -49,13 +50,16 @@ pub enum Item<'a, 'b> {
     /// The qualifiers of a level of an array, and the parenthesis before the mark of a pointer to it.
     ArrayLevel(StorageClass, bool),
     /// The calling convention of a function, and the parenthesis before the mark of a pointer to it.
-    Calling(bool, CallingConv),
+    Calling(bool, Convention),
     /// The types that are left of a list, and what stands after the last.
     Parameters(TypeList<'a, 'b>),
     /// What a type has before the name. The flag says whether it stands directly under a pointer or a reference.
     Before(&'b Type<'a, 'b>, bool),
     /// What a type has after the name.
     After(&'b Type<'a, 'b>, bool),
+    /// The slots of a side of a shape from a place on. The flag says whether the shape stands directly under a pointer or
+    /// a reference.
+    Slots(&'b Shape<'a, 'b>, Side, bool, usize),
 }
 
 /// Pushes an item. Its contract is the part of `Vec::push`'s that proofs of steps need.

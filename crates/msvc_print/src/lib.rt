@@ -16,6 +16,7 @@ mod item;
 mod operators;
 mod printer;
 mod qualified_names;
+mod shapes;
 mod simple_types;
 mod spaces;
 mod text;

@@ -56,6 +56,7 @@ impl<'a, 'b, 't, S: Allocator, A: Allocator> Printer<'a, 'b, 't, S, A> {
             Item::Parameters(list) => self.print_parameters(list.types, list.first, list.end),
             Item::Before(t, pointed) => self.print_prefix(t, pointed),
             Item::After(t, pointed) => self.print_suffix(t, pointed),
+            Item::Slots(shape, side, pointed, at) => self.print_slots(shape, side, pointed, at),
         }
     }
 

@@ -29,6 +29,7 @@ use crate::text::{Text, write_number, write_text};
 use bitflags::Flags;
 use msvc_nodes::flags::DemangleFlags;
 use msvc_nodes::nodes::{Name, Scope, Symbol, Type, TypedSymbol};
+use msvc_shapes::layouts::Side;
 use std::alloc::{AllocError, Allocator};
 
 /// Writes bytes between two words.
@@ -230,6 +231,7 @@ impl<'a, 'b, 't, S: Allocator, A: Allocator> Printer<'a, 'b, 't, S, A> {
             Name::Template(template) => self.print_template(template.name, template.arguments),
             Name::Discriminator(number) => write_discriminator(self.out, *number),
             Name::Nested(tree) => self.print_nested(*tree, of_symbol),
+            Name::Shape(shape) => self.print_slots(*shape, Side::Left, false, 0),
         }
     }
 

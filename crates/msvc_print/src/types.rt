@@ -27,7 +27,7 @@ use crate::text::{Text, write_number, write_text};
 use crate::words::{mark_word, tag_word, variable_word};
 use bitflags::Flags;
 use msvc_nodes::flags::{DemangleFlags, StorageClass};
-use msvc_nodes::kinds::{CallingConv, NumberedType, PlainType, SpecialTableKind, VarStorageKind};
+use msvc_nodes::kinds::{Convention, NumberedType, PlainType, SpecialTableKind, VarStorageKind};
 use msvc_nodes::nodes::{Function, Name, Symbol, Type};
 use std::alloc::{AllocError, Allocator};
 
@@ -71,6 +71,7 @@ impl<'a, 'b, 't, S: Allocator, A: Allocator> Printer<'a, 'b, 't, S, A> {
             ),
             Type::Table(_, qualifiers, _) => write_qualifiers(self.out, *qualifiers, self.flags),
             Type::VcallThunk(_, convention) => write_thunk(self.out, *convention, self.flags),
+            Type::Shape(shape) => self.print_shape_prefix(*shape, pointed),
         }
     }
 
@@ -97,7 +98,7 @@ impl<'a, 'b, 't, S: Allocator, A: Allocator> Printer<'a, 'b, 't, S, A> {
     }
 
     /// Prints what a type inside another has before the name. Most have no type in them, and are printed at once.
-    fn print_inner(&mut self, t: &'b Type<'a, 'b>, pointed: bool) -> Result<(), AllocError>
+    pub fn print_inner(&mut self, t: &'b Type<'a, 'b>, pointed: bool) -> Result<(), AllocError>
         ensures text { OnOk result (Prints (before (type_of t.now) pointed self.old.flags.0) self.old self.new) }
         ensures lighter { OnOk result (LeavesAtMost (type_weight (type_of t.now)) self.old self.new) }
         ensures kept { Keeps self.old self.new }
@@ -185,6 +186,7 @@ impl<'a, 'b, 't, S: Allocator, A: Allocator> Printer<'a, 'b, 't, S, A> {
             Type::Variable(_, _, inner) => push_suffix(self.stack, *inner, false, self.flags),
             Type::Table(table, _, scope) => self.print_table_end(*table, scope.names),
             Type::VcallThunk(number, _) => write_thunk_end(self.out, *number, self.flags),
+            Type::Shape(shape) => self.print_shape_suffix(*shape, pointed),
             Type::Plain(_) => Ok(()),
             Type::Base(_, _) => Ok(()),
             Type::Tagged(_, _, _) => Ok(()),
@@ -410,6 +412,7 @@ fn may_have_suffix<'a, 'b>(t: &'b Type<'a, 'b>) -> bool
         Type::Variable(_, _, _) => true,
         Type::Table(_, _, _) => true,
         Type::VcallThunk(_, _) => true,
+        Type::Shape(_) => true,
         Type::Plain(_) => false,
         Type::Base(_, _) => false,
         Type::Tagged(_, _, _) => false,
@@ -419,7 +422,7 @@ fn may_have_suffix<'a, 'b>(t: &'b Type<'a, 'b>) -> bool
 }
 
 /// Pushes what a type has after the name, if it, or the type that it points to, may have anything there.
-fn push_suffix<'a, 'b, S: Allocator>(
+pub fn push_suffix<'a, 'b, S: Allocator>(
     stack: &mut Vec<Item<'a, 'b>, S>,
     t: &'b Type<'a, 'b>,
     pointed: bool,
@@ -499,7 +502,7 @@ fn write_thread_safe_guard<A: Allocator>(out: &mut Text<A>, number: i32) -> Resu
 /// Writes what a thunk into a table of virtual functions has before its name.
 fn write_thunk<A: Allocator>(
     out: &mut Text<A>,
-    convention: CallingConv,
+    convention: Convention,
     flags: DemangleFlags,
 ) -> Result<(), AllocError>
     ensures { OnOk result (Writes (text (codes "[thunk]: ") ∷ calling false convention flags.0)

@@ -25,7 +25,7 @@ use msvc_cursor::nested_list::Checkpoint;
 use msvc_cursor::parser::Parser;
 use msvc_grammar::forms::{FunctionKind, MemberPointerForm, ObjectQualifiers, TemplateNames};
 use msvc_nodes::flags::{FuncClass, StorageClass};
-use msvc_nodes::kinds::{CallingConv, PlainType};
+use msvc_nodes::kinds::{Convention, PlainType};
 use msvc_nodes::nodes::{Function, Symbol, Type};
 use std::alloc::Allocator;
 
@@ -112,7 +112,7 @@ pub fn member_pointer<'a, 'b, L: NodeBudget, A: Allocator>(
 #[inline(never)]
 fn put_function_type<'a, 'b, L: NodeBudget, A: Allocator>(
     parser: &mut Parser<'a, 'b, L, A>,
-    convention: CallingConv,
+    convention: Convention,
     this_qualifiers: StorageClass,
     returned: &'b Type<'a, 'b>,
     checkpoint: Checkpoint,
@@ -154,7 +154,7 @@ fn put_member_pointer<'a, 'b, L: NodeBudget, A: Allocator>(
 /// Stores the parts of a function, with the parameters on the list.
 fn put_parts<'a, 'b, L: NodeBudget, A: Allocator>(
     parser: &mut Parser<'a, 'b, L, A>,
-    convention: CallingConv,
+    convention: Convention,
     class: FuncClass,
     this_qualifiers: StorageClass,
     returned: &'b Type<'a, 'b>,
@@ -289,7 +289,7 @@ fn signature<'a, 'b, L: NodeBudget, A: Allocator>(
 /// Reads how a function is called.
 pub fn convention<'a, 'b, L: NodeBudget, A: Allocator>(
     parser: &mut Parser<'a, 'b, L, A>,
-) -> Result<CallingConv, Failed>
+) -> Result<Convention, Failed>
     ensures value { ReadsAs (λ c. c) parser.old parser.new result (letter_here conventions) }
     ensures consumes { MayConsume parser.old parser.new result }
 {

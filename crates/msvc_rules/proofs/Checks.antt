@@ -10,7 +10,7 @@ use Rattle.msvc_nodes.specs.declared.kinds.PrimitiveKind.TheVariants as base_kin
 use Rattle.msvc_nodes.specs.declared.kinds.PlainType.TheVariants as plain_kind
 use Rattle.msvc_nodes.specs.declared.kinds.Spelling.TheVariants as spelling_kind
 use Rattle.msvc_nodes.specs.Trees.{spelled, plain}
-use Rattle.msvc_nodes.specs.declared.kinds.CallingConv.TheVariants.{Cdecl}
+use Rattle.msvc_nodes.specs.declared.kinds.Convention.TheVariants.{Cdecl}
 use Rattle.msvc_rules.specs.Readers.{ranks}
 use Rattle.msvc_rules.specs.Rules.{Grammar, Condition, none_of, at_end, every, some_of, is_nil, Rule, letter, literal}
 use Rattle.msvc_rules.specs.Rules.{up_to, here, ◌>>=◌, ◌or◌, call, noted, entering, apart, node, texts_of, text_and}

@@ -6,6 +6,7 @@ use Rattle.msvc_nodes.specs.Trees.{NameTree, NameTrees, TypeTree, TypeTrees, spe
 use Rattle.msvc_nodes.specs.Trees.{base_class_descriptor, template, discriminator, nested, anonymous, no_names, names}
 use Rattle.msvc_nodes.specs.Trees.{plain, base, tagged, numbered, constant_string, pointing, array, function}
 use Rattle.msvc_nodes.specs.Trees.{member_function, member_pointer, variable, table, vcall_thunk, no_types, types}
+use Rattle.msvc_nodes.specs.Trees.{shape, shaped}
 use Rattle.msvc_rules.specs.Counts.{name_count, names_count, type_count, types_count}
 use Rattle.msvc_rules.specs.Reads.{Reads, given, a_letter, a_literal, a_part, where_it_holds, in_a_row, the_first}
 use Rattle.msvc_rules.specs.Reads.{the_second, called, a_node, a_known_name, remembered, a_known_type, a_noted_type}
@@ -56,6 +57,7 @@ mutual
   name_nothing (discriminator z) = refl
   name_nothing (nested n ns t) = omega (arith, name_nothing n, names_nothing ns, type_nothing t)
   name_nothing (anonymous digits) = refl
+  name_nothing (shaped row q zs bytes ns ts) = omega (arith, names_nothing ns, types_nothing ts)
 
   names_nothing : (ns : NameTrees) → names_count 0 ns ≡ 0
   names_nothing no_names = refl
@@ -76,6 +78,7 @@ mutual
   type_nothing (variable t kind q) = omega (arith, type_nothing t)
   type_nothing (table kind ns q) = omega (arith, names_nothing ns)
   type_nothing (vcall_thunk z c) = refl
+  type_nothing (shape row q zs bytes ns ts) = omega (arith, names_nothing ns, types_nothing ts)
 
   types_nothing : (ts : TypeTrees) → types_count 0 ts ≡ 0
   types_nothing no_types = refl

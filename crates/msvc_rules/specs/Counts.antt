@@ -5,7 +5,7 @@ use Rattle.msvc_nodes.specs.Trees.{NameTree, NameTrees, SymbolTree, TypeTree, Ty
 use Rattle.msvc_nodes.specs.Trees.{type_descriptor, base_class_descriptor, template, discriminator, nested, anonymous}
 use Rattle.msvc_nodes.specs.Trees.{no_names, names, plain, base, tagged, numbered, constant_string, pointing, array}
 use Rattle.msvc_nodes.specs.Trees.{function, member_function, member_pointer, variable, table, vcall_thunk, no_types}
-use Rattle.msvc_nodes.specs.Trees.{types}
+use Rattle.msvc_nodes.specs.Trees.{types, shape, shaped}
 
 abbrev mutual
   pub name_count : ℕ → NameTree → ℕ
@@ -18,6 +18,7 @@ abbrev mutual
   name_count w (discriminator z) = w
   name_count w (nested n ns t) = w + ((name_count w n + names_count w ns) + type_count w t)
   name_count w (anonymous digits) = w
+  name_count w (shaped row q zs bytes ns ts) = w + (names_count w ns + types_count w ts)
 
   pub names_count : ℕ → NameTrees → ℕ
   names_count w no_names = 0
@@ -38,6 +39,7 @@ abbrev mutual
   type_count w (variable t kind q) = w + type_count w t
   type_count w (table kind ns q) = w + names_count w ns
   type_count w (vcall_thunk z c) = w
+  type_count w (shape row q zs bytes ns ts) = w + (names_count w ns + types_count w ts)
 
   pub types_count : ℕ → TypeTrees → ℕ
   types_count w no_types = 0

@@ -1,7 +1,7 @@
 -- What the rules of the grammar read: names of the sorts of values, and the values of each. The names are data, so
 -- that a law of all rules is one induction.
 use Rattle.std.specs.Prelude.{ℕ, ℤ, List, Option}
-use Rattle.msvc_nodes.specs.declared.kinds.CallingConv.{CallingConv}
+use Rattle.msvc_nodes.specs.declared.kinds.Convention.{Convention}
 use Rattle.msvc_nodes.specs.declared.kinds.VarStorageKind.{VarStorageKind}
 use Rattle.msvc_nodes.specs.declared.kinds.PrimitiveKind.{PrimitiveKind}
 use Rattle.msvc_nodes.specs.declared.kinds.PointerAffinity.{PointerAffinity}
@@ -61,7 +61,7 @@ Value symbol_tree = SymbolTree
 Value base_type = PrimitiveKind
 Value type_letter = TypeLetter
 Value encoding_letter = EncodingLetter
-Value convention = CallingConv
+Value convention = Convention
 Value (perhaps a) = Option (Value a)
 Value (list a) = List (Value a)
 Value (both a b) = Value a × Value b

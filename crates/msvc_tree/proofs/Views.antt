@@ -3,7 +3,7 @@ use Rattle.std.proofs.Common.{◌≡◌, ℤ, Box, Global, refl}
 use Rattle.std.proofs.Common.{ap, ◌∙◌}
 use Rattle.msvc_nodes.specs.Trees as tree
 use Rattle.msvc_tree.specs.View.{name_of, operator_of, type_of, names_of, types_of, names_in, types_in, params_of}
-use Rattle.msvc_tree.specs.View.{scope_of}
+use Rattle.msvc_tree.specs.View.{scope_of, convention_of}
 use Rattle.msvc_nodes.specs.declared.flags.FuncClass.{FuncClass}
 use Rattle.msvc_nodes.specs.declared.flags.StorageClass.{StorageClass}
 use Rattle.msvc_nodes.specs.declared.kinds.CallingConv.{CallingConv}
@@ -48,23 +48,26 @@ unfolding operator_of
 operator_of-RTTIBaseClassDescriptor i j k l = refl
 
 pub type_of-NonMemberFunction : (c : CallingConv) (p : Params) (w : StorageClass) (b : Box «Type» Global)
-    → type_of (code_type.NonMemberFunction c p w b) ≡ tree.function c (params_of p) w.0 (type_of b.value)
+    → type_of (code_type.NonMemberFunction c p w b) ≡ tree.function (convention_of c) (params_of p) w.0 (type_of b.value)
 unfolding type_of types_of
-type_of-NonMemberFunction c p w b = ap (λ x. tree.function c x w.0 (type_of b.value)) (types_of-hidden p)
+type_of-NonMemberFunction c p w b =
+    ap (λ x. tree.function (convention_of c) x w.0 (type_of b.value)) (types_of-hidden p)
 
 pub type_of-MemberFunction : (f : FuncClass) (c : CallingConv) (p : Params) (w : StorageClass) (b : Box «Type» Global)
-    → type_of (code_type.MemberFunction f c p w b) ≡ tree.member_function f.0 c (params_of p) w.0 (type_of b.value)
+    → type_of (code_type.MemberFunction f c p w b)
+    ≡ tree.member_function f.0 (convention_of c) (params_of p) w.0 (type_of b.value)
 unfolding type_of types_of
-type_of-MemberFunction f c p w b = ap (λ x. tree.member_function f.0 c x w.0 (type_of b.value)) (types_of-hidden p)
+type_of-MemberFunction f c p w b =
+    ap (λ x. tree.member_function f.0 (convention_of c) x w.0 (type_of b.value)) (types_of-hidden p)
 
 pub type_of-MemberFunctionPointer : (s : Symbol) (f : FuncClass) (c : CallingConv) (p : Params) (w : StorageClass)
     (b : Box «Type» Global) → type_of (code_type.MemberFunctionPointer s f c p w b)
-    ≡ tree.member_pointer (name_of s.name) (scope_of s.scope) f.0 c (params_of p) w.0 (type_of b.value)
+    ≡ tree.member_pointer (name_of s.name) (scope_of s.scope) f.0 (convention_of c) (params_of p) w.0 (type_of b.value)
 unfolding type_of name_of names_of types_of
 type_of-MemberFunctionPointer s f c p w b =
-    ap (λ x. tree.member_pointer (name_of s.name) x f.0 c (types_of (hidden-the_row-Type-0 p.types)) w.0
+    ap (λ x. tree.member_pointer (name_of s.name) x f.0 (convention_of c) (types_of (hidden-the_row-Type-0 p.types)) w.0
     (type_of b.value)) (names_of-hidden s.scope)
-    ∙ ap (λ x. tree.member_pointer (name_of s.name) (scope_of s.scope) f.0 c x w.0 (type_of b.value))
+    ∙ ap (λ x. tree.member_pointer (name_of s.name) (scope_of s.scope) f.0 (convention_of c) x w.0 (type_of b.value))
     (types_of-hidden p)
 
 pub ruleset rows = (types_of-hidden, names_of-hidden)

@@ -6,6 +6,10 @@ use Rattle.msvc_nodes.specs.Trees.{no_names, names, plain, base, tagged, numbere
 use Rattle.msvc_nodes.specs.Trees.{function, member_function, member_pointer, variable, table, vcall_thunk, no_types}
 use Rattle.msvc_nodes.specs.Trees.{types}
 use Rattle.msvc_nodes.specs.declared.kinds.PrimitiveKind.TheVariants as base_kind
+use Rattle.msvc_nodes.specs.declared.kinds.CallingConv.{CallingConv}
+use Rattle.msvc_nodes.specs.declared.kinds.CallingConv.TheVariants as code_convention
+use Rattle.msvc_nodes.specs.declared.kinds.Convention.{Convention}
+use Rattle.msvc_nodes.specs.declared.kinds.Convention.TheVariants as convention_kind
 use Rattle.msvc_nodes.specs.declared.kinds.Guard.TheVariants as guard_kind
 use Rattle.msvc_nodes.specs.declared.kinds.PointerAffinity.TheVariants as mark_kind
 use Rattle.msvc_nodes.specs.declared.kinds.NumberedType.TheVariants as number_kind
@@ -22,6 +26,15 @@ use Rattle.msvc_tree.specs.declared.tree.Type as code_type
 use Rattle.msvc_tree.specs.declared.tree.NameSequence.{NameSequence}
 use Rattle.msvc_tree.specs.declared.tree.Params.{Params}
 use Rattle.msvc_tree.specs.declared.tree.ParseResult.{ParseResult}
+
+-- how a function is called, seen as a convention of a tree
+abbrev pub convention_of : CallingConv → Convention
+convention_of code_convention.Cdecl = convention_kind.Cdecl
+convention_of code_convention.Pascal = convention_kind.Pascal
+convention_of code_convention.Thiscall = convention_kind.Thiscall
+convention_of code_convention.Stdcall = convention_kind.Stdcall
+convention_of code_convention.Fastcall = convention_kind.Fastcall
+convention_of code_convention._Regcall = convention_kind._Regcall
 
 unfoldable mutual
   -- a name, seen as a tree
@@ -157,14 +170,15 @@ unfoldable mutual
   type_of (code_type.Ref' p t q) = pointing mark_kind.Reference (type_of t) q.0
   type_of (code_type.RValueRef' p t q) = pointing mark_kind.RValueReference (type_of t) q.0
   type_of (code_type.Array' n p t q) = array n (type_of t) q.0
-  type_of (code_type.NonMemberFunction' c s r w p t) = function c (types_of r) w.0 (type_of t)
-  type_of (code_type.MemberFunction' f c s r w p t) = member_function f.0 c (types_of r) w.0 (type_of t)
+  type_of (code_type.NonMemberFunction' c s r w p t) = function (convention_of c) (types_of r) w.0 (type_of t)
+  type_of (code_type.MemberFunction' f c s r w p t) =
+      member_function f.0 (convention_of c) (types_of r) w.0 (type_of t)
   type_of (code_type.MemberFunctionPointer' n s r f c s' r' w p t) =
-      member_pointer (name_of n) (names_of r) f.0 c (types_of r') w.0 (type_of t)
+      member_pointer (name_of n) (names_of r) f.0 (convention_of c) (types_of r') w.0 (type_of t)
   type_of (code_type.Var' p t k q) = variable (type_of t) k q.0
   type_of (code_type.CXXVFTable' s r q) = table table_kind.Functions (names_of r) q.0
   type_of (code_type.CXXVBTable' s r q) = table table_kind.Bases (names_of r) q.0
-  type_of (code_type.VCallThunk n c) = vcall_thunk n c
+  type_of (code_type.VCallThunk n c) = vcall_thunk n (convention_of c)
 
   -- the names of a row that a type or a name holds
   pub names_of : {m : _} → Row_of-Name m → NameTrees

@@ -1,18 +1,20 @@
-//! Converts values of the enumerations of `msvc_nodes::kinds` to operators and types of a tree.
+//! Converts values of the enumerations of `msvc_nodes::kinds` to operators, types and conventions of a tree.
 
-ghost use Rattle.std.specs.Prelude.{◌≡◌};
+ghost use Rattle.std.specs.Prelude.{◌≡◌, IfErr, IfOk};
 ghost use Rattle.msvc_nodes.specs.Trees.{base, base_class_descriptor, guard, numbered, operator, plain, pointing};
 ghost use Rattle.msvc_nodes.specs.Trees.{table, tagged};
-ghost use Rattle.msvc_tree.specs.View.{name_of, operator_of, scope_of, type_of};
+ghost use Rattle.msvc_nodes.specs.declared.kinds.CallingConv.{CallingConv};
+ghost use Rattle.msvc_tree.specs.View.{convention_of, name_of, operator_of, scope_of, type_of};
 
-use crate::tree::{NameSequence, Operator, Symbol, Type};
+use crate::tree::{CallingConv, NameSequence, Operator, Symbol, Type};
 use msvc_nodes::flags::StorageClass;
 use msvc_nodes::kinds::{
-    Guard, NumberedType, PlainOperator, PlainType, PointerAffinity, PrimitiveKind,
+    Convention, Guard, NumberedType, PlainOperator, PlainType, PointerAffinity, PrimitiveKind,
     SpecialTableKind, TagKind,
 };
 use msvc_nodes::nodes::BaseClass;
 use msvc_nodes::{base_types, plain_operators};
+use std::alloc::AllocError;
 
 /// Matches a plain operator with the variant of an owned tree.
 macro_rules! operator_of_kind {
@@ -131,5 +133,46 @@ pub(crate) fn table_type<'a>(
     match kind {
         SpecialTableKind::Functions => Type::CXXVFTable(scope, qualifiers),
         SpecialTableKind::Bases => Type::CXXVBTable(scope, qualifiers),
+    }
+}
+
+/// Returns the convention as owned trees have it.
+///
+/// # Errors
+///
+/// Fails if they don't have it.
+pub(crate) fn owned_convention(convention: Convention) -> Result<CallingConv, AllocError>
+    ensures owned { IfOk result (λ c. convention_of c ≡ convention) }
+    ensures lacking { IfErr result (λ _. (c : CallingConv) → convention_of c ≡ convention → ⊥) }
+{
+    match convention {
+        Convention::Cdecl => Ok(CallingConv::Cdecl),
+        Convention::Pascal => Ok(CallingConv::Pascal),
+        Convention::Thiscall => Ok(CallingConv::Thiscall),
+        Convention::Stdcall => Ok(CallingConv::Stdcall),
+        Convention::Fastcall => Ok(CallingConv::Fastcall),
+        Convention::_Regcall => Ok(CallingConv::_Regcall),
+        Convention::Clrcall
+        | Convention::Eabi
+        | Convention::Vectorcall
+        | Convention::Swift
+        | Convention::SwiftAsync
+        | Convention::PreserveMost
+        | Convention::PreserveNone
+        | Convention::Regcall4 => Err(AllocError),
+    }
+}
+
+/// Returns the convention as nodes have it.
+pub(crate) fn node_convention(convention: CallingConv) -> Convention
+    ensures { result ≡ convention_of convention }
+{
+    match convention {
+        CallingConv::Cdecl => Convention::Cdecl,
+        CallingConv::Pascal => Convention::Pascal,
+        CallingConv::Thiscall => Convention::Thiscall,
+        CallingConv::Stdcall => Convention::Stdcall,
+        CallingConv::Fastcall => Convention::Fastcall,
+        CallingConv::_Regcall => Convention::_Regcall,
     }
 }

@@ -5,16 +5,16 @@
 ghost use Rattle.std.specs.Prelude.{◌≡◌, IfOk};
 ghost use Rattle.std.specs.Result.{IsOkAnd};
 ghost use Rattle.msvc_nodes.specs.Trees.{array, constant_string, function, member_function, member_pointer, pointing};
-ghost use Rattle.msvc_nodes.specs.Trees.{nested, table, tagged, template, type_descriptor, variable};
+ghost use Rattle.msvc_nodes.specs.Trees.{nested, table, tagged, template, type_descriptor, variable, vcall_thunk};
 ghost use Rattle.msvc_tree.specs.View.{name_of, params_of, scope_of, tree_of, type_of};
 
-use crate::kinds::{pointing_type, table_type, tagged_type};
+use crate::kinds::{owned_convention, pointing_type, table_type, tagged_type};
 use crate::results::pair_ok;
 use crate::tree::{
-    CallingConv, Name, NameSequence, Operator, Params, ParseResult, Symbol, Type, VarStorageKind,
+    Name, NameSequence, Operator, Params, ParseResult, Symbol, Type, VarStorageKind,
 };
 use msvc_nodes::flags::{FuncClass, StorageClass};
-use msvc_nodes::kinds::{PointerAffinity, SpecialTableKind, TagKind};
+use msvc_nodes::kinds::{Convention, PointerAffinity, SpecialTableKind, TagKind};
 use std::alloc::AllocError;
 
 /// Makes a symbol with its type.
@@ -91,7 +91,7 @@ pub(crate) fn array_from<'a>(
 
 /// Makes a plain function of its parameters and the type that it returns.
 pub(crate) fn function_from<'a>(
-    convention: CallingConv,
+    convention: Convention,
     parameters: Result<Params<'a>, AllocError>,
     qualifiers: StorageClass,
     returned: Result<Box<Type<'a>>, AllocError>,
@@ -99,14 +99,15 @@ pub(crate) fn function_from<'a>(
     ensures { IfOk result (λ t. IsOkAnd parameters.entry (λ p. IsOkAnd returned.entry (λ b. type_of t
         ≡ function convention (params_of p) qualifiers.0 (type_of b.value)))) }
 {
-    let (parameters, returned) = pair_ok(parameters, returned)?;
+    let made = pair_ok(parameters, returned);
+    let (convention, (parameters, returned)) = pair_ok(owned_convention(convention), made)?;
     Ok(Type::NonMemberFunction(convention, parameters, qualifiers, returned))
 }
 
 /// Makes a member function of its parameters and the type that it returns.
 pub(crate) fn member_function_from<'a>(
     class: FuncClass,
-    convention: CallingConv,
+    convention: Convention,
     parameters: Result<Params<'a>, AllocError>,
     qualifiers: StorageClass,
     returned: Result<Box<Type<'a>>, AllocError>,
@@ -114,7 +115,8 @@ pub(crate) fn member_function_from<'a>(
     ensures { IfOk result (λ t. IsOkAnd parameters.entry (λ p. IsOkAnd returned.entry (λ b. type_of t
         ≡ member_function class.0 convention (params_of p) qualifiers.0 (type_of b.value)))) }
 {
-    let (parameters, returned) = pair_ok(parameters, returned)?;
+    let made = pair_ok(parameters, returned);
+    let (convention, (parameters, returned)) = pair_ok(owned_convention(convention), made)?;
     Ok(Type::MemberFunction(class, convention, parameters, qualifiers, returned))
 }
 
@@ -122,7 +124,7 @@ pub(crate) fn member_function_from<'a>(
 pub(crate) fn member_pointer_from<'a>(
     pointed: Result<Symbol<'a>, AllocError>,
     class: FuncClass,
-    convention: CallingConv,
+    convention: Convention,
     parameters: Result<Params<'a>, AllocError>,
     qualifiers: StorageClass,
     returned: Result<Box<Type<'a>>, AllocError>,
@@ -131,8 +133,22 @@ pub(crate) fn member_pointer_from<'a>(
         type_of t ≡ member_pointer (name_of s.name) (scope_of s.scope) class.0 convention (params_of p) qualifiers.0
         (type_of b.value))))) }
 {
-    let (pointed, (parameters, returned)) = pair_ok(pointed, pair_ok(parameters, returned))?;
+    let made = pair_ok(pointed, pair_ok(parameters, returned));
+    let (convention, (pointed, (parameters, returned))) = pair_ok(
+        owned_convention(convention),
+        made,
+    )?;
     Ok(Type::MemberFunctionPointer(pointed, class, convention, parameters, qualifiers, returned))
+}
+
+/// Makes a thunk of a virtual call of its offset, in bytes, and its convention.
+pub(crate) fn vcall_thunk_from<'a>(
+    number: i32,
+    convention: Convention,
+) -> Result<Type<'a>, AllocError>
+    ensures { IfOk result (λ t. type_of t ≡ vcall_thunk number convention) }
+{
+    Ok(Type::VCallThunk(number, owned_convention(convention)?))
 }
 
 /// Makes a variable of its type.

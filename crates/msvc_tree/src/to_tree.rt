@@ -12,7 +12,7 @@ use crate::kinds::{base_type, guard_operator, numbered_type, plain_operator, pla
 use crate::parts::{
     array_from, constant_string_from, function_from, member_function_from, member_pointer_from,
     nested_from, pointing_from, symbol_from, table_from, tagged_from, template_from,
-    type_descriptor_from, typed_symbol_from, variable_from,
+    type_descriptor_from, typed_symbol_from, variable_from, vcall_thunk_from,
 };
 use crate::results::{box_ok, push_ok};
 use crate::tree::{Name, NameSequence, Operator, Params, ParseResult, Symbol, Type};
@@ -23,7 +23,8 @@ use std::alloc::{AllocError, Global};
 ///
 /// # Errors
 ///
-/// Fails only if an allocation fails.
+/// Fails if an allocation fails, or if a node is a [`nodes::Shape`] or has a convention that
+/// [`crate::tree::CallingConv`] lacks, since owned trees can't hold these. The crate's grammar makes no such nodes.
 #[cycle(to_tree)]
 pub fn nodes_to_tree<'a, 'b>(
     alloc: Global,
@@ -93,6 +94,7 @@ fn any_name_to_tree<'a, 'b>(
         ),
         nodes::Name::Discriminator(number) => Ok(Name::Discriminator(*number)),
         nodes::Name::Nested(symbol) => nested_from(box_ok(alloc, nodes_to_tree(alloc, *symbol))),
+        nodes::Name::Shape(_) => Err(AllocError),
     }
 }
 
@@ -145,7 +147,8 @@ pub(crate) fn type_to_tree<'a, 'b>(
         nodes::Type::Table(table, qualifiers, scope) => {
             table_from(*table, names_to_tree(alloc, scope.names), *qualifiers)
         }
-        nodes::Type::VcallThunk(number, convention) => Ok(Type::VCallThunk(*number, *convention)),
+        nodes::Type::VcallThunk(number, convention) => vcall_thunk_from(*number, *convention),
+        nodes::Type::Shape(_) => Err(AllocError),
     }
 }
 

@@ -5,12 +5,13 @@ ghost use Rattle.std.specs.Prelude.{◌≡◌};
 ghost use Rattle.msvc_tree.specs.View.{name_of, operator_of, type_of};
 ghost use Rattle.msvc_tree.specs.Variants.{name_in, operator_in, type_in};
 
+use crate::kinds::node_convention;
 use crate::tree::{
-    CallingConv, Name, NameSequence, Operator, Params, ParseResult, Symbol, Type, VarStorageKind,
+    Name, NameSequence, Operator, Params, ParseResult, Symbol, Type, VarStorageKind,
 };
 use msvc_nodes::flags::{FuncClass, StorageClass};
 use msvc_nodes::kinds::{
-    Guard, NumberedType, PlainOperator, PlainType, PointerAffinity, PrimitiveKind,
+    Convention, Guard, NumberedType, PlainOperator, PlainType, PointerAffinity, PrimitiveKind,
     SpecialTableKind, Spelling, TagKind,
 };
 use msvc_nodes::nodes::BaseClass;
@@ -42,7 +43,7 @@ pub(crate) enum OperatorRef<'t, 'a> {
 /// The parts of a borrowed function type, whatever its class.
 #[derive(Clone, Copy)]
 pub(crate) struct FunctionRef<'t, 'a> {
-    pub convention: CallingConv,
+    pub convention: Convention,
     pub parameters: &'t Params<'a>,
     pub qualifiers: StorageClass,
     /// The type that the function returns.
@@ -66,7 +67,7 @@ pub(crate) enum TypeRef<'t, 'a> {
     MemberPointer(&'t Symbol<'a>, FuncClass, FunctionRef<'t, 'a>),
     Variable(&'t Type<'a>, VarStorageKind, StorageClass),
     Table(SpecialTableKind, &'t NameSequence<'a>, StorageClass),
-    VcallThunk(i32, CallingConv),
+    VcallThunk(i32, Convention),
 }
 
 /// Returns which variant a name is.
@@ -195,7 +196,7 @@ pub(crate) fn type_ref<'t, 'a>(tree: &'t Type<'a>) -> TypeRef<'t, 'a>
         ),
         Type::NonMemberFunction(convention, parameters, qualifiers, returned) => {
             return TypeRef::Function(FunctionRef {
-                convention: *convention,
+                convention: node_convention(*convention),
                 parameters,
                 qualifiers: *qualifiers,
                 returned,
@@ -203,7 +204,7 @@ pub(crate) fn type_ref<'t, 'a>(tree: &'t Type<'a>) -> TypeRef<'t, 'a>
         }
         Type::MemberFunction(class, convention, parameters, qualifiers, returned) => {
             let function = FunctionRef {
-                convention: *convention,
+                convention: node_convention(*convention),
                 parameters,
                 qualifiers: *qualifiers,
                 returned,
@@ -212,7 +213,7 @@ pub(crate) fn type_ref<'t, 'a>(tree: &'t Type<'a>) -> TypeRef<'t, 'a>
         }
         Type::MemberFunctionPointer(symbol, class, convention, parameters, qualifiers, returned) => {
             let function = FunctionRef {
-                convention: *convention,
+                convention: node_convention(*convention),
                 parameters,
                 qualifiers: *qualifiers,
                 returned,
@@ -230,7 +231,9 @@ pub(crate) fn type_ref<'t, 'a>(tree: &'t Type<'a>) -> TypeRef<'t, 'a>
             scope,
             *qualifiers,
         ),
-        Type::VCallThunk(number, convention) => return TypeRef::VcallThunk(*number, *convention),
+        Type::VCallThunk(number, convention) => {
+            return TypeRef::VcallThunk(*number, node_convention(*convention));
+        }
     }));
     TypeRef::Base(base, qualifiers)
 }

@@ -39,6 +39,10 @@ abbrev pub decreases-same_member : goal.decreases-same_member
 decreases-same_member l =
     3 * (types_size (types_in l.left.now.parameters.now) + type_size (type_of l.left.now.returned.now)) + 2
 
+abbrev pub decreases-same_shape : goal.decreases-same_shape
+decreases-same_shape l =
+    3 * (names_size (names_in l.left.now.names.now) + types_size (types_in l.left.now.types.now)) + 1
+
 abbrev pub decreases-same_scope : goal.decreases-same_scope
 decreases-same_scope l = 3 * names_size (names_in l.left.now.names.now) + 1
 

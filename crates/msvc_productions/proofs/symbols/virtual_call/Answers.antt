@@ -2,7 +2,7 @@ use Rattle.std.proofs.Common.{rules, ◌≡◌, ◌∙◌, ℕ, ℤ, List, Some,
 use Rattle.std.specs.Prelude.{codes}
 use Rattle.msvc_nodes.specs.NodeView.{type_at, type_of}
 use Rattle.msvc_nodes.specs.Trees.{TypeTree, vcall_thunk}
-use Rattle.msvc_nodes.specs.declared.kinds.CallingConv.{CallingConv}
+use Rattle.msvc_nodes.specs.declared.kinds.Convention.{Convention}
 use Rattle.msvc_rules.specs.Readers.{Found, counting, letter_here}
 use Rattle.msvc_rules.specs.Rules.{literal}
 use Rattle.msvc_rules.specs.Sorts.{virtual_call}
@@ -15,7 +15,7 @@ use Rattle.msvc_cursor.specs.Parser.{Gives, state_of}
 use Rattle.msvc_productions.proofs.symbols.virtual_call.Goals as goal
 
 -- what the production reads, by what its parts read
-parts : (left l1 l2 l3 l4 l5 : List ℕ) (s s1 s2 s3 s4 s5 : State) (offset : ℤ) (convention : CallingConv)
+parts : (left l1 l2 l3 l4 l5 : List ℕ) (s s1 s2 s3 s4 s5 : State) (offset : ℤ) (convention : Convention)
     → counting s.count.weight left s ≡ Some (tt, l1, s1) → read (literal (codes "B")) l1 s1 ≡ Some (tt, l2, s2)
     → read_name number l2 s2 ≡ Some (offset, l3, s3) → read (literal (codes "A")) l3 s3 ≡ Some (tt, l4, s4)
     → letter_here conventions l4 s4 ≡ Some (convention, l5, s5)

@@ -1,0 +1,31 @@
+-- The pieces and weights of shapes, by their nodes. No public contract speaks of these definitions.
+use Rattle.std.specs.Prelude.{ℕ, List, Bool, drop}
+use Rattle.msvc_nodes.specs.NodeView.{names_in, types_in}
+use Rattle.msvc_nodes.specs.Trees.{TypeTree, shape}
+use Rattle.msvc_nodes.specs.declared.nodes.Shape.{Shape}
+use Rattle.msvc_print.specs.Halves.{shape_parts}
+use Rattle.msvc_print.specs.Pieces.{Piece}
+use Rattle.msvc_print.specs.Shapes.{Parts, laid, slots_weight}
+use Rattle.msvc_print.specs.Weights.{scope_weight}
+use Rattle.msvc_shapes.specs.Layouts.{Slot, slots}
+use Rattle.msvc_shapes.specs.declared.layouts.Side.{Side}
+
+-- a shape as a type
+abbrev pub shape_of : Shape → TypeTree
+shape_of s = shape s.row s.qualifiers.0 s.numbers.now s.text.now (names_in s.names.now) (types_in s.types.now)
+
+-- the parts of a shape
+abbrev pub parts_of : Shape → ℕ → Parts
+parts_of s flags = shape_parts s.qualifiers.0 s.numbers.now (names_in s.names.now) flags
+
+-- the slots of a side of a shape from a place on
+unfoldable pub slots_from : Shape → Side → ℕ → List Slot
+slots_from s side at = drop at (slots s.row side)
+
+-- the pieces of a side of a shape from a slot on
+abbrev pub rest_of_slots : Shape → Side → Bool → ℕ → ℕ → List Piece
+rest_of_slots s side pointed at flags = laid (slots_from s side at) pointed (parts_of s flags) flags
+
+-- the weight of a side of a shape from a slot on
+abbrev pub rest_weight : Shape → Side → ℕ → ℕ
+rest_weight s side at = slots_weight (slots_from s side at) (scope_weight (names_in s.names.now))

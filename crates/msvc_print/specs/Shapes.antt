@@ -1,0 +1,73 @@
+-- The pieces that the layouts of the table of shapes stand for, by the parts of a shape.
+use Rattle.std.specs.Prelude.{ℕ, zero, suc, ◌+◌, List, [], ◌∷◌, ◌++◌, Bool, cond, codes, ◌==◌}
+use Rattle.std.specs.Fmt.{decimal}
+use Rattle.msvc_nodes.specs.declared.nodes.Number.{Number}
+use Rattle.msvc_print.specs.Flags.{has, no_member_type}
+use Rattle.msvc_print.specs.Pieces.{Piece, text}
+use Rattle.msvc_print.specs.Words.{closing, opening, qualifiers}
+use Rattle.msvc_shapes.specs.Layouts.{Slot}
+use Rattle.msvc_shapes.specs.Layouts as slot
+
+-- the parts of a shape: its qualifiers, its numbers, and the pieces of each of its names, as that of a symbol itself and
+-- as in a scope
+pub record Parts : Type 0 where
+  pub set : ℕ
+  pub numbers : List Number
+  pub symbols : List (List Piece)
+  pub names : List (List Piece)
+
+-- the parts of a shape, by its qualifiers, its numbers and the pieces of its names
+abbrev pub parts : ℕ → List Number → List (List Piece) → List (List Piece) → Parts
+parts set numbers symbols names = record { set = set; numbers = numbers; symbols = symbols; names = names }
+
+-- a number in decimal, after a minus if it has one
+abbrev pub number_pieces : Number → List Piece
+number_pieces n = cond n.is_negative (text (codes "-") ∷ []) [] ++ text (decimal n.value) ∷ []
+
+-- the number at a place of a list, and nothing behind the end
+abbrev pub number_at : List Number → ℕ → List Piece
+number_at [] i = []
+number_at (n ∷ ns) zero = number_pieces n
+number_at (n ∷ ns) (suc i) = number_at ns i
+
+-- the length of a level of an array in brackets, which are empty where it is 0
+abbrev pub level_pieces : Number → List Piece
+level_pieces n = text (codes "[") ∷ (cond (n.value == 0) [] (number_pieces n) ++ text (codes "]") ∷ [])
+
+-- the lengths of the levels of an array
+abbrev pub each_level : List Number → List Piece
+each_level [] = []
+each_level (n ∷ ns) = level_pieces n ++ each_level ns
+
+-- the pieces at a place of a list, and none behind the end
+abbrev pub pieces_at : List (List Piece) → ℕ → List Piece
+pieces_at [] i = []
+pieces_at (x ∷ xs) zero = x
+pieces_at (x ∷ xs) (suc i) = pieces_at xs i
+
+-- a word that NO_MEMBER_TYPE drops
+abbrev pub kind_word_pieces : List ℕ → ℕ → List Piece
+kind_word_pieces w flags = cond (has flags no_member_type) [] (text w ∷ [])
+
+-- the pieces of a slot; `pointed` says whether the shape stands directly under a pointer or a reference
+unfoldable pub slot_pieces : Slot → Bool → Parts → ℕ → List Piece
+slot_pieces (slot.word w) pointed p flags = text w ∷ []
+slot_pieces (slot.kind_word w) pointed p flags = kind_word_pieces w flags
+slot_pieces (slot.number i) pointed p flags = number_at p.numbers i
+slot_pieces slot.lengths pointed p flags = each_level p.numbers
+slot_pieces slot.qualifiers pointed p flags = qualifiers p.set flags
+slot_pieces slot.pointer_qualifiers pointed p flags = qualifiers p.set flags
+slot_pieces slot.opening pointed p flags = opening pointed
+slot_pieces slot.closing pointed p flags = closing pointed
+slot_pieces (slot.symbol i) pointed p flags = pieces_at p.symbols i
+slot_pieces (slot.name i) pointed p flags = pieces_at p.names i
+
+-- the pieces of slots, in their order
+unfoldable pub laid : List Slot → Bool → Parts → ℕ → List Piece
+laid [] pointed p flags = []
+laid (s ∷ ss) pointed p flags = slot_pieces s pointed p flags ++ laid ss pointed p flags
+
+-- the weight of slots, each of which prints names that weigh at most `names`
+unfoldable pub slots_weight : List Slot → ℕ → ℕ
+slots_weight [] names = 1
+slots_weight (s ∷ ss) names = 1 + names + slots_weight ss names
