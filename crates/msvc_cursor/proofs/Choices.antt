@@ -3,17 +3,19 @@ use Rattle.std.proofs.Common.{ℕ, List, [], ◌∷◌, Option, Some, None, Bool
 use Rattle.std.proofs.Common.{◌∙◌}
 use Rattle.std.specs.Prelude.{is_some}
 use Rattle.std.specs.Option.{option_map_or}
-use Rattle.msvc_rules.specs.Readers.{Found, read_by, letter_here, with_value, after_literal, and_then, or_else}
+use Rattle.msvc_rules.specs.Readers.{Found, Reader, read_by, letter_here, with_value, after_literal, and_then, or_else}
 use Rattle.msvc_rules.specs.Rules.{holds, none_of, some_of, after, lookup, Rule, begins_of, letter_or, literal_or}
-use Rattle.msvc_rules.specs.Rules.{begins}
+use Rattle.msvc_rules.specs.Rules.{begins, every, text_and, text_or, texts_of}
 use Rattle.msvc_rules.specs.Sorts.{Sort}
 use Rattle.msvc_rules.specs.State.{State}
+use Rattle.msvc_rules.proofs.Checks.{apart_texts, differ}
+use Rattle.msvc_rules.proofs.FirstSets.{differ-never, if_both}
 use Rattle.msvc_grammar.specs.Grammar.{grammar}
 use Rattle.msvc_grammar.specs.Letters.{rows_of}
 use Rattle.msvc_grammar.specs.Productions.{Production, required}
 use Rattle.msvc_grammar.specs.Reading.{read_name, read}
 use Rattle.msvc_grammar.proofs.Laws.{read_name-is}
-use Rattle.msvc_cursor.specs.Parser.{byte_here}
+use Rattle.msvc_cursor.specs.Parser.{byte_here, text_at, this_or}
 
 pub or_none : {A : Type 0} (o : Found A) → or_else o None ≡ o
 or_none None = refl
@@ -55,34 +57,138 @@ choice (Some x) t bs s f q h = ap (λ z. or_else (f x bs s) (cond z q None)) (h.
     whole None = refl
     whole (Some y) = refl
 
+-- Tables of texts
+
+-- a choice by the text of a table that begins, as the program makes it
+abbrev pub by_text : {A B : Type 0} → Option (A × List ℕ) → (A → List ℕ → Found B) → Found B → Found B
+by_text None f q = q
+by_text (Some x) f q = f x.0 x.1
+
+-- where one text begins, those that differ from it do not
+none_at : {A : Type 0} (l left : List ℕ) (table : List (List ℕ × A)) → begins left l ≡ true
+    → every (λ other. differ l other.0) table ≡ true → text_at table left ≡ None
+unfolding text_at
+none_at l left [] b h = refl
+none_at l left (row ∷ table) b h =
+    let parts : (differ l row.0 ≡ true) × (every (λ other. differ l other.0) table ≡ true) =
+    if_both (differ l row.0) (every (λ other. differ l other.0) table) h in
+    go (after row.0 left) refl parts.0 (none_at l left table b parts.1)
+  where
+    go : (o : Option (List ℕ)) → after row.0 left ≡ o → differ l row.0 ≡ true → text_at table left ≡ None
+        → this_or row.1 o (text_at table left) ≡ None
+    go None e d ih = ih
+    go (Some rest) e d ih = absurd (differ-never l row.0 left d b (ap is_some e))
+
+some_text : {A : Type 0} (table : List (List ℕ × A)) (left : List ℕ)
+    → some_of (begins left) (texts_of table) ≡ is_some (text_at table left)
+unfolding text_at
+some_text [] left = refl
+some_text (row ∷ table) left = go (after row.0 left) (some_text table left)
+  where
+    go : (o : Option (List ℕ)) → some_of (begins left) (texts_of table) ≡ is_some (text_at table left)
+        → cond (is_some o) true (some_of (begins left) (texts_of table))
+        ≡ is_some (this_or row.1 o (text_at table left))
+    go None ih = ih
+    go (Some rest) ih = refl
+
+-- choices of any grammar, whose productions are read by `calls`
+module _ {P : Sort → Type 0} (calls : (b : Sort) → P b → Reader b) where
+  pub letter_or-by : {a : Sort} (table : List (ℕ × ℕ)) (f : ℕ → Rule P a) (q : Rule P a) (left : List ℕ) (s : State)
+      → read_by calls (letter_or table f q) left s
+      ≡ choose (letter_here table left s) (λ x. read_by calls (f x)) (read_by calls q left s)
+  unfolding read_by
+  letter_or-by table f q [] s = ap (λ t. cond t (read_by calls q [] s) None) (go table)
+    where
+      go : (rows : List (ℕ × ℕ)) → holds (none_of (begins_of rows)) [] ≡ true
+      go [] = refl
+      go (row ∷ rows) = go rows
+  letter_or-by table f q (b ∷ bs) s =
+      choice (lookup b table) (holds (none_of (begins_of table)) (b ∷ bs)) bs s
+      (λ x. read_by calls (f x)) (read_by calls q (b ∷ bs) s) (no_letter table b bs)
+
+  pub literal_or-by : {a : Sort} (l : List ℕ) (r q : Rule P a) (left : List ℕ) (s : State)
+      → read_by calls (literal_or l r q) left s
+      ≡ chosen (after l left) (λ rest. read_by calls r rest s) (read_by calls q left s)
+  unfolding read_by
+  literal_or-by l r q left s = go (after l left)
+    where
+      go : (o : Option (List ℕ))
+          → or_else (and_then (after_literal o s) (λ _. read_by calls r))
+          (cond (not (cond (is_some o) true false)) (read_by calls q left s) None)
+          ≡ chosen o (λ rest. read_by calls r rest s) (read_by calls q left s)
+      go None = refl
+      go (Some rest) = or_none (read_by calls r rest s)
+
+  pub text_and-by : {a : Sort} {A : Type 0} (table : List (List ℕ × A)) (f : A → Rule P a) (left : List ℕ) (s : State)
+      → apart_texts table ≡ true
+      → read_by calls (text_and table f) left s
+      ≡ by_text (text_at table left) (λ x rest. read_by calls (f x) rest s) None
+  unfolding read_by text_at
+  text_and-by [] f [] s h = refl
+  text_and-by [] f (b ∷ bs) s h = refl
+  text_and-by (row ∷ table) f left s h =
+      let parts : (every (λ other. differ row.0 other.0) table ≡ true) × (apart_texts table ≡ true) =
+      if_both (every (λ other. differ row.0 other.0) table) (apart_texts table) h in
+      go (after row.0 left) refl parts.0 (text_and-by table f left s parts.1)
+    where
+      go : (o : Option (List ℕ)) → after row.0 left ≡ o → every (λ other. differ row.0 other.0) table ≡ true
+          → read_by calls (text_and table f) left s
+          ≡ by_text (text_at table left) (λ x rest. read_by calls (f x) rest s) None
+          → or_else (and_then (after_literal o s) (λ _. read_by calls (f row.1)))
+          (read_by calls (text_and table f) left s)
+          ≡ by_text (this_or row.1 o (text_at table left)) (λ x rest. read_by calls (f x) rest s) None
+      go None e d ih = ih
+      go (Some rest) e d ih =
+          ap (or_else (read_by calls (f row.1) rest s)) (ih
+          ∙ ap (λ o. by_text o (λ x l. read_by calls (f x) l s) None) (none_at row.0 left table (ap is_some e) d))
+          ∙ or_none (read_by calls (f row.1) rest s)
+
+  pub text_or-by : {a : Sort} {A : Type 0} (table : List (List ℕ × A)) (f : A → Rule P a) (q : Rule P a)
+      (left : List ℕ) (s : State) → apart_texts table ≡ true
+      → read_by calls (text_or table f q) left s
+      ≡ by_text (text_at table left) (λ x rest. read_by calls (f x) rest s) (read_by calls q left s)
+  unfolding read_by
+  text_or-by table f q left s h =
+      ap (λ o. or_else o (cond (not (some_of (begins left) (texts_of table))) (read_by calls q left s) None))
+      (text_and-by table f left s h)
+      ∙ ap (λ t. or_else (by_text (text_at table left) (λ x rest. read_by calls (f x) rest s) None)
+      (cond (not t) (read_by calls q left s) None)) (some_text table left)
+      ∙ go (text_at table left)
+    where
+      go : (o : Option (_ × List ℕ))
+          → or_else (by_text o (λ x rest. read_by calls (f x) rest s) None)
+          (cond (not (is_some o)) (read_by calls q left s) None)
+          ≡ by_text o (λ x rest. read_by calls (f x) rest s) (read_by calls q left s)
+      go None = refl
+      go (Some x) = or_none (read_by calls (f x.0) x.1 s)
+
+-- the same of the crate's grammar
+
 pub letter_or-is : {a : Sort} (table : List (ℕ × ℕ)) (f : ℕ → Rule Production a) (q : Rule Production a)
     (left : List ℕ) (s : State)
     → read (letter_or table f q) left s ≡ choose (letter_here table left s) (λ x. read (f x)) (read q left s)
-unfolding read read_by
-letter_or-is table f q [] s = ap (λ t. cond t (read q [] s) None) (go table)
-  where
-    go : (rows : List (ℕ × ℕ)) → holds (none_of (begins_of rows)) [] ≡ true
-    go [] = refl
-    go (row ∷ rows) = go rows
-letter_or-is table f q (b ∷ bs) s =
-    choice (lookup b table) (holds (none_of (begins_of table)) (b ∷ bs)) bs s
-    (λ x. read (f x)) (read q (b ∷ bs) s) (no_letter table b bs)
+unfolding read
+letter_or-is table f q left s = letter_or-by (λ b m. read_name m) table f q left s
 
 pub literal_or-is : {a : Sort} (l : List ℕ) (r q : Rule Production a) (left : List ℕ) (s : State)
     → read (literal_or l r q) left s ≡ chosen (after l left) (λ rest. read r rest s) (read q left s)
-unfolding read read_by
-literal_or-is l r q left s = go (after l left)
-  where
-    whole : {B : Type 0} (o : Found B) → or_else o None ≡ o
-    whole None = refl
-    whole (Some y) = refl
+unfolding read
+literal_or-is l r q left s = literal_or-by (λ b m. read_name m) l r q left s
 
-    go : (o : Option (List ℕ))
-        → or_else (and_then (after_literal o s) (λ _. read r))
-        (cond (not (cond (is_some o) true false)) (read q left s) None)
-        ≡ chosen o (λ rest. read r rest s) (read q left s)
-    go None = refl
-    go (Some rest) = whole (read r rest s)
+pub text_and-is : {a : Sort} {A : Type 0} (table : List (List ℕ × A)) (f : A → Rule Production a) (left : List ℕ)
+    (s : State)
+    → apart_texts table ≡ true
+    → read (text_and table f) left s ≡ by_text (text_at table left) (λ x rest. read (f x) rest s) None
+unfolding read
+text_and-is table f left s h = text_and-by (λ b m. read_name m) table f left s h
+
+pub text_or-is : {a : Sort} {A : Type 0} (table : List (List ℕ × A)) (f : A → Rule Production a)
+    (q : Rule Production a) (left : List ℕ)
+    (s : State) → apart_texts table ≡ true
+    → read (text_or table f q) left s
+    ≡ by_text (text_at table left) (λ x rest. read (f x) rest s) (read q left s)
+unfolding read
+text_or-is table f q left s h = text_or-by (λ b m. read_name m) table f q left s h
 
 -- the rows of one table, then those of the others
 pub lookup-rows : {A B : Type 0} (f : A → B) (b : ℕ) (table : List (ℕ × A)) (others : List (ℕ × B))

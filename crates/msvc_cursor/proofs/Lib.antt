@@ -11,3 +11,4 @@ pub mod Steps
 pub mod StringSteps
 pub mod SymbolSteps
 pub mod TypeSteps
+pub mod WholeTexts

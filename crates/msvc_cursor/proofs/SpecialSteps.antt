@@ -21,7 +21,7 @@ use Rattle.msvc_grammar.proofs.Laws.{read_name-is}
 use Rattle.msvc_grammar.specs.declared.forms.SpecialForm.{SpecialForm}
 use Rattle.msvc_grammar.specs.declared.forms.SpecialForm.TheVariants as special
 use Rattle.msvc_cursor.specs.Parser.{at_rest, letter_at, special_at_after_under, special_at, this_or, text_at}
-use Rattle.msvc_cursor.proofs.TypeSteps.{by_text, text_and-is}
+use Rattle.msvc_cursor.proofs.Choices.{by_text, text_and-is}
 
 pub special_name_step : (left : List ℕ) (s : State) → read_name special_name left s
     ≡ by_text (text_at special_texts left) (λ f rest. read_name (special_after f) rest s) None

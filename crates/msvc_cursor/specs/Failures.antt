@@ -1,9 +1,11 @@
 -- Why reading a text fails, before an error is made of the reason.
-use Rattle.std.specs.Prelude.{ℕ, List, ◌-◌, ◌≡◌, Option, codes, length}
+use Rattle.std.specs.Prelude.{ℕ, List, ◌-◌, ◌≡◌, Option, length}
 use Rattle.msvc_nodes.specs.declared.error.ErrorRepr.{ErrorRepr}
-use Rattle.msvc_grammar.specs.Limits.{MayBeAbout}
-use Rattle.msvc_grammar.specs.Parsed.{IsRejected}
-use Rattle.msvc_grammar.specs.Rejections.{IsNoSymbol, begins_with}
+use Rattle.msvc_rules.specs.Dialects.{Dialect}
+use Rattle.msvc_rules.specs.Limits.{MayBeAbout}
+use Rattle.msvc_rules.specs.Parsed.{IsRejectedIn}
+use Rattle.msvc_rules.specs.Rejections.{IsNoSymbolIn}
+use Rattle.msvc_grammar.specs.Parsed.{crate_dialect}
 use Rattle.msvc_cursor.specs.Errors.{IsErrorOf}
 use Rattle.msvc_cursor.specs.Messages.{limit_of_failure}
 use Rattle.msvc_cursor.specs.declared.failure.Failure.{Failure}
@@ -16,12 +18,16 @@ UnlessMemory text (failure.Rejected message left) holds = holds (length text - l
 UnlessMemory text (failure.TooLong read) holds = ⊥
 
 -- Reading the text fails for this reason, under a limit on nodes or without one.
-pub record Fails (nodes : Option ℕ) (text : List ℕ) (reason : Failure) : Type 0 where
+pub record FailsIn (D : Dialect) (nodes : Option ℕ) (text : List ℕ) (reason : Failure) : Type 0 where
   -- each error that is made of the reason rejects the text
-  pub rejected : (e : ErrorRepr) → IsErrorOf reason text e → IsRejected nodes text e
+  pub rejected : (e : ErrorRepr) → IsErrorOf reason text e → IsRejectedIn D nodes text e
   -- no beginning of the text is a symbol within the limit
-  pub none : UnlessMemory text reason (λ offset. IsNoSymbol nodes text)
+  pub none : UnlessMemory text reason (λ offset. IsNoSymbolIn D.grammar nodes text)
   -- a text without a question mark at its beginning is rejected at offset 0
-  pub begins : UnlessMemory text reason (λ offset. (begins_with (codes "?") text → ⊥) → offset ≡ 0)
+  pub begins : UnlessMemory text reason (λ offset. (D.Begins text → ⊥) → offset ≡ 0)
   -- the reason is no limit, if there is none
   pub limit : MayBeAbout nodes (limit_of_failure reason)
+
+-- reading the text in the crate's dialect fails for this reason
+abbrev pub Fails : (nodes : Option ℕ) → List ℕ → Failure → Type 0
+Fails nodes text reason = FailsIn crate_dialect nodes text reason

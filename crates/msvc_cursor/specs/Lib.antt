@@ -5,6 +5,7 @@ pub mod Messages
 pub mod Notes
 pub mod Parser
 pub mod Rows
+pub mod SymbolsRead
 pub mod NestedList
 pub use Rattle.msvc_nodes.specs.NodeView
 pub use Rattle.msvc_rules.specs.Counts

@@ -16,5 +16,7 @@ pub mod numbers;
 pub mod parser;
 pub mod source_names;
 pub mod special_codes;
+pub mod store;
 pub mod strings;
+pub mod symbol_read;
 pub mod type_prefixes;

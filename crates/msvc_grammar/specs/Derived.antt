@@ -1,6 +1,7 @@
 -- What the grammar derives from a text, and its laws.
-use Rattle.std.specs.Prelude.{ℕ, List, ◌≡◌}
+use Rattle.std.specs.Prelude.{ℕ, List}
 use Rattle.msvc_nodes.specs.Trees.{SymbolTree}
+use Rattle.msvc_rules.specs.Derived.{IsOnlyIn}
 use Rattle.msvc_rules.specs.Laws.{HasOneTreeIn, TablesAreHandedBackIn, TypesAreLocalIn}
 use Rattle.msvc_rules.specs.Prefix.{IsReadToIn}
 use Rattle.msvc_rules.specs.Reads.{DerivesIn}
@@ -15,8 +16,7 @@ Derives text tree rest notes = DerivesIn crate_grammar text tree rest notes
 
 -- whatever the grammar derives from the text is this tree, with this rest and these notes
 abbrev pub IsOnly : List ℕ → SymbolTree → List ℕ → List Note → Type 0
-IsOnly text tree rest notes = (other : SymbolTree) (remaining : List ℕ) (others : List Note)
-    → Derives text other remaining others → (other ≡ tree) × (remaining ≡ rest) × (others ≡ notes)
+IsOnly text tree rest notes = IsOnlyIn crate_grammar text tree rest notes
 
 -- The rest of a text stands after this many bytes of it, and these alone derive the same symbol with the same notes and
 -- nothing left.

@@ -3,7 +3,9 @@ pub use Rattle.msvc_nodes.specs.Equality
 pub use Rattle.msvc_nodes.specs.Errors
 pub use Rattle.msvc_nodes.specs.Trees
 pub use Rattle.msvc_rules.specs.Counts
+pub use Rattle.msvc_rules.specs.Dialects
 pub use Rattle.msvc_rules.specs.Laws
+pub use Rattle.msvc_rules.specs.Limits
 pub use Rattle.msvc_rules.specs.Parts
 pub use Rattle.msvc_rules.specs.Prefix
 pub use Rattle.msvc_rules.specs.Readers
@@ -16,7 +18,6 @@ pub mod Derived
 pub mod Grammar
 pub mod Hashes
 pub mod Letters
-pub mod Limits
 pub mod Parsed
 pub mod Productions
 pub mod Reading

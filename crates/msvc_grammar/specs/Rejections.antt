@@ -1,34 +1,15 @@
--- What a rejection is to callers.
-use Rattle.std.specs.Prelude.{ℕ, List, ◌++◌, ◌≤◌, ◌≡◌, Option, length, string_bytes}
-use Rattle.std.specs.Str.{IsAscii}
-use Rattle.msvc_nodes.specs.Errors.{context_of}
-use Rattle.msvc_nodes.specs.Trees.{SymbolTree}
+-- What a rejection by the grammar is to callers.
+use Rattle.std.specs.Prelude.{ℕ, List, Option}
 use Rattle.msvc_nodes.specs.declared.error.ErrorRepr.{ErrorRepr}
-use Rattle.msvc_nodes.specs.declared.error.ErrorRepr.TheVariants as error
-use Rattle.msvc_rules.specs.Counts.{node_count}
-use Rattle.msvc_rules.specs.State.{Note}
-use Rattle.msvc_grammar.specs.Derived.{Derives}
-use Rattle.msvc_grammar.specs.Limits.{IsBeyond}
-
-abbrev pub begins_with : List ℕ → List ℕ → Type 0
-begins_with literal text = (rest : List ℕ) × (text ≡ literal ++ rest)
-
--- an error out of memory, or a rejection at this offset, which shows what stands there if the text is ASCII
-abbrev pub IsRejectionAt : List ℕ → ℕ → ErrorRepr → Type 0
-IsRejectionAt text offset (error.ParseError message context at) =
-    (at ≡ offset) × (IsAscii text → string_bytes context ≡ context_of text offset)
-IsRejectionAt text offset error.Memory = Unit {0}
-IsRejectionAt text offset _ = ⊥
+use Rattle.msvc_rules.specs.Rejections.{IsNoSymbolIn, IsRejectedRightlyIn}
+pub use Rattle.msvc_rules.specs.Rejections.{begins_with, IsRejectionAt}
+use Rattle.msvc_grammar.specs.Grammar.{crate_grammar}
 
 -- no beginning of the text is a symbol whose tree is within the limit on nodes
 abbrev pub IsNoSymbol : (nodes : Option ℕ) → List ℕ → Type 0
-IsNoSymbol nodes text = (tree : SymbolTree) (rest : List ℕ) (notes : List Note) → Derives text tree rest notes
-    → IsBeyond nodes (node_count tree)
+IsNoSymbol nodes text = IsNoSymbolIn crate_grammar nodes text
 
 -- A text is rejected out of memory, or at an offset, because no beginning of the text is a symbol within the limit on
 -- nodes. Of an ASCII text the rejection shows what stands at the offset.
 abbrev pub IsRejectedRightly : (nodes : Option ℕ) → List ℕ → ErrorRepr → Type 0
-IsRejectedRightly nodes text (error.ParseError message context at) =
-    (at ≤ length text) × IsNoSymbol nodes text × (IsAscii text → string_bytes context ≡ context_of text at)
-IsRejectedRightly nodes text error.Memory = Unit {0}
-IsRejectedRightly nodes text _ = ⊥
+IsRejectedRightly nodes text e = IsRejectedRightlyIn crate_grammar nodes text e

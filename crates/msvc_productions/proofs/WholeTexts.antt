@@ -1,59 +1,36 @@
--- Reads a whole text: what is read is the one tree that the grammar derives, and where nothing is read it derives none.
-use Rattle.std.proofs.Common.{ℕ, List, [], ◌++◌, length, length-append, take, Option, Some, None, Result, Ok, Err, ◌≡◌}
-use Rattle.std.proofs.Common.{◌≤◌, ◌-◌, ◌⊎◌, inl, inr, refl}
-use Rattle.std.proofs.Common.{sym, ap, ◌∙◌, subst, arith}
-use Rattle.std.specs.Prelude.{codes, IfErr, IfOk}
-use Rattle.std.specs.Str.{IsCharBoundary, IsUtf8}
-use Rattle.msvc_nodes.specs.Errors.{context_of, limit_of, message_limit}
+-- The crate's dialect has the laws of a dialect, so what is read of a whole text is the one tree that the grammar derives.
+use Rattle.std.proofs.Common.{ℕ, List, Option, Some, None, Result, Err, ◌≡◌}
+use Rattle.std.proofs.Common.{refl, ap, ◌∙◌}
+use Rattle.std.specs.Prelude.{codes, IfErr, IfOk, length}
+use Rattle.std.specs.Str.{IsUtf8}
 use Rattle.msvc_nodes.specs.Trees.{SymbolTree}
-use Rattle.msvc_nodes.specs.declared.error.ErrorRepr.{ErrorRepr}
-use Rattle.msvc_nodes.specs.declared.error.ErrorRepr.TheVariants as error
-use Rattle.msvc_nodes.specs.declared.error.Limit.{Limit}
-use Rattle.msvc_nodes.specs.declared.error.Limit.TheVariants.{Bytes}
-use Rattle.std.proofs.lemmas.Str.{IsCharBoundary-at_seam}
-use Rattle.std.proofs.Math.Seq.{take-append_seam}
-use Rattle.msvc_rules.specs.Counts.{node_count}
 use Rattle.msvc_rules.specs.Readers.{Found}
 use Rattle.msvc_rules.specs.Rules.{after}
-use Rattle.msvc_rules.specs.State.{Count, State, Note, beginning, beginning_with, uncounted}
-use Rattle.msvc_grammar.specs.Derived.{IsReadTo, Derives}
-use Rattle.msvc_grammar.specs.Hashes.{HashesAreRead}
-use Rattle.msvc_grammar.specs.Limits.{IsWithin, MayBeAbout}
-use Rattle.msvc_grammar.specs.Parsed.{AreReferences, GrammarLaws, IsParsed, IsRejected, IsSymbolLength}
+use Rattle.msvc_rules.specs.State.{Note, beginning, beginning_with}
+use Rattle.msvc_rules.proofs.Dialects.{Lawful, laws_of}
+use Rattle.msvc_rules.proofs.Soundness.{after-is}
+use Rattle.msvc_grammar.specs.Derived.{Derives}
+use Rattle.msvc_grammar.specs.Parsed.{GrammarLaws, crate_dialect}
 use Rattle.msvc_grammar.specs.Productions.{symbol, symbol_body}
 use Rattle.msvc_grammar.specs.Reading.{read_name}
-use Rattle.msvc_grammar.specs.Rejections.{IsNoSymbol, IsRejectedRightly, IsRejectionAt, begins_with}
-use Rattle.msvc_rules.proofs.NodeLimits.{at_most}
-use Rattle.msvc_rules.proofs.Progress.{IsTail, tail}
-use Rattle.msvc_rules.proofs.Soundness.{after-is}
-use Rattle.msvc_grammar.proofs.Checks.{crate_fit}
+use Rattle.msvc_grammar.specs.Rejections.{begins_with}
+use Rattle.msvc_grammar.proofs.Checks.{crate_figures, crate_fit}
+use Rattle.msvc_grammar.proofs.DigitPlaces.{crate_placing}
 use Rattle.msvc_grammar.proofs.Hashes.{hashes-read, hashes-stand}
-use Rattle.msvc_grammar.proofs.Laws.{derived-alone, derived-only, symbol-derived, symbol-rejected}
-use Rattle.msvc_grammar.proofs.Laws.{tables-are-handed-back, types-are-local, derived-parts, derived-utf8, rest-utf8}
-use Rattle.msvc_grammar.proofs.Laws.{within_derived, within_rejected, derived_rising, all_written_out}
+use Rattle.msvc_grammar.proofs.Laws.{crate_starting, symbol-rejected, types-are-local}
+use Rattle.msvc_grammar.proofs.NamesInText.{crate_named}
+use Rattle.msvc_grammar.proofs.NodesCounted.{crate_counted}
 use Rattle.msvc_cursor.proofs.Choices.{chosen}
 use Rattle.msvc_cursor.proofs.SymbolSteps.{symbol_step}
-use Rattle.msvc_cursor.proofs.Messages.{not-bytes, words-limit}
-use Rattle.msvc_cursor.specs.Errors.{IsErrorOf, IsInside, IsSaid}
-use Rattle.msvc_cursor.specs.Failures.{Fails, UnlessMemory}
-use Rattle.msvc_cursor.specs.Messages.{limit_of_failure, limit_of_message}
-use Rattle.msvc_cursor.specs.Parser.{IsRead, Rejects, with_length}
+use Rattle.msvc_cursor.proofs.WholeTexts as whole
+use Rattle.msvc_cursor.specs.Errors.{IsInside}
+use Rattle.msvc_cursor.specs.Failures.{Fails}
+use Rattle.msvc_cursor.specs.Messages.{limit_of_failure}
+use Rattle.msvc_cursor.specs.Parser.{IsRead, with_length}
+use Rattle.msvc_cursor.specs.SymbolsRead.{IsSymbolRead}
 use Rattle.msvc_cursor.specs.declared.failure.Failure.{Failure}
 use Rattle.msvc_cursor.specs.declared.failure.Failure.TheVariants as failure
-use Rattle.msvc_cursor.specs.declared.failure.Message.{Message}
 use Rattle.msvc_cursor.specs.declared.failure.Message.TheVariants as message
-use Rattle.msvc_productions.specs.SymbolsRead.{IsSymbolRead}
-
--- The grammar
-
-pub laws : (text : List ℕ) → GrammarLaws text
-laws text =
-    record {
-      unique = derived-only text;
-      local = types-are-local;
-      tables = tables-are-handed-back;
-      written_out = all_written_out text;
-    }
 
 -- a symbol begins with a question mark
 begun : (text : List ℕ) (tree : SymbolTree) (rest : List ℕ) (notes : List Note) → Derives text tree rest notes
@@ -70,316 +47,62 @@ begun text tree rest notes d = go (after (codes "?") text) refl
         absurd (symbol-rejected text none tree rest notes d)
     go (Some remaining) k = (remaining, after-is (codes "?") text remaining k)
 
--- what holds of a tree that is derived
-parsed : (text : List ℕ) (tree : SymbolTree) (rest : List ℕ) (notes : List Note) → IsUtf8 text
-    → Derives text tree rest notes → IsParsed text tree
-parsed text tree rest notes utf8 d =
+pub crate_lawful : Lawful crate_dialect
+crate_lawful =
     record {
-      rest = rest;
-      notes = notes;
-      derived = d;
-      only = λ other remaining others e. derived-only text other tree remaining rest others notes e d;
-      parts = derived-parts text tree rest notes d;
-      texts = derived-utf8 text tree rest notes utf8 d;
-      hashes = hashes-stand text tree rest notes d;
-      begins = begun text tree rest notes d;
+      figures = crate_figures;
+      fit = crate_fit;
+      placing = crate_placing;
+      starting = crate_starting;
+      counted = crate_counted;
+      named = crate_named;
+      local = types-are-local;
+      begun = begun;
+      stands = hashes-stand;
+      are_read = hashes-read;
     }
 
--- The bytes that were read
-
--- the grammar derives the tree, with so many bytes before the rest
-abbrev DerivedTo : List ℕ → SymbolTree → ℕ → Type 0
-DerivedTo text tree n =
-    (rest : List ℕ) × (notes : List Note) × (derived : Derives text tree rest notes) × (length text - length rest ≡ n)
-
--- bytes before others are as many as the text has more than these
-front : (text consumed rest : List ℕ) (n : ℕ) → text ≡ consumed ++ rest → length text - length rest ≡ n → length
-    consumed ≡ n
-front text consumed rest n e h = omega (arith, ap length e, length-append consumed rest, h)
-
--- what a symbol leaves stands after the bytes that were read
-left-after : (text : List ℕ) (tree : SymbolTree) (n : ℕ) → DerivedTo text tree n
-    → (other : SymbolTree) (rest : List ℕ) (notes : List Note) → Derives text other rest notes
-    → (consumed : List ℕ) × (text ≡ consumed ++ rest) × (length consumed ≡ n)
-left-after text tree n found other rest notes d =
-    let same : rest ≡ found.0 = (derived-only text other tree rest found.0 notes found.1 d found.2).1 in
-    let consumed : IsTail text rest = tail crate_fit d.1 in
-    (consumed.0, consumed.1, front text consumed.0 rest n consumed.1 (ap (λ z. length text - length z) same ∙ found.3))
-
-read-to : (text : List ℕ) (tree : SymbolTree) (n : ℕ) → DerivedTo text tree n
-    → (other : SymbolTree) (rest : List ℕ) (notes : List Note) → Derives text other rest notes
-    → IsReadTo n text other rest notes
-read-to text tree n found other rest notes d =
-    let left = left-after text tree n found other rest notes d in
-    let cut : take n text ≡ left.0 =
-    ap (λ m. take m text) (sym left.2) ∙ ap (take (length left.0)) left.1 ∙ take-append_seam left.0 rest in (
-      omega (arith, left.2, ap length left.1, length-append left.0 rest),
-      left.1 ∙ ap (λ z. z ++ rest) (sym cut),
-      subst (λ z. Derives z other [] notes) (sym cut) (derived-alone text left.0 other rest notes left.1 d),
-    )
-
-boundary : (text : List ℕ) (tree : SymbolTree) (n : ℕ) → IsUtf8 text → DerivedTo text tree n → IsCharBoundary text n
-boundary text tree n utf8 found =
-    let left = left-after text tree n found tree found.0 found.1 found.2 in
-    subst (IsCharBoundary text) left.2
-    (IsCharBoundary-at_seam text left.0 found.0 left.1 (rest-utf8 text tree found.0 found.1 utf8 found.2))
-
-to-length : (text : List ℕ) (tree : SymbolTree) (n : ℕ) → IsUtf8 text → DerivedTo text tree n
-    → IsSymbolLength n text
-to-length text tree n utf8 found =
-    record { read_to = read-to text tree n found; boundary = boundary text tree n utf8 found }
-
--- the digits that were read as whole parameters rise, and can be written out
-derived_references : (text : List ℕ) (tree : SymbolTree) (rest : List ℕ) (notes : List Note)
-    → Derives text tree rest notes → AreReferences text notes
-derived_references text tree rest notes derived =
-    record {
-      tree = tree;
-      rest = rest;
-      derived = derived;
-      only = λ other remaining others d. derived-only text other tree remaining rest others notes d derived;
-      begins = begun text tree rest notes derived;
-      rising = derived_rising text tree rest notes derived;
-      written_out = all_written_out text tree rest notes derived;
-    }
-
--- What a reader returns
-
--- how nodes are counted under a limit
-abbrev count_under : Option ℕ → Count
-count_under None = uncounted
-count_under (Some max) = at_most max
+pub laws : (text : List ℕ) → GrammarLaws text
+laws = laws_of crate_lawful
 
 -- what is read of a text under a limit: the tree, how many bytes, and the digits that were read as whole parameters
 abbrev pub symbol_under : Option ℕ → List ℕ → Option (SymbolTree × ℕ × List Note)
-symbol_under nodes text = with_length text (read_name symbol text (beginning_with (count_under nodes) text))
-
-whole : (text : List ℕ) (r : Found SymbolTree) (tree : SymbolTree) (n : ℕ) (notes : List Note)
-    → with_length text r ≡ Some (tree, n, notes)
-    → (rest : List ℕ) × (s : State) × (r ≡ Some (tree, rest, s)) × (length text - length rest ≡ n) × (s.notes ≡ notes)
-whole text None tree n notes e = absurd (cc)
-whole text (Some x) tree n notes e =
-    let all : (x.0, length text - length x.1, x.2.notes) ≡ (tree, n, notes) = cc in
-    let same : x.0 ≡ tree = ap (λ (p : SymbolTree × ℕ × List Note). p.0) all in (
-      x.1,
-      x.2,
-      ap (λ t. Some (t, x.1, x.2)) same,
-      ap (λ (p : SymbolTree × ℕ × List Note). p.1) all,
-      ap (λ (p : SymbolTree × ℕ × List Note). p.2) all,
-    )
-
--- the grammar derives what is read, and its tree is within the limit
-abbrev DerivedWithin : Option ℕ → List ℕ → SymbolTree → ℕ → List Note → Type 0
-DerivedWithin nodes text tree n notes =
-    (rest : List ℕ) × (derived : Derives text tree rest notes) × (length text - length rest ≡ n)
-    × IsWithin nodes (node_count tree)
-
-read-derived : (nodes : Option ℕ) (text : List ℕ) (tree : SymbolTree) (n : ℕ) (notes : List Note)
-    → symbol_under nodes text ≡ Some (tree, n, notes) → DerivedWithin nodes text tree n notes
-read-derived None text tree n notes e =
-    let found = whole text (read_name symbol text (beginning text)) tree n notes e in (
-      found.0,
-      subst (Derives text tree found.0) found.4 (symbol-derived text tree found.0 found.1 found.2),
-      found.3,
-      tt,
-    )
-read-derived (Some max) text tree n notes e =
-    let found = whole text (read_name symbol text (beginning_with (at_most max) text)) tree n notes e in
-    let within = within_derived text max tree found.0 found.1 found.2 in
-    (found.0, subst (Derives text tree found.0) found.4 within.0, found.3, within.1)
-
-symbol-read : (nodes : Option ℕ) (text : List ℕ) (tree : SymbolTree) (n : ℕ) (notes : List Note) → IsUtf8 text
-    → symbol_under nodes text ≡ Some (tree, n, notes) → IsSymbolRead nodes text tree n notes
-unfolding derived_references
-symbol-read nodes text tree n notes utf8 e =
-    let read = read-derived nodes text tree n notes e in
-    let to : DerivedTo text tree n = (read.0, notes, read.1, read.2) in
-    record {
-      parsed = parsed text tree read.0 notes utf8 read.1;
-      within = read.3;
-      takes = to-length text tree n utf8 to;
-      inside = omega (arith, read.2);
-      references = derived_references text tree read.0 notes read.1;
-      same = refl;
-    }
+symbol_under nodes text =
+    with_length text (read_name symbol text (beginning_with (whole.count_under crate_lawful nodes) text))
 
 -- seen by a view, as the result of a reader
 pub result-read : {A : Type 0} (nodes : Option ℕ) (text : List ℕ) (view : A → SymbolTree × ℕ × List Note)
     (result : Result A Failure) → IsUtf8 text → IsRead view result (symbol_under nodes text)
     → IfOk result (λ r. IsSymbolRead nodes text (view r).0 (view r).1 (view r).2)
-result-read nodes text view (Err reason) utf8 is = tt
-result-read nodes text view (Ok r) utf8 is = symbol-read nodes text (view r).0 (view r).1 (view r).2 utf8 is
+unfolding read_name
+result-read nodes text view result utf8 is = whole.result-read crate_lawful nodes text view result utf8 is
 
--- Where nothing is read
-
-none : (text : List ℕ) (r : Found SymbolTree) → with_length text r ≡ None → r ≡ None
-none text None k = refl
-none text (Some x) k = absurd (cc)
-
-read-none : (nodes : Option ℕ) (text : List ℕ) → symbol_under nodes text ≡ None → IsNoSymbol nodes text
-read-none None text e = symbol-rejected text (none text (read_name symbol text (beginning text)) e)
-read-none (Some max) text e =
-    within_rejected text max (none text (read_name symbol text (beginning_with (at_most max) text)) e)
-
-at_rejected : (nodes : Option ℕ) (text : List ℕ) (left : ℕ) (e : ErrorRepr) → IsNoSymbol nodes text
-    → IsRejectionAt text (length text - left) e → IsRejectedRightly nodes text e
-at_rejected nodes text left (error.ParseError m c at) none h =
-    let inside : at ≤ length text = omega (arith, h.0) in
-    (inside, none, λ ascii. h.1 ascii ∙ ap (context_of text) (sym h.0))
-at_rejected nodes text left error.Memory none h = tt
-at_rejected nodes text left (error.Other m) none h = absurd h
-at_rejected nodes text left (error.Utf8 m) none h = absurd h
-at_rejected nodes text left (error.FromUtf8 m) none h = absurd h
-
--- the error that a caller sees says what the failure inside the reader says
-error-rejected : (nodes : Option ℕ) (text : List ℕ) (r : Failure) (e : ErrorRepr) → Rejects r (symbol_under nodes text)
-    → IsErrorOf r text e → IsRejectedRightly nodes text e
-error-rejected nodes text failure.Memory e h is =
-    subst (λ (x : ErrorRepr). IsRejectedRightly nodes text x) (sym is) tt
-error-rejected nodes text (failure.Rejected message left) e h is =
-    at_rejected nodes text left e (read-none nodes text h) is.0
-error-rejected nodes text (failure.TooLong read) e h is = absurd h
-
--- what an error says is about the limit that the failure is about
-said-limit : (m : Message) (e : ErrorRepr) → IsSaid m e → (limit_of e ≡ limit_of_message m) ⊎ (limit_of e ≡ None)
-said-limit m (error.ParseError said c at) is = inl (ap message_limit is ∙ words-limit m)
-said-limit m error.Memory is = inr refl
-said-limit m (error.Other said) is = inr refl
-said-limit m (error.Utf8 cause) is = inr refl
-said-limit m (error.FromUtf8 cause) is = inr refl
-
-error-limit : {Y : Type 0} (text : List ℕ) (r : Failure) (e : ErrorRepr) (read : Option Y) → Rejects r read
-    → IsErrorOf r text e → (limit_of e ≡ limit_of_failure r) ⊎ (limit_of e ≡ None)
-error-limit text failure.Memory e read h is = inr (ap limit_of is)
-error-limit text (failure.Rejected message left) e read h is = said-limit message e is.1
-error-limit text (failure.TooLong length) e read h is = absurd h
-
-failure-about : {Y : Type 0} (nodes : Option ℕ) (r : Failure) (read : Option Y) → Rejects r read
-    → (nodes ≡ None → limit_of_failure r ≡ None) → MayBeAbout nodes (limit_of_failure r)
-failure-about None r read h unlimited = unlimited refl
-failure-about (Some max) failure.Memory read h unlimited = λ e. let no : None ≡ Some Bytes = e in absurd (cc)
-failure-about (Some max) (failure.Rejected message left) read h unlimited = not-bytes message
-failure-about (Some max) (failure.TooLong length) read h unlimited = absurd h
-
-error-about : (nodes : Option ℕ) (e : ErrorRepr) (about : Option Limit) → MayBeAbout nodes about
-    → (limit_of e ≡ about) ⊎ (limit_of e ≡ None) → MayBeAbout nodes (limit_of e)
-error-about None e about none (inl same) = same ∙ none
-error-about None e about none (inr other) = other
-error-about (Some max) e about other (inl same) = λ bytes. other (sym same ∙ bytes)
-error-about (Some max) e about other (inr none) = λ bytes. let no : None ≡ Some Bytes = sym none ∙ bytes in absurd (cc)
-
--- a text that doesn't begin with a question mark is rejected at its beginning
-rejected-at-once : {A : Type 0} (text : List ℕ) (r : Failure) (e : ErrorRepr)
-    → (after (codes "?") text ≡ None
-    → ◌≡◌ {A = Result A Failure} (Err r) (Err (failure.Rejected message.NoQuestionMark (length text))))
-    → IsErrorOf r text e → (begins_with (codes "?") text → ⊥) → IsRejectionAt text 0 e
-rejected-at-once text r e start is never = go (after (codes "?") text) refl
+-- where no question mark stands, a reader fails at once
+at-once : {A : Type 0} (text : List ℕ) (result : Result A Failure)
+    → (after (codes "?") text ≡ None → result ≡ Err (failure.Rejected message.NoQuestionMark (length text)))
+    → (begins_with (codes "?") text → ⊥) → result ≡ Err (failure.Rejected message.NoQuestionMark (length text))
+at-once text result start never = go (after (codes "?") text) refl
   where
-    go : (o : Option (List ℕ)) → after (codes "?") text ≡ o → IsRejectionAt text 0 e
-    go None k =
-        let same : r ≡ failure.Rejected message.NoQuestionMark (length text) = let whole = start k in cc in
-        let here : length text - length text ≡ 0 = omega arith in
-        subst (λ n. IsRejectionAt text n e) here (subst (λ x. IsErrorOf x text e) same is).0
+    go : (o : Option (List ℕ)) → after (codes "?") text ≡ o
+        → result ≡ Err (failure.Rejected message.NoQuestionMark (length text))
+    go None k = start k
     go (Some rest) k = absurd (never (rest, after-is (codes "?") text rest k))
 
-hashes-under : (nodes : Option ℕ) (text : List ℕ) (e : ErrorRepr) → IsRejectedRightly nodes text e → nodes ≡ None
-    → HashesAreRead text e
-hashes-under None text e rightly unlimited = hashes-read text e rightly
-hashes-under (Some max) text e rightly unlimited = absurd (cc)
-
--- each error that is made of a failure to read rejects the text
-rejected : {A : Type 0} (nodes : Option ℕ) (text : List ℕ) (r : Failure) (e : ErrorRepr)
-    → Rejects r (symbol_under nodes text)
-    → (after (codes "?") text ≡ None
-    → ◌≡◌ {A = Result A Failure} (Err r) (Err (failure.Rejected message.NoQuestionMark (length text))))
-    → (nodes ≡ None → limit_of_failure r ≡ None) → IsErrorOf r text e → IsRejected nodes text e
-rejected nodes text r e h start unlimited is =
-    let rightly : IsRejectedRightly nodes text e = error-rejected nodes text r e h is in
-    record {
-      rejected = rightly;
-      begins = rejected-at-once text r e start is;
-      hashes = hashes-under nodes text e rightly;
-      limit =
-          error-about nodes e (limit_of_failure r) (failure-about nodes r _ h unlimited)
-          (error-limit text r e _ h is);
-    }
-
--- where no symbol is read, none is derived, and a text without a question mark at its beginning is rejected there
-unread-none : (nodes : Option ℕ) (text : List ℕ) (r : Failure) → Rejects r (symbol_under nodes text)
-    → UnlessMemory text r (λ offset. IsNoSymbol nodes text)
-unread-none nodes text failure.Memory h = tt
-unread-none nodes text (failure.Rejected message left) h = read-none nodes text h
-unread-none nodes text (failure.TooLong read) h = absurd h
-
-unread-begins : {A Y : Type 0} (text : List ℕ) (r : Failure) (read : Option Y) → Rejects r read
-    → (after (codes "?") text ≡ None
-    → ◌≡◌ {A = Result A Failure} (Err r) (Err (failure.Rejected message.NoQuestionMark (length text))))
-    → UnlessMemory text r (λ offset. (begins_with (codes "?") text → ⊥) → offset ≡ 0)
-unread-begins text failure.Memory read h start = tt
-unread-begins text (failure.TooLong length) read h start = absurd h
-unread-begins text (failure.Rejected m left) read h start = λ never. go never (after (codes "?") text) refl
-  where
-    go : (begins_with (codes "?") text → ⊥) → (o : Option (List ℕ)) → after (codes "?") text ≡ o
-        → length text - left ≡ 0
-    go never None k =
-        let whole = start k in
-        let same : left ≡ length text = cc in
-        omega (arith, same)
-    go never (Some rest) k = absurd (never (rest, after-is (codes "?") text rest k))
-
-fails : {A : Type 0} (nodes : Option ℕ) (text : List ℕ) (r : Failure) → Rejects r (symbol_under nodes text)
-    → (after (codes "?") text ≡ None
-    → ◌≡◌ {A = Result A Failure} (Err r) (Err (failure.Rejected message.NoQuestionMark (length text))))
-    → (nodes ≡ None → limit_of_failure r ≡ None) → Fails nodes text r
-fails nodes text r h start unlimited =
-    record {
-      rejected = λ e is. rejected nodes text r e h start unlimited is;
-      none = unread-none nodes text r h;
-      begins = unread-begins text r _ h start;
-      limit = failure-about nodes r _ h unlimited;
-    }
-
--- seen as the result of a reader
+-- seen as the result of a reader that fails
 pub result-fails : {A : Type 0} (nodes : Option ℕ) (text : List ℕ) (view : A → SymbolTree × ℕ × List Note)
     (result : Result A Failure) → IsRead view result (symbol_under nodes text)
     → (after (codes "?") text ≡ None → result ≡ Err (failure.Rejected message.NoQuestionMark (length text)))
     → (nodes ≡ None → IfErr result (λ reason. limit_of_failure reason ≡ None))
     → IfErr result (λ reason. Fails nodes text reason)
-result-fails nodes text view (Ok r) is start unlimited = tt
-result-fails nodes text view (Err reason) is start unlimited = fails nodes text reason is start unlimited
-
--- Failures of calls that read
+unfolding read_name
+result-fails nodes text view result is start unlimited =
+    whole.result-fails crate_lawful nodes text view result is (at-once text result start) unlimited
 
 -- memory may always run out
 pub memory-fails : (nodes : Option ℕ) (text : List ℕ) → Fails nodes text failure.Memory
-memory-fails nodes text =
-    record {
-      rejected = λ e is. subst (IsRejected nodes text) (sym is) (memory-rejects nodes text);
-      none = tt;
-      begins = tt;
-      limit = no-limit-about nodes;
-    }
-  where
-    no-limit-about : (nodes : Option ℕ) → MayBeAbout nodes None
-    no-limit-about None = refl
-    no-limit-about (Some max) = λ e. let no : None ≡ Some Bytes = e in absurd (cc)
-
-    memory-rejects : (nodes : Option ℕ) (text : List ℕ) → IsRejected nodes text error.Memory
-    memory-rejects nodes text =
-        record {
-          rejected = tt;
-          begins = λ never. tt;
-          hashes = λ unlimited digits rest hash begins. refl;
-          limit = no-limit-about nodes;
-        }
-
--- reading fails for no declaration, so the offset of its failure is inside the text
-fails-inside : (nodes : Option ℕ) (text : List ℕ) (r : Failure) → Fails nodes text r → IsInside text r
-fails-inside nodes text failure.Memory fails = tt
-fails-inside nodes text (failure.Rejected message left) fails = tt
-fails-inside nodes text (failure.TooLong read) fails = absurd fails.none
+memory-fails = whole.memory-fails crate_lawful
 
 pub result-inside : {A : Type 0} (nodes : Option ℕ) (text : List ℕ) (result : Result A Failure)
-    → IfErr result (λ reason. Fails nodes text reason) → IfErr result (λ reason. IsInside text reason)
-result-inside nodes text (Ok r) fails = tt
-result-inside nodes text (Err reason) fails = fails-inside nodes text reason fails
+    → IfErr result (λ reason. Fails nodes text reason)
+    → IfErr result (λ reason. IsInside text reason)
+result-inside = whole.result-inside crate_lawful

@@ -4,7 +4,7 @@ pub use Rattle.msvc_nodes.specs.Trees
 pub use Rattle.msvc_rules.specs.Counts
 pub use Rattle.msvc_grammar.specs.Hashes
 pub use Rattle.msvc_rules.specs.Laws
-pub use Rattle.msvc_grammar.specs.Limits
+pub use Rattle.msvc_rules.specs.Limits
 pub use Rattle.msvc_grammar.specs.Parsed
 pub use Rattle.msvc_rules.specs.Parts
 pub use Rattle.msvc_rules.specs.Prefix
@@ -16,4 +16,3 @@ pub use Rattle.msvc_rules.specs.State
 pub use Rattle.msvc_rules.specs.Written
 pub use Rattle.msvc_cursor.specs.Failures
 pub use Rattle.msvc_cursor.specs.Parser
-pub mod SymbolsRead

@@ -16,7 +16,7 @@ ghost use Rattle.msvc_cursor.specs.NestedList.{current, enclosing};
 
 use crate::parameters::function_parameters;
 use crate::qualified_names::qualified_name;
-use crate::types::{new_plain, type_};
+use crate::types::type_;
 use bitflags::Flags;
 use msvc_cursor::budget::NodeBudget;
 use msvc_cursor::failure::{Failed, Message};
@@ -81,7 +81,7 @@ pub fn function_type<'a, 'b, L: NodeBudget, A: Allocator>(
     let returned_qualifiers = pointed_return_qualifiers(parser);
     let returned = type_(parser, returned_qualifiers)?;
     let checkpoint = function_parameters(parser)?;
-    put_function_type(parser, convention, this_qualifiers, returned, checkpoint)
+    parser.put_function_type(convention, this_qualifiers, returned, checkpoint)
 }
 
 /// Reads `MEMBER_POINTER = QUALIFIED_NAME ["E"] CLASS_PART SIGNATURE`.
@@ -107,34 +107,6 @@ pub fn member_pointer<'a, 'b, L: NodeBudget, A: Allocator>(
     put_member_pointer(parser, symbol, f)
 }
 
-/// Stores a function type of these parts and of the parameters on the list. It stands outside the cycle, as
-/// `put_tagged` does.
-#[inline(never)]
-fn put_function_type<'a, 'b, L: NodeBudget, A: Allocator>(
-    parser: &mut Parser<'a, 'b, L, A>,
-    convention: Convention,
-    this_qualifiers: StorageClass,
-    returned: &'b Type<'a, 'b>,
-    checkpoint: Checkpoint,
-) -> Result<&'b Type<'a, 'b>, Failed>
-    requires { checkpoint.from ≤ length (enclosing parser.old.listed_types) }
-    ensures value { ReadsAs type_at parser.old parser.new result
-        (with_value (Some (tree.function convention (type_trees (map type_at (current parser.old.listed_types)))
-        this_qualifiers.0 (type_of returned.now)))) }
-    ensures rest { IfOk result (λ _. parser.new.rest.now ≡ parser.old.rest.now) }
-    ensures kept { EndsTypes checkpoint parser.old parser.new result }
-{
-    let f = put_parts(
-        parser,
-        convention,
-        FuncClass::empty(),
-        this_qualifiers,
-        returned,
-        checkpoint,
-    )?;
-    parser.put_type(Type::Function(f))
-}
-
 /// Stores a pointer to a member function of these parts. It stands outside the cycle, as `put_tagged` does.
 #[inline(never)]
 fn put_member_pointer<'a, 'b, L: NodeBudget, A: Allocator>(
@@ -149,34 +121,6 @@ fn put_member_pointer<'a, 'b, L: NodeBudget, A: Allocator>(
     ensures stays { Stays parser.old parser.new result }
 {
     parser.put_type(Type::MemberPointer(symbol, f))
-}
-
-/// Stores the parts of a function, with the parameters on the list.
-fn put_parts<'a, 'b, L: NodeBudget, A: Allocator>(
-    parser: &mut Parser<'a, 'b, L, A>,
-    convention: Convention,
-    class: FuncClass,
-    this_qualifiers: StorageClass,
-    returned: &'b Type<'a, 'b>,
-    checkpoint: Checkpoint,
-) -> Result<&'b Function<'a, 'b>, Failed>
-    requires { checkpoint.from ≤ length (enclosing parser.old.listed_types) }
-    ensures value { ReadsAs parts_at parser.old parser.new result
-        (with_value (Some (convention, (type_of returned.now, map type_at (current parser.old.listed_types))))) }
-    ensures given { IfOk result (λ f. (f.now.class.0 ≡ class.0) × (f.now.qualifiers.0 ≡ this_qualifiers.0)) }
-    ensures rest { IfOk result (λ _. parser.new.rest.now ≡ parser.old.rest.now) }
-    ensures kept { EndsTypes checkpoint parser.old parser.new result }
-{
-    let Some(parameters) = parser.listed_types.end_in(parser.arena, checkpoint) else {
-        return Err(parser.no_memory());
-    };
-    parser.put(Function {
-        convention,
-        class,
-        qualifiers: this_qualifiers,
-        parameters: parameters.items,
-        returned,
-    })
 }
 
 /// Reads the qualifiers of the return type of a function type.
@@ -276,9 +220,7 @@ fn signature<'a, 'b, L: NodeBudget, A: Allocator>(
     let qualifiers = return_qualifiers(parser)?;
     let returned = returned(parser, kind, qualifiers)?;
     let checkpoint = function_parameters(parser)?;
-    put_parts(
-        parser,
-        convention,
+    parser.put_parts(convention,
         class,
         this_qualifiers,
         returned,
@@ -345,7 +287,7 @@ fn member_returned<'a, 'b, L: NodeBudget, A: Allocator>(
     ensures consumes { Consumes parser.old parser.new result }
 {
     if parser.consume(b"@") {
-        return new_plain(parser, PlainType::None);
+        return parser.new_plain(PlainType::None);
     }
     type_(parser, qualifiers)
 }

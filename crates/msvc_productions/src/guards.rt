@@ -15,8 +15,7 @@ ghost use Rattle.msvc_cursor.specs.Parser.{Consumes, indexed, MayConsume, ReadsA
 ghost use Rattle.msvc_cursor.specs.Rows.{EndsNames, named_at, typed_symbol_at};
 ghost use Rattle.msvc_cursor.specs.NestedList.{current, enclosing};
 
-use crate::qualified_names::{nested_name, put_symbol, scope};
-use crate::symbols::put_typed_symbol;
+use crate::qualified_names::{nested_name, scope};
 use msvc_cursor::budget::NodeBudget;
 use msvc_cursor::failure::{Failed, Message};
 use msvc_cursor::nested_list::Checkpoint;
@@ -143,9 +142,9 @@ fn put_guard<'a, 'b, L: NodeBudget, A: Allocator>(
     ensures rest { IfOk result (λ _. parser.new.rest.now ≡ parser.old.rest.now) }
     ensures kept { EndsNames checkpoint parser.old parser.new result }
 {
-    let symbol = put_symbol(parser, name, checkpoint)?;
+    let symbol = parser.put_symbol(name, checkpoint)?;
     let symbol_type = parser.put_type(Type::Numbered(NumberedType::ThreadSafeGuard, number))?;
-    put_typed_symbol(parser, symbol, symbol_type)
+    parser.put_typed_symbol(symbol, symbol_type)
 }
 
 /// Reads `GUARD_NUMBER = digit {digit} "@"`: base 10, at most 2,147,483,647.

@@ -9,7 +9,6 @@ ghost use Rattle.msvc_grammar.specs.Productions as production;
 ghost use Rattle.msvc_cursor.specs.Parser.{Consumes, hash_at, name_length, ReadsAs};
 ghost use Rattle.msvc_cursor.specs.Rows.{typed_symbol_at};
 
-use crate::symbols::untyped_symbol;
 use msvc_cursor::budget::NodeBudget;
 use msvc_cursor::failure::{Failed, Message};
 use msvc_cursor::letters;
@@ -29,7 +28,7 @@ pub fn hashed_symbol<'a, 'b, L: NodeBudget, A: Allocator>(
     parser.count_node()?;
     let digits = hash(parser)?;
     let name = parser.put_name(Name::Md5(digits))?;
-    untyped_symbol(parser, name)
+    parser.untyped_symbol(name)
 }
 
 /// Reads the digits of a hash up to and including the next `@`, and returns them without it.

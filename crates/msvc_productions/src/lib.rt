@@ -14,4 +14,4 @@ mod special_names;
 pub mod symbols;
 mod types;
 
-pub use reading::{SymbolRead, read};
+pub use reading::read;

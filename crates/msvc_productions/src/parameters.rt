@@ -14,7 +14,7 @@ ghost use Rattle.msvc_cursor.specs.Parser.{state_of};
 ghost use Rattle.msvc_cursor.specs.Rows.{ListsTypes};
 ghost use Rattle.msvc_cursor.specs.NestedList.{current};
 
-use crate::types::{new_plain, type_};
+use crate::types::type_;
 use bitflags::Flags;
 use msvc_cursor::back_references::enters_table;
 use msvc_cursor::budget::NodeBudget;
@@ -40,26 +40,10 @@ pub fn function_parameters<'a, 'b, L: NodeBudget, A: Allocator>(
     if parser.consume(b"X") {
         parser.expect(b"Z", Message::ZExpected)?;
         parser.count_node()?;
-        return no_parameters(parser);
+        return parser.no_parameters();
     }
     let checkpoint = parameters(parser)?;
     parser.expect(b"Z", Message::ZExpected)?;
-    Ok(checkpoint)
-}
-
-/// Puts one `void`, which is already counted, on a new part of the list. The result ends that part.
-#[inline(never)]
-fn no_parameters<'a, 'b, L: NodeBudget, A: Allocator>(
-    parser: &mut Parser<'a, 'b, L, A>,
-) -> Result<Checkpoint, Failed>
-    ensures value { ReadsAs (λ _. map type_at (current parser.new.listed_types)) parser.old parser.new result
-        (with_value (Some (base base_kind.Void 0 ∷ []))) }
-    ensures rest { IfOk result (λ _. parser.new.rest.now ≡ parser.old.rest.now) }
-    ensures lists { ListsTypes parser.old parser.new result }
-{
-    let checkpoint = parser.listed_types.begin();
-    let void = parser.put_type(Type::Base(PrimitiveKind::Void, StorageClass::empty()))?;
-    list_type(parser, void)?;
     Ok(checkpoint)
 }
 
@@ -78,11 +62,11 @@ pub fn parameters<'a, 'b, L: NodeBudget, A: Allocator>(
     'parameters: loop {
         if let Some((ellipsis, rest)) = parameters_stop(parser.rest) {
             parser.rest = rest;
-            list_ellipsis(parser, ellipsis)?;
+            parser.list_ellipsis(ellipsis)?;
             return Ok(checkpoint);
         }
         let parameter = parameter(parser)?;
-        list_type(parser, parameter)?;
+        parser.list_type(parameter)?;
     }
 }
 
@@ -105,45 +89,6 @@ pub fn parameter<'a, 'b, L: NodeBudget, A: Allocator>(
         return parser.add_type(parameter, start, nodes);
     }
     Ok(parameter)
-}
-
-/// Appends a type to the list of parameters.
-fn list_type<'a, 'b, L: NodeBudget, A: Allocator>(
-    parser: &mut Parser<'a, 'b, L, A>,
-    parameter: &'b Type<'a, 'b>,
-) -> Result<(), Failed>
-    ensures rest { IfOk result (λ _. parser.new.rest.now ≡ parser.old.rest.now) }
-    ensures state { IfOk result (λ _. state_of parser.new ≡ state_of parser.old) }
-    ensures kept { IfOk result (λ _. frame_of parser.new
-        ≡ record (frame_of parser.old) { listed_types = current parser.old.listed_types ++ parameter.entry ∷ [] }) }
-    ensures last_error { IfErr result (λ _. parser.new.last_error.reason ≡ Failure.Memory) }
-{
-    if parser.listed_types.push(parameter).is_err() {
-        return Err(parser.no_memory());
-    }
-    Ok(())
-}
-
-/// Appends an ellipsis to the list of parameters, if there is one, and counts it as a node.
-#[inline(never)]
-fn list_ellipsis<'a, 'b, L: NodeBudget, A: Allocator>(
-    parser: &mut Parser<'a, 'b, L, A>,
-    ellipsis: Ellipsis,
-) -> Result<(), Failed>
-    ensures value { ReadsAs (λ _. tt) parser.old parser.new result (counting_ellipsis ellipsis) }
-    ensures rest { IfOk result (λ _. parser.new.rest.now ≡ parser.old.rest.now) }
-    ensures seen { IfOk result (λ _. map type_at (current parser.new.listed_types)
-        ≡ map type_at (current parser.old.listed_types) ++ ellipsis_types ellipsis) }
-    ensures kept { IfOk result (λ _. frame_of parser.new
-        ≡ record (frame_of parser.old) { listed_types = current parser.new.listed_types }) }
-{
-    match ellipsis {
-        Ellipsis::Absent => Ok(()),
-        Ellipsis::Present => {
-            let dots = new_plain(parser, PlainType::Variadic)?;
-            list_type(parser, dots)
-        }
-    }
 }
 
 /// Returns whether an ellipsis is last and the bytes that follow, if the parameters end here.

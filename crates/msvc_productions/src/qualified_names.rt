@@ -112,30 +112,7 @@ pub fn template<'a, 'b, L: NodeBudget, A: Allocator>(
     parser.count_node()?;
     let name = unqualified_name(parser, TemplateNames::Memorized)?;
     let checkpoint = parameters(parser)?;
-    put_template(parser, name, checkpoint)
-}
-
-/// Stores a template of its name and of the arguments on the list. It stands outside the cycle, as `put_tagged` does.
-#[inline(never)]
-fn put_template<'a, 'b, L: NodeBudget, A: Allocator>(
-    parser: &mut Parser<'a, 'b, L, A>,
-    name: &'b Name<'a, 'b>,
-    checkpoint: Checkpoint,
-) -> Result<&'b Name<'a, 'b>, Failed>
-    requires { checkpoint.from ≤ length (enclosing parser.old.listed_types) }
-    ensures value { ReadsAs name_at parser.old parser.new result
-        (with_value (Some (template (name_of name.now) (type_trees (map type_at (current parser.old.listed_types)))))) }
-    ensures rest { IfOk result (λ _. parser.new.rest.now ≡ parser.old.rest.now) }
-    ensures kept { EndsTypes checkpoint parser.old parser.new result }
-{
-    let Some(arguments) = parser.listed_types.end_in(parser.arena, checkpoint) else {
-        return Err(parser.no_memory());
-    };
-    let template = parser.put(Template {
-        name,
-        arguments: arguments.items,
-    })?;
-    parser.put_name(Name::Template(template))
+    parser.put_template(name, checkpoint)
 }
 
 /// Reads `NESTED_NAME = digit | "?" LOCALLY_SCOPED_NAME | SOURCE_NAME`.
@@ -168,7 +145,7 @@ fn locally_scoped_name<'a, 'b, L: NodeBudget, A: Allocator>(
     if parser.consume(b"?") {
         parser.count_node()?;
         let symbol = symbol_body(parser)?;
-        return put_nested(parser, symbol);
+        return parser.put_nested(symbol);
     }
     if parser.consume(b"$") {
         return template_name(parser, TemplateNames::Memorized);
@@ -195,20 +172,6 @@ fn discriminator<'a, 'b, L: NodeBudget, A: Allocator>(
     parser.count_node()?;
     let number = parser.number()?;
     parser.put_name(Name::Discriminator(number))
-}
-
-/// Stores a symbol as a name.
-#[inline(never)]
-fn put_nested<'a, 'b, L: NodeBudget, A: Allocator>(
-    parser: &mut Parser<'a, 'b, L, A>,
-    symbol: &'b TypedSymbol<'a, 'b>,
-) -> Result<&'b Name<'a, 'b>, Failed>
-    ensures value { ReadsAs name_at parser.old parser.new result
-        (with_value (Some (nested (typed_symbol_of symbol.now).name (typed_symbol_of symbol.now).scope
-        (typed_symbol_of symbol.now).symbol_type))) }
-    ensures stays { Stays parser.old parser.new result }
-{
-    parser.put_name(Name::Nested(symbol))
 }
 
 /// Reads the name of an interface, after its `?Q`.
@@ -335,26 +298,6 @@ pub fn qualified_name<'a, 'b, L: NodeBudget, A: Allocator>(
 {
     let name = unqualified_name(parser, templates)?;
     let checkpoint = scope(parser)?;
-    put_symbol(parser, name, checkpoint)
+    parser.put_symbol(name, checkpoint)
 }
 
-/// Stores a name in the scope on the list.
-pub fn put_symbol<'a, 'b, L: NodeBudget, A: Allocator>(
-    parser: &mut Parser<'a, 'b, L, A>,
-    name: &'b Name<'a, 'b>,
-    checkpoint: Checkpoint,
-) -> Result<&'b Symbol<'a, 'b>, Failed>
-    requires { checkpoint.from ≤ length (enclosing parser.old.listed_names) }
-    ensures value { ReadsAs named_at parser.old parser.new result
-        (with_value (Some (name_of name.now, map name_at (current parser.old.listed_names)))) }
-    ensures rest { IfOk result (λ _. parser.new.rest.now ≡ parser.old.rest.now) }
-    ensures kept { EndsNames checkpoint parser.old parser.new result }
-{
-    let Some(scope) = parser.listed_names.end_in(parser.arena, checkpoint) else {
-        return Err(parser.no_memory());
-    };
-    parser.put(Symbol {
-        name,
-        scope: scope.items,
-    })
-}

@@ -12,29 +12,16 @@ ghost use Rattle.msvc_cursor.specs.Failures.{Fails};
 ghost use Rattle.msvc_cursor.specs.Messages.{may_fail_for};
 ghost use Rattle.msvc_cursor.specs.Notes.{note_of};
 ghost use Rattle.msvc_cursor.specs.Parser.{IsRead, with_length};
-ghost use Rattle.msvc_productions.specs.SymbolsRead.{IsSymbolRead};
+ghost use Rattle.msvc_cursor.specs.SymbolsRead.{IsSymbolRead};
 
 use crate::symbols::symbol;
 use bumpalo::Bump;
-use msvc_cursor::back_references::BackReference;
 use msvc_cursor::budget::{NodeBudget, NodeLimit, Unlimited};
 use msvc_cursor::failure::{Failure, Message};
 use msvc_cursor::limits::Limits;
 use msvc_cursor::parser::Parser;
-use msvc_nodes::nodes::TypedSymbol;
+use msvc_cursor::symbol_read::SymbolRead;
 use std::alloc::Allocator;
-
-/// The symbol that a text begins with. Its names borrow from the text. A part that occurs twice in the symbol is
-/// shared.
-#[derive(Drop)]
-pub struct SymbolRead<'a, 'b, A: Allocator> {
-    /// The nodes of the symbol, in the arena.
-    pub symbol: TypedSymbol<'a, 'b>,
-    /// The bytes that the symbol takes.
-    pub length: usize,
-    /// The digits that were read as whole parameters, in rising order of their offsets.
-    pub references: Vec<BackReference, &'b Bump<A>>,
-}
 
 /// Reads the symbol that `input` begins with, within the limit on nodes. All memory is the arena's.
 ///

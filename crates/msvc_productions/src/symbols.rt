@@ -18,7 +18,7 @@ use crate::function_types::{convention, function, member};
 use crate::guards::{indexed_symbol, numbered_guard};
 use crate::hashed_symbols::hashed_symbol;
 use crate::qualified_names::{qualified_name, scope, template_name};
-use crate::types::{new_plain, type_};
+use crate::types::type_;
 use bitflags::Flags;
 use msvc_cursor::budget::NodeBudget;
 use msvc_cursor::failure::{Failed, Failure, Message};
@@ -78,29 +78,7 @@ fn template_symbol<'a, 'b, L: NodeBudget, A: Allocator>(
 {
     let name = template_name(parser, TemplateNames::NotMemorized)?;
     parser.count_node()?;
-    untyped_symbol(parser, name)
-}
-
-/// Stores a symbol that has a name but no scope and no type. Its nodes are already counted.
-pub fn untyped_symbol<'a, 'b, L: NodeBudget, A: Allocator>(
-    parser: &mut Parser<'a, 'b, L, A>,
-    name: &'b Name<'a, 'b>,
-) -> Result<&'b TypedSymbol<'a, 'b>, Failed>
-    ensures value { ReadsAs typed_symbol_at parser.old parser.new result
-        (with_value (Some (record {
-          name = name_of name.now;
-          scope = no_names;
-          symbol_type = plain plain_kind.None;
-        }))) }
-    ensures stays { Stays parser.old parser.new result }
-{
-    // The type is written out, since the prover infers none for an empty slice.
-    let scope: &[&Name<'a, 'b>] = &[];
-    let symbol_type = parser.put_type(Type::Plain(PlainType::None))?;
-    parser.put(TypedSymbol {
-        symbol: Symbol { name, scope },
-        symbol_type,
-    })
+    parser.untyped_symbol(name)
 }
 
 /// Reads a name in its scope, the index of a guard, and an encoding.
@@ -115,28 +93,7 @@ fn named_symbol<'a, 'b, L: NodeBudget, A: Allocator>(
     let named = qualified_name(parser, TemplateNames::NotMemorized)?;
     let symbol = indexed_symbol(parser, named)?;
     let symbol_type = encoding(parser)?;
-    put_typed_symbol(parser, symbol, symbol_type)
-}
-
-/// Stores a symbol with its type.
-#[inline(never)]
-pub fn put_typed_symbol<'a, 'b, L: NodeBudget, A: Allocator>(
-    parser: &mut Parser<'a, 'b, L, A>,
-    symbol: &'b Symbol<'a, 'b>,
-    symbol_type: &'b Type<'a, 'b>,
-) -> Result<&'b TypedSymbol<'a, 'b>, Failed>
-    ensures value { ReadsAs typed_symbol_at parser.old parser.new result
-        (with_value (Some (record {
-          name = name_of symbol.now.name.now;
-          scope = name_trees (map name_at symbol.now.scope.now);
-          symbol_type = type_of symbol_type.now;
-        }))) }
-    ensures stays { Stays parser.old parser.new result }
-{
-    parser.put(TypedSymbol {
-        symbol: *symbol,
-        symbol_type,
-    })
+    parser.put_typed_symbol(symbol, symbol_type)
 }
 
 /// Reads `ENCODING = end | letter of encodings, and what its row asks for`.
@@ -149,7 +106,7 @@ fn encoding<'a, 'b, L: NodeBudget, A: Allocator>(
     ensures consumes { MayConsume parser.old parser.new result }
 {
     let Some(letter) = parser.next_byte() else {
-        return new_plain(parser, PlainType::None);
+        return parser.new_plain(PlainType::None);
     };
     match letter {
         b'0' => variable(parser, VarStorageKind::PrivateStatic),
@@ -159,8 +116,8 @@ fn encoding<'a, 'b, L: NodeBudget, A: Allocator>(
         b'4' => variable(parser, VarStorageKind::FunctionLocalStatic),
         b'6' => table(parser, SpecialTableKind::Functions),
         b'7' => table(parser, SpecialTableKind::Bases),
-        b'8' => new_plain(parser, PlainType::Rtti),
-        b'9' => new_plain(parser, PlainType::None),
+        b'8' => parser.new_plain(PlainType::Rtti),
+        b'9' => parser.new_plain(PlainType::None),
         b'_' => parser.encoded_string(),
         b'$' => virtual_call(parser),
         b'Y' => function(parser),

@@ -90,8 +90,8 @@ fn prefixed_type<'a, 'b, L: NodeBudget, A: Allocator>(
         ),
         TypePrefix::Constant => numbered_type(parser, NumberedType::Constant),
         TypePrefix::TemplateParameter => numbered_type(parser, NumberedType::TemplateParameter),
-        TypePrefix::EmptyPack => new_plain(parser, PlainType::EmptyPack),
-        TypePrefix::Nullptr => new_plain(parser, PlainType::Nullptr),
+        TypePrefix::EmptyPack => parser.new_plain(PlainType::EmptyPack),
+        TypePrefix::Nullptr => parser.new_plain(PlainType::Nullptr),
         TypePrefix::Array => array(parser),
         TypePrefix::Function => function_type(parser, ObjectQualifiers::Absent),
         TypePrefix::QualifiedFunction => function_type(parser, ObjectQualifiers::Present),
@@ -131,20 +131,6 @@ fn marked_member_pointer<'a, 'b, L: NodeBudget, A: Allocator>(
     member_pointer(parser, MemberPointerForm::OfClass)
 }
 
-/// Counts and stores a type without parts.
-#[inline(never)]
-pub fn new_plain<'a, 'b, L: NodeBudget, A: Allocator>(
-    parser: &mut Parser<'a, 'b, L, A>,
-    kind: PlainType,
-) -> Result<&'b Type<'a, 'b>, Failed>
-    ensures value { ReadsAs type_at parser.old parser.new result
-        (λ left s. in_node left s (with_value (Some (plain kind)))) }
-    ensures stays { Stays parser.old parser.new result }
-{
-    parser.count_node()?;
-    parser.put_type(Type::Plain(kind))
-}
-
 /// Reads a class, struct, union, enumeration or alias by its name.
 #[cycle(readers)]
 fn tagged_type<'a, 'b, L: NodeBudget, A: Allocator>(
@@ -160,24 +146,7 @@ fn tagged_type<'a, 'b, L: NodeBudget, A: Allocator>(
 {
     parser.count_node()?;
     let symbol = qualified_name(parser, templates)?;
-    put_tagged(parser, tag, symbol, qualifiers)
-}
-
-/// Stores a type of its name. Every `put_` of several parts is a function outside the cycle of readers: a reader then
-/// only calls, and its step lemma is all that the prover needs.
-#[tactic(auto, using(msvc_cursor::proofs::Nodes::views))]
-pub fn put_tagged<'a, 'b, L: NodeBudget, A: Allocator>(
-    parser: &mut Parser<'a, 'b, L, A>,
-    tag: TagKind,
-    symbol: &'b Symbol<'a, 'b>,
-    qualifiers: StorageClass,
-) -> Result<&'b Type<'a, 'b>, Failed>
-    ensures value { ReadsAs type_at parser.old parser.new result
-        (with_value (Some (tagged tag (name_of symbol.now.name.now)
-        (name_trees (map name_at symbol.now.scope.now)) qualifiers.0))) }
-    ensures stays { Stays parser.old parser.new result }
-{
-    parser.put_type(Type::Tagged(tag, qualifiers, symbol))
+    parser.put_tagged(tag, symbol, qualifiers)
 }
 
 /// Reads `POINTEE = ["E"] [storage class] TYPE`, and stores a pointer or reference to it.

@@ -1,7 +1,7 @@
 pub use Rattle.msvc_cursor.specs.Notes
 pub use Rattle.msvc_grammar.specs.Derived
 pub use Rattle.msvc_grammar.specs.Hashes
-pub use Rattle.msvc_grammar.specs.Limits
+pub use Rattle.msvc_rules.specs.Limits
 pub use Rattle.msvc_grammar.specs.Parsed
 pub use Rattle.msvc_grammar.specs.Rejections
 pub use Rattle.msvc_nodes.specs.EachName

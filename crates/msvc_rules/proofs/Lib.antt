@@ -2,6 +2,7 @@ pub mod Checks
 pub mod Completeness
 pub mod CountIndependence
 pub mod CountsMonotone
+pub mod Dialects
 pub mod DigitPlaces
 pub mod EntryOrigins
 pub mod FirstSets

@@ -6,7 +6,7 @@ use Rattle.msvc_nodes.specs.declared.error.ErrorRepr.{ErrorRepr}
 use Rattle.msvc_rules.specs.Counts.{node_count}
 use Rattle.msvc_grammar.specs.Grammar.{is_hash}
 use Rattle.msvc_grammar.specs.Hashes.{hashed_text}
-use Rattle.msvc_grammar.specs.Limits.{IsBeyond, IsWithin}
+use Rattle.msvc_rules.specs.Limits.{IsBeyond, IsWithin}
 use Rattle.msvc_grammar.specs.Parsed.{IsParsed, IsRejected, IsSymbolLength}
 use Rattle.msvc_cursor.specs.declared.limits.Limits.{Limits}
 use Rattle.msvc_print.specs.Declaration.{declaration}

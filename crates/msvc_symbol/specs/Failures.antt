@@ -2,7 +2,7 @@
 use Rattle.std.specs.Prelude.{ℕ, List, length}
 use Rattle.msvc_nodes.specs.Trees.{SymbolTree}
 use Rattle.msvc_rules.specs.Counts.{node_count}
-use Rattle.msvc_grammar.specs.Limits.{IsBeyond, IsWithin}
+use Rattle.msvc_rules.specs.Limits.{IsBeyond, IsWithin}
 use Rattle.msvc_grammar.specs.Parsed.{IsParsed, IsSymbolLength}
 pub use Rattle.msvc_cursor.specs.Errors.{IsErrorOf, IsFailureText, IsInside, offset_of_failure}
 pub use Rattle.msvc_cursor.specs.Failures.{Fails}

@@ -1,6 +1,6 @@
 -- What printing a declaration writes, or why it fails.
 use Rattle.std.specs.Prelude.{ℕ, List, ◌≡◌, Option, Some, length}
-use Rattle.msvc_grammar.specs.Limits.{IsBeyond, IsWithin}
+use Rattle.msvc_rules.specs.Limits.{IsBeyond, IsWithin}
 use Rattle.msvc_cursor.specs.declared.failure.Failure.{Failure}
 use Rattle.msvc_cursor.specs.declared.failure.Failure.TheVariants as failure
 

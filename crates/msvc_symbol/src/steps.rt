@@ -16,7 +16,8 @@ use msvc_nodes::flags::DemangleFlags;
 use msvc_nodes::nodes::TypedSymbol;
 use msvc_nodes::sizes::{arena_to_print, text_of};
 use msvc_print::{Text, print_within};
-use msvc_productions::{SymbolRead, read};
+use msvc_cursor::symbol_read::SymbolRead;
+use msvc_productions::read;
 use std::alloc::Allocator;
 
 /// Prints the declaration of a symbol, which takes `length` bytes, to `text`, which it empties first, within the limit

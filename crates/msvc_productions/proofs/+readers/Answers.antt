@@ -152,25 +152,25 @@ qualified_names::scope-names-preserved g t c =
 -- the new one goes after those so far
 pub parameters::parameters-parameters-preserved : goal.parameters::parameters-parameters-preserved
 parameters::parameters-parameters-preserved g t c =
-    let items : current c.list_type.new.parser.listed_types ≡ current c.parameters.parser.listed_types
+    let items : current c.list_type.new.self.listed_types ≡ current c.parameters.parser.listed_types
     ++ c.in_ok-parameter.parameter ∷ [] =
     ap (λ (f : Frame _ _). f.listed_types) c.in_ok-list_type.ensures.kept
     ∙ ap (λ (f : Frame _ _). f.listed_types ++ c.in_ok-parameter.parameter ∷ []) c.in_ok-parameter.ensures.consumes.1 in
-    let seen : map type_at (current c.list_type.new.parser.listed_types)
+    let seen : map type_at (current c.list_type.new.self.listed_types)
     ≡ map type_at (current c.parameters.parser.listed_types) ++ type_at c.in_ok-parameter.parameter ∷ [] =
     ap (map type_at) items ∙ map_last type_at (current c.parameters.parser.listed_types) c.in_ok-parameter.parameter in
     let none : parameters_stop c.parameters.parser.rest.now ≡ None = search rules in
     let read : read_name parameter c.parameters.parser.rest.now (state_of c.parameters.parser)
     ≡ Some (type_at c.in_ok-parameter.parameter, c.parameter.new.parser.rest.now, state_of c.parameter.new.parser) =
     c.in_ok-parameter.ensures.value in
-    let rest : c.list_type.new.parser.rest.now ≡ c.parameter.new.parser.rest.now = c.in_ok-list_type.ensures.rest in
-    let state : state_of c.list_type.new.parser ≡ state_of c.parameter.new.parser = c.in_ok-list_type.ensures.state in (
-      ap (λ (ns : List TypeTree). with_front ns (read_name parameters c.list_type.new.parser.rest.now
-          (state_of c.list_type.new.parser)))
+    let rest : c.list_type.new.self.rest.now ≡ c.parameter.new.parser.rest.now = c.in_ok-list_type.ensures.rest in
+    let state : state_of c.list_type.new.self ≡ state_of c.parameter.new.parser = c.in_ok-list_type.ensures.state in (
+      ap (λ (ns : List TypeTree). with_front ns (read_name parameters c.list_type.new.self.rest.now
+          (state_of c.list_type.new.self)))
           seen
           ∙ ap (λ l. with_front (map type_at (current c.parameters.parser.listed_types)
           ++ type_at c.in_ok-parameter.parameter ∷ [])
-          (read_name parameters l (state_of c.list_type.new.parser))) rest
+          (read_name parameters l (state_of c.list_type.new.self))) rest
           ∙ ap (λ (s : State). with_front (map type_at (current c.parameters.parser.listed_types)
           ++ type_at c.in_ok-parameter.parameter ∷ [])
           (read_name parameters c.parameter.new.parser.rest.now s)) state
@@ -181,7 +181,7 @@ parameters::parameters-parameters-preserved g t c =
       omega (arith, c.in_ok-parameter.ensures.consumes.0, ap length rest, c.parameters.invariant.1),
       c.parameters.invariant.2,
       frame_types _ _ _ _ (frame_of c.parameters.parser) (frame_of c.parameter.new.parser)
-          (frame_of c.list_type.new.parser) c.in_ok-parameter.parameter _
+          (frame_of c.list_type.new.self) c.in_ok-parameter.parameter _
           c.parameters.invariant.3 c.in_ok-parameter.ensures.consumes.1 c.in_ok-list_type.ensures.kept,
     )
 

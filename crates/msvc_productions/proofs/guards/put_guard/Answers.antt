@@ -22,12 +22,12 @@ returns-clause-value g c =
       c.args.parser.now.rest.now,
       state_of c.args.parser.now,
     )
-    ≡ Some (symbol, c.put_symbol.new.parser.rest.now, state_of c.put_symbol.new.parser) =
+    ≡ Some (symbol, c.put_symbol.new.self.rest.now, state_of c.put_symbol.new.self) =
     c.in_ok-symbol.ensures.value in
     let put : Some (
       numbered number_kind.ThreadSafeGuard (to_z w32 (of_z w32 c.args.number)),
-      c.put_symbol.new.parser.rest.now,
-      state_of c.put_symbol.new.parser,
+      c.put_symbol.new.self.rest.now,
+      state_of c.put_symbol.new.self,
     )
     ≡ Some (type_at c.in_ok-symbol_type.symbol_type, c.put_type.new.self.rest.now, state_of c.put_type.new.self) =
     c.in_ok-symbol_type.ensures.value in
@@ -49,8 +49,8 @@ returns-clause-value g c =
     ))) named
     ∙ ap (λ z. Some (
       symbol_of symbol.0 symbol.1 (numbered number_kind.ThreadSafeGuard z),
-      c.put_symbol.new.parser.rest.now,
-      state_of c.put_symbol.new.parser,
+      c.put_symbol.new.self.rest.now,
+      state_of c.put_symbol.new.self,
     )) (sym same)
     ∙ ap (λ o. and_then o (λ (x : TypeTree) l t. Some (symbol_of symbol.0 symbol.1 x, l, t))) put in
     rw made c.put_typed_symbol.ensures.value

@@ -5,7 +5,7 @@ use Rattle.msvc_rules.specs.State.{Note}
 use Rattle.msvc_cursor.proofs.Messages.{unlimited}
 use Rattle.msvc_cursor.specs.Notes.{note_of}
 use Rattle.msvc_productions.proofs.WholeTexts.{laws, result-fails, result-inside, result-read}
-use Rattle.msvc_productions.specs.declared.reading.SymbolRead.{SymbolRead}
+use Rattle.msvc_cursor.specs.declared.symbol_read.SymbolRead.{SymbolRead}
 use Rattle.msvc_productions.proofs.reading.read.Goals as goal
 
 -- a symbol that was read: its tree, how many bytes it takes, and its back references
