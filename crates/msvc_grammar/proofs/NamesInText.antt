@@ -161,4 +161,4 @@ module _ (P : List ℕ → Type 0) where
   gives _ = search depth 60
 
 pub crate_named : Named crate_grammar
-crate_named = record { gives = λ P n. gives P n }
+crate_named = record { gives = λ P none n. gives P n }

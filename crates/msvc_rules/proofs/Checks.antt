@@ -15,9 +15,9 @@ use Rattle.msvc_rules.specs.Readers.{ranks}
 use Rattle.msvc_rules.specs.Rules.{Grammar, Condition, none_of, at_end, every, some_of, is_nil, Rule, letter, literal}
 use Rattle.msvc_rules.specs.Rules.{up_to, here, ◌>>=◌, ◌or◌, call, noted, entering, apart, node, texts_of, text_and}
 use Rattle.msvc_rules.specs.Rules.{text_or}
-use Rattle.msvc_rules.specs.Sorts.{Sort, nothing, bits, integer, bytes, name_tree, type_tree, symbol_tree, base_type}
-use Rattle.msvc_rules.specs.Sorts.{type_letter, encoding_letter, convention, perhaps, list, both, Value, extended}
-use Rattle.msvc_rules.specs.Sorts.{untyped}
+use Rattle.msvc_rules.specs.Sorts.{Sort, nothing, bits, integer, number, bytes, name_tree, type_tree, symbol_tree}
+use Rattle.msvc_rules.specs.Sorts.{base_type, type_letter, encoding_letter, convention, perhaps, list, both, Value}
+use Rattle.msvc_rules.specs.Sorts.{extended, untyped}
 
 -- the figures of a grammar's productions
 pub record Figures (G : Grammar) : Type 0 where
@@ -37,6 +37,7 @@ abbrev pub some_value : (a : Sort) → Value a
 some_value nothing = tt
 some_value bits = 0
 some_value integer = pos 0
+some_value number = record { is_negative = false; value = 0 }
 some_value bytes = []
 some_value name_tree = spelled spelling_kind.Source []
 some_value type_tree = plain plain_kind.None

@@ -6,7 +6,7 @@ use Rattle.std.proofs.Common.{false, cond, nat_lt, ◌≡◌, ◌<◌, ◌+◌, 
 use Rattle.std.proofs.Common.{append_assoc, length-append}
 use Rattle.std.proofs.lemmas.Bool.{eqb-true, ltb-true}
 use Rattle.std.proofs.lemmas.Str.{IsUtf8-take, IsUtf8-drop, IsCharBoundary-before_ascii, IsCharBoundary-after_ascii}
-use Rattle.std.proofs.lemmas.Str.{IsUtf8-past_char, encode_ascii}
+use Rattle.std.proofs.lemmas.Str.{IsUtf8-past_char, encode_ascii, IsUtf8-nil}
 use Rattle.std.proofs.Math.Seq.{drop-append-add, take-append_seam, get_or-append_seam}
 use Rattle.std.specs.Prelude.{slice_get}
 use Rattle.std.specs.List.{list_any}
@@ -118,11 +118,11 @@ module _ (G : Grammar) (P : List ℕ → Type 0) where
       let parts : (every ascii row.0 ≡ true) × (every (λ other. every ascii other.0) table ≡ true) = if_both _ _ h in
       ((parts.0, λ _ _. go row.1), gives_texts table f parts.1 go)
 
--- each production gives the names that it was given
+-- each production gives the names that it was given, and no bytes where a row has none
 pub record Named (G : Grammar) : Type 1 where
-  pub gives : (P : List ℕ → Type 0) {a : Sort} (n : G.family a) → Gives G P (G.rule n)
+  pub gives : (P : List ℕ → Type 0) → P [] → {a : Sort} (n : G.family a) → Gives G P (G.rule n)
 
-module _ {G : Grammar} (N : Named G) (P : List ℕ → Type 0) where
+module _ {G : Grammar} (N : Named G) (P : List ℕ → Type 0) (none : P []) where
   -- what holds of the bytes left: it goes on after an ASCII byte, and gives P of what stands before one
   module _ (Q : List ℕ → Type 0) (next : (b : ℕ) (rest : List ℕ) → ascii b ≡ true → Q (b ∷ rest) → Q rest)
       (part : (v : List ℕ) (b : ℕ) (rest : List ℕ) → ascii b ≡ true → Q (v ++ b ∷ rest) → P v × Q rest) where
@@ -150,7 +150,7 @@ module _ {G : Grammar} (N : Named G) (P : List ℕ → Type 0) where
         let first : In P a v × InState P t × Q l = names_in d g.0 q h in names_in e (g.1 v first.0) first.2 first.1
     names_in (the_first d) g q h = names_in d g.0 q h
     names_in (the_second d) g q h = names_in d g.1 q h
-    names_in (called {n = n} d) g q h = names_in d (N.gives P n) q h
+    names_in (called {n = n} d) g q h = names_in d (N.gives P none n) q h
     names_in (a_node d) g q h = names_in d g q h
     names_in (a_known_name {i = i} {n = n} {s = s} e) g q h =
         (each-got P (λ m. EachNameOfName P m) s.names i n h.0 e, h, q)
@@ -189,7 +189,7 @@ module _ {G : Grammar} (N : Named G) where
   pub derived-parts : (text : List ℕ) (tree : SymbolTree) (rest : List ℕ) (notes : List Note)
       → DerivesIn G text tree rest notes → NamesAreParts text tree
   derived-parts text tree rest notes d =
-      derived_in N (IsPart text) (IsTail text) (λ b l low q. (q.0 ++ b ∷ [], q.1 ∙ sym (append_assoc q.0 (b ∷ []) l)))
+      derived_in N (IsPart text) ([], text, refl) (IsTail text) (λ b l low q. (q.0 ++ b ∷ [], q.1 ∙ sym (append_assoc q.0 (b ∷ []) l)))
       (λ v b l low q. (
         (q.0, b ∷ l, q.1),
         (
@@ -220,10 +220,10 @@ around_ascii v b rest low h =
 module _ {G : Grammar} (N : Named G) where
   pub derived-utf8 : (text : List ℕ) (tree : SymbolTree) (rest : List ℕ) (notes : List Note) → IsUtf8 text
       → DerivesIn G text tree rest notes → EachName IsUtf8 tree
-  derived-utf8 text tree rest notes u d = derived_in N IsUtf8 IsUtf8 following_one around_ascii text tree rest notes u d
+  derived-utf8 text tree rest notes u d = derived_in N IsUtf8 IsUtf8-nil IsUtf8 following_one around_ascii text tree rest notes u d
 
 module _ {G : Grammar} (N : Named G) where
   -- no character is cut where the bytes left begin
   pub rest-utf8 : (text : List ℕ) (tree : SymbolTree) (rest : List ℕ) (notes : List Note) → IsUtf8 text
       → DerivesIn G text tree rest notes → IsUtf8 rest
-  rest-utf8 text tree rest notes u d = derived_after N IsUtf8 IsUtf8 following_one around_ascii text tree rest notes u d
+  rest-utf8 text tree rest notes u d = derived_after N IsUtf8 IsUtf8-nil IsUtf8 following_one around_ascii text tree rest notes u d

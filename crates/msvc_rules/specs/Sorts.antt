@@ -7,6 +7,7 @@ use Rattle.msvc_nodes.specs.declared.kinds.PrimitiveKind.{PrimitiveKind}
 use Rattle.msvc_nodes.specs.declared.kinds.PointerAffinity.{PointerAffinity}
 use Rattle.msvc_nodes.specs.declared.kinds.SpecialTableKind.{SpecialTableKind}
 use Rattle.msvc_nodes.specs.declared.kinds.TagKind.{TagKind}
+use Rattle.msvc_nodes.specs.declared.nodes.Number.{Number}
 use Rattle.msvc_nodes.specs.Trees.{NameTree, SymbolTree, TypeTree}
 
 -- what a plain type begins with, by its first byte
@@ -43,6 +44,8 @@ pub data Sort : Type 0 where
   nothing : Sort
   -- sets of bits, and numbers that are no values of the language
   bits integer : Sort
+  -- numbers with a sign of their own, which nothing can have too
+  number : Sort
   bytes : Sort
   name_tree type_tree symbol_tree : Sort
   base_type type_letter encoding_letter convention : Sort
@@ -54,6 +57,7 @@ abbrev pub Value : Sort → Type 0
 Value nothing = Unit {0}
 Value bits = ℕ
 Value integer = ℤ
+Value number = Number
 Value bytes = List ℕ
 Value name_tree = NameTree
 Value type_tree = TypeTree

@@ -1,0 +1,232 @@
+-- The figures of Full, and that it passes the checks.
+use Rattle.std.proofs.Common.{ℕ, zero, suc, true, false, ◌≡◌}
+use Rattle.std.proofs.Common.{refl}
+use Rattle.msvc_rules.specs.Rules.{call, letter, node, ◌>>=◌, give}
+use Rattle.msvc_rules.specs.Sorts.{Sort, base_type}
+use Rattle.msvc_nodes.specs.Trees.{base}
+use Rattle.msvc_full_grammar.specs.Forms.{absent, present, plain_operator, operator_by_row, encoding_by_row}
+use Rattle.msvc_full_grammar.specs.Forms.{free_function, function_of, of_pointer, of_member_pointer, of_value, named}
+use Rattle.msvc_full_grammar.specs.Forms.{pointer_with, reference_by, arrayed, function_with, the_same, qualified}
+use Rattle.msvc_full_grammar.specs.Forms.{type_by_row, extended, empty_pack, alias, argument_by_row}
+use Rattle.msvc_full_grammar.specs.Rows.{integer, frame}
+use Rattle.msvc_full_grammar.specs.Grammar.{grammar, full_grammar}
+use Rattle.msvc_full_grammar.specs.Letters.{type_texts, encoding_texts, operator_texts, variable_texts}
+use Rattle.msvc_full_grammar.specs.Letters.{base_types}
+use Rattle.msvc_full_grammar.specs.Productions.{Production, count, number, symbol, encoding, other_encoding}
+use Rattle.msvc_full_grammar.specs.Productions.{encoding_after, variable, variable_end, repeated_class, repeated_scope}
+use Rattle.msvc_full_grammar.specs.Productions.{repeated_name, symbol_name, operator_name, operator_after, type_name}
+use Rattle.msvc_full_grammar.specs.Productions.{type_symbol, class_symbol, template_name, scope, nested_name}
+use Rattle.msvc_full_grammar.specs.Productions.{anonymous_kept, name_row, type_row}
+use Rattle.msvc_full_grammar.specs.Productions.{source_name, function_type, signature, own_qualifiers, marks, returned}
+use Rattle.msvc_full_grammar.specs.Productions.{function_parameters, parameters, parameter, type_, type_after, pointer}
+use Rattle.msvc_full_grammar.specs.Productions.{reference, arrays, dimensions, positive, lengths, arguments, argument}
+use Rattle.msvc_full_grammar.specs.Productions.{argument_after, template_symbol, named_symbol, whole_text}
+use Rattle.msvc_rules.proofs.Checks.{Figures, Fit, Checked, Fine, Local, Even, consumes, firsts_by, firsts_within}
+use Rattle.msvc_rules.proofs.Checks.{firsts, exclude, settled, decided, fine_text_or, fine_texts, local_texts}
+use Rattle.msvc_rules.proofs.Checks.{apart_texts, anything, others}
+
+-- a production that calls another before it has consumed a byte stands above it
+unfoldable pub rank : {a : Sort} → Production a → ℕ
+rank count = 1
+rank number = 2
+rank whole_text = 1
+rank template_symbol = 3
+rank named_symbol = 2
+rank encoding = 1
+rank (encoding_after e) = 4
+rank (variable k) = 1
+rank (variable_end e) = 1
+rank repeated_class = 2
+rank repeated_scope = 2
+rank repeated_name = 1
+rank symbol_name = 1
+rank (operator_after o) = 3
+rank type_name = 1
+rank type_symbol = 2
+rank class_symbol = 3
+rank template_name = 2
+rank scope = 2
+rank nested_name = 1
+rank (name_row r) = 2
+rank (function_type own) = 3
+rank (signature own) = 2
+rank (own_qualifiers own) = 1
+rank returned = 1
+rank function_parameters = 3
+rank parameters = 2
+rank parameter = 1
+rank (type_after q f) = 4
+rank (type_row q r) = 3
+rank (pointer q) = 1
+rank (reference mark q) = 1
+rank (arrays q) = 3
+rank dimensions = 2
+rank (lengths n) = 2
+rank arguments = 2
+rank argument = 1
+rank (argument_after f) = 4
+rank _ = 0
+
+-- how many bytes a production consumes at least, or fewer
+unfoldable pub consumer : {a : Sort} → Production a → ℕ
+consumer encoding = 0
+consumer other_encoding = 0
+consumer (encoding_after e) = 0
+consumer (operator_after o) = 0
+consumer (anonymous_kept has_capital ds) = 0
+consumer (own_qualifiers own) = 0
+consumer marks = 0
+consumer (type_after q f) = 0
+consumer (name_row r) = 0
+consumer (type_row q r) = 0
+consumer (positive n) = 0
+consumer (lengths n) = 0
+consumer (argument_after f) = 0
+consumer type_symbol = 2
+consumer _ = 1
+
+-- how many bytes must follow a production, so that it can be read again whatever follows these
+unfoldable pub needs : {a : Sort} → Production a → ℕ
+needs whole_text = 7
+needs symbol = 1
+needs template_symbol = 1
+needs named_symbol = 1
+needs encoding = 1
+needs other_encoding = 1
+needs nested_name = 1
+needs symbol_name = 1
+needs operator_name = 1
+needs (operator_after o) = 1
+needs (name_row r) = 1
+needs marks = 1
+needs _ = 0
+
+-- the same where some byte stood after these: that it was the end of the text is no question then
+unfoldable pub needs_inside : {a : Sort} → Production a → ℕ
+needs_inside whole_text = 7
+needs_inside symbol = 1
+needs_inside template_symbol = 1
+needs_inside named_symbol = 1
+needs_inside encoding = 1
+needs_inside nested_name = 1
+needs_inside symbol_name = 1
+needs_inside operator_name = 1
+needs_inside (operator_after o) = 1
+needs_inside (name_row r) = 1
+needs_inside marks = 1
+needs_inside _ = 0
+
+-- no text of a type begins another, nor does one of a symbol's type, of a variable or of an operator
+pub no_type_begins_another : apart_texts type_texts ≡ true
+no_type_begins_another = refl
+
+pub no_encoding_begins_another : apart_texts encoding_texts ≡ true
+no_encoding_begins_another = refl
+
+pub no_variable_begins_another : apart_texts variable_texts ≡ true
+no_variable_begins_another = refl
+
+pub no_operator_begins_another : apart_texts operator_texts ≡ true
+no_operator_begins_another = refl
+
+-- how many bytes a production reads at least before a digit that it notes
+unfoldable pub runs_up : {a : Sort} → Production a → ℕ
+runs_up function_parameters = 0
+runs_up parameters = 0
+runs_up parameter = 0
+runs_up source_name = 9
+runs_up _ = 1
+
+abbrev pub full_figures : Figures full_grammar
+full_figures = record {
+  rank = rank;
+  consumer = consumer;
+  needs = needs;
+  needs_inside = needs_inside;
+  runs_up = runs_up;
+}
+
+pub checked : {a : Sort} (n : Production a) → Checked full_figures n
+unfolding Checked Fine Local Even consumes firsts_by firsts_within firsts exclude settled decided grammar rank
+    consumer needs needs_inside
+checked (encoding_after (encoding_by_row r)) = search
+checked (encoding_after free_function) = search
+checked (encoding_after (function_of class)) = search
+checked (variable_end of_pointer) = search depth 20
+checked (variable_end of_member_pointer) = search depth 20
+checked (variable_end of_value) = search depth 20
+checked (operator_after (plain_operator o)) = search
+checked (operator_after (operator_by_row r)) = search
+checked (name_row frame) = search depth 20
+checked (name_row r) = search depth 20
+checked (anonymous_kept true ds) = search
+checked (anonymous_kept false ds) = search
+checked (own_qualifiers absent) = search
+checked (own_qualifiers present) = search depth 20
+checked (positive zero) = search
+checked (positive (suc n)) = search
+checked (lengths zero) = search
+checked (lengths (suc n)) = search
+checked (type_after q (named tag)) = search
+checked (type_after q (pointer_with more)) = search
+checked (type_after q (reference_by mark)) = search
+checked (type_after q arrayed) = search
+checked (type_after q (function_with own)) = search
+checked (type_after q the_same) = search
+checked (type_after q qualified) = search
+checked (type_after q (type_by_row r)) = search
+checked (type_row q integer) = search depth 20
+checked (type_row q r) = search depth 20
+checked (type_after q extended) = search
+checked (argument_after empty_pack) = search
+checked (argument_after alias) = search
+checked (argument_after (argument_by_row r)) = search
+checked (type_ q) = (
+  fine_text_or full_figures 0 type_texts (λ f. call (type_after q f))
+      (node (letter base_type base_types >>= λ b. give (base b q)))
+      no_type_begins_another refl (λ f. refl) search,
+  refl,
+  refl,
+  (local_texts full_figures anything 0 type_texts (λ f. call (type_after q f)) (λ f. refl), search),
+  (local_texts full_figures others 0 type_texts (λ f. call (type_after q f)) (λ f. refl), search),
+)
+checked operator_name = (
+  fine_texts full_figures 0 operator_texts (λ o. call (operator_after o)) no_operator_begins_another refl (λ o. refl),
+  refl,
+  refl,
+  local_texts full_figures anything 1 operator_texts (λ o. call (operator_after o)) (λ o. refl),
+  local_texts full_figures others 1 operator_texts (λ o. call (operator_after o)) (λ o. refl),
+)
+checked other_encoding = (
+  (
+    refl,
+    tt,
+    fine_texts full_figures 0 encoding_texts (λ e. call (encoding_after e)) no_encoding_begins_another refl (λ e. refl),
+  ),
+  refl,
+  refl,
+  (search, local_texts full_figures anything 1 encoding_texts (λ e. call (encoding_after e)) (λ e. refl)),
+  (search, local_texts full_figures others 0 encoding_texts (λ e. call (encoding_after e)) (λ e. refl)),
+)
+checked encoding = (
+  fine_text_or full_figures 1 variable_texts (λ k. call (variable k)) (call other_encoding) no_variable_begins_another
+      refl (λ k. refl) refl,
+  refl,
+  refl,
+  (local_texts full_figures anything 1 variable_texts (λ k. call (variable k)) (λ k. refl), search),
+  (local_texts full_figures others 1 variable_texts (λ k. call (variable k)) (λ k. refl), search),
+)
+checked (arrays q) = search depth 20
+checked (pointer q) = search depth 30
+checked (reference mark q) = search depth 30
+checked template_symbol = (
+  (refl, λ n. (refl, λ ns. search depth 30, λ ns. refl), λ n. refl),
+  refl,
+  refl,
+  (refl, λ n. (refl, λ ns. search depth 30)),
+  (refl, λ n. (refl, λ ns. search depth 30)),
+)
+checked _ = search depth 20
+
+pub full_fit : Fit full_figures
+full_fit = record { checked = λ n. checked n }

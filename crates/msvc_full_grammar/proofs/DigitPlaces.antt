@@ -1,0 +1,65 @@
+-- That the digits of Full stand in their places.
+use Rattle.std.proofs.Common.{zero, suc, true, false}
+use Rattle.std.proofs.Common.{refl}
+use Rattle.msvc_rules.specs.Rules.{call}
+use Rattle.msvc_rules.specs.Sorts.{Sort}
+use Rattle.msvc_full_grammar.specs.Forms.{absent, present, plain_operator, operator_by_row, encoding_by_row}
+use Rattle.msvc_full_grammar.specs.Forms.{free_function, function_of, of_pointer, of_member_pointer, of_value, named}
+use Rattle.msvc_full_grammar.specs.Forms.{pointer_with, reference_by, arrayed, function_with, the_same, qualified}
+use Rattle.msvc_full_grammar.specs.Forms.{type_by_row, extended, empty_pack, alias, argument_by_row}
+use Rattle.msvc_full_grammar.specs.Rows.{integer, frame}
+use Rattle.msvc_full_grammar.specs.Grammar.{grammar}
+use Rattle.msvc_full_grammar.specs.Letters.{type_texts, encoding_texts, operator_texts}
+use Rattle.msvc_full_grammar.specs.Productions.{Production, template_symbol, other_encoding, encoding_after}
+use Rattle.msvc_full_grammar.specs.Productions.{variable_end, operator_name}
+use Rattle.msvc_full_grammar.specs.Productions.{operator_after, anonymous_kept, own_qualifiers, type_, type_after}
+use Rattle.msvc_full_grammar.specs.Productions.{positive, lengths, argument_after, name_row, type_row}
+use Rattle.msvc_rules.proofs.Checks.{consumes, Local, firsts, firsts_by, firsts_within, decided, settled}
+use Rattle.msvc_rules.proofs.DigitPlaces.{WellPlaced, Placed, Beside, ahead, keeps, clear_by, clear_within, misses}
+use Rattle.msvc_rules.proofs.DigitPlaces.{misses_by, misses_within, placed_texts, Placing}
+use Rattle.msvc_full_grammar.proofs.Checks.{full_figures, runs_up, consumer, needs_inside}
+
+pub well_placed : {a : Sort} (n : Production a) → WellPlaced full_figures n
+unfolding WellPlaced Placed Beside ahead keeps Local consumes clear_by clear_within misses misses_by misses_within
+    firsts firsts_by firsts_within decided settled grammar runs_up consumer needs_inside
+well_placed (encoding_after (encoding_by_row r)) = search depth 12
+well_placed (encoding_after free_function) = search depth 12
+well_placed (encoding_after (function_of class)) = search depth 12
+well_placed (variable_end of_pointer) = search depth 12
+well_placed (variable_end of_member_pointer) = search depth 12
+well_placed (variable_end of_value) = search depth 12
+well_placed (operator_after (plain_operator o)) = search depth 12
+well_placed (operator_after (operator_by_row r)) = search depth 12
+well_placed (name_row frame) = search depth 12
+well_placed (name_row r) = search depth 12
+well_placed (anonymous_kept true ds) = search depth 12
+well_placed (anonymous_kept false ds) = search depth 12
+well_placed (own_qualifiers absent) = search depth 12
+well_placed (own_qualifiers present) = search depth 12
+well_placed (positive zero) = search depth 12
+well_placed (positive (suc n)) = search depth 12
+well_placed (lengths zero) = search depth 12
+well_placed (lengths (suc n)) = search depth 12
+well_placed (type_after q (named tag)) = search depth 12
+well_placed (type_after q (pointer_with more)) = search depth 12
+well_placed (type_after q (reference_by mark)) = search depth 12
+well_placed (type_after q arrayed) = search depth 12
+well_placed (type_after q (function_with own)) = search depth 12
+well_placed (type_after q the_same) = search depth 12
+well_placed (type_after q qualified) = search depth 12
+well_placed (type_after q (type_by_row r)) = search depth 12
+well_placed (type_row q integer) = search depth 12
+well_placed (type_row q r) = search depth 12
+well_placed (type_after q extended) = search depth 12
+well_placed (argument_after empty_pack) = search depth 12
+well_placed (argument_after alias) = search depth 12
+well_placed (argument_after (argument_by_row r)) = search depth 12
+well_placed (type_ q) = ((placed_texts full_figures type_texts (λ f. call (type_after q f)) (λ f. tt), search), refl)
+well_placed operator_name = (placed_texts full_figures operator_texts (λ o. call (operator_after o)) (λ o. tt), refl)
+well_placed other_encoding =
+    ((search, placed_texts full_figures encoding_texts (λ e. call (encoding_after e)) (λ e. tt)), refl)
+well_placed template_symbol = ((tt, λ n. (tt, λ ns. search depth 12, refl, λ ns. refl), refl, λ n. refl), refl)
+well_placed _ = search depth 12
+
+pub full_placing : Placing full_figures
+full_placing = record { well_placed = λ n. well_placed n }

@@ -1,0 +1,138 @@
+-- That each production of Full gives the names that it was given, and no bytes where a row has none.
+use Rattle.std.proofs.Common.{ℕ, zero, suc, List, [], ◌∷◌, Bool, true}
+use Rattle.std.proofs.Common.{◌≡◌}
+use Rattle.std.proofs.Common.{false, refl}
+use Rattle.msvc_nodes.specs.EachName.{EachNameOfName, EachNameOfNames, EachNameOfType, EachNameOfTypes}
+use Rattle.msvc_nodes.specs.Trees.{NameTree, TypeTree, name_trees, type_trees}
+use Rattle.msvc_rules.specs.Rules.{Rule, call, every}
+use Rattle.msvc_rules.specs.Sorts.{Sort}
+use Rattle.msvc_full_grammar.specs.Forms.{absent, present, plain_operator, operator_by_row, encoding_by_row}
+use Rattle.msvc_full_grammar.specs.Forms.{free_function, function_of, of_pointer, of_member_pointer, of_value, named}
+use Rattle.msvc_full_grammar.specs.Forms.{pointer_with, reference_by, arrayed, function_with, the_same, qualified}
+use Rattle.msvc_full_grammar.specs.Forms.{type_by_row, extended, empty_pack, alias, argument_by_row}
+use Rattle.msvc_full_grammar.specs.Rows.{Field, a_number, a_count, a_type_name, a_source_name, a_symbol, a_text}
+use Rattle.msvc_full_grammar.specs.Rows.{fields_of_type, fields_of_name, Held, nothing_held, with_number, with_name}
+use Rattle.msvc_full_grammar.specs.Rows.{TypeRow, NameRow, integer, custom, nullptr, extern_c, frame, literal_operator}
+use Rattle.msvc_full_grammar.specs.Rows.{spaceship}
+use Rattle.msvc_full_grammar.specs.Grammar.{grammar, full_grammar, fields_rule}
+use Rattle.msvc_full_grammar.specs.Letters.{type_texts, argument_texts, encoding_texts, operator_texts, variable_texts}
+use Rattle.msvc_full_grammar.specs.Productions.{Production, template_symbol, named_symbol, encoding, other_encoding}
+use Rattle.msvc_full_grammar.specs.Productions.{encoding_after, variable, variable_end, operator_name, operator_after}
+use Rattle.msvc_full_grammar.specs.Productions.{class_symbol, template_name, anonymous_kept, function_type}
+use Rattle.msvc_full_grammar.specs.Productions.{own_qualifiers, type_, type_after, positive}
+use Rattle.msvc_full_grammar.specs.Productions.{lengths, argument, argument_after, name_row, type_row}
+use Rattle.msvc_rules.proofs.NamesInText.{Each, Gives, gives_texts, ascii, each-last, Named}
+use Rattle.msvc_rules.proofs.FirstSets.{if_both}
+
+module _ (P : List ℕ → Type 0) (none : P []) where
+  in-names : (ns : List NameTree) → Each (λ n. EachNameOfName P n) ns → EachNameOfNames P (name_trees ns)
+  in-names [] h = tt
+  in-names (n ∷ ns) h = (h.0, in-names ns h.1)
+
+  in-types : (ts : List TypeTree) → Each (λ t. EachNameOfType P t) ts → EachNameOfTypes P (type_trees ts)
+  in-types [] h = tt
+  in-types (t ∷ ts) h = (h.0, in-types ts h.1)
+
+  -- the names of what fields hold
+  abbrev InHeld : Held → Type 0
+  InHeld h = Each (λ n. EachNameOfName P n) h.names × Each (λ t. EachNameOfType P t) h.types
+
+  -- the texts between fields are ASCII
+  abbrev field_ascii : Field → Bool
+  field_ascii (a_text text) = every ascii text
+  field_ascii _ = true
+
+  with_last : (h : Held) (n : NameTree) → InHeld h → EachNameOfName P n → InHeld (with_name h n)
+  with_last h n g k = (each-last P (λ m. EachNameOfName P m) h.names n g.0 k, g.1)
+
+  gives_fields : (fields : List Field) (h : Held) {a : Sort} (f : Held → Rule Production a)
+      → every field_ascii fields ≡ true
+      → ((held : Held) → InHeld held → Gives full_grammar P (f held)) → InHeld h
+      → Gives full_grammar P (fields_rule fields h f)
+  unfolding Gives
+  gives_fields [] h f low go g = go h g
+  gives_fields (a_number ∷ fields) h f low go g = (tt, λ n _. gives_fields fields (with_number h n) f low go g)
+  gives_fields (a_count ∷ fields) h f low go g =
+      (tt, λ n _. gives_fields fields (with_number h (record { is_negative = false; value = n })) f low go g)
+  gives_fields (a_type_name ∷ fields) h f low go g =
+      (tt, λ n k. gives_fields fields (with_name h n) f low go (with_last h n g k))
+  gives_fields (a_source_name ∷ fields) h f low go g =
+      (search depth 60, λ n k. gives_fields fields (with_name h n) f low go (with_last h n g k))
+  gives_fields (a_symbol ∷ fields) h f low go g =
+      (search depth 60, λ n k. gives_fields fields (with_name h n) f low go (with_last h n g k))
+  gives_fields (a_text text ∷ fields) h f low go g =
+      let parts : (every ascii text ≡ true) × (every field_ascii fields ≡ true) = if_both _ _ low in
+      (parts.0, λ _ _. gives_fields fields h f parts.1 go g)
+
+  names_ascii : (r : NameRow) → every field_ascii (fields_of_name r) ≡ true
+  names_ascii frame = refl
+  names_ascii literal_operator = refl
+  names_ascii spaceship = refl
+
+  types_ascii : (r : TypeRow) → every field_ascii (fields_of_type r) ≡ true
+  types_ascii integer = refl
+  types_ascii custom = refl
+  types_ascii nullptr = refl
+  types_ascii extern_c = refl
+
+  pub gives : {a : Sort} (n : Production a) → Gives full_grammar P (grammar n)
+  unfolding Gives grammar
+  gives template_symbol = (
+    tt,
+    λ n h. (
+      tt,
+      λ ns k. (
+        search in-names depth 60,
+        (tt, λ t m. (h, in-names ns k, m)),
+      ),
+    ),
+  )
+  gives named_symbol = (tt, λ n h. (tt, λ ns k. (tt, λ t m. (h, in-names ns k, m))))
+  gives encoding = (gives_texts full_grammar P variable_texts (λ k. call (variable k)) refl (λ k. tt), tt)
+  gives other_encoding =
+      (tt, gives_texts full_grammar P encoding_texts (λ e. call (encoding_after e)) refl (λ e. tt))
+  gives (encoding_after (encoding_by_row r)) = tt
+  gives (encoding_after free_function) = tt
+  gives (encoding_after (function_of class)) = (tt, λ f h. (in-types f.1.1.1 h.1.1.1, h.1.1.0))
+  gives (variable_end of_pointer) = search depth 60
+  gives (variable_end of_member_pointer) = search depth 60
+  gives (variable_end of_value) = search depth 60
+  gives operator_name = gives_texts full_grammar P operator_texts (λ o. call (operator_after o)) refl (λ o. tt)
+  gives (operator_after (plain_operator o)) = tt
+  gives (operator_after (operator_by_row r)) = tt
+  gives (name_row r) =
+      gives_fields (fields_of_name r) nothing_held _ (names_ascii r)
+      (λ h g. (none, in-names h.names g.0, in-types h.types g.1)) (tt, tt)
+  gives class_symbol = (tt, λ s h. (tt, λ t m. (h.0, in-names s.1 h.1, m)))
+  gives template_name = (tt, λ n h. (tt, λ ts k. (h, in-types ts k)))
+  gives (anonymous_kept true ds) = tt
+  gives (anonymous_kept false ds) = tt
+  gives (function_type own) = (tt, λ f h. (in-types f.1.1.1 h.1.1.1, h.1.1.0))
+  gives (own_qualifiers absent) = search depth 60
+  gives (own_qualifiers present) = search depth 60
+  gives (type_ q) =
+      (gives_texts full_grammar P type_texts (λ f. call (type_after q f)) refl (λ f. tt), search depth 60)
+  gives (type_after q (named tag)) = (tt, λ s h. (h.0, in-names s.1 h.1))
+  gives (type_after q (pointer_with more)) = tt
+  gives (type_after q (reference_by mark)) = tt
+  gives (type_after q arrayed) = tt
+  gives (type_after q (function_with own)) = tt
+  gives (type_after q the_same) = tt
+  gives (type_after q qualified) = search depth 60
+  gives (type_after q (type_by_row r)) = tt
+  gives (type_row q r) =
+      gives_fields (fields_of_type r) nothing_held _ (types_ascii r)
+      (λ h g. (none, in-names h.names g.0, in-types h.types g.1)) (tt, tt)
+  gives (type_after q extended) = search depth 60
+  gives (positive zero) = search depth 60
+  gives (positive (suc n)) = search depth 60
+  gives (lengths zero) = search depth 60
+  gives (lengths (suc n)) = search depth 60
+  gives argument = (gives_texts full_grammar P argument_texts (λ f. call (argument_after f)) refl (λ f. tt), tt)
+  gives (argument_after empty_pack) = search depth 60
+  gives (argument_after alias) = (tt, λ s h. (h.0, in-names s.1 h.1))
+  gives (argument_after (argument_by_row r)) = tt
+  gives _ = search depth 60
+
+pub full_named : Named full_grammar
+full_named = record { gives = λ P none n. gives P none n }

@@ -1,0 +1,222 @@
+-- That each production of Full counts the nodes of its value.
+use Rattle.std.proofs.Common.{ℕ, zero, suc, List, [], ◌∷◌, ◌++◌, true, false}
+use Rattle.std.proofs.Common.{◌≡◌, ◌+◌, refl, arith}
+use Rattle.msvc_nodes.specs.Trees.{NameTree, name_trees, type_trees}
+use Rattle.msvc_rules.specs.Counts.{name_count, names_count, types_count}
+use Rattle.msvc_rules.specs.Rules.{Rule, call}
+use Rattle.msvc_rules.specs.Sorts.{Sort}
+use Rattle.msvc_full_grammar.specs.Forms.{absent, present, plain_operator, operator_by_row, encoding_by_row}
+use Rattle.msvc_full_grammar.specs.Forms.{free_function, function_of, of_pointer, of_member_pointer, of_value, named}
+use Rattle.msvc_full_grammar.specs.Forms.{pointer_with, reference_by, arrayed, function_with, the_same, qualified}
+use Rattle.msvc_full_grammar.specs.Forms.{type_by_row, extended, empty_pack, alias, argument_by_row}
+use Rattle.msvc_full_grammar.specs.Rows.{Field, a_number, a_count, a_type_name, a_source_name, a_symbol, a_text}
+use Rattle.msvc_full_grammar.specs.Rows.{fields_of_type, fields_of_name, Held, nothing_held, with_number, with_name}
+use Rattle.msvc_full_grammar.specs.Grammar.{grammar, full_grammar, new_source_name, new_template, template_inside}
+use Rattle.msvc_full_grammar.specs.Grammar.{nested_symbol, fields_rule}
+use Rattle.msvc_full_grammar.specs.Letters.{digits, hexadecimal, hexadecimal_codes, qualifiers, member_qualifiers}
+use Rattle.msvc_full_grammar.specs.Letters.{pointer_sizes, restricts, alignments, reference_qualifiers, base_types}
+use Rattle.msvc_full_grammar.specs.Letters.{extended_types, type_texts, argument_texts, conventions, encoding_texts}
+use Rattle.msvc_full_grammar.specs.Letters.{variable_texts, operator_texts}
+use Rattle.msvc_full_grammar.specs.Productions.{Production, count, letters, number, whole_text, symbol, template_symbol}
+use Rattle.msvc_full_grammar.specs.Productions.{named_symbol, encoding, other_encoding, encoding_after, variable}
+use Rattle.msvc_full_grammar.specs.Productions.{variable_end, repeated_class, repeated_scope, repeated_name}
+use Rattle.msvc_full_grammar.specs.Productions.{symbol_name, operator_name, operator_after, type_name, type_symbol}
+use Rattle.msvc_full_grammar.specs.Productions.{class_symbol, template_name, scope, nested_name, anonymous_digits}
+use Rattle.msvc_full_grammar.specs.Productions.{anonymous_kept, hexadecimal_digits, name_row, type_row, source_name, function_type}
+use Rattle.msvc_full_grammar.specs.Productions.{signature, own_qualifiers, marks, returned, function_parameters}
+use Rattle.msvc_full_grammar.specs.Productions.{parameters, parameter, type_, type_after, pointer, reference, arrays}
+use Rattle.msvc_full_grammar.specs.Productions.{dimensions, positive, lengths, arguments, argument, argument_after}
+use Rattle.msvc_rules.proofs.NodesCounted.{Makes, makes_optional, makes_texts, no_nodes, Counted}
+
+module _ (w : ℕ) where
+  makes_source : Makes full_grammar w 0 new_source_name
+  unfolding Makes
+  makes_source = ((refl, λ n. omega arith), λ n. (refl, λ _. omega arith))
+
+  makes_kept : Makes full_grammar w 0 new_template
+  unfolding Makes
+  makes_kept = (refl, λ n. (refl, λ _. omega arith))
+
+  pub makes_template : Makes full_grammar w 0 template_inside
+  unfolding Makes
+  makes_template = (refl, λ n. (refl, λ ts. omega arith))
+
+  makes_nested : Makes full_grammar w 0 nested_symbol
+  unfolding Makes
+  makes_nested = (refl, λ s. omega arith)
+
+  -- the nodes of what fields hold
+  abbrev held_count : Held → ℕ
+  held_count h = names_count w (name_trees h.names) + types_count w (type_trees h.types)
+
+  with_last : (ns : List NameTree) (n : NameTree)
+      → names_count w (name_trees (ns ++ n ∷ [])) ≡ names_count w (name_trees ns) + name_count w n
+  with_last [] n = omega arith
+  with_last (m ∷ ns) n = omega (arith, with_last ns n)
+
+  -- fields count what they hold, beside c that were counted before them
+  makes_fields : (fields : List Field) (h : Held) {a : Sort} (f : Held → Rule Production a) (c g : ℕ)
+      → ((held : Held) (k : ℕ) → k ≡ c + held_count held → Makes full_grammar w k (f held))
+      → g ≡ c + held_count h → Makes full_grammar w g (fields_rule fields h f)
+  unfolding Makes
+  makes_fields [] h f c g go e = go h g e
+  makes_fields (a_number ∷ fields) h f c g go e =
+      (refl, λ n. makes_fields fields (with_number h n) f c (g + 0) go (omega (arith, e)))
+  makes_fields (a_count ∷ fields) h f c g go e = (
+    refl,
+    λ n. makes_fields fields (with_number h (record { is_negative = false; value = n })) f c (g + 0) go
+        (omega (arith, e)),
+  )
+  makes_fields (a_type_name ∷ fields) h f c g go e = (
+    refl,
+    λ n. makes_fields fields (with_name h n) f c (g + name_count w n) go
+        (omega (arith, e, with_last h.names n)),
+  )
+  makes_fields (a_source_name ∷ fields) h f c g go e = (
+    makes_source,
+    λ n. makes_fields fields (with_name h n) f c (g + name_count w n) go
+        (omega (arith, e, with_last h.names n)),
+  )
+  makes_fields (a_symbol ∷ fields) h f c g go e = (
+    makes_nested,
+    λ n. makes_fields fields (with_name h n) f c (g + name_count w n) go
+        (omega (arith, e, with_last h.names n)),
+  )
+  makes_fields (a_text bytes ∷ fields) h f c g go e =
+      (refl, λ _. makes_fields fields h f c (g + 0) go (omega (arith, e)))
+
+  pub makes : {a : Sort} (n : Production a) → Makes full_grammar w 0 (grammar n)
+  unfolding Makes grammar
+  makes count = ((no_nodes digits, λ _. refl), (refl, λ _. refl))
+  makes (letters value) = ((refl, λ _. refl), (no_nodes hexadecimal, λ _. refl))
+  makes number = ((refl, λ _. (refl, λ _. refl)), (refl, λ _. refl))
+  makes whole_text = refl
+  makes symbol = (refl, λ _. ((refl, λ _. refl), refl))
+  makes template_symbol = (
+    refl,
+    λ n. (
+      refl,
+      λ ns. (
+        (search arith depth 60),
+        (refl, λ t. omega arith),
+      ),
+    ),
+  )
+  makes named_symbol = (refl, λ n. (refl, λ ns. (refl, λ t. omega arith)))
+  makes encoding = (makes_texts full_grammar w variable_texts (λ k. call (variable k)) (λ k. refl), refl)
+  makes other_encoding =
+      (omega arith, makes_texts full_grammar w encoding_texts (λ e. call (encoding_after e)) (λ e. refl))
+  makes (encoding_after (encoding_by_row r)) = refl
+  makes (encoding_after free_function) = refl
+  makes (encoding_after (function_of class)) = (refl, λ f. omega arith)
+  makes (variable k) = (refl, λ t. (refl, λ _. omega arith))
+  makes (variable_end of_pointer) = (refl, λ _. (no_nodes qualifiers, λ _. refl))
+  makes (variable_end of_member_pointer) = (refl, λ _. (no_nodes qualifiers, λ _. (refl, λ _. refl)))
+  makes (variable_end of_value) = no_nodes qualifiers
+  makes repeated_class = (refl, λ _. refl)
+  makes repeated_scope = ((refl, λ _. refl), (refl, λ _. refl))
+  makes repeated_name = ((no_nodes digits, λ _. refl), ((refl, λ _. (refl, λ _. refl)), (refl, λ _. refl)))
+  makes symbol_name =
+      ((no_nodes digits, λ _. refl), ((refl, λ _. refl), ((refl, λ _. refl), makes_source)))
+  makes operator_name = makes_texts full_grammar w operator_texts (λ o. call (operator_after o)) (λ o. refl)
+  makes (operator_after (plain_operator o)) = omega arith
+  makes (operator_after (operator_by_row r)) = refl
+  makes (name_row r) =
+      makes_fields (fields_of_name r) nothing_held _ w (0 + w) (λ h k e. omega (arith, e)) (omega arith)
+  makes type_name = ((no_nodes digits, λ _. refl), ((refl, λ _. makes_kept), makes_source))
+  makes type_symbol = (refl, λ n. (refl, λ ns. omega arith))
+  makes class_symbol = (refl, λ s. (omega arith, λ t. omega arith))
+  makes template_name = makes_template
+  makes scope = ((refl, λ _. refl), (refl, λ n. (refl, λ ns. omega arith)))
+  makes nested_name = (
+    (no_nodes digits, λ _. refl),
+    ((refl, λ _. makes_kept), ((refl, λ _. (refl, λ _. omega arith)), ((refl, λ _. refl), makes_source))),
+  )
+  makes anonymous_digits = ((refl, λ _. refl), (refl, λ _. (refl, λ ds. (refl, λ _. refl))))
+  makes (anonymous_kept true ds) = refl
+  makes (anonymous_kept false ds) = refl
+  makes hexadecimal_digits = ((refl, λ _. refl), (no_nodes hexadecimal_codes, λ _. (refl, λ _. refl)))
+  makes source_name = refl
+  makes (function_type own) = (refl, λ f. omega arith)
+  makes (signature own) = (
+    refl,
+    λ q. (
+      no_nodes conventions,
+      λ c. (refl, λ t. (refl, λ ts. ((refl, λ _. omega arith), (refl, λ _. omega arith)))),
+    ),
+  )
+  makes (own_qualifiers absent) = refl
+  makes (own_qualifiers present) = (
+    refl,
+    λ _. (makes_optional full_grammar w reference_qualifiers, λ _. (no_nodes qualifiers, λ _. refl)),
+  )
+  makes marks = (
+    makes_optional full_grammar w pointer_sizes,
+    λ _. (
+      makes_optional full_grammar w restricts,
+      λ _. (makes_optional full_grammar w alignments, λ _. refl),
+    ),
+  )
+  makes returned = (
+    (refl, λ _. omega arith),
+    ((refl, λ _. (no_nodes qualifiers, λ _. refl)), refl),
+  )
+  makes function_parameters = ((refl, λ _. omega arith), refl)
+  makes parameters =
+      ((refl, λ _. refl), ((refl, λ _. omega arith), (refl, λ t. (refl, λ ts. omega arith))))
+  makes parameter = (refl, refl)
+  makes (type_ q) = (
+    makes_texts full_grammar w type_texts (λ f. call (type_after q f)) (λ f. refl),
+    (no_nodes base_types, λ _. omega arith),
+  )
+  makes (type_after q (named tag)) = (refl, λ s. omega arith)
+  makes (type_after q (pointer_with more)) = refl
+  makes (type_after q (reference_by mark)) = refl
+  makes (type_after q arrayed) = refl
+  makes (type_after q (function_with own)) = refl
+  makes (type_after q the_same) = refl
+  makes (type_after q qualified) = (no_nodes qualifiers, λ _. refl)
+  makes (type_after q (type_by_row r)) = refl
+  makes (type_after q extended) = (no_nodes extended_types, λ _. omega arith)
+  makes (type_row q r) =
+      makes_fields (fields_of_type r) nothing_held _ w (0 + w) (λ h k e. omega (arith, e)) (omega arith)
+  makes (pointer q) = (
+    (refl, λ _. (refl, λ f. omega arith)),
+    (
+      (refl, λ _. (refl, λ c. (refl, λ f. omega arith))),
+      (
+        refl,
+        λ m. (
+          (no_nodes member_qualifiers, λ s. (refl, λ c. (refl, λ t. omega arith))),
+          (no_nodes qualifiers, λ s. (refl, λ t. omega arith)),
+        ),
+      ),
+    ),
+  )
+  makes (reference mark q) = (
+    (refl, λ _. (refl, λ f. omega arith)),
+    (refl, λ m. (no_nodes qualifiers, λ s. (refl, λ t. omega arith))),
+  )
+  makes (arrays q) = (
+    refl,
+    λ n. (
+      refl,
+      λ zs. (
+        (refl, λ _. (no_nodes qualifiers, λ more. (refl, λ t. omega arith))),
+        (refl, λ t. omega arith),
+      ),
+    ),
+  )
+  makes dimensions = (refl, λ _. refl)
+  makes (positive zero) = tt
+  makes (positive (suc n)) = refl
+  makes (lengths zero) = refl
+  makes (lengths (suc n)) = (refl, λ z. (refl, λ zs. refl))
+  makes arguments = ((refl, λ _. refl), (refl, λ t. (refl, λ ts. omega arith)))
+  makes argument = (makes_texts full_grammar w argument_texts (λ f. call (argument_after f)) (λ f. refl), refl)
+  makes (argument_after empty_pack) = omega arith
+  makes (argument_after alias) = (refl, λ s. omega arith)
+  makes (argument_after (argument_by_row r)) = refl
+
+pub full_counted : Counted full_grammar
+full_counted = record { makes = λ w n. makes w n }

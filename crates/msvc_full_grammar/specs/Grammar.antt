@@ -1,0 +1,361 @@
+-- Full, the second grammar of symbols. Its trees have the forms that LLVM reads too. Texts stand in the rules, and what
+-- letters stand for is in the tables of Letters.
+use Rattle.std.specs.Prelude.{ℕ, List, [], ◌∷◌, ◌++◌, ◌==◌, ◌+◌, ◌*◌, ◌%◌, ◌^◌, Bool, true, false, Some, None}
+use Rattle.std.specs.Prelude.{bit_and, bit_or, suc, zero, codes, if◌then◌else◌}
+use Rattle.msvc_nodes.specs.Trees.{NameTree, TypeTree, spelled, operator, template, nested, anonymous, shaped, no_names}
+use Rattle.msvc_nodes.specs.Trees.{names, name_trees, plain, base, tagged, pointing, member_function, shape, no_types}
+use Rattle.msvc_nodes.specs.Trees.{types, type_trees}
+use Rattle.msvc_nodes.specs.Trees as tree
+use Rattle.msvc_nodes.specs.declared.kinds.PlainType.TheVariants as plain_kind
+use Rattle.msvc_nodes.specs.declared.kinds.PointerAffinity.TheVariants as mark_kind
+use Rattle.msvc_nodes.specs.declared.kinds.PrimitiveKind.TheVariants as base_kind
+use Rattle.msvc_nodes.specs.declared.kinds.Spelling.TheVariants as spelling_kind
+use Rattle.msvc_nodes.specs.declared.kinds.TagKind.TheVariants as tag_kind
+use Rattle.msvc_rules.specs.Rules.{none_of, at_end, Grammar, Rule, some_of, give, letter, literal, up_to, here, ◌>>=◌}
+use Rattle.msvc_rules.specs.Rules.{◌>>◌, ◌or◌, call, known_name, remember, noted, entering, apart, begins_of, letter_or}
+use Rattle.msvc_rules.specs.Rules.{literal_or, node, text_and, text_or, optional, never}
+use Rattle.msvc_rules.specs.Sorts.{Sort, bits, base_type, convention, name_tree, type_tree}
+use Rattle.msvc_full_grammar.specs.Forms.{OwnQualifiers, absent, present}
+use Rattle.msvc_full_grammar.specs.Forms.{plain_operator, operator_by_row}
+use Rattle.msvc_full_grammar.specs.Forms.{encoding_by_row, free_function, function_of}
+use Rattle.msvc_full_grammar.specs.Forms.{VariableEnd, of_pointer, of_member_pointer, of_value}
+use Rattle.msvc_full_grammar.specs.Forms.{named, pointer_with, reference_by, arrayed, function_with, the_same, qualified}
+use Rattle.msvc_full_grammar.specs.Forms.{type_by_row, extended}
+use Rattle.msvc_full_grammar.specs.Forms.{empty_pack, alias, argument_by_row}
+use Rattle.msvc_full_grammar.specs.Letters.{digits, hexadecimal, hexadecimal_base, capitals, hexadecimal_codes, noexcept}
+use Rattle.msvc_full_grammar.specs.Letters.{qualifiers, member_qualifiers, pointer_sizes, restricts, alignments}
+use Rattle.msvc_full_grammar.specs.Letters.{reference_qualifiers, base_types, extended_types, type_texts}
+use Rattle.msvc_full_grammar.specs.Letters.{argument_texts, conventions, global, static, encoding_texts, variable_texts}
+use Rattle.msvc_full_grammar.specs.Letters.{operator_texts, at_sign, label_texts}
+use Rattle.msvc_full_grammar.specs.Productions.{Production, count, letters, number, symbol, encoding, other_encoding}
+use Rattle.msvc_full_grammar.specs.Productions.{encoding_after, variable, variable_end, repeated_class, repeated_scope}
+use Rattle.msvc_full_grammar.specs.Productions.{repeated_name, symbol_name, operator_name, operator_after, type_name}
+use Rattle.msvc_full_grammar.specs.Productions.{type_symbol, class_symbol, template_name, scope, nested_name}
+use Rattle.msvc_full_grammar.specs.Productions.{anonymous_digits, anonymous_kept, hexadecimal_digits, name_row}
+use Rattle.msvc_full_grammar.specs.Productions.{source_name, function_type, signature, own_qualifiers, marks, returned}
+use Rattle.msvc_full_grammar.specs.Productions.{function_parameters, parameters, parameter, type_, type_after, pointer}
+use Rattle.msvc_full_grammar.specs.Productions.{reference, arrays, dimensions, positive, lengths, arguments, argument}
+use Rattle.msvc_full_grammar.specs.Productions.{argument_after, template_symbol, named_symbol, type_row, whole_text}
+use Rattle.msvc_full_grammar.specs.Rows.{arrays_row, member_pointer_row, frame, type_row_number, name_row_number, Field}
+use Rattle.msvc_full_grammar.specs.Rows.{a_number, a_count, a_type_name, a_source_name, a_symbol, a_text}
+use Rattle.msvc_full_grammar.specs.Rows.{fields_of_type, fields_of_name, Held, nothing_held, with_number, with_name}
+
+-- What values are made of
+
+-- whether a class has a bit
+abbrev pub has : ℕ → ℕ → Bool
+has class bit = bit_and class bit == bit
+
+-- whether a function of a class has qualifiers of its own: a static one has none, and one outside all classes has none
+abbrev pub own_of_class : ℕ → OwnQualifiers
+own_of_class class = if has class static then absent else (if has class global then absent else present)
+
+-- whether capitals are among some digits
+abbrev pub has_capital : List ℕ → Bool
+has_capital ds = some_of (λ d. some_of (λ c. d == c) capitals) ds
+
+-- what stands after the type of a variable, by that type
+abbrev pub end_of : TypeTree → VariableEnd
+end_of (pointing mark t q) = of_pointer
+end_of (shape row q zs bytes ns ts) = if row == member_pointer_row then of_member_pointer else of_value
+end_of _ = of_value
+
+-- Parts of productions
+
+-- what stands for a type where there is none
+abbrev pub no_type : Rule Production type_tree
+no_type = node (give (plain plain_kind.None))
+
+-- a name that enters the table of names
+abbrev pub entering_name : Rule Production name_tree → Rule Production name_tree
+entering_name r = do
+  n ← r
+  remember n
+  give n
+
+-- a source name, which enters the table of names
+abbrev pub new_source_name : Rule Production name_tree
+new_source_name = entering_name (node (do n ← call source_name; give (spelled spelling_kind.Source n)))
+
+-- a template that enters the table of names, after its ?$
+abbrev pub new_template : Rule Production name_tree
+new_template = entering_name (call template_name)
+
+-- a name and arguments
+abbrev pub template_inside : Rule Production name_tree
+template_inside = node (do
+  n ← call symbol_name
+  ts ← call arguments
+  give (template n (type_trees ts)))
+
+-- an anonymous namespace, after its ?A
+abbrev pub anonymous_namespace : Rule Production name_tree
+anonymous_namespace = node (do ds ← call anonymous_digits; give (anonymous ds))
+
+-- a whole symbol inside a scope
+abbrev pub nested_symbol : Rule Production name_tree
+nested_symbol = node (do
+  s ← call symbol
+  give (nested s.name s.scope s.symbol_type))
+
+-- a field of a row, and what follows with what it holds
+abbrev pub field_rule : {a : Sort} → Field → Held → (Held → Rule Production a) → Rule Production a
+field_rule a_number h f = call number >>= λ n. f (with_number h n)
+field_rule a_count h f = call count >>= λ n. f (with_number h (record { is_negative = false; value = n }))
+field_rule a_type_name h f = call type_name >>= λ n. f (with_name h n)
+field_rule a_source_name h f = new_source_name >>= λ n. f (with_name h n)
+field_rule a_symbol h f = nested_symbol >>= λ n. f (with_name h n)
+field_rule (a_text bytes) h f = literal bytes >> f h
+
+-- fields, and what follows with all that they hold
+abbrev pub fields_rule : {a : Sort} → List Field → Held → (Held → Rule Production a) → Rule Production a
+fields_rule [] h f = f h
+fields_rule (field ∷ fields) h f = field_rule field h (λ held. fields_rule fields held f)
+
+-- The productions
+
+unfoldable pub grammar : {a : Sort} → Production a → Rule Production a
+-- Numbers.
+-- A digit, which stands for the number after it, or letters up to an @.
+grammar count =
+    (do d ← letter bits digits; give (d + 1))
+    or (do v ← call (letters 0); give (v % 2 ^ 64))
+-- letters up to an @, each a digit to base 16, which continue the value of the letters before them
+grammar (letters value) =
+    (do literal (codes "@"); give value)
+    or (do d ← letter bits hexadecimal; call (letters (value * hexadecimal_base + d)))
+-- a count, and a ? before it for a minus
+grammar number =
+    literal_or (codes "?")
+    (do n ← call count; give (record { is_negative = true; value = n }))
+    (do n ← call count; give (record { is_negative = false; value = n }))
+-- Symbols.
+-- A symbol that is no label.
+grammar whole_text = here (none_of label_texts) (call symbol)
+-- A ?, the name, its scope and its type.
+grammar symbol = literal (codes "?") >> literal_or (codes "?$") (call template_symbol) (call named_symbol)
+-- What follows the ?$ of a symbol. The template's name enters the table behind the names of its scope where a variable
+-- follows, and else not at all.
+grammar template_symbol = do
+  n ← call template_name
+  ns ← call scope
+  text_or variable_texts
+      (λ k. do
+        remember n
+        t ← call (variable k)
+        give (record { name = n; scope = name_trees ns; symbol_type = t }))
+      (do
+        t ← call other_encoding
+        give (record { name = n; scope = name_trees ns; symbol_type = t }))
+-- what follows the ? of any other symbol
+grammar named_symbol = do
+  n ← call symbol_name
+  ns ← call scope
+  t ← call encoding
+  give (record { name = n; scope = name_trees ns; symbol_type = t })
+grammar encoding = text_or variable_texts (λ k. call (variable k)) (call other_encoding)
+-- the type of a symbol that is no variable; at the end of the text none
+grammar other_encoding =
+    here at_end no_type
+    or text_and encoding_texts (λ e. call (encoding_after e))
+grammar (encoding_after (encoding_by_row r)) = call (type_row 0 r)
+grammar (encoding_after free_function) = call (function_type absent)
+grammar (encoding_after (function_of class)) = node (do
+  f ← call (signature (own_of_class class))
+  give (member_function class f.1.0 (type_trees f.1.1.1) f.0 f.1.1.0))
+-- a type, and what stands after it by that type
+grammar (variable k) = node (do
+  t ← call (type_ 0)
+  q ← call (variable_end (end_of t))
+  give (tree.variable t k q))
+grammar (variable_end of_pointer) = do
+  _ ← call marks
+  _ ← letter bits qualifiers
+  give 0
+grammar (variable_end of_member_pointer) = do
+  _ ← call marks
+  _ ← letter bits qualifiers
+  call repeated_class
+  give 0
+grammar (variable_end of_value) = letter bits qualifiers
+-- The class of a member once more, which is dropped. So it makes no node, and its names are those that are read without
+-- one: digits, whatever they stand for, source names and anonymous namespaces.
+grammar repeated_class = call repeated_name >> call repeated_scope
+grammar repeated_scope = literal_or (codes "@") (give tt) (call repeated_name >> call repeated_scope)
+grammar repeated_name =
+    letter_or digits
+    (λ i. give tt)
+    (literal_or (codes "?A")
+    (do _ ← call anonymous_digits; give tt)
+    (do n ← call source_name; remember (spelled spelling_kind.Source n)))
+-- Names.
+-- A digit is an entry of the table of names. A source name enters that table; a template and an operator don't.
+grammar symbol_name =
+    letter_or digits
+    (λ i. known_name i)
+    (literal_or (codes "?$") (call template_name) (literal_or (codes "?") (call operator_name) new_source_name))
+grammar operator_name = text_and operator_texts (λ o. call (operator_after o))
+grammar (operator_after (plain_operator o)) = node (give (operator o))
+grammar (operator_after (operator_by_row r)) = call (name_row r)
+-- the fields of a row of names
+grammar (name_row r) = node (fields_rule (fields_of_name r) nothing_held (λ h.
+    give (shaped (name_row_number r) 0 h.numbers [] (name_trees h.names) (type_trees h.types))))
+-- the name of a type, which enters the table of names
+grammar type_name = letter_or digits (λ i. known_name i) (literal_or (codes "?$") new_template new_source_name)
+grammar type_symbol = do
+  n ← call type_name
+  ns ← call scope
+  give (n, ns)
+-- the class of a member, as a symbol without a type
+grammar class_symbol = node (do
+  s ← call type_symbol
+  t ← no_type
+  give (nested s.0 (name_trees s.1) t))
+-- a name and arguments, which have tables of their own
+grammar template_name = apart template_inside
+-- names up to an @
+grammar scope = literal_or (codes "@") (give []) (do n ← call nested_name; ns ← call scope; give (n ∷ ns))
+-- a name of a type, or after a ? an anonymous namespace or what a function declares
+grammar nested_name =
+    letter_or digits
+    (λ i. known_name i)
+    (literal_or (codes "?$") new_template
+    (literal_or (codes "?A") anonymous_namespace
+    (literal_or (codes "?") (call (name_row frame)) new_source_name)))
+-- An @ alone, or 0x, digits to base 16 and an @. With these the name enters the table unless a digit is a capital.
+grammar anonymous_digits =
+    (do literal (codes "@"); give None)
+    or (do
+      literal (codes "0x")
+      ds ← call hexadecimal_digits
+      call (anonymous_kept (has_capital ds) ds)
+      give (Some (codes "0x" ++ ds)))
+grammar (anonymous_kept true ds) = give tt
+grammar (anonymous_kept false ds) = remember (anonymous (Some (codes "0x" ++ ds)))
+grammar hexadecimal_digits =
+    literal_or (codes "@") (give []) (do d ← letter bits hexadecimal_codes; ds ← call hexadecimal_digits; give (d ∷ ds))
+-- the bytes up to an @, of which there is one at least
+grammar source_name = here (none_of (codes "?" ∷ codes "@" ∷ [])) (up_to at_sign)
+-- Functions.
+grammar (function_type own) = node (do
+  f ← call (signature own)
+  give (tree.function f.1.0 (type_trees f.1.1.1) f.0 f.1.1.0))
+-- own qualifiers, a convention, what is returned, the parameters, and _E or Z
+grammar (signature own) = do
+  q ← call (own_qualifiers own)
+  c ← letter convention conventions
+  t ← call returned
+  ts ← call function_parameters
+  (do literal (codes "_E"); give (bit_or noexcept q, (c, (t, ts))))
+      or (do literal (codes "Z"); give (q, (c, (t, ts))))
+grammar (own_qualifiers absent) = give 0
+grammar (own_qualifiers present) = do
+  m ← call marks
+  kind ← optional reference_qualifiers
+  q ← letter bits qualifiers
+  give (bit_or m (bit_or kind q))
+grammar marks = do
+  size ← optional pointer_sizes
+  restrict ← optional restricts
+  alignment ← optional alignments
+  give (bit_or size (bit_or restrict alignment))
+-- an @ for no type, as a constructor has none; or a type, before which a ? and a qualifier may stand
+grammar returned =
+    literal_or (codes "@") no_type
+    (literal_or (codes "?") (do q ← letter bits qualifiers; call (type_ q)) (call (type_ 0)))
+-- X for one void, or parameters
+grammar function_parameters =
+    literal_or (codes "X") (node (give (base base_kind.Void 0 ∷ []))) (call parameters)
+-- parameters up to an @ or a Z, which adds an ellipsis
+grammar parameters =
+    (do literal (codes "@"); give [])
+    or (do literal (codes "Z"); node (give (plain plain_kind.Variadic ∷ [])))
+    or here (none_of (codes "@" ∷ codes "Z" ∷ [])) (do t ← call parameter; ts ← call parameters; give (t ∷ ts))
+-- a digit is the type of an entry, and is noted; a type that was read enters the table
+grammar parameter =
+    noted digits
+    or here (none_of (begins_of digits)) (entering (call (type_ 0)))
+-- Types, with the qualifiers that they are read with.
+grammar (type_ q) =
+    text_or type_texts (λ f. call (type_after q f)) (node (do b ← letter base_type base_types; give (base b q)))
+grammar (type_after q (named tag)) = node (do
+  s ← call type_symbol
+  give (tagged tag s.0 (name_trees s.1) q))
+grammar (type_after q (pointer_with more)) = call (pointer (bit_or q more))
+grammar (type_after q (reference_by mark)) = call (reference mark q)
+grammar (type_after q arrayed) = call (arrays q)
+grammar (type_after q (function_with own)) = call (function_type own)
+grammar (type_after q the_same) = call (type_ q)
+grammar (type_after q qualified) = do
+  more ← letter bits qualifiers
+  call (type_ (bit_or q more))
+grammar (type_after q (type_by_row r)) = call (type_row q r)
+grammar (type_after q extended) = node (do
+  b ← letter base_type extended_types
+  give (base b q))
+-- the fields of a row of types, with qualifiers
+grammar (type_row q r) = node (fields_rule (fields_of_type r) nothing_held (λ h.
+    give (shape (type_row_number r) q h.numbers [] (name_trees h.names) (type_trees h.types))))
+-- a function; a member function of a class; marks and a member of a class; marks and a type
+grammar (pointer q) = node (
+    literal_or (codes "6") (do f ← call (function_type absent); give (pointing mark_kind.Pointer f q))
+    (literal_or (codes "8")
+    (do
+      c ← call class_symbol
+      f ← call (function_type present)
+      give (shape member_pointer_row q [] [] (names c no_names) (types f no_types)))
+    (do
+      m ← call marks
+      letter_or member_qualifiers
+          (λ s. do
+            c ← call class_symbol
+            t ← call (type_ s)
+            give (shape member_pointer_row (bit_or q m) [] [] (names c no_names) (types t no_types)))
+          (do
+            s ← letter bits qualifiers
+            t ← call (type_ s)
+            give (pointing mark_kind.Pointer t (bit_or q m))))))
+-- a function; marks and a type
+grammar (reference mark q) = node (
+    literal_or (codes "6") (do f ← call (function_type absent); give (pointing mark f q))
+    (do
+      m ← call marks
+      s ← letter bits qualifiers
+      t ← call (type_ s)
+      give (pointing mark t (bit_or q m))))
+-- A number above 0, that many lengths, a qualifier after a $$C, and the type of the elements. The type stands in both
+-- alternatives, since its bytes tell that no $$C begins.
+grammar (arrays q) = node (do
+  n ← call dimensions
+  zs ← call (lengths n)
+  literal_or (codes "$$C")
+      (do
+        more ← letter bits qualifiers
+        t ← call (type_ 0)
+        give (shape arrays_row (bit_or q more) zs [] no_names (types t no_types)))
+      (do
+        t ← call (type_ 0)
+        give (shape arrays_row q zs [] no_names (types t no_types))))
+grammar dimensions = do
+  n ← call count
+  call (positive n)
+grammar (positive zero) = never
+grammar (positive (suc n)) = give (suc n)
+-- as many lengths as the number says
+grammar (lengths zero) = give []
+grammar (lengths (suc n)) = do
+  z ← call count
+  zs ← call (lengths n)
+  give (record { is_negative = false; value = z } ∷ zs)
+-- Arguments of templates, up to an @.
+grammar arguments = literal_or (codes "@") (give []) (do t ← call argument; ts ← call arguments; give (t ∷ ts))
+grammar argument = text_or argument_texts (λ f. call (argument_after f)) (call (type_ 0))
+grammar (argument_after empty_pack) = node (give (plain plain_kind.EmptyPack))
+grammar (argument_after alias) = node (do
+  s ← call type_symbol
+  give (tagged tag_kind.Alias s.0 (name_trees s.1) 0))
+grammar (argument_after (argument_by_row r)) = call (type_row 0 r)
+
+-- Full, as a grammar
+abbrev pub full_grammar : Grammar
+full_grammar = record { family = Production; rule = grammar; start = whole_text; parameter_type = type_ 0 }

@@ -1,0 +1,283 @@
+-- What the letters of a symbol of Full stand for, and the texts that types, operators and encodings begin with: the
+-- tables that the productions of Grammar go by. A row has a letter, or a text, and what it stands for.
+use Rattle.std.specs.Prelude.{ℕ, List, [], ◌∷◌, ◌+◌, codes}
+use Prim.Native.Char.{code}
+use Rattle.msvc_nodes.specs.declared.kinds.Convention.{Convention}
+use Rattle.msvc_nodes.specs.declared.kinds.Convention.TheVariants as convention_kind
+use Rattle.msvc_nodes.specs.declared.kinds.VarStorageKind.{VarStorageKind}
+use Rattle.msvc_nodes.specs.declared.kinds.VarStorageKind.TheVariants as storage_kind
+use Rattle.msvc_nodes.specs.declared.kinds.TagKind.TheVariants as tag_kind
+use Rattle.msvc_nodes.specs.declared.kinds.PrimitiveKind.{PrimitiveKind}
+use Rattle.msvc_nodes.specs.declared.kinds.PointerAffinity.TheVariants as mark_kind
+use Rattle.msvc_nodes.specs.declared.kinds.PlainOperator.TheVariants as operator_kind
+use Rattle.msvc_nodes.specs.BaseTypes.{BaseRow, basic_types, under_types}
+use Rattle.msvc_nodes.specs.PlainOperators.{OperatorRow, basic_operators}
+use Rattle.msvc_full_grammar.specs.Forms.{OperatorForm, plain_operator, operator_by_row}
+use Rattle.msvc_full_grammar.specs.Forms.{EncodingForm, encoding_by_row, free_function, function_of}
+use Rattle.msvc_full_grammar.specs.Forms.{absent, present}
+use Rattle.msvc_full_grammar.specs.Forms.{TypeForm, named, pointer_with, reference_by, arrayed, function_with, the_same}
+use Rattle.msvc_full_grammar.specs.Forms.{qualified, type_by_row, extended}
+use Rattle.msvc_full_grammar.specs.Forms.{ArgumentForm, empty_pack, alias, argument_by_row}
+use Rattle.msvc_full_grammar.specs.Rows.{integer, custom, nullptr, extern_c, literal_operator, spaceship}
+
+-- How tables are written
+
+-- letters, and what each stands for in its turn
+abbrev pub rows : {A : Type 0} → List ℕ → List A → List (ℕ × A)
+rows [] values = []
+rows (b ∷ bs) [] = []
+rows (b ∷ bs) (v ∷ values) = (b, v) ∷ rows bs values
+
+-- rows in which each of some letters stands for one value, and another table after them
+abbrev pub each_for : {A : Type 0} → List ℕ → A → List (ℕ × A) → List (ℕ × A)
+each_for [] value others = others
+each_for (b ∷ bs) value others = (b, value) ∷ each_for bs value others
+
+-- rows of some letters and what each of them stands for
+abbrev pub by_letter : {A : Type 0} → List (List ℕ × A) → List (ℕ × A)
+by_letter [] = []
+by_letter (row ∷ table) = each_for row.0 row.1 (by_letter table)
+
+-- Letters that stand by themselves
+
+-- the @ that ends a name, a list or a number
+abbrev pub at_sign : ℕ
+at_sign = code "@"
+
+-- Digits
+
+-- the digits, which stand for entries of tables
+abbrev pub digits : List (ℕ × ℕ)
+digits = rows (codes "0123456789") (0 ∷ 1 ∷ 2 ∷ 3 ∷ 4 ∷ 5 ∷ 6 ∷ 7 ∷ 8 ∷ 9 ∷ [])
+
+-- the letters that are digits to base 16
+abbrev pub hexadecimal : List (ℕ × ℕ)
+hexadecimal = rows (codes "ABCDEFGHIJKLMNOP")
+    (0 ∷ 1 ∷ 2 ∷ 3 ∷ 4 ∷ 5 ∷ 6 ∷ 7 ∷ 8 ∷ 9 ∷ 10 ∷ 11 ∷ 12 ∷ 13 ∷ 14 ∷ 15 ∷ [])
+
+-- the base of these digits
+abbrev pub hexadecimal_base : ℕ
+hexadecimal_base = 16
+
+-- the capitals among the digits of an anonymous namespace
+abbrev pub capitals : List ℕ
+capitals = codes "ABCDEF"
+
+-- the digits of an anonymous namespace, each for itself
+abbrev pub hexadecimal_codes : List (ℕ × ℕ)
+hexadecimal_codes = rows (codes "0123456789abcdefABCDEF") (codes "0123456789abcdefABCDEF")
+
+-- Qualifiers, by their bits: a sum has the bits of its parts
+
+abbrev pub unqualified : ℕ
+unqualified = 0
+
+abbrev pub const : ℕ
+const = 1
+
+abbrev pub volatile : ℕ
+volatile = 2
+
+abbrev pub unaligned : ℕ
+unaligned = 16
+
+abbrev pub restrict : ℕ
+restrict = 32
+
+abbrev pub ptr64 : ℕ
+ptr64 = 64
+
+abbrev pub lvalue : ℕ
+lvalue = 128
+
+abbrev pub rvalue : ℕ
+rvalue = 256
+
+-- among a function's own qualifiers alone
+abbrev pub noexcept : ℕ
+noexcept = 512
+
+-- the qualifier that stands before what is pointed to and after a function's marks and a variable
+abbrev pub qualifiers : List (ℕ × ℕ)
+qualifiers = by_letter (
+    (codes "AQ", unqualified)
+    ∷ (codes "BR", const)
+    ∷ (codes "CS", volatile)
+    ∷ (codes "DT", const + volatile) ∷ [])
+
+-- the qualifier of a member that is pointed to, before its class
+abbrev pub member_qualifiers : List (ℕ × ℕ)
+member_qualifiers = by_letter (
+    (codes "Q", unqualified)
+    ∷ (codes "R", const)
+    ∷ (codes "S", volatile)
+    ∷ (codes "T", const + volatile) ∷ [])
+
+abbrev pub pointer_sizes : List (ℕ × ℕ)
+pointer_sizes = by_letter ((codes "E", ptr64) ∷ [])
+
+abbrev pub restricts : List (ℕ × ℕ)
+restricts = by_letter ((codes "I", restrict) ∷ [])
+
+abbrev pub alignments : List (ℕ × ℕ)
+alignments = by_letter ((codes "F", unaligned) ∷ [])
+
+abbrev pub reference_qualifiers : List (ℕ × ℕ)
+reference_qualifiers = by_letter ((codes "G", lvalue) ∷ (codes "H", rvalue) ∷ [])
+
+-- Types
+
+-- the base types of a table, by their letters
+abbrev pub types_of : List BaseRow → List (ℕ × PrimitiveKind)
+types_of [] = []
+types_of (row ∷ table) = (row.0, row.1) ∷ types_of table
+
+abbrev pub base_types : List (ℕ × PrimitiveKind)
+base_types = types_of basic_types
+
+-- the base types of a second letter, after _
+abbrev pub extended_types : List (ℕ × PrimitiveKind)
+extended_types = types_of under_types
+
+-- The texts that types begin with, but for the base types of one letter. None begins another.
+abbrev pub type_texts : List (List ℕ × TypeForm)
+type_texts =
+    (codes "T", named tag_kind.Union)
+    ∷ (codes "U", named tag_kind.Struct)
+    ∷ (codes "V", named tag_kind.Class)
+    ∷ (codes "W4", named tag_kind.Enum)
+    ∷ (codes "P", pointer_with unqualified)
+    ∷ (codes "Q", pointer_with const)
+    ∷ (codes "R", pointer_with volatile)
+    ∷ (codes "S", pointer_with (const + volatile))
+    ∷ (codes "A", reference_by mark_kind.Reference)
+    ∷ (codes "$$Q", reference_by mark_kind.RValueReference)
+    ∷ (codes "Y", arrayed)
+    ∷ (codes "$$A6", function_with absent)
+    ∷ (codes "$$A8@@", function_with present)
+    ∷ (codes "$$B", the_same)
+    ∷ (codes "$$C", qualified)
+    ∷ (codes "$$T", type_by_row nullptr)
+    ∷ (codes "?", type_by_row custom)
+    ∷ (codes "_", extended)
+    ∷ []
+
+-- The texts that arguments of templates begin with where they are no types. None begins another, and none a type.
+abbrev pub argument_texts : List (List ℕ × ArgumentForm)
+argument_texts =
+    (codes "$S", empty_pack)
+    ∷ (codes "$$V", empty_pack)
+    ∷ (codes "$$$V", empty_pack)
+    ∷ (codes "$$Z", empty_pack)
+    ∷ (codes "$$Y", alias)
+    ∷ (codes "$0", argument_by_row integer)
+    ∷ []
+
+-- Functions and symbols
+
+abbrev pub conventions : List (ℕ × Convention)
+conventions = by_letter (
+    (codes "AB", convention_kind.Cdecl)
+    ∷ (codes "CD", convention_kind.Pascal)
+    ∷ (codes "EF", convention_kind.Thiscall)
+    ∷ (codes "GH", convention_kind.Stdcall)
+    ∷ (codes "IJ", convention_kind.Fastcall)
+    ∷ (codes "MN", convention_kind.Clrcall)
+    ∷ (codes "OP", convention_kind.Eabi)
+    ∷ (codes "Q", convention_kind.Vectorcall)
+    ∷ (codes "S", convention_kind.Swift)
+    ∷ (codes "U", convention_kind.PreserveMost)
+    ∷ (codes "V", convention_kind.PreserveNone)
+    ∷ (codes "W", convention_kind.SwiftAsync)
+    ∷ (codes "w", convention_kind._Regcall)
+    ∷ (codes "x", convention_kind.Regcall4) ∷ [])
+
+-- the classes of functions, by their bits
+
+abbrev pub public : ℕ
+public = 1
+
+abbrev pub protected : ℕ
+protected = 2
+
+abbrev pub private : ℕ
+private = 4
+
+abbrev pub global : ℕ
+global = 8
+
+abbrev pub static : ℕ
+static = 16
+
+abbrev pub virtual : ℕ
+virtual = 32
+
+abbrev pub far : ℕ
+far = 64
+
+-- The texts that the type of a symbol begins with where it is no variable. None begins another.
+abbrev pub encoding_texts : List (List ℕ × EncodingForm)
+encoding_texts =
+    (codes "9", encoding_by_row extern_c)
+    ∷ (codes "A", function_of private)
+    ∷ (codes "B", function_of (private + far))
+    ∷ (codes "C", function_of (private + static))
+    ∷ (codes "D", function_of (private + static + far))
+    ∷ (codes "E", function_of (private + virtual))
+    ∷ (codes "F", function_of (private + virtual + far))
+    ∷ (codes "I", function_of protected)
+    ∷ (codes "J", function_of (protected + far))
+    ∷ (codes "K", function_of (protected + static))
+    ∷ (codes "L", function_of (protected + static + far))
+    ∷ (codes "M", function_of (protected + virtual))
+    ∷ (codes "N", function_of (protected + virtual + far))
+    ∷ (codes "Q", function_of public)
+    ∷ (codes "R", function_of (public + far))
+    ∷ (codes "S", function_of (public + static))
+    ∷ (codes "T", function_of (public + static + far))
+    ∷ (codes "U", function_of (public + virtual))
+    ∷ (codes "V", function_of (public + virtual + far))
+    ∷ (codes "Y", free_function)
+    ∷ (codes "Z", function_of (global + far))
+    ∷ []
+
+-- the texts that the type of a variable begins with, and where the variable lives
+abbrev pub variable_texts : List (List ℕ × VarStorageKind)
+variable_texts =
+    (codes "0", storage_kind.PrivateStatic)
+    ∷ (codes "1", storage_kind.ProtectedStatic)
+    ∷ (codes "2", storage_kind.PublicStatic)
+    ∷ (codes "3", storage_kind.Global)
+    ∷ (codes "4", storage_kind.FunctionLocalStatic)
+    ∷ []
+
+-- The texts that labels of exception handling begin with. They are no symbols, though they begin with a ?.
+abbrev pub label_texts : List (List ℕ)
+label_texts = codes "?catch$" ∷ codes "?dtor$" ∷ codes "?filt$" ∷ codes "?fin$" ∷ []
+
+-- Operators
+
+-- the operators of a table, by the texts of their letters, and the rows of another table after them
+abbrev pub operators_of : List OperatorRow → List (List ℕ × OperatorForm) → List (List ℕ × OperatorForm)
+operators_of [] others = others
+operators_of (row ∷ table) others = (row.0 ∷ [], plain_operator row.1) ∷ operators_of table others
+
+-- the codes of operators, of which none begins another
+abbrev pub operator_texts : List (List ℕ × OperatorForm)
+operator_texts = operators_of basic_operators (
+    (codes "_0", plain_operator operator_kind.SlashEqual)
+    ∷ (codes "_1", plain_operator operator_kind.PercentEqual)
+    ∷ (codes "_2", plain_operator operator_kind.GreaterGreaterEqual)
+    ∷ (codes "_3", plain_operator operator_kind.LessLessEqual)
+    ∷ (codes "_4", plain_operator operator_kind.AmpEqual)
+    ∷ (codes "_5", plain_operator operator_kind.PipeEqual)
+    ∷ (codes "_6", plain_operator operator_kind.CaretEqual)
+    ∷ (codes "_7", plain_operator operator_kind.VFTable)
+    ∷ (codes "_8", plain_operator operator_kind.VBTable)
+    ∷ (codes "_9", plain_operator operator_kind.VCall)
+    ∷ (codes "_U", plain_operator operator_kind.ArrayNew)
+    ∷ (codes "_V", plain_operator operator_kind.ArrayDelete)
+    ∷ (codes "__K", operator_by_row literal_operator)
+    ∷ (codes "__L", plain_operator operator_kind.CoroutineAwait)
+    ∷ (codes "__M", operator_by_row spaceship)
+    ∷ [])

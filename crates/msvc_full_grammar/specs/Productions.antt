@@ -1,0 +1,69 @@
+-- The productions of Full, by name.
+use Rattle.std.specs.Prelude.{ℕ, List, Bool}
+use Rattle.msvc_nodes.specs.declared.kinds.PointerAffinity.{PointerAffinity}
+use Rattle.msvc_nodes.specs.declared.kinds.VarStorageKind.{VarStorageKind}
+use Rattle.msvc_rules.specs.Sorts.{Sort, nothing, bits, bytes, name_tree, type_tree, symbol_tree, convention, list}
+use Rattle.msvc_rules.specs.Sorts.{both, perhaps}
+use Rattle.msvc_rules.specs.Sorts as sort
+use Rattle.msvc_full_grammar.specs.Forms.{OwnQualifiers, OperatorForm, EncodingForm, VariableEnd, TypeForm}
+use Rattle.msvc_full_grammar.specs.Forms.{ArgumentForm}
+use Rattle.msvc_full_grammar.specs.Rows.{NameRow, TypeRow}
+
+-- The names of the productions, each with the sort of what it reads. What stands after a name is what the production
+-- is given: a value so far, the qualifiers of a type, the case that is read, or a condition on what was read before.
+pub data Production : Sort → Type 0 where
+  -- numbers
+  count : Production bits
+  letters : ℕ → Production bits
+  number : Production sort.number
+  -- symbols
+  whole_text : Production symbol_tree
+  symbol : Production symbol_tree
+  template_symbol : Production symbol_tree
+  named_symbol : Production symbol_tree
+  encoding : Production type_tree
+  other_encoding : Production type_tree
+  encoding_after : EncodingForm → Production type_tree
+  variable : VarStorageKind → Production type_tree
+  variable_end : VariableEnd → Production bits
+  repeated_class : Production nothing
+  repeated_scope : Production nothing
+  repeated_name : Production nothing
+  -- names
+  symbol_name : Production name_tree
+  operator_name : Production name_tree
+  operator_after : OperatorForm → Production name_tree
+  type_name : Production name_tree
+  type_symbol : Production (both name_tree (list name_tree))
+  class_symbol : Production name_tree
+  template_name : Production name_tree
+  scope : Production (list name_tree)
+  nested_name : Production name_tree
+  anonymous_digits : Production (perhaps (list bits))
+  anonymous_kept : (has_capital : Bool) → List ℕ → Production nothing
+  hexadecimal_digits : Production (list bits)
+  name_row : NameRow → Production name_tree
+  source_name : Production bytes
+  -- functions
+  function_type : OwnQualifiers → Production type_tree
+  signature : OwnQualifiers → Production (both bits (both convention (both type_tree (list type_tree))))
+  own_qualifiers : OwnQualifiers → Production bits
+  marks : Production bits
+  returned : Production type_tree
+  function_parameters : Production (list type_tree)
+  parameters : Production (list type_tree)
+  parameter : Production type_tree
+  -- types
+  type_ : ℕ → Production type_tree
+  type_after : ℕ → TypeForm → Production type_tree
+  type_row : ℕ → TypeRow → Production type_tree
+  pointer : ℕ → Production type_tree
+  reference : PointerAffinity → ℕ → Production type_tree
+  arrays : ℕ → Production type_tree
+  dimensions : Production bits
+  positive : ℕ → Production bits
+  lengths : ℕ → Production (list sort.number)
+  -- arguments of templates
+  arguments : Production (list type_tree)
+  argument : Production type_tree
+  argument_after : ArgumentForm → Production type_tree

@@ -1,0 +1,66 @@
+-- The rows of the table of shapes that Full's trees have, and what is read of those that are fields and nothing else.
+use Rattle.std.specs.Prelude.{ℕ, List, [], ◌∷◌, ◌++◌, codes}
+use Rattle.msvc_nodes.specs.Trees.{NameTree, TypeTree}
+use Rattle.msvc_nodes.specs.declared.nodes.Number.{Number}
+pub use Rattle.msvc_shapes.specs.Rows.{integer as integer_row, custom as custom_row, nullptr as nullptr_row}
+pub use Rattle.msvc_shapes.specs.Rows.{arrays as arrays_row, member_pointer as member_pointer_row}
+pub use Rattle.msvc_shapes.specs.Rows.{extern_c as extern_c_row, frame as frame_row}
+pub use Rattle.msvc_shapes.specs.Rows.{literal_operator as literal_operator_row, spaceship as spaceship_row}
+
+-- Rows that are read field by field
+
+-- such rows of types
+pub data TypeRow : Type 0 where
+  integer custom nullptr extern_c : TypeRow
+
+-- such rows of names
+pub data NameRow : Type 0 where
+  frame literal_operator spaceship : NameRow
+
+abbrev pub type_row_number : TypeRow → ℕ
+type_row_number integer = integer_row
+type_row_number custom = custom_row
+type_row_number nullptr = nullptr_row
+type_row_number extern_c = extern_c_row
+
+abbrev pub name_row_number : NameRow → ℕ
+name_row_number frame = frame_row
+name_row_number literal_operator = literal_operator_row
+name_row_number spaceship = spaceship_row
+
+pub data Field : Type 0 where
+  -- a number, and one without a sign
+  a_number a_count : Field
+  -- a name of a type, and a source name
+  a_type_name a_source_name : Field
+  -- a whole symbol with its ?
+  a_symbol : Field
+  -- this text, of which nothing is held
+  a_text : List ℕ → Field
+
+abbrev pub fields_of_type : TypeRow → List Field
+fields_of_type integer = a_number ∷ []
+fields_of_type custom = a_type_name ∷ a_text (codes "@") ∷ []
+fields_of_type nullptr = []
+fields_of_type extern_c = []
+
+abbrev pub fields_of_name : NameRow → List Field
+fields_of_name frame = a_count ∷ a_text (codes "?") ∷ a_symbol ∷ []
+fields_of_name literal_operator = a_source_name ∷ []
+fields_of_name spaceship = []
+
+-- what the fields that were read hold, in their order
+pub record Held : Type 0 where
+  pub numbers : List Number
+  pub names : List NameTree
+  pub types : List TypeTree
+
+-- what no field holds
+abbrev pub nothing_held : Held
+nothing_held = record { numbers = []; names = []; types = [] }
+
+abbrev pub with_number : Held → Number → Held
+with_number h n = record h { numbers = h.numbers ++ n ∷ [] }
+
+abbrev pub with_name : Held → NameTree → Held
+with_name h n = record h { names = h.names ++ n ∷ [] }
