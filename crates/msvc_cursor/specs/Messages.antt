@@ -15,6 +15,7 @@ abbrev pub message_words : Message → List ℕ
 message_words messages.NoQuestionMark = codes "does not start with b'?'"
 message_words messages.EndOfInput = codes "unexpected end of input"
 message_words messages.MissingAt = codes "read_string: missing b'@'"
+message_words messages.NameExpected = codes "name expected"
 message_words messages.BadNumber = codes "bad number"
 message_words messages.NameReferenceTooLarge = codes "name reference too large"
 message_words (messages.InvalidBackReference index) = codes "invalid backreference: " ++ decimal index

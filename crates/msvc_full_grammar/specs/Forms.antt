@@ -1,19 +1,16 @@
 -- What the texts of the tables stand for, and the cases that one production has.
 use Rattle.std.specs.Prelude.{ℕ}
-use Rattle.msvc_nodes.specs.declared.kinds.PlainOperator.{PlainOperator}
 use Rattle.msvc_nodes.specs.declared.kinds.PointerAffinity.{PointerAffinity}
 use Rattle.msvc_nodes.specs.declared.kinds.TagKind.{TagKind}
-use Rattle.msvc_full_grammar.specs.Rows.{NameRow, TypeRow}
-
--- whether a function has qualifiers of its own, which it has on the object that it is called on
-pub data OwnQualifiers : Type 0 where
-  absent present : OwnQualifiers
-
--- what the code of an operator stands for
-pub data OperatorForm : Type 0 where
-  plain_operator : PlainOperator → OperatorForm
-  -- the fields of a row follow
-  operator_by_row : NameRow → OperatorForm
+use Rattle.msvc_full_grammar.specs.Rows.{TypeRow}
+pub use Rattle.msvc_full_grammar.specs.declared.forms.OwnQualifiers.{OwnQualifiers}
+pub use Rattle.msvc_full_grammar.specs.declared.forms.OwnQualifiers.TheVariants.{Absent as absent, Present as present}
+pub use Rattle.msvc_full_grammar.specs.declared.forms.OperatorForm.{OperatorForm}
+pub use Rattle.msvc_full_grammar.specs.declared.forms.OperatorForm.TheVariants.{Plain as plain_operator}
+pub use Rattle.msvc_full_grammar.specs.declared.forms.OperatorForm.TheVariants.{Row as operator_by_row}
+pub use Rattle.msvc_full_grammar.specs.declared.forms.ArgumentForm.{ArgumentForm}
+pub use Rattle.msvc_full_grammar.specs.declared.forms.ArgumentForm.TheVariants.{EmptyPack as empty_pack}
+pub use Rattle.msvc_full_grammar.specs.declared.forms.ArgumentForm.TheVariants.{Alias as alias, Row as argument_by_row}
 
 -- what the type of a symbol begins with, where the symbol is no variable
 pub data EncodingForm : Type 0 where
@@ -51,11 +48,3 @@ pub data TypeForm : Type 0 where
   type_by_row : TypeRow → TypeForm
   -- a base type of a second letter
   extended : TypeForm
-
--- what an argument of a template begins with, where it is no type
-pub data ArgumentForm : Type 0 where
-  empty_pack : ArgumentForm
-  -- a template by another name, which follows
-  alias : ArgumentForm
-  -- the fields of a row follow
-  argument_by_row : TypeRow → ArgumentForm

@@ -6,16 +6,14 @@ pub use Rattle.msvc_shapes.specs.Rows.{integer as integer_row, custom as custom_
 pub use Rattle.msvc_shapes.specs.Rows.{arrays as arrays_row, member_pointer as member_pointer_row}
 pub use Rattle.msvc_shapes.specs.Rows.{extern_c as extern_c_row, frame as frame_row}
 pub use Rattle.msvc_shapes.specs.Rows.{literal_operator as literal_operator_row, spaceship as spaceship_row}
+pub use Rattle.msvc_full_grammar.specs.declared.forms.NameRow.{NameRow}
+pub use Rattle.msvc_full_grammar.specs.declared.forms.NameRow.TheVariants.{Frame as frame, Spaceship as spaceship}
+pub use Rattle.msvc_full_grammar.specs.declared.forms.NameRow.TheVariants.{LiteralOperator as literal_operator}
+pub use Rattle.msvc_full_grammar.specs.declared.forms.TypeRow.{TypeRow}
+pub use Rattle.msvc_full_grammar.specs.declared.forms.TypeRow.TheVariants.{Integer as integer, Custom as custom}
+pub use Rattle.msvc_full_grammar.specs.declared.forms.TypeRow.TheVariants.{Nullptr as nullptr, ExternC as extern_c}
 
 -- Rows that are read field by field
-
--- such rows of types
-pub data TypeRow : Type 0 where
-  integer custom nullptr extern_c : TypeRow
-
--- such rows of names
-pub data NameRow : Type 0 where
-  frame literal_operator spaceship : NameRow
 
 abbrev pub type_row_number : TypeRow → ℕ
 type_row_number integer = integer_row

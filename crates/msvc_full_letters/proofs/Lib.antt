@@ -1,0 +1,9 @@
+pub mod Choices
+pub mod LengthSteps
+pub mod NameSteps
+pub mod NumberSteps
+pub mod QualifierSteps
+pub mod SharedTables
+pub mod TextSteps
+pub mod TextsByLetter
+pub mod WrappedLetters

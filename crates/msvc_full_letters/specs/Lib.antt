@@ -1,0 +1,11 @@
+pub use Rattle.msvc_nodes.specs.Trees
+pub use Rattle.msvc_full_grammar.specs.Letters
+pub use Rattle.msvc_full_grammar.specs.Productions
+pub use Rattle.msvc_full_grammar.specs.Reading
+pub use Rattle.msvc_cursor.specs.Parser
+pub use Rattle.msvc_rules.specs.Readers
+pub use Rattle.msvc_rules.specs.Rules
+pub mod Names
+pub mod Numbers
+pub mod Texts
+pub mod Views

@@ -1,0 +1,22 @@
+-- What the program's enumerations of forms stand for in the grammar.
+use Rattle.msvc_full_grammar.specs.Forms as form
+use Rattle.msvc_full_letters.specs.declared.forms.EncodingForm.{EncodingForm}
+use Rattle.msvc_full_letters.specs.declared.forms.EncodingForm.TheVariants as encodings
+use Rattle.msvc_full_letters.specs.declared.forms.TypeForm.{TypeForm}
+use Rattle.msvc_full_letters.specs.declared.forms.TypeForm.TheVariants as types
+
+abbrev pub encoding_form_of : EncodingForm → form.EncodingForm
+encoding_form_of (encodings.Row r) = form.encoding_by_row r
+encoding_form_of encodings.FreeFunction = form.free_function
+encoding_form_of (encodings.Function class) = form.function_of class.0
+
+abbrev pub type_form_of : TypeForm → form.TypeForm
+type_form_of (types.Named tag) = form.named tag
+type_form_of (types.Pointer q) = form.pointer_with q.0
+type_form_of (types.Reference mark) = form.reference_by mark
+type_form_of types.Arrays = form.arrayed
+type_form_of (types.Function own) = form.function_with own
+type_form_of types.Same = form.the_same
+type_form_of types.Qualified = form.qualified
+type_form_of (types.Row r) = form.type_by_row r
+type_form_of types.Extended = form.extended

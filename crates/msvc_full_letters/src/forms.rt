@@ -1,0 +1,39 @@
+//! What the tables of texts of Full stand for where the grammar has the bits of a set: the same with the set.
+
+use msvc_full_grammar::forms::{OwnQualifiers, TypeRow};
+use msvc_nodes::flags::{FuncClass, StorageClass};
+use msvc_nodes::kinds::{PointerAffinity, TagKind};
+
+/// What the type of a symbol begins with, where the symbol is no variable.
+#[derive(Clone, Copy)]
+pub enum EncodingForm {
+    /// The fields of a row follow.
+    Row(TypeRow),
+    /// A function outside all classes.
+    FreeFunction,
+    /// A function of this class.
+    Function(FuncClass),
+}
+
+/// What a type begins with, but for the base types of one letter.
+#[derive(Clone, Copy)]
+pub enum TypeForm {
+    /// A class, and its name follows.
+    Named(TagKind),
+    /// A pointer with these qualifiers beside those that it is read with.
+    Pointer(StorageClass),
+    /// A reference of this kind.
+    Reference(PointerAffinity),
+    /// Arrays.
+    Arrays,
+    /// A function.
+    Function(OwnQualifiers),
+    /// A type as it stands.
+    Same,
+    /// A type behind a qualifier.
+    Qualified,
+    /// The fields of a row follow.
+    Row(TypeRow),
+    /// A base type of a second letter.
+    Extended,
+}

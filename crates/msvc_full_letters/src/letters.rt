@@ -1,0 +1,94 @@
+//! Tables of letters: one function per table returns what a letter stands for.
+
+ghost use Rattle.std.specs.Option.{option_map};
+ghost use Rattle.std.specs.Prelude.{◌≡◌};
+ghost use Rattle.msvc_rules.specs.Rules.{lookup};
+ghost use Rattle.msvc_full_grammar.specs.Letters.{conventions, member_qualifiers};
+ghost use Rattle.msvc_full_letters.specs.Texts.{encoding_letters};
+ghost use Rattle.msvc_full_letters.specs.Views.{encoding_form_of};
+
+use crate::forms::EncodingForm;
+use bitflags::Flags;
+use msvc_full_grammar::forms::TypeRow;
+use msvc_nodes::flags::{FuncClass, StorageClass};
+use msvc_nodes::kinds::Convention;
+
+/// Returns how a function is called.
+pub fn convention(letter: u8) -> Option<Convention>
+    ensures { result ≡ lookup letter conventions }
+{
+    match letter {
+        b'A' | b'B' => Some(Convention::Cdecl),
+        b'C' | b'D' => Some(Convention::Pascal),
+        b'E' | b'F' => Some(Convention::Thiscall),
+        b'G' | b'H' => Some(Convention::Stdcall),
+        b'I' | b'J' => Some(Convention::Fastcall),
+        b'M' | b'N' => Some(Convention::Clrcall),
+        b'O' | b'P' => Some(Convention::Eabi),
+        b'Q' => Some(Convention::Vectorcall),
+        b'S' => Some(Convention::Swift),
+        b'U' => Some(Convention::PreserveMost),
+        b'V' => Some(Convention::PreserveNone),
+        b'W' => Some(Convention::SwiftAsync),
+        b'w' => Some(Convention::_Regcall),
+        b'x' => Some(Convention::Regcall4),
+        _ => None,
+    }
+}
+
+/// Returns `const` and `volatile` of a member that is pointed to.
+pub fn member_qualifier(letter: u8) -> Option<StorageClass>
+    ensures { option_map (λ (q : StorageClass). q.0) result ≡ lookup letter member_qualifiers }
+{
+    let qualifier = match letter {
+        b'Q' => StorageClass::empty(),
+        b'R' => StorageClass::CONST,
+        b'S' => StorageClass::VOLATILE,
+        b'T' => StorageClass::CONST.union(StorageClass::VOLATILE),
+        _ => return None,
+    };
+    Some(qualifier)
+}
+
+/// Returns what the type of a symbol is that begins with a letter.
+pub fn encoding(letter: u8) -> Option<EncodingForm>
+    ensures { option_map encoding_form_of result ≡ lookup letter encoding_letters }
+{
+    let class = match letter {
+        b'9' => return Some(EncodingForm::Row(TypeRow::ExternC)),
+        b'Y' => return Some(EncodingForm::FreeFunction),
+        b'A' => FuncClass::PRIVATE,
+        b'B' => FuncClass::PRIVATE.union(FuncClass::FAR),
+        b'C' => FuncClass::PRIVATE.union(FuncClass::STATIC),
+        b'D' => FuncClass::PRIVATE
+            .union(FuncClass::STATIC)
+            .union(FuncClass::FAR),
+        b'E' => FuncClass::PRIVATE.union(FuncClass::VIRTUAL),
+        b'F' => FuncClass::PRIVATE
+            .union(FuncClass::VIRTUAL)
+            .union(FuncClass::FAR),
+        b'I' => FuncClass::PROTECTED,
+        b'J' => FuncClass::PROTECTED.union(FuncClass::FAR),
+        b'K' => FuncClass::PROTECTED.union(FuncClass::STATIC),
+        b'L' => FuncClass::PROTECTED
+            .union(FuncClass::STATIC)
+            .union(FuncClass::FAR),
+        b'M' => FuncClass::PROTECTED.union(FuncClass::VIRTUAL),
+        b'N' => FuncClass::PROTECTED
+            .union(FuncClass::VIRTUAL)
+            .union(FuncClass::FAR),
+        b'Q' => FuncClass::PUBLIC,
+        b'R' => FuncClass::PUBLIC.union(FuncClass::FAR),
+        b'S' => FuncClass::PUBLIC.union(FuncClass::STATIC),
+        b'T' => FuncClass::PUBLIC
+            .union(FuncClass::STATIC)
+            .union(FuncClass::FAR),
+        b'U' => FuncClass::PUBLIC.union(FuncClass::VIRTUAL),
+        b'V' => FuncClass::PUBLIC
+            .union(FuncClass::VIRTUAL)
+            .union(FuncClass::FAR),
+        b'Z' => FuncClass::GLOBAL.union(FuncClass::FAR),
+        _ => return None,
+    };
+    Some(EncodingForm::Function(class))
+}

@@ -1,0 +1,74 @@
+//! Numbers: a digit, or base 16 letters up to an `@`. Their values have 64 bits.
+#![tactic(auto, using(crate::proofs::NumberSteps::steps, crate::proofs::WrappedLetters::letters_go_on), unfolding(crate::proofs::WrappedLetters::letters_at))]
+
+ghost use Rattle.msvc_full_grammar.specs.Productions as production;
+ghost use Rattle.msvc_full_grammar.specs.Reading.{read, read_name};
+ghost use Rattle.msvc_cursor.specs.Parser.{Consumes, ReadsAs};
+ghost use Rattle.msvc_full_letters.specs.Numbers.{wrapped_letters};
+
+use msvc_cursor::budget::NodeBudget;
+use msvc_cursor::failure::{Failed, Message};
+use msvc_cursor::letters::hexadecimal;
+use msvc_cursor::parser::Parser;
+use msvc_nodes::nodes::Number;
+use std::alloc::Allocator;
+
+/// Base of a number's letters.
+const BASE: u64 = 16;
+
+/// Reads `NUMBER = ["?"] COUNT`: a `?` stands for a minus.
+pub fn number<'a, 'b, L: NodeBudget, A: Allocator>(
+    parser: &mut Parser<'a, 'b, L, A>,
+) -> Result<Number, Failed>
+    ensures value { ReadsAs (λ n. n) parser.old parser.new result (read_name production.number) }
+    ensures consumes { Consumes parser.old parser.new result }
+{
+    if !parser.consume(b"?") {
+        let value = count(parser)?;
+        return Ok(Number {
+            is_negative: false,
+            value,
+        });
+    }
+    let value = count(parser)?;
+    Ok(Number {
+        is_negative: true,
+        value,
+    })
+}
+
+/// Reads `COUNT = digit | LETTERS`: the value of a digit is one more than the digit. Fails at any other byte, where the
+/// count begins.
+pub fn count<'a, 'b, L: NodeBudget, A: Allocator>(
+    parser: &mut Parser<'a, 'b, L, A>,
+) -> Result<u64, Failed>
+    ensures value { ReadsAs (λ n. n) parser.old parser.new result (read_name production.count) }
+    ensures consumes { Consumes parser.old parser.new result }
+{
+    match parser.digit() {
+        Some(digit) => Ok(u64::from(digit) + 1),
+        None => letters(parser),
+    }
+}
+
+/// Reads `LETTERS = {letter} "@"`: `A` to `P` are base 16 digits, and bits beyond the low 64 are dropped.
+fn letters<'a, 'b, L: NodeBudget, A: Allocator>(
+    parser: &mut Parser<'a, 'b, L, A>,
+) -> Result<u64, Failed>
+    ensures value { ReadsAs (λ n. n) parser.old parser.new result (read wrapped_letters) }
+    ensures consumes { Consumes parser.old parser.new result }
+{
+    let left = parser.rest.len();
+    let mut value = 0u64;
+    while let [letter, rest @ ..] = parser.rest {
+        parser.rest = rest;
+        if *letter == b'@' {
+            return Ok(value);
+        }
+        let Some(digit) = hexadecimal(*letter) else {
+            return Err(parser.reject_at(Message::BadNumber, left));
+        };
+        value = value.wrapping_mul(BASE).wrapping_add(u64::from(digit));
+    }
+    Err(parser.reject_at(Message::BadNumber, left))
+}

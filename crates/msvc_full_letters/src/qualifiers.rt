@@ -1,0 +1,96 @@
+//! Qualifiers and conventions.
+#![tactic(auto, using(msvc_cursor::proofs::Choices::letter_step, crate::proofs::QualifierSteps::steps))]
+
+ghost use Rattle.std.specs.Prelude.{◌≡◌, ◌≤◌, length, Some};
+ghost use Rattle.msvc_rules.specs.Readers.{letter_here};
+ghost use Rattle.msvc_full_grammar.specs.Grammar.{own_of_class};
+ghost use Rattle.msvc_full_grammar.specs.Letters.{conventions, qualifiers};
+ghost use Rattle.msvc_full_grammar.specs.Productions as production;
+ghost use Rattle.msvc_full_grammar.specs.Reading.{read_name};
+ghost use Rattle.msvc_cursor.specs.Parser.{Consumes, frame_of, MayConsume, ReadsAs, state_of};
+
+use crate::letters;
+use bitflags::Flags;
+use msvc_cursor::budget::NodeBudget;
+use msvc_cursor::failure::{Failed, Message};
+use msvc_cursor::letters::{OptionalLetters, qualifier as qualifier_of};
+use msvc_cursor::parser::Parser;
+use msvc_full_grammar::forms::OwnQualifiers;
+use msvc_nodes::flags::{FuncClass, StorageClass};
+use msvc_nodes::kinds::Convention;
+use std::alloc::Allocator;
+
+/// Reads the letter of `const` and `volatile`. Fails after any other byte.
+pub fn qualifier<'a, 'b, L: NodeBudget, A: Allocator>(
+    parser: &mut Parser<'a, 'b, L, A>,
+) -> Result<StorageClass, Failed>
+    ensures value { ReadsAs (λ (q : StorageClass). q.0) parser.old parser.new result (letter_here qualifiers) }
+    ensures consumes { Consumes parser.old parser.new result }
+{
+    let letter = parser.byte()?;
+    match qualifier_of(letter) {
+        Some(qualifier) => Ok(qualifier),
+        None => Err(parser.reject(Message::UnknownStorageClass)),
+    }
+}
+
+/// Reads the letter of a calling convention. Fails after any other byte.
+pub fn convention<'a, 'b, L: NodeBudget, A: Allocator>(
+    parser: &mut Parser<'a, 'b, L, A>,
+) -> Result<Convention, Failed>
+    ensures value { ReadsAs (λ c. c) parser.old parser.new result (letter_here conventions) }
+    ensures consumes { Consumes parser.old parser.new result }
+{
+    let letter = parser.byte()?;
+    match letters::convention(letter) {
+        Some(convention) => Ok(convention),
+        None => Err(parser.reject(Message::UnknownCallingConv)),
+    }
+}
+
+/// Reads `MARKS = ["E"] ["I"] ["F"]`.
+pub fn marks<'a, 'b, L: NodeBudget, A: Allocator>(parser: &mut Parser<'a, 'b, L, A>) -> StorageClass
+    ensures value { read_name production.marks parser.old.rest.now (state_of parser.old)
+        ≡ Some (result.0, parser.new.rest.now, state_of parser.new) }
+    ensures shorter { length parser.new.rest.now ≤ length parser.old.rest.now }
+    ensures kept { frame_of parser.new ≡ frame_of parser.old }
+{
+    let size = parser.optional_flag(b'E', StorageClass::PTR64);
+    let restrict = parser.optional_flag(b'I', StorageClass::RESTRICT);
+    let alignment = parser.optional_flag(b'F', StorageClass::UNALIGNED);
+    size.union(restrict.union(alignment))
+}
+
+/// Reads `OWN_QUALIFIERS = MARKS ["G" | "H"] qualifier`, or nothing where a function has none.
+pub fn own_qualifiers<'a, 'b, L: NodeBudget, A: Allocator>(
+    parser: &mut Parser<'a, 'b, L, A>,
+    own: OwnQualifiers,
+) -> Result<StorageClass, Failed>
+    ensures value { ReadsAs (λ (q : StorageClass). q.0) parser.old parser.new result
+        (read_name (production.own_qualifiers own)) }
+    ensures consumes { MayConsume parser.old parser.new result }
+{
+    match own {
+        OwnQualifiers::Absent => Ok(StorageClass::empty()),
+        OwnQualifiers::Present => {
+            let before = marks(parser);
+            let reference = parser.optional(OptionalLetters::ReferenceQualifiers);
+            let class = qualifier(parser)?;
+            Ok(before.union(reference.union(class)))
+        }
+    }
+}
+
+/// Returns whether a function of a class has qualifiers of its own: a static one has none, and one outside all classes
+/// has none.
+pub fn own_of_class(class: FuncClass) -> OwnQualifiers
+    ensures { result ≡ own_of_class class.0 }
+{
+    if class.contains(FuncClass::STATIC) {
+        return OwnQualifiers::Absent;
+    }
+    if class.contains(FuncClass::GLOBAL) {
+        return OwnQualifiers::Absent;
+    }
+    OwnQualifiers::Present
+}
