@@ -1,6 +1,6 @@
 # Completes the words of msvcfilt in bash: options, and files.
 _msvcfilt() {
-  local options='-n --name-only --no-calling-convention --no-access-specifier --no-member-type
+  local options='-s --symbols -n --name-only --no-calling-convention --no-access-specifier --no-member-type
     --no-function-returns --no-this-type --no-class-type --with-ptr64 --ms-typenames --space-after-comma --hug-type
     --space-before-pointer --flags -h --help -V --version'
   COMPREPLY=()

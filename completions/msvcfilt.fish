@@ -1,4 +1,5 @@
 # Completes the words of msvcfilt in fish: options, and files.
+complete -c msvcfilt -s s -l symbols -d 'filter the arguments themselves, each as a line'
 complete -c msvcfilt -s n -l name-only -d 'print names without types'
 complete -c msvcfilt -l no-calling-convention -d 'drop __cdecl and the like, of function pointers too'
 complete -c msvcfilt -l no-access-specifier -d 'drop public and the like, of functions alone'

@@ -1,6 +1,7 @@
 //! `msvcfilt [OPTIONS] [FILE..]` writes each file, or standard input if there is none, with each symbol in it replaced
 //! by its declaration: `foo!void __cdecl crash(void)+0x12` for `foo!?crash@@YAXXZ+0x12`. With `-n` it prints names
-//! without types. It writes the text of each line before it waits for the next.
+//! without types. With `-s` the arguments are no files but symbols, or other texts, each filtered as a line. It writes
+//! the text of each line before it waits for the next.
 //!
 //! The exit status is 0, or 1 if a file or standard input can't be read, the text can't be written, or an allocation
 //! fails, or 2 if the arguments are wrong. Then standard error has a message, unless the reader of the output pipe has
@@ -10,7 +11,7 @@
 mod options;
 mod streams;
 
-use clap::Command;
+use clap::{ArgMatches, Command};
 use msvc_demangler::{DemangleFlags, Fault, Watched, filter_text};
 use msvc_stdio::{BUFFER_LENGTH, Input, Shared, arguments, ended, failure};
 use std::alloc::Global;
@@ -34,12 +35,7 @@ fn main(rt: HostRuntime) -> ExitCode {
 fn perform(rt: &HostRuntime, words: &[String]) -> ExitCode {
     let program = Command::new(rt.alloc(), PROGRAM).version("0.11.0");
     match options::read(rt.alloc(), program, words) {
-        Ok((matches, flags)) => {
-            let names = matches
-                .get_strs("file")
-                .unwrap_or(&[options::STANDARD_INPUT]);
-            run(rt, names, flags)
-        }
+        Ok((matches, flags)) => run(rt, &matches, flags),
         Err(error) => show(rt, &error),
     }
 }
@@ -55,13 +51,13 @@ fn show(rt: &HostRuntime, error: &clap::Error) -> ExitCode {
     }
 }
 
-/// Filters the files, and flushes the text, also after a fault. Returns the exit status.
-fn run(rt: &HostRuntime, names: &[&str], flags: DemangleFlags) -> ExitCode {
+/// Filters what the arguments name, and flushes the text, also after a fault. Returns the exit status.
+fn run(rt: &HostRuntime, matches: &ArgMatches<'_>, flags: DemangleFlags) -> ExitCode {
     let Ok(held) = BufWriter::with_capacity(rt.alloc(), BUFFER_LENGTH, rt.stdout()) else {
         return failure(rt, PROGRAM, Fault::Memory);
     };
     let output = RefCell::new(Output::new(held));
-    let done = filter_files(rt, names, &output, flags);
+    let done = filter_arguments(rt, matches, &output, flags);
     let mut output = output.into_inner();
     let flushed = output.flush().map_err(|_| Fault::Write);
     match flushed.and(done) {
@@ -69,6 +65,39 @@ fn run(rt: &HostRuntime, names: &[&str], flags: DemangleFlags) -> ExitCode {
         Err(Fault::Write) => write_failure(rt, output.is_closed),
         Err(fault) => failure(rt, PROGRAM, fault),
     }
+}
+
+/// Filters the arguments as symbols, or the files that they name. Returns the exit status.
+fn filter_arguments(
+    rt: &HostRuntime,
+    matches: &ArgMatches<'_>,
+    output: &RefCell<Output>,
+    flags: DemangleFlags,
+) -> Result<ExitCode, Fault> {
+    let arguments = matches
+        .get_strs("file")
+        .unwrap_or(&[options::STANDARD_INPUT]);
+    if matches.get_flag("symbols") {
+        filter_symbols(rt.alloc(), arguments, output, flags)?;
+        Ok(ExitCode::SUCCESS)
+    } else {
+        filter_files(rt, arguments, output, flags)
+    }
+}
+
+/// Filters each symbol, or other text, as a line.
+fn filter_symbols(
+    alloc: Global,
+    symbols: &[&str],
+    output: &RefCell<Output>,
+    flags: DemangleFlags,
+) -> Result<(), Fault> {
+    let mut out = Watched::new(Shared(output));
+    for symbol in symbols {
+        let line = symbol.as_bytes().chain(b"\n".as_slice());
+        filter_text(alloc, &mut Watched::new(line), &mut out, flags)?;
+    }
+    Ok(())
 }
 
 /// Filters each file, in order. Reports one that can't be opened or read to its end, and returns a status of failure
@@ -133,10 +162,10 @@ fn filter<R: Read + Drop>(
     ended(input, done)
 }
 
-/// Reports that a file can't be opened. If there is none, and its name may be a symbol, says which program takes those.
+/// Reports that a file can't be opened. If there is none, and its name may be a symbol, says which option takes those.
 fn report_open(rt: &HostRuntime, name: &str, error: Error) {
     let _ = if error.kind() == ErrorKind::NotFound && name.starts_with('?') {
-        eprintln!(rt; "{PROGRAM}: {name}: {error}; arguments are files, undname takes symbols")
+        eprintln!(rt; "{PROGRAM}: {name}: {error}; with -s arguments are symbols")
     } else {
         eprintln!(rt; "{PROGRAM}: {name}: {error}")
     };

@@ -9,9 +9,10 @@ use std::alloc::{AllocError, Global};
 const HELP: &str = "\
 Replaces each symbol of Microsoft's C++ compiler in a text by its declaration.
 
-Usage: msvcfilt [OPTIONS] [FILE]...
+Usage: msvcfilt [OPTIONS] [FILE]..., or msvcfilt [OPTIONS] -s SYMBOL...
 
   FILE                     What to filter; '-', or no FILE, is standard input
+  -s, --symbols            Filter the arguments themselves, each as a line
   -n, --name-only          Print names without types
   --no-calling-convention  Drop __cdecl and the like, of function pointers too
   --no-access-specifier    Drop public and the like, of functions alone
@@ -63,6 +64,10 @@ pub(crate) fn read<'a>(
 ) -> Result<(ArgMatches<'a>, DemangleFlags), Error> {
     let mut command = with_options(alloc, program)?;
     let matches = command.try_get_matches_from_mut(words)?;
+    if matches.get_flag("symbols") && !matches.contains_id("file") {
+        let message = "'--symbols' requires a SYMBOL";
+        return Err(command.error(ErrorKind::MissingRequiredArgument, message)?);
+    }
     match flags(&matches) {
         Some(flags) => Ok((matches, flags)),
         None => {
@@ -77,11 +82,16 @@ fn with_options<'a>(alloc: Global, program: Command<'a>) -> Result<Command<'a>, 
     let file = Arg::new(alloc, "file")
         .value_name("FILE")
         .action(ArgAction::Append);
+    let symbols = Arg::new(alloc, "symbols")
+        .short('s')
+        .long("symbols")
+        .action(ArgAction::SetTrue);
     let word = Arg::new(alloc, "flags").long("flags").value_name("WORD");
     let mut command = program
         .override_help(HELP)
         .args_override_self(true)
         .arg(file)?
+        .arg(symbols)?
         .arg(word)?;
     for (name, _) in FLAG_OPTIONS {
         let mut option = Arg::new(alloc, name).long(name).action(ArgAction::SetTrue);
