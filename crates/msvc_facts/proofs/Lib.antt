@@ -10,6 +10,7 @@ pub mod OnLiterals
 pub mod Reading
 pub mod Runs
 pub mod Same
+pub mod ShapeTexts
 pub mod Symbols
 pub mod Texts
 pub mod Trees

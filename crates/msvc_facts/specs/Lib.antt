@@ -5,6 +5,7 @@ pub mod Errors
 pub mod Filtered
 pub mod Letters
 pub mod Runs
+pub mod ShapeTexts
 pub mod Symbols
 pub mod Texts
 pub mod Trees

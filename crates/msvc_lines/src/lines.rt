@@ -17,11 +17,11 @@ ghost use Rattle.msvc_lines.specs.LineRuns.{WritesLines};
 
 use msvc_cursor::failure::Failure;
 use msvc_cursor::limits::Limits;
+use msvc_cursor::symbol_read::SymbolRead;
 use msvc_debug::write_tree;
 use msvc_nodes::error::Error;
 use msvc_nodes::flags::DemangleFlags;
 use msvc_print::Text;
-use msvc_cursor::symbol_read::SymbolRead;
 use msvc_productions::read;
 use msvc_streams::{Fault, Polls, Taken, Watched, read_piece, write_all, write_line};
 use msvc_symbol::{Arena, print};

@@ -7,7 +7,9 @@ ghost use Rattle.msvc_nodes.specs.NodeView.{name_of, type_of, names_in, types_in
 
 use crate::flags::StorageClass;
 use crate::kinds::{SpecialTableKind, TagKind};
-use crate::nodes::{BaseClass, Function, Name, Number, Scope, Shape, Symbol, Template, Type, TypedSymbol};
+use crate::nodes::{
+    BaseClass, Function, Name, Number, Scope, Shape, Symbol, Template, Type, TypedSymbol,
+};
 
 /// Tests whether two names are seen as the same.
 #[inline(always)]

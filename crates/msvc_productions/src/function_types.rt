@@ -220,12 +220,7 @@ fn signature<'a, 'b, L: NodeBudget, A: Allocator>(
     let qualifiers = return_qualifiers(parser)?;
     let returned = returned(parser, kind, qualifiers)?;
     let checkpoint = function_parameters(parser)?;
-    parser.put_parts(convention,
-        class,
-        this_qualifiers,
-        returned,
-        checkpoint,
-    )
+    parser.put_parts(convention, class, this_qualifiers, returned, checkpoint)
 }
 
 /// Reads how a function is called.

@@ -300,4 +300,3 @@ pub fn qualified_name<'a, 'b, L: NodeBudget, A: Allocator>(
     let checkpoint = scope(parser)?;
     parser.put_symbol(name, checkpoint)
 }
-

@@ -12,11 +12,11 @@ use alloc_fuse::Fuse;
 use bumpalo::Bump;
 use msvc_cursor::failure::Failure;
 use msvc_cursor::limits::Limits;
+use msvc_cursor::symbol_read::SymbolRead;
 use msvc_nodes::flags::DemangleFlags;
 use msvc_nodes::nodes::TypedSymbol;
 use msvc_nodes::sizes::{arena_to_print, text_of};
 use msvc_print::{Text, print_within};
-use msvc_cursor::symbol_read::SymbolRead;
 use msvc_productions::read;
 use std::alloc::Allocator;
 
