@@ -1,0 +1,203 @@
+use Rattle.std.proofs.Common.{ℕ, List, ◌≡◌, ◌≤◌, ◌+◌, ◌*◌, ◌++◌, length}
+use Rattle.std.specs.Prelude.{map}
+use Rattle.msvc_nodes.specs.NodeView.{name_at, type_at}
+use Rattle.msvc_full_grammar.specs.Productions.{arguments, parameters, scope}
+use Rattle.msvc_full_grammar.specs.Reading.{read_name}
+use Rattle.msvc_cursor.specs.Parser.{frame_of, state_of}
+use Rattle.msvc_cursor.specs.NestedList.{current, enclosing}
+use Rattle.msvc_cursor.proofs.RowSteps.{with_front}
+use Rattle.msvc_full_readers.proofs.+readers.Given as goal
+
+-- Where as many bytes are left, a reader calls only those with a smaller number.
+
+abbrev level : List ℕ → ℕ → ℕ
+level left n = 6 * length left + n
+
+abbrev pub decreases-types::type_ : goal.decreases-types::type_
+decreases-types::type_ g l = level l.parser.now.rest.now 1
+
+abbrev pub decreases-types::type_after : goal.decreases-types::type_after
+decreases-types::type_after g l = level l.parser.now.rest.now 4
+
+abbrev pub decreases-types::tagged_type : goal.decreases-types::tagged_type
+decreases-types::tagged_type g l = level l.parser.now.rest.now 2
+
+abbrev pub decreases-types::qualified_type : goal.decreases-types::qualified_type
+decreases-types::qualified_type g l = level l.parser.now.rest.now 0
+
+abbrev pub decreases-types::type_row : goal.decreases-types::type_row
+decreases-types::type_row g l = level l.parser.now.rest.now 2
+
+abbrev pub decreases-types::custom : goal.decreases-types::custom
+decreases-types::custom g l = level l.parser.now.rest.now 1
+
+abbrev pub decreases-types::arrays : goal.decreases-types::arrays
+decreases-types::arrays g l = level l.parser.now.rest.now 0
+
+abbrev pub decreases-types::elements : goal.decreases-types::elements
+decreases-types::elements g l = level l.parser.now.rest.now 2
+
+abbrev pub decreases-pointers::pointer : goal.decreases-pointers::pointer
+decreases-pointers::pointer g l = level l.parser.now.rest.now 1
+
+abbrev pub decreases-pointers::reference : goal.decreases-pointers::reference
+decreases-pointers::reference g l = level l.parser.now.rest.now 1
+
+abbrev pub decreases-pointers::pointed_function : goal.decreases-pointers::pointed_function
+decreases-pointers::pointed_function g l = level l.parser.now.rest.now 2
+
+abbrev pub decreases-pointers::pointed_type : goal.decreases-pointers::pointed_type
+decreases-pointers::pointed_type g l = level l.parser.now.rest.now 0
+
+abbrev pub decreases-pointers::pointed_member_function : goal.decreases-pointers::pointed_member_function
+decreases-pointers::pointed_member_function g l = level l.parser.now.rest.now 3
+
+abbrev pub decreases-pointers::pointed_member : goal.decreases-pointers::pointed_member
+decreases-pointers::pointed_member g l = level l.parser.now.rest.now 3
+
+abbrev pub decreases-functions::function_type : goal.decreases-functions::function_type
+decreases-functions::function_type g l = level l.parser.now.rest.now 1
+
+abbrev pub decreases-functions::member_function : goal.decreases-functions::member_function
+decreases-functions::member_function g l = level l.parser.now.rest.now 1
+
+abbrev pub decreases-functions::signature : goal.decreases-functions::signature
+decreases-functions::signature g l = level l.parser.now.rest.now 0
+
+abbrev pub decreases-functions::returned : goal.decreases-functions::returned
+decreases-functions::returned g l = level l.parser.now.rest.now 2
+
+abbrev pub decreases-parameters::function_parameters : goal.decreases-parameters::function_parameters
+decreases-parameters::function_parameters g l = level l.parser.now.rest.now 4
+
+abbrev pub decreases-parameters::parameters : goal.decreases-parameters::parameters
+decreases-parameters::parameters g l = level l.parser.now.rest.now 3
+
+abbrev pub decreases-parameters::parameter : goal.decreases-parameters::parameter
+decreases-parameters::parameter g l = level l.parser.now.rest.now 2
+
+abbrev pub decreases-arguments::arguments : goal.decreases-arguments::arguments
+decreases-arguments::arguments g l = level l.parser.now.rest.now 3
+
+abbrev pub decreases-arguments::argument : goal.decreases-arguments::argument
+decreases-arguments::argument g l = level l.parser.now.rest.now 2
+
+abbrev pub decreases-arguments::argument_after : goal.decreases-arguments::argument_after
+decreases-arguments::argument_after g l = level l.parser.now.rest.now 3
+
+abbrev pub decreases-names::symbol_name : goal.decreases-names::symbol_name
+decreases-names::symbol_name g l = level l.parser.now.rest.now 0
+
+abbrev pub decreases-names::operator_name : goal.decreases-names::operator_name
+decreases-names::operator_name g l = level l.parser.now.rest.now 0
+
+abbrev pub decreases-names::operator_after : goal.decreases-names::operator_after
+decreases-names::operator_after g l = level l.parser.now.rest.now 2
+
+abbrev pub decreases-names::name_row : goal.decreases-names::name_row
+decreases-names::name_row g l = level l.parser.now.rest.now 1
+
+abbrev pub decreases-names::frame : goal.decreases-names::frame
+decreases-names::frame g l = level l.parser.now.rest.now 0
+
+abbrev pub decreases-names::nested_symbol : goal.decreases-names::nested_symbol
+decreases-names::nested_symbol g l = level l.parser.now.rest.now 1
+
+abbrev pub decreases-names::type_name : goal.decreases-names::type_name
+decreases-names::type_name g l = level l.parser.now.rest.now 0
+
+abbrev pub decreases-names::type_symbol : goal.decreases-names::type_symbol
+decreases-names::type_symbol g l = level l.parser.now.rest.now 1
+
+abbrev pub decreases-names::class_symbol : goal.decreases-names::class_symbol
+decreases-names::class_symbol g l = level l.parser.now.rest.now 2
+
+abbrev pub decreases-names::new_template : goal.decreases-names::new_template
+decreases-names::new_template g l = level l.parser.now.rest.now 3
+
+abbrev pub decreases-names::template_name : goal.decreases-names::template_name
+decreases-names::template_name g l = level l.parser.now.rest.now 2
+
+abbrev pub decreases-names::template : goal.decreases-names::template
+decreases-names::template g l = level l.parser.now.rest.now 1
+
+abbrev pub decreases-names::scope : goal.decreases-names::scope
+decreases-names::scope g l = level l.parser.now.rest.now 1
+
+abbrev pub decreases-names::nested_name : goal.decreases-names::nested_name
+decreases-names::nested_name g l = level l.parser.now.rest.now 0
+
+abbrev pub decreases-symbols::symbol : goal.decreases-symbols::symbol
+decreases-symbols::symbol g l = level l.parser.now.rest.now 0
+
+abbrev pub decreases-symbols::symbol_body : goal.decreases-symbols::symbol_body
+decreases-symbols::symbol_body g l = level l.parser.now.rest.now 3
+
+abbrev pub decreases-symbols::template_symbol : goal.decreases-symbols::template_symbol
+decreases-symbols::template_symbol g l = level l.parser.now.rest.now 3
+
+abbrev pub decreases-symbols::named_symbol : goal.decreases-symbols::named_symbol
+decreases-symbols::named_symbol g l = level l.parser.now.rest.now 2
+
+abbrev pub decreases-symbols::name_in_scope : goal.decreases-symbols::name_in_scope
+decreases-symbols::name_in_scope g l = level l.parser.now.rest.now 1
+
+abbrev pub decreases-symbols::encoding : goal.decreases-symbols::encoding
+decreases-symbols::encoding g l = level l.parser.now.rest.now 1
+
+abbrev pub decreases-symbols::other_encoding : goal.decreases-symbols::other_encoding
+decreases-symbols::other_encoding g l = level l.parser.now.rest.now 0
+
+abbrev pub decreases-symbols::encoding_after : goal.decreases-symbols::encoding_after
+decreases-symbols::encoding_after g l = level l.parser.now.rest.now 3
+
+abbrev pub decreases-symbols::variable : goal.decreases-symbols::variable
+decreases-symbols::variable g l = level l.parser.now.rest.now 2
+
+-- the names so far, before what is read of the rest, are what is read of all; those that others gather stay
+abbrev pub invariant-names::scope-names : goal.invariant-names::scope-names
+invariant-names::scope-names g l =
+    (with_front (map name_at (current l.parser.listed_names)) (read_name scope l.parser.rest.now (state_of l.parser))
+    ≡ read_name scope l.fn.parser.rest.now (state_of l.fn.parser))
+    × (length l.parser.rest.now ≤ length l.fn.parser.rest.now)
+    × (l.checkpoint.from ≡ length (enclosing l.fn.parser.listed_names))
+    × (frame_of l.parser
+    ≡ record (frame_of l.fn.parser) {
+      listed_names = current l.parser.listed_names;
+      names_before = enclosing l.fn.parser.listed_names ++ current l.fn.parser.listed_names;
+    })
+
+abbrev pub decreases-names::scope-names : goal.decreases-names::scope-names
+decreases-names::scope-names g l = length l.parser.rest.now
+
+-- the parameters so far, before what is read of the rest, are what is read of all; those that others gather stay
+abbrev pub invariant-parameters::parameters-parameters : goal.invariant-parameters::parameters-parameters
+invariant-parameters::parameters-parameters g l =
+    (with_front (map type_at (current l.parser.listed_types)) (read_name parameters l.parser.rest.now (state_of l.parser))
+    ≡ read_name parameters l.fn.parser.rest.now (state_of l.fn.parser))
+    × (length l.parser.rest.now ≤ length l.fn.parser.rest.now)
+    × (l.checkpoint.from ≡ length (enclosing l.fn.parser.listed_types))
+    × (frame_of l.parser
+    ≡ record (frame_of l.fn.parser) {
+      listed_types = current l.parser.listed_types;
+      types_before = enclosing l.fn.parser.listed_types ++ current l.fn.parser.listed_types;
+    })
+
+abbrev pub decreases-parameters::parameters-parameters : goal.decreases-parameters::parameters-parameters
+decreases-parameters::parameters-parameters g l = length l.parser.rest.now
+
+-- and the arguments
+abbrev pub invariant-arguments::arguments-arguments : goal.invariant-arguments::arguments-arguments
+invariant-arguments::arguments-arguments g l =
+    (with_front (map type_at (current l.parser.listed_types)) (read_name arguments l.parser.rest.now (state_of l.parser))
+    ≡ read_name arguments l.fn.parser.rest.now (state_of l.fn.parser))
+    × (length l.parser.rest.now ≤ length l.fn.parser.rest.now)
+    × (l.checkpoint.from ≡ length (enclosing l.fn.parser.listed_types))
+    × (frame_of l.parser
+    ≡ record (frame_of l.fn.parser) {
+      listed_types = current l.parser.listed_types;
+      types_before = enclosing l.fn.parser.listed_types ++ current l.fn.parser.listed_types;
+    })
+
+abbrev pub decreases-arguments::arguments-arguments : goal.decreases-arguments::arguments-arguments
+decreases-arguments::arguments-arguments g l = length l.parser.rest.now

@@ -1,0 +1,11 @@
+pub mod AnonymousSteps
+pub mod Counts
+pub mod EndSteps
+pub mod Founds
+pub mod FunctionSteps
+pub mod NameSteps
+pub mod Steps
+pub mod StoreSteps
+pub mod SymbolSteps
+pub mod TypeSteps
+pub mod WholeTexts

@@ -1,0 +1,219 @@
+-- Step lemmas of names, scopes and templates.
+use Rattle.std.proofs.Common.{ℕ, List, [], ◌∷◌, ◌++◌, Option, Some, None, false, ◌≡◌, refl, ap, ◌∙◌, append-nil}
+use Rattle.std.specs.Prelude.{slice_get, codes}
+use Rattle.msvc_nodes.specs.Trees.{NameTree, name_trees, names, nested, no_names, no_types, operator, plain, shaped}
+use Rattle.msvc_nodes.specs.Trees.{template, type_trees}
+use Rattle.msvc_nodes.specs.declared.kinds.PlainOperator.{PlainOperator}
+use Rattle.msvc_nodes.specs.declared.kinds.PlainType.TheVariants as plain_kind
+use Rattle.msvc_rules.specs.Readers.{and_then, counting, in_node, letter_here, name_known, put_apart, read_by}
+use Rattle.msvc_rules.specs.Reads.{emptied}
+use Rattle.msvc_rules.specs.Rules.{Rule, after, call, give, known_name, literal, literal_or, ◌>>=◌}
+use Rattle.msvc_rules.specs.Sorts.{list, name_tree}
+use Rattle.msvc_rules.specs.State.{State, remember_name}
+use Rattle.msvc_grammar.specs.Reading.{read as crate_read}
+use Rattle.msvc_full_grammar.specs.Grammar.{anonymous_namespace, grammar, nested_symbol, new_source_name, new_template}
+use Rattle.msvc_full_grammar.specs.Grammar.{template_inside}
+use Rattle.msvc_full_grammar.specs.Letters.{digits}
+use Rattle.msvc_full_grammar.specs.Productions.{Production, arguments, class_symbol, count, name_row, nested_name}
+use Rattle.msvc_full_grammar.specs.Productions.{operator_after, operator_name, scope, symbol, symbol_name}
+use Rattle.msvc_full_grammar.specs.Productions.{template_name, type_name, type_symbol}
+use Rattle.msvc_full_grammar.specs.Reading.{read_name, read}
+use Rattle.msvc_full_grammar.specs.Rows.{frame_row, literal_operator_row, spaceship_row}
+use Rattle.msvc_full_grammar.specs.declared.forms.NameRow.{NameRow}
+use Rattle.msvc_full_grammar.specs.declared.forms.NameRow.TheVariants.{Frame, LiteralOperator, Spaceship}
+use Rattle.msvc_full_grammar.specs.declared.forms.OperatorForm.TheVariants as operators
+use Rattle.msvc_full_grammar.proofs.Laws.{read_name-is}
+use Rattle.msvc_cursor.proofs.Choices.{choose, chosen}
+use Rattle.msvc_cursor.proofs.RowSteps.{front_none, row_by, row_ends, row_more, row_rejected, scope_stop, with_front}
+use Rattle.msvc_full_letters.proofs.Choices.{letter_or-is, literal_or-is}
+use Rattle.msvc_full_readers.specs.Readings.{name_in_scope}
+use Rattle.msvc_full_readers.proofs.Founds.{then_then}
+
+pub symbol_name_step : (left : List ℕ) (s : State) → read_name symbol_name left s
+    ≡ choose (letter_here digits left s) (λ i l t. name_known (slice_get t.names i) l t)
+    (chosen (after (codes "?$") left) (λ rest. read_name template_name rest s)
+    (chosen (after (codes "?") left) (λ rest. read_name operator_name rest s) (read new_source_name left s)))
+unfolding grammar read read_by
+symbol_name_step left s =
+    read_name-is symbol_name left s
+    ∙ letter_or-is digits (λ i. known_name i) (literal_or (codes "?$") (call template_name) operator_or_new) left s
+    ∙ ap (choose (letter_here digits left s) (λ i l t. name_known (slice_get t.names i) l t))
+    (literal_or-is {a = name_tree} (codes "?$") (call template_name) operator_or_new left s
+    ∙ ap (chosen (after (codes "?$") left) (λ rest. read_name template_name rest s))
+    (literal_or-is {a = name_tree} (codes "?") (call operator_name) new_source_name left s))
+  where
+    operator_or_new : Rule Production name_tree
+    operator_or_new = literal_or (codes "?") (call operator_name) new_source_name
+
+pub plain_operator_step : (o : PlainOperator) (left : List ℕ) (s : State)
+    → read_name (operator_after (operators.Plain o)) left s ≡ in_node left s (λ l t. Some (operator o, l, t))
+unfolding grammar read read_by
+plain_operator_step o left s = read_name-is (operator_after (operators.Plain o)) left s
+
+pub operator_row_step : (r : NameRow) (left : List ℕ) (s : State)
+    → read_name (operator_after (operators.Row r)) left s ≡ read_name (name_row r) left s
+unfolding grammar read read_by
+operator_row_step r left s = read_name-is (operator_after (operators.Row r)) left s
+
+pub frame_step : (left : List ℕ) (s : State) → read_name (name_row Frame) left s
+    ≡ in_node left s (λ j a. and_then (read_name count j a)
+    (λ n l t. and_then (crate_read (literal (codes "?")) l t)
+    (λ _ k u. and_then (read nested_symbol k u)
+    (λ x i v. Some (
+      shaped frame_row 0 (record { is_negative = false; value = n } ∷ []) [] (names x no_names) no_types,
+      i,
+      v,
+    )))))
+unfolding grammar read read_by crate_read
+frame_step left s = read_name-is (name_row Frame) left s
+
+pub literal_operator_step : (left : List ℕ) (s : State) → read_name (name_row LiteralOperator) left s
+    ≡ in_node left s (λ j a. and_then (read new_source_name j a)
+    (λ x l t. Some (shaped literal_operator_row 0 [] [] (names x no_names) no_types, l, t)))
+unfolding grammar read read_by
+literal_operator_step left s = read_name-is (name_row LiteralOperator) left s
+
+pub spaceship_step : (left : List ℕ) (s : State) → read_name (name_row Spaceship) left s
+    ≡ in_node left s (λ l t. Some (shaped spaceship_row 0 [] [] no_names no_types, l, t))
+unfolding grammar read read_by
+spaceship_step left s = read_name-is (name_row Spaceship) left s
+
+pub nested_symbol_step : (left : List ℕ) (s : State) → read nested_symbol left s
+    ≡ in_node left s (λ j a. and_then (read_name symbol j a)
+    (λ x l t. Some (nested x.name x.scope x.symbol_type, l, t)))
+unfolding read read_by
+nested_symbol_step left s = refl
+
+pub type_name_step : (left : List ℕ) (s : State) → read_name type_name left s
+    ≡ choose (letter_here digits left s) (λ i l t. name_known (slice_get t.names i) l t)
+    (chosen (after (codes "?$") left) (λ rest. read new_template rest s) (read new_source_name left s))
+unfolding grammar read read_by
+type_name_step left s =
+    read_name-is type_name left s
+    ∙ letter_or-is digits (λ i. known_name i) (literal_or (codes "?$") new_template new_source_name) left s
+    ∙ ap (choose (letter_here digits left s) (λ i l t. name_known (slice_get t.names i) l t))
+    (literal_or-is {a = name_tree} (codes "?$") new_template new_source_name left s)
+
+pub type_symbol_step : (left : List ℕ) (s : State) → read_name type_symbol left s
+    ≡ and_then (read_name type_name left s)
+    (λ n l t. and_then (read_name scope l t) (λ ns k u. Some ((n, ns), k, u)))
+unfolding grammar read read_by
+type_symbol_step left s = read_name-is type_symbol left s
+
+pub name_in_scope_step : (left : List ℕ) (s : State) → read name_in_scope left s
+    ≡ and_then (read_name symbol_name left s)
+    (λ n l t. and_then (read_name scope l t) (λ ns k u. Some ((n, ns), k, u)))
+unfolding read read_by
+name_in_scope_step left s = refl
+
+pub class_symbol_step : (left : List ℕ) (s : State) → read_name class_symbol left s
+    ≡ in_node left s (λ j a. and_then (read_name type_symbol j a)
+    (λ x l t. in_node l t (λ k u. Some (nested x.0 (name_trees x.1) (plain plain_kind.None), k, u))))
+unfolding grammar read read_by
+class_symbol_step left s =
+    read_name-is class_symbol left s
+    ∙ λ i. in_node left s (λ j a. and_then (read_name type_symbol j a)
+    (λ x l t. then_then (counting t.count.weight l t) (λ _ k u. Some (plain plain_kind.None, k, u))
+    (λ y k u. Some (nested x.0 (name_trees x.1) y, k, u)) i))
+
+pub new_template_step : (left : List ℕ) (s : State) → read new_template left s
+    ≡ and_then (read_name template_name left s) (λ n l t. Some (n, l, remember_name n t))
+unfolding read read_by
+new_template_step left s = refl
+
+pub template_name_step : (left : List ℕ) (s : State) → read_name template_name left s
+    ≡ put_apart s (read template_inside left (emptied s))
+unfolding grammar read read_by
+template_name_step left s = read_name-is template_name left s
+
+pub template_inside_step : (left : List ℕ) (s : State) → read template_inside left s
+    ≡ in_node left s (λ j a. and_then (read_name symbol_name j a)
+    (λ n l t. and_then (read_name arguments l t) (λ ts k u. Some (template n (type_trees ts), k, u))))
+unfolding read read_by
+template_inside_step left s = refl
+
+pub nested_name_step : (left : List ℕ) (s : State) → read_name nested_name left s
+    ≡ choose (letter_here digits left s) (λ i l t. name_known (slice_get t.names i) l t)
+    (chosen (after (codes "?$") left) (λ rest. read new_template rest s)
+    (chosen (after (codes "?A") left) (λ rest. read anonymous_namespace rest s)
+    (chosen (after (codes "?") left) (λ rest. read_name (name_row Frame) rest s) (read new_source_name left s))))
+unfolding grammar read read_by
+nested_name_step left s =
+    read_name-is nested_name left s
+    ∙ letter_or-is digits (λ i. known_name i) (literal_or (codes "?$") new_template anonymous_or_other) left s
+    ∙ ap (choose (letter_here digits left s) (λ i l t. name_known (slice_get t.names i) l t))
+    (literal_or-is {a = name_tree} (codes "?$") new_template anonymous_or_other left s
+    ∙ ap (chosen (after (codes "?$") left) (λ rest. read new_template rest s))
+    (literal_or-is {a = name_tree} (codes "?A") anonymous_namespace frame_or_new left s
+    ∙ ap (chosen (after (codes "?A") left) (λ rest. read anonymous_namespace rest s))
+    (literal_or-is {a = name_tree} (codes "?") (call (name_row Frame)) new_source_name left s)))
+  where
+    frame_or_new : Rule Production name_tree
+    frame_or_new = literal_or (codes "?") (call (name_row Frame)) new_source_name
+
+    anonymous_or_other : Rule Production name_tree
+    anonymous_or_other = literal_or (codes "?A") anonymous_namespace frame_or_new
+
+-- names up to an @
+
+scope_step : (left : List ℕ) (s : State)
+    → read_name scope left s
+    ≡ row_by (read_name scope) (scope_stop (after (codes "@") left)) (read_name nested_name left s) s
+unfolding grammar read read_by
+scope_step left s =
+    read_name-is scope left s
+    ∙ literal_or-is {a =
+    list name_tree} (codes "@") (give []) (do n ← call nested_name; ns ← call scope; give (n ∷ ns)) left s
+    ∙ go (after (codes "@") left)
+  where
+    go : (o : Option (List ℕ))
+        → chosen o (λ rest. Some ([], rest, s))
+        (and_then (read_name nested_name left s)
+        (λ n l t. and_then (read_name scope l t) (λ ns k u. Some (n ∷ ns, k, u))))
+        ≡ row_by (read_name scope) (scope_stop o) (read_name nested_name left s) s
+    go None = refl
+    go (Some rest) = refl
+
+pub scope_starts : (left : List ℕ) (s : State) → with_front [] (read_name scope left s) ≡ read_name scope left s
+scope_starts left s = front_none (read_name scope left s)
+
+pub scope_ends : (xs : List NameTree) (left rest : List ℕ) (s : State) → after (codes "@") left ≡ Some rest
+    → with_front xs (read_name scope left s) ≡ Some (xs, rest, s)
+scope_ends xs left rest s e =
+    row_ends (read_name scope) (read_name nested_name)
+    (λ l. scope_stop (after (codes "@") l)) scope_step xs [] left rest s (ap scope_stop e)
+    ∙ ap (λ z. Some (z, rest, s)) (append-nil xs)
+
+pub scope_rejected : (xs : List NameTree) (left : List ℕ) (s : State) → after (codes "@") left ≡ None
+    → read_name nested_name left s ≡ None → with_front xs (read_name scope left s) ≡ None
+scope_rejected xs left s e none =
+    row_rejected (read_name scope) (read_name nested_name)
+    (λ l. scope_stop (after (codes "@") l)) scope_step xs left s (ap scope_stop e) none
+
+pub scope_more : (xs : List NameTree) (left l : List ℕ) (s t : State) (x : NameTree) → after (codes "@") left ≡ None
+    → read_name nested_name left s ≡ Some (x, l, t)
+    → with_front xs (read_name scope left s) ≡ with_front (xs ++ x ∷ []) (read_name scope l t)
+scope_more xs left l s t x e some =
+    row_more (read_name scope) (read_name nested_name)
+    (λ m. scope_stop (after (codes "@") m)) scope_step xs left l s t x (ap scope_stop e) some
+
+pub ruleset steps = (
+  symbol_name_step,
+  plain_operator_step,
+  operator_row_step,
+  frame_step,
+  literal_operator_step,
+  spaceship_step,
+  nested_symbol_step,
+  type_name_step,
+  type_symbol_step,
+  name_in_scope_step,
+  class_symbol_step,
+  new_template_step,
+  template_name_step,
+  template_inside_step,
+  nested_name_step,
+  scope_starts,
+  scope_ends,
+  scope_rejected,
+)

@@ -1,0 +1,293 @@
+-- Step lemmas of types and of arguments.
+use Rattle.std.proofs.Common.{ℕ, List, [], ◌∷◌, ◌++◌, Option, Some, None, ◌≡◌, refl, ap, ◌∙◌, append-nil}
+use Rattle.std.specs.Prelude.{bit_or, codes}
+use Rattle.msvc_nodes.specs.Trees.{TypeTree, name_trees, names, no_names, no_types, plain, pointing, shape, tagged}
+use Rattle.msvc_nodes.specs.declared.kinds.PlainType.TheVariants as plain_kind
+use Rattle.msvc_nodes.specs.declared.kinds.PointerAffinity.{PointerAffinity}
+use Rattle.msvc_nodes.specs.declared.kinds.PointerAffinity.TheVariants as mark_kind
+use Rattle.msvc_nodes.specs.declared.kinds.TagKind.{TagKind}
+use Rattle.msvc_nodes.specs.declared.kinds.TagKind.TheVariants as tag_kind
+use Rattle.msvc_nodes.specs.declared.nodes.Number.{Number}
+use Rattle.msvc_rules.specs.Readers.{and_then, in_node, letter_here, read_by}
+use Rattle.msvc_rules.specs.Rules.{Rule, after, call, give, letter, letter_or, literal, literal_or, ◌>>=◌}
+use Rattle.msvc_rules.specs.Sorts.{bits, list, type_tree}
+use Rattle.msvc_rules.specs.State.{State}
+use Rattle.msvc_grammar.specs.Reading.{read as crate_read}
+use Rattle.msvc_full_grammar.specs.Forms.{arrayed, function_with, named, pointer_with, qualified, reference_by}
+use Rattle.msvc_full_grammar.specs.Forms.{the_same, type_by_row}
+use Rattle.msvc_full_grammar.specs.Grammar.{grammar}
+use Rattle.msvc_full_grammar.specs.Letters.{member_qualifiers, qualifiers}
+use Rattle.msvc_full_grammar.specs.Productions.{Production, argument, argument_after, arguments, arrays, class_symbol}
+use Rattle.msvc_full_grammar.specs.Productions.{dimensions, function_type, lengths, marks, number, pointer, reference}
+use Rattle.msvc_full_grammar.specs.Productions.{type_, type_after, type_name, type_row, type_symbol}
+use Rattle.msvc_full_grammar.specs.Reading.{read_name, read}
+use Rattle.msvc_full_grammar.specs.Rows.{custom_row, extern_c_row, integer_row, nullptr_row}
+use Rattle.msvc_full_grammar.specs.declared.forms.ArgumentForm.TheVariants as forms
+use Rattle.msvc_full_grammar.specs.declared.forms.OwnQualifiers.{OwnQualifiers}
+use Rattle.msvc_full_grammar.specs.declared.forms.OwnQualifiers.TheVariants as own
+use Rattle.msvc_full_grammar.specs.declared.forms.TypeRow.{TypeRow}
+use Rattle.msvc_full_grammar.specs.declared.forms.TypeRow.TheVariants.{Custom, ExternC, Integer, Nullptr}
+use Rattle.msvc_full_grammar.proofs.Laws.{read_name-is}
+use Rattle.msvc_cursor.proofs.Choices.{choose, chosen}
+use Rattle.msvc_cursor.proofs.RowSteps.{front_none, row_by, row_ends, row_more, row_rejected, with_front}
+use Rattle.msvc_full_letters.proofs.Choices.{letter_or-is, literal_or-is}
+use Rattle.msvc_full_readers.specs.Readings.{arrays_of, elements, member_pointer, pointed_function, pointed_member}
+use Rattle.msvc_full_readers.specs.Readings.{pointed_member_function, pointed_type, tagged_type}
+
+-- what follows the text of a type
+
+pub named_step : (q : ℕ) (tag : TagKind) (left : List ℕ) (s : State)
+    → read_name (type_after q (named tag)) left s ≡ read (tagged_type tag q) left s
+unfolding grammar read read_by
+named_step q tag left s = read_name-is (type_after q (named tag)) left s
+
+pub pointer_with_step : (q more : ℕ) (left : List ℕ) (s : State)
+    → read_name (type_after q (pointer_with more)) left s ≡ read_name (pointer (bit_or q more)) left s
+unfolding grammar read read_by
+pointer_with_step q more left s = read_name-is (type_after q (pointer_with more)) left s
+
+pub reference_by_step : (q : ℕ) (mark : PointerAffinity) (left : List ℕ) (s : State)
+    → read_name (type_after q (reference_by mark)) left s ≡ read_name (reference mark q) left s
+unfolding grammar read read_by
+reference_by_step q mark left s = read_name-is (type_after q (reference_by mark)) left s
+
+pub arrayed_step : (q : ℕ) (left : List ℕ) (s : State)
+    → read_name (type_after q arrayed) left s ≡ read_name (arrays q) left s
+unfolding grammar read read_by
+arrayed_step q left s = read_name-is (type_after q arrayed) left s
+
+pub function_with_step : (q : ℕ) (o : OwnQualifiers) (left : List ℕ) (s : State)
+    → read_name (type_after q (function_with o)) left s ≡ read_name (function_type o) left s
+unfolding grammar read read_by
+function_with_step q o left s = read_name-is (type_after q (function_with o)) left s
+
+pub the_same_step : (q : ℕ) (left : List ℕ) (s : State)
+    → read_name (type_after q the_same) left s ≡ read_name (type_ q) left s
+unfolding grammar read read_by
+the_same_step q left s = read_name-is (type_after q the_same) left s
+
+pub qualified_step : (q : ℕ) (left : List ℕ) (s : State) → read_name (type_after q qualified) left s
+    ≡ and_then (letter_here qualifiers left s) (λ more l t. read_name (type_ (bit_or q more)) l t)
+unfolding grammar read read_by
+qualified_step q left s = read_name-is (type_after q qualified) left s
+
+pub type_by_row_step : (q : ℕ) (r : TypeRow) (left : List ℕ) (s : State)
+    → read_name (type_after q (type_by_row r)) left s ≡ read_name (type_row q r) left s
+unfolding grammar read read_by
+type_by_row_step q r left s = read_name-is (type_after q (type_by_row r)) left s
+
+pub tagged_type_step : (tag : TagKind) (q : ℕ) (left : List ℕ) (s : State) → read (tagged_type tag q) left s
+    ≡ in_node left s (λ j a. and_then (read_name type_symbol j a)
+    (λ x l t. Some (tagged tag x.0 (name_trees x.1) q, l, t)))
+unfolding read read_by
+tagged_type_step tag q left s = refl
+
+-- rows
+
+pub integer_step : (q : ℕ) (left : List ℕ) (s : State) → read_name (type_row q Integer) left s
+    ≡ in_node left s (λ j a. and_then (read_name number j a)
+    (λ n l t. Some (shape integer_row q (n ∷ []) [] no_names no_types, l, t)))
+unfolding grammar read read_by
+integer_step q left s = read_name-is (type_row q Integer) left s
+
+pub custom_step : (q : ℕ) (left : List ℕ) (s : State) → read_name (type_row q Custom) left s
+    ≡ in_node left s (λ j a. and_then (read_name type_name j a)
+    (λ n l t. and_then (crate_read (literal (codes "@")) l t)
+    (λ _ k u. Some (shape custom_row q [] [] (names n no_names) no_types, k, u))))
+unfolding grammar read read_by crate_read
+custom_step q left s = read_name-is (type_row q Custom) left s
+
+pub nullptr_step : (q : ℕ) (left : List ℕ) (s : State) → read_name (type_row q Nullptr) left s
+    ≡ in_node left s (λ l t. Some (shape nullptr_row q [] [] no_names no_types, l, t))
+unfolding grammar read read_by
+nullptr_step q left s = read_name-is (type_row q Nullptr) left s
+
+pub extern_c_step : (q : ℕ) (left : List ℕ) (s : State) → read_name (type_row q ExternC) left s
+    ≡ in_node left s (λ l t. Some (shape extern_c_row q [] [] no_names no_types, l, t))
+unfolding grammar read read_by
+extern_c_step q left s = read_name-is (type_row q ExternC) left s
+
+-- pointers
+
+pub pointer_step : (q : ℕ) (left : List ℕ) (s : State) → read_name (pointer q) left s
+    ≡ in_node left s (λ j a. chosen (after (codes "6") j)
+    (λ rest. read (pointed_function mark_kind.Pointer q) rest a)
+    (chosen (after (codes "8") j) (λ rest. read (pointed_member_function q) rest a)
+    (and_then (read_name marks j a) (λ m l t. choose (letter_here member_qualifiers l t)
+    (λ x. read (pointed_member x (bit_or q m))) (read (pointed_type mark_kind.Pointer (bit_or q m)) l t)))))
+unfolding grammar read read_by
+pointer_step q left s =
+    read_name-is (pointer q) left s
+    ∙ λ i. in_node left s (λ j a. inside j a i)
+  where
+    to_member : Rule Production type_tree
+    to_member = do
+      m ← call marks
+      letter_or member_qualifiers (λ x. pointed_member x (bit_or q m)) (pointed_type mark_kind.Pointer (bit_or q m))
+
+    inside : (j : List ℕ) (a : State)
+        → read (literal_or (codes "6") (pointed_function mark_kind.Pointer q)
+        (literal_or (codes "8") (pointed_member_function q) to_member)) j a
+        ≡ chosen (after (codes "6") j) (λ rest. read (pointed_function mark_kind.Pointer q) rest a)
+        (chosen (after (codes "8") j) (λ rest. read (pointed_member_function q) rest a)
+        (and_then (read_name marks j a) (λ m l t. choose (letter_here member_qualifiers l t)
+        (λ x. read (pointed_member x (bit_or q m))) (read (pointed_type mark_kind.Pointer (bit_or q m)) l t))))
+    inside j a =
+        literal_or-is {a = type_tree} (codes "6") (pointed_function mark_kind.Pointer q)
+        (literal_or (codes "8") (pointed_member_function q) to_member) j a
+        ∙ ap (chosen (after (codes "6") j) (λ rest. read (pointed_function mark_kind.Pointer q) rest a))
+        (literal_or-is {a = type_tree} (codes "8") (pointed_member_function q) to_member j a
+        ∙ λ i. chosen (after (codes "8") j) (λ rest. read (pointed_member_function q) rest a)
+        (and_then (read_name marks j a) (λ m l t. letter_or-is member_qualifiers
+        (λ x. pointed_member x (bit_or q m)) (pointed_type mark_kind.Pointer (bit_or q m)) l t i)))
+
+pub reference_step : (mark : PointerAffinity) (q : ℕ) (left : List ℕ) (s : State)
+    → read_name (reference mark q) left s
+    ≡ in_node left s (λ j a. chosen (after (codes "6") j) (λ rest. read (pointed_function mark q) rest a)
+    (and_then (read_name marks j a) (λ m l t. read (pointed_type mark (bit_or q m)) l t)))
+unfolding grammar read read_by
+reference_step mark q left s =
+    read_name-is (reference mark q) left s
+    ∙ λ i. in_node left s (λ j a. literal_or-is {a = type_tree} (codes "6") (pointed_function mark q) to_type j a i)
+  where
+    to_type : Rule Production type_tree
+    to_type = do m ← call marks; pointed_type mark (bit_or q m)
+
+pub pointed_function_step : (mark : PointerAffinity) (q : ℕ) (left : List ℕ) (s : State)
+    → read (pointed_function mark q) left s
+    ≡ and_then (read_name (function_type own.Absent) left s) (λ f l t. Some (pointing mark f q, l, t))
+unfolding read read_by
+pointed_function_step mark q left s = refl
+
+pub pointed_type_step : (mark : PointerAffinity) (q : ℕ) (left : List ℕ) (s : State)
+    → read (pointed_type mark q) left s
+    ≡ and_then (letter_here qualifiers left s) (λ c l t. and_then (read_name (type_ c) l t)
+    (λ x k u. Some (pointing mark x q, k, u)))
+unfolding read read_by
+pointed_type_step mark q left s = refl
+
+pub pointed_member_function_step : (q : ℕ) (left : List ℕ) (s : State)
+    → read (pointed_member_function q) left s
+    ≡ and_then (read_name class_symbol left s) (λ c l t. and_then (read_name (function_type own.Present) l t)
+    (λ f k u. Some (member_pointer c f q, k, u)))
+unfolding read read_by
+pointed_member_function_step q left s = refl
+
+pub pointed_member_step : (r q : ℕ) (left : List ℕ) (s : State)
+    → read (pointed_member r q) left s
+    ≡ and_then (read_name class_symbol left s) (λ c l t. and_then (read_name (type_ r) l t)
+    (λ x k u. Some (member_pointer c x q, k, u)))
+unfolding read read_by
+pointed_member_step r q left s = refl
+
+-- arrays
+
+pub arrays_step : (q : ℕ) (left : List ℕ) (s : State) → read_name (arrays q) left s
+    ≡ in_node left s (λ j a. and_then (read_name dimensions j a) (λ n l t. and_then (read_name (lengths n) l t)
+    (λ zs k u. read (elements zs q) k u)))
+unfolding grammar read read_by
+arrays_step q left s = read_name-is (arrays q) left s
+
+pub elements_step : (zs : List Number) (q : ℕ) (left : List ℕ) (s : State) → read (elements zs q) left s
+    ≡ chosen (after (codes "$$C") left)
+    (λ rest. and_then (letter_here qualifiers rest s) (λ more l t. and_then (read_name (type_ 0) l t)
+    (λ x k u. Some (arrays_of zs x (bit_or q more), k, u))))
+    (and_then (read_name (type_ 0) left s) (λ x l t. Some (arrays_of zs x q, l, t)))
+unfolding read read_by
+elements_step zs q left s =
+    literal_or-is {a = type_tree} (codes "$$C")
+    (do more ← letter bits qualifiers; t ← call (type_ 0); give (arrays_of zs t (bit_or q more)))
+    (do t ← call (type_ 0); give (arrays_of zs t q)) left s
+
+-- arguments
+
+pub empty_pack_step : (left : List ℕ) (s : State) → read_name (argument_after forms.EmptyPack) left s
+    ≡ in_node left s (λ l t. Some (plain plain_kind.EmptyPack, l, t))
+unfolding grammar read read_by
+empty_pack_step left s = read_name-is (argument_after forms.EmptyPack) left s
+
+pub alias_step : (left : List ℕ) (s : State)
+    → read_name (argument_after forms.Alias) left s ≡ read (tagged_type tag_kind.Alias 0) left s
+unfolding grammar read read_by
+alias_step left s = read_name-is (argument_after forms.Alias) left s
+
+pub argument_row_step : (r : TypeRow) (left : List ℕ) (s : State)
+    → read_name (argument_after (forms.Row r)) left s ≡ read_name (type_row 0 r) left s
+unfolding grammar read read_by
+argument_row_step r left s = read_name-is (argument_after (forms.Row r)) left s
+
+abbrev arguments_stop : Option (List ℕ) → Option (List TypeTree × List ℕ)
+arguments_stop None = None
+arguments_stop (Some rest) = Some ([], rest)
+
+arguments_step : (left : List ℕ) (s : State)
+    → read_name arguments left s
+    ≡ row_by (read_name arguments) (arguments_stop (after (codes "@") left)) (read_name argument left s) s
+unfolding grammar read read_by
+arguments_step left s =
+    read_name-is arguments left s
+    ∙ literal_or-is {a =
+    list type_tree} (codes "@") (give []) (do t ← call argument; ts ← call arguments; give (t ∷ ts)) left s
+    ∙ go (after (codes "@") left)
+  where
+    go : (o : Option (List ℕ))
+        → chosen o (λ rest. Some ([], rest, s))
+        (and_then (read_name argument left s)
+        (λ n l t. and_then (read_name arguments l t) (λ ns k u. Some (n ∷ ns, k, u))))
+        ≡ row_by (read_name arguments) (arguments_stop o) (read_name argument left s) s
+    go None = refl
+    go (Some rest) = refl
+
+pub arguments_start : (left : List ℕ) (s : State)
+    → with_front [] (read_name arguments left s) ≡ read_name arguments left s
+arguments_start left s = front_none (read_name arguments left s)
+
+pub arguments_end : (xs : List TypeTree) (left rest : List ℕ) (s : State) → after (codes "@") left ≡ Some rest
+    → with_front xs (read_name arguments left s) ≡ Some (xs, rest, s)
+arguments_end xs left rest s e =
+    row_ends (read_name arguments) (read_name argument)
+    (λ l. arguments_stop (after (codes "@") l)) arguments_step xs [] left rest s (ap arguments_stop e)
+    ∙ ap (λ z. Some (z, rest, s)) (append-nil xs)
+
+pub arguments_rejected : (xs : List TypeTree) (left : List ℕ) (s : State) → after (codes "@") left ≡ None
+    → read_name argument left s ≡ None → with_front xs (read_name arguments left s) ≡ None
+arguments_rejected xs left s e none =
+    row_rejected (read_name arguments) (read_name argument)
+    (λ l. arguments_stop (after (codes "@") l)) arguments_step xs left s (ap arguments_stop e) none
+
+pub arguments_more : (xs : List TypeTree) (left l : List ℕ) (s t : State) (x : TypeTree) → after (codes "@") left ≡ None
+    → read_name argument left s ≡ Some (x, l, t)
+    → with_front xs (read_name arguments left s) ≡ with_front (xs ++ x ∷ []) (read_name arguments l t)
+arguments_more xs left l s t x e some =
+    row_more (read_name arguments) (read_name argument)
+    (λ m. arguments_stop (after (codes "@") m)) arguments_step xs left l s t x (ap arguments_stop e) some
+
+pub ruleset steps = (
+  named_step,
+  pointer_with_step,
+  reference_by_step,
+  arrayed_step,
+  function_with_step,
+  the_same_step,
+  qualified_step,
+  type_by_row_step,
+  tagged_type_step,
+  integer_step,
+  custom_step,
+  nullptr_step,
+  extern_c_step,
+  pointer_step,
+  reference_step,
+  pointed_function_step,
+  pointed_type_step,
+  pointed_member_function_step,
+  pointed_member_step,
+  arrays_step,
+  elements_step,
+  empty_pack_step,
+  alias_step,
+  argument_row_step,
+  arguments_start,
+  arguments_end,
+  arguments_rejected,
+)

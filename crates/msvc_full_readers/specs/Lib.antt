@@ -1,0 +1,15 @@
+pub use Rattle.msvc_nodes.specs.EachName
+pub use Rattle.msvc_nodes.specs.NodeView
+pub use Rattle.msvc_nodes.specs.Trees
+pub use Rattle.msvc_rules.specs.Counts
+pub use Rattle.msvc_rules.specs.Laws
+pub use Rattle.msvc_rules.specs.Limits
+pub use Rattle.msvc_full_grammar.specs.Parsed
+pub use Rattle.msvc_rules.specs.Parts
+pub use Rattle.msvc_rules.specs.Readers
+pub use Rattle.msvc_rules.specs.Reads
+pub use Rattle.msvc_rules.specs.Rules
+pub use Rattle.msvc_rules.specs.State
+pub use Rattle.msvc_cursor.specs.Failures
+pub use Rattle.msvc_cursor.specs.Parser
+pub mod Readings

@@ -1,0 +1,128 @@
+-- Parts of productions that readers read by themselves.
+use Rattle.std.specs.Prelude.{ℕ, List, [], ◌∷◌, Option, Some, None, Bool, bit_or, codes, ◌==◌, if◌then◌else◌}
+use Rattle.std.specs.Borrow.{Bor}
+use Rattle.std.specs.Prelude.{map}
+use Prim.Native.Char.{code}
+use Rattle.msvc_nodes.specs.NodeView.{type_at}
+use Rattle.msvc_nodes.specs.Trees.{NameTree, TypeTree, anonymous, name_trees, names, no_names, no_types}
+use Rattle.msvc_nodes.specs.Trees.{pointing, shape, tagged, types}
+use Rattle.msvc_nodes.specs.declared.nodes.Function.{Function}
+use Rattle.msvc_nodes.specs.declared.nodes.Number.{Number}
+use Rattle.msvc_nodes.specs.declared.kinds.Convention.{Convention}
+use Rattle.msvc_nodes.specs.declared.kinds.PointerAffinity.{PointerAffinity}
+use Rattle.msvc_nodes.specs.declared.kinds.TagKind.{TagKind}
+use Rattle.msvc_rules.specs.Rules.{Rule, call, give, letter, literal, literal_or, node, some_of, ◌>>=◌, ◌>>◌, ◌or◌}
+use Rattle.msvc_rules.specs.Sorts.{bits, both, list, name_tree, symbol_tree, type_tree}
+use Rattle.msvc_rules.specs.Sorts as sort
+use Rattle.msvc_rules.specs.State.{State, remember_name}
+use Rattle.msvc_full_grammar.specs.declared.forms.OwnQualifiers.TheVariants.{Absent as absent, Present as present}
+use Rattle.msvc_full_grammar.specs.Letters.{at_sign, capitals, noexcept, qualifiers}
+use Rattle.msvc_full_grammar.specs.Productions.{Production, anonymous_digits, class_symbol, function_type}
+use Rattle.msvc_full_grammar.specs.Productions.{named_symbol, scope, symbol_name, template_symbol, type_, type_symbol}
+use Rattle.msvc_full_grammar.specs.Rows.{arrays_row, member_pointer_row}
+use Rattle.msvc_grammar.specs.declared.forms.Ellipsis.{Ellipsis}
+use Rattle.msvc_grammar.specs.declared.forms.Ellipsis.TheVariants as ellipsis
+
+-- whether a digit is a capital
+abbrev pub is_capital : ℕ → Bool
+is_capital d = some_of (λ c. d == c) capitals
+
+-- the digits of an anonymous namespace, as a name that isn't counted
+abbrev pub anonymous_name : Rule Production name_tree
+anonymous_name = do ds ← call anonymous_digits; give (anonymous ds)
+
+-- a symbol after its ?
+abbrev pub symbol_body : Rule Production symbol_tree
+symbol_body = literal_or (codes "?$") (call template_symbol) (call named_symbol)
+
+-- the name of a symbol in its scope
+abbrev pub name_in_scope : Rule Production (both name_tree (list name_tree))
+name_in_scope = do
+  n ← call symbol_name
+  ns ← call scope
+  give (n, ns)
+
+-- a type known by a name
+abbrev pub tagged_type : TagKind → ℕ → Rule Production type_tree
+tagged_type tag q = node (do
+  s ← call type_symbol
+  give (tagged tag s.0 (name_trees s.1) q))
+
+-- what a pointer or a reference to a function holds
+abbrev pub pointed_function : PointerAffinity → ℕ → Rule Production type_tree
+pointed_function mark q = do
+  f ← call (function_type absent)
+  give (pointing mark f q)
+
+-- what any other pointer or reference holds
+abbrev pub pointed_type : PointerAffinity → ℕ → Rule Production type_tree
+pointed_type mark q = do
+  s ← letter bits qualifiers
+  t ← call (type_ s)
+  give (pointing mark t q)
+
+-- a pointer to a member of this class and this type
+abbrev pub member_pointer : NameTree → TypeTree → ℕ → TypeTree
+member_pointer c t q = shape member_pointer_row q [] [] (names c no_names) (types t no_types)
+
+-- what a pointer to a member function holds
+abbrev pub pointed_member_function : ℕ → Rule Production type_tree
+pointed_member_function q = do
+  c ← call class_symbol
+  f ← call (function_type present)
+  give (member_pointer c f q)
+
+-- what a pointer to any other member holds, whose type has the qualifiers s
+abbrev pub pointed_member : ℕ → ℕ → Rule Production type_tree
+pointed_member s q = do
+  c ← call class_symbol
+  t ← call (type_ s)
+  give (member_pointer c t q)
+
+-- arrays of these lengths and of this type
+abbrev pub arrays_of : List Number → TypeTree → ℕ → TypeTree
+arrays_of zs t q = shape arrays_row q zs [] no_names (types t no_types)
+
+-- what follows the lengths of arrays
+abbrev pub elements : List Number → ℕ → Rule Production type_tree
+elements zs q =
+    literal_or (codes "$$C")
+    (do
+      more ← letter bits qualifiers
+      t ← call (type_ 0)
+      give (arrays_of zs t (bit_or q more)))
+    (do
+      t ← call (type_ 0)
+      give (arrays_of zs t q))
+
+-- the parts of a signature, and its end
+abbrev pub signature_end : ℕ → Convention → TypeTree → List TypeTree → Rule Production (both bits
+    (both sort.convention (both type_tree (list type_tree))))
+signature_end q c t ts =
+    (do literal (codes "_E"); give (bit_or noexcept q, (c, (t, ts))))
+    or (do literal (codes "Z"); give (q, (c, (t, ts))))
+
+-- the parts of a function, as a signature gives them
+abbrev pub signature_at : Bor Function → ℕ × (Convention × (TypeTree × List TypeTree))
+signature_at f =
+    (f.now.qualifiers.0, (f.now.convention, (type_at f.now.returned, map type_at f.now.parameters.now)))
+
+-- the Z that ends parameters with an ellipsis
+abbrev pub ellipsis_letter : ℕ
+ellipsis_letter = code "Z"
+
+-- whether a list of parameters that ends here has an ellipsis, and the bytes after it
+unfoldable pub parameters_stop : List ℕ → Option (Ellipsis × List ℕ)
+parameters_stop [] = None
+parameters_stop (b ∷ bs) =
+    if b == at_sign then Some (ellipsis.Absent, bs)
+    else (if b == ellipsis_letter then Some (ellipsis.Present, bs) else None)
+
+-- whether a label is next, after its ?
+abbrev pub label_endings : List (List ℕ)
+label_endings = codes "catch$" ∷ codes "dtor$" ∷ codes "filt$" ∷ codes "fin$" ∷ []
+
+-- the state after the name of a template, which is memorized where the text of a variable is found
+abbrev pub entered : {A : Type 0} → Option A → NameTree → State → State
+entered None n s = s
+entered (Some x) n s = remember_name n s

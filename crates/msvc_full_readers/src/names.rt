@@ -1,0 +1,298 @@
+//! Names, scopes and templates.
+
+ghost use Rattle.std.specs.Prelude.{◌<◌, IfOk, length, map, None};
+ghost use Rattle.msvc_nodes.specs.NodeView.{name_at};
+ghost use Rattle.msvc_full_grammar.specs.Grammar.{nested_symbol, new_template, template_inside};
+ghost use Rattle.msvc_full_grammar.specs.Productions as production;
+ghost use Rattle.msvc_full_grammar.specs.Reading.{read, read_name};
+ghost use Rattle.msvc_full_grammar.specs.declared.forms.NameRow.TheVariants as rows_of;
+ghost use Rattle.msvc_cursor.specs.Parser.{Consumes, MayConsume, ReadsAs};
+ghost use Rattle.msvc_cursor.specs.Rows.{ListsNames, named_at};
+ghost use Rattle.msvc_cursor.specs.NestedList.{current};
+
+use crate::anonymous_namespaces::anonymous_namespace;
+use crate::arguments::arguments;
+use crate::store::{new_operator, put_class, put_empty_name, put_frame, put_named_name};
+use crate::symbols::symbol;
+use msvc_cursor::budget::NodeBudget;
+use msvc_cursor::failure::{Failed, Message};
+use msvc_cursor::nested_list::Checkpoint;
+use msvc_cursor::parser::Parser;
+use msvc_full_grammar::forms::{NameRow, OperatorForm};
+use msvc_full_letters::names::new_source_name;
+use msvc_full_letters::numbers::count;
+use msvc_full_letters::operators::{operator_form, unknown_operator};
+use msvc_nodes::nodes::{Name, Number, Symbol};
+use msvc_shapes::rows;
+use std::alloc::Allocator;
+
+/// Reads `SYMBOL_NAME = digit | "?$" TEMPLATE_NAME | "?" OPERATOR_NAME | SOURCE_NAME`.
+#[cycle(readers)]
+pub fn symbol_name<'a, 'b, L: NodeBudget, A: Allocator>(
+    parser: &mut Parser<'a, 'b, L, A>,
+) -> Result<&'b Name<'a, 'b>, Failed>
+    ensures value { ReadsAs name_at parser.old parser.new result (read_name production.symbol_name) }
+    ensures consumes { Consumes parser.old parser.new result }
+{
+    if let Some(digit) = parser.digit() {
+        return parser.name_of_digit(digit);
+    }
+    if parser.consume(b"?$") {
+        return template_name(parser);
+    }
+    if parser.consume(b"?") {
+        return operator_name(parser);
+    }
+    new_source_name(parser)
+}
+
+/// Reads `OPERATOR_NAME = code of operators OPERATOR_AFTER`.
+#[cycle(readers)]
+fn operator_name<'a, 'b, L: NodeBudget, A: Allocator>(
+    parser: &mut Parser<'a, 'b, L, A>,
+) -> Result<&'b Name<'a, 'b>, Failed>
+    ensures value { ReadsAs name_at parser.old parser.new result (read_name production.operator_name) }
+    ensures consumes { Consumes parser.old parser.new result }
+{
+    let Some((form, rest)) = operator_form(parser.rest) else {
+        return no_operator(parser);
+    };
+    parser.rest = rest;
+    operator_after(parser, form)
+}
+
+/// Records that the text continues with no code of an operator.
+#[inline(never)]
+fn no_operator<'a, 'b, L: NodeBudget, A: Allocator>(
+    parser: &mut Parser<'a, 'b, L, A>,
+) -> Result<&'b Name<'a, 'b>, Failed>
+    ensures value { ReadsAs name_at parser.old parser.new result (λ left s. None) }
+    ensures consumes { Consumes parser.old parser.new result }
+{
+    let (message, left) = unknown_operator(parser.rest);
+    Err(parser.reject_at(message, left))
+}
+
+/// Reads what follows the code of an operator.
+#[cycle(readers)]
+fn operator_after<'a, 'b, L: NodeBudget, A: Allocator>(
+    parser: &mut Parser<'a, 'b, L, A>,
+    form: OperatorForm,
+) -> Result<&'b Name<'a, 'b>, Failed>
+    ensures value { ReadsAs name_at parser.old parser.new result (read_name (production.operator_after form)) }
+    ensures consumes { MayConsume parser.old parser.new result }
+{
+    match form {
+        OperatorForm::Plain(kind) => new_operator(parser, kind),
+        OperatorForm::Row(row) => name_row(parser, row),
+    }
+}
+
+/// Reads `NAME_ROW = fields of the row`.
+#[cycle(readers)]
+fn name_row<'a, 'b, L: NodeBudget, A: Allocator>(
+    parser: &mut Parser<'a, 'b, L, A>,
+    row: NameRow,
+) -> Result<&'b Name<'a, 'b>, Failed>
+    ensures value { ReadsAs name_at parser.old parser.new result (read_name (production.name_row row)) }
+    ensures consumes { MayConsume parser.old parser.new result }
+{
+    match row {
+        NameRow::Frame => frame(parser),
+        NameRow::LiteralOperator => literal_operator(parser),
+        NameRow::Spaceship => spaceship(parser),
+    }
+}
+
+/// Reads `FRAME = COUNT "?" SYMBOL`: a scope inside a function.
+#[cycle(readers)]
+fn frame<'a, 'b, L: NodeBudget, A: Allocator>(
+    parser: &mut Parser<'a, 'b, L, A>,
+) -> Result<&'b Name<'a, 'b>, Failed>
+    ensures value { ReadsAs name_at parser.old parser.new result (read_name (production.name_row rows_of.Frame)) }
+    ensures consumes { Consumes parser.old parser.new result }
+{
+    parser.count_node()?;
+    let value = count(parser)?;
+    parser.expect(b"?", Message::QuestionMarkExpected)?;
+    let function = nested_symbol(parser)?;
+    let number = Number {
+        is_negative: false,
+        value,
+    };
+    put_frame(parser, number, function)
+}
+
+/// Reads a symbol as a name.
+#[cycle(readers)]
+fn nested_symbol<'a, 'b, L: NodeBudget, A: Allocator>(
+    parser: &mut Parser<'a, 'b, L, A>,
+) -> Result<&'b Name<'a, 'b>, Failed>
+    ensures value { ReadsAs name_at parser.old parser.new result (read nested_symbol) }
+    ensures consumes { Consumes parser.old parser.new result }
+{
+    parser.count_node()?;
+    let symbol = symbol(parser)?;
+    parser.put_nested(symbol)
+}
+
+/// Reads a source name, the suffix of an operator of literals.
+#[inline(never)]
+fn literal_operator<'a, 'b, L: NodeBudget, A: Allocator>(
+    parser: &mut Parser<'a, 'b, L, A>,
+) -> Result<&'b Name<'a, 'b>, Failed>
+    ensures value { ReadsAs name_at parser.old parser.new result
+        (read_name (production.name_row rows_of.LiteralOperator)) }
+    ensures consumes { Consumes parser.old parser.new result }
+{
+    parser.count_node()?;
+    let suffix = new_source_name(parser)?;
+    put_named_name(parser, rows::LITERAL_OPERATOR, suffix)
+}
+
+/// Stores `operator<=>`.
+#[inline(never)]
+fn spaceship<'a, 'b, L: NodeBudget, A: Allocator>(
+    parser: &mut Parser<'a, 'b, L, A>,
+) -> Result<&'b Name<'a, 'b>, Failed>
+    ensures value { ReadsAs name_at parser.old parser.new result (read_name (production.name_row rows_of.Spaceship)) }
+    ensures consumes { MayConsume parser.old parser.new result }
+{
+    parser.count_node()?;
+    put_empty_name(parser, rows::SPACESHIP)
+}
+
+/// Reads `TYPE_NAME = digit | "?$" TEMPLATE_NAME | SOURCE_NAME`.
+#[cycle(readers)]
+pub fn type_name<'a, 'b, L: NodeBudget, A: Allocator>(
+    parser: &mut Parser<'a, 'b, L, A>,
+) -> Result<&'b Name<'a, 'b>, Failed>
+    ensures value { ReadsAs name_at parser.old parser.new result (read_name production.type_name) }
+    ensures consumes { Consumes parser.old parser.new result }
+{
+    if let Some(digit) = parser.digit() {
+        return parser.name_of_digit(digit);
+    }
+    if parser.consume(b"?$") {
+        return new_template(parser);
+    }
+    new_source_name(parser)
+}
+
+/// Reads `TYPE_SYMBOL = TYPE_NAME SCOPE`.
+#[cycle(readers)]
+pub fn type_symbol<'a, 'b, L: NodeBudget, A: Allocator>(
+    parser: &mut Parser<'a, 'b, L, A>,
+) -> Result<&'b Symbol<'a, 'b>, Failed>
+    ensures value { ReadsAs named_at parser.old parser.new result (read_name production.type_symbol) }
+    ensures consumes { Consumes parser.old parser.new result }
+{
+    let name = type_name(parser)?;
+    let checkpoint = scope(parser)?;
+    parser.put_symbol(name, checkpoint)
+}
+
+/// Reads `CLASS_SYMBOL = TYPE_SYMBOL`: the class of a member, as a symbol without a type.
+#[cycle(readers)]
+#[inline(never)]
+pub fn class_symbol<'a, 'b, L: NodeBudget, A: Allocator>(
+    parser: &mut Parser<'a, 'b, L, A>,
+) -> Result<&'b Name<'a, 'b>, Failed>
+    ensures value { ReadsAs name_at parser.old parser.new result (read_name production.class_symbol) }
+    ensures consumes { Consumes parser.old parser.new result }
+{
+    parser.count_node()?;
+    let symbol = type_symbol(parser)?;
+    put_class(parser, symbol)
+}
+
+/// Reads a template and memorizes it.
+#[cycle(readers)]
+#[inline(never)]
+fn new_template<'a, 'b, L: NodeBudget, A: Allocator>(
+    parser: &mut Parser<'a, 'b, L, A>,
+) -> Result<&'b Name<'a, 'b>, Failed>
+    ensures value { ReadsAs name_at parser.old parser.new result (read new_template) }
+    ensures consumes { Consumes parser.old parser.new result }
+{
+    let before = parser.limit;
+    let template = template_name(parser)?;
+    let nodes = parser.limit.since(before);
+    parser.add_name(template, nodes)
+}
+
+/// Reads `TEMPLATE_NAME = SYMBOL_NAME ARGUMENTS`, with separate tables of names and types.
+#[cycle(readers)]
+#[inline(never)]
+pub fn template_name<'a, 'b, L: NodeBudget, A: Allocator>(
+    parser: &mut Parser<'a, 'b, L, A>,
+) -> Result<&'b Name<'a, 'b>, Failed>
+    ensures value { ReadsAs name_at parser.old parser.new result (read_name production.template_name) }
+    ensures consumes { Consumes parser.old parser.new result }
+{
+    let saved = parser.tables.open_template();
+    let template = template(parser)?;
+    parser.tables.close_template(saved);
+    Ok(template)
+}
+
+/// Reads the name and the arguments of a template.
+#[cycle(readers)]
+fn template<'a, 'b, L: NodeBudget, A: Allocator>(
+    parser: &mut Parser<'a, 'b, L, A>,
+) -> Result<&'b Name<'a, 'b>, Failed>
+    ensures value { ReadsAs name_at parser.old parser.new result (read template_inside) }
+    ensures consumes { Consumes parser.old parser.new result }
+{
+    parser.count_node()?;
+    let name = symbol_name(parser)?;
+    let checkpoint = arguments(parser)?;
+    parser.put_template(name, checkpoint)
+}
+
+/// Reads `SCOPE = {NESTED_NAME} "@"`, the innermost name first. The names are on a new part of the parser's list, and
+/// the result ends that part.
+#[cycle(readers)]
+pub fn scope<'a, 'b, L: NodeBudget, A: Allocator>(
+    parser: &mut Parser<'a, 'b, L, A>,
+) -> Result<Checkpoint, Failed>
+    ensures value { ReadsAs (λ _. map name_at (current parser.new.listed_names)) parser.old parser.new result
+        (read_name production.scope) }
+    ensures shorter { IfOk result (λ _. length parser.new.rest.now < length parser.old.rest.now) }
+    ensures lists { ListsNames parser.old parser.new result }
+{
+    let checkpoint = parser.listed_names.begin();
+    'names: loop {
+        if parser.consume(b"@") {
+            return Ok(checkpoint);
+        }
+        let name = nested_name(parser)?;
+        if parser.listed_names.push(name).is_err() {
+            return Err(parser.no_memory());
+        }
+    }
+}
+
+/// Reads `NESTED_NAME = digit | "?$" TEMPLATE_NAME | "?A" ANONYMOUS_NAMESPACE | "?" FRAME | SOURCE_NAME`.
+#[cycle(readers)]
+#[inline(always)]
+fn nested_name<'a, 'b, L: NodeBudget, A: Allocator>(
+    parser: &mut Parser<'a, 'b, L, A>,
+) -> Result<&'b Name<'a, 'b>, Failed>
+    ensures value { ReadsAs name_at parser.old parser.new result (read_name production.nested_name) }
+    ensures consumes { Consumes parser.old parser.new result }
+{
+    if let Some(digit) = parser.digit() {
+        return parser.name_of_digit(digit);
+    }
+    if parser.consume(b"?$") {
+        return new_template(parser);
+    }
+    if parser.consume(b"?A") {
+        return anonymous_namespace(parser);
+    }
+    if parser.consume(b"?") {
+        return frame(parser);
+    }
+    new_source_name(parser)
+}

@@ -1,0 +1,313 @@
+//! Nodes of several parts. Each function stands outside the cycle of readers, which then only call, so that a step
+//! lemma is all that the prover needs of a reader.
+#![tactic(auto, using(crate::proofs::StoreSteps::steps), unfolding(msvc_cursor::specs::Parser::byte_here, msvc_rules::specs::Readers::counting, msvc_nodes::specs::NodeView::name_of, msvc_nodes::specs::NodeView::type_of))]
+
+ghost use Rattle.std.specs.Prelude.{◌≡◌, ◌≤◌, ◌<◌, ◌∷◌, [], IfOk, IfSome, length, map, Some};
+ghost use Rattle.std.specs.Mem.{FitsInMemory};
+ghost use Rattle.msvc_nodes.specs.NodeView.{name_at, name_of, type_at, type_of};
+ghost use Rattle.msvc_nodes.specs.Trees.{name_trees, names, nested, no_names, no_types, plain, shape, shaped, types};
+ghost use Rattle.msvc_nodes.specs.Trees as tree;
+ghost use Rattle.msvc_nodes.specs.declared.kinds.PlainType.TheVariants as plain_kind;
+ghost use Rattle.msvc_rules.specs.Readers.{in_node, with_value};
+ghost use Rattle.msvc_full_grammar.specs.Reading.{read};
+ghost use Rattle.msvc_cursor.specs.NestedList.{current, enclosing};
+ghost use Rattle.msvc_cursor.specs.Parser.{ReadsAs, Stays};
+ghost use Rattle.msvc_cursor.specs.Rows.{EndsTypes};
+ghost use Rattle.msvc_full_readers.specs.Readings.{arrays_of, member_pointer, signature_at, signature_end};
+
+use crate::qualifiers::noexcept;
+use bitflags::Flags;
+use bumpalo::Bump;
+use msvc_cursor::budget::NodeBudget;
+use msvc_cursor::failure::{Failed, Message};
+use msvc_cursor::nested_list::Checkpoint;
+use msvc_cursor::parser::Parser;
+use msvc_nodes::flags::{FuncClass, StorageClass};
+use msvc_nodes::kinds::{Convention, PlainOperator, PlainType};
+use msvc_nodes::list::List;
+use msvc_nodes::nodes::{Function, Name, Number, Shape, Symbol, Type};
+use msvc_shapes::rows;
+use std::alloc::Allocator;
+
+/// Stores a list of one item, or returns nothing if memory runs out.
+fn list_of<'b, T: Copy, A: Allocator>(arena: &'b Bump<A>, item: T) -> Option<List<'b, T>>
+    requires { FitsInMemory T.row }
+    ensures { IfSome result (λ list. list.items.now ≡ item ∷ []) }
+{
+    match arena.try_alloc([item]) {
+        Ok(list) => Some(List { items: list }),
+        Err(_) => None,
+    }
+}
+
+/// Stores a type of a row that has qualifiers and nothing else, if any.
+pub fn put_empty_type<'a, 'b, L: NodeBudget, A: Allocator>(
+    parser: &mut Parser<'a, 'b, L, A>,
+    row: u8,
+    qualifiers: StorageClass,
+) -> Result<&'b Type<'a, 'b>, Failed>
+    ensures value { ReadsAs type_at parser.old parser.new result
+        (with_value (Some (shape row qualifiers.0 [] [] no_names no_types))) }
+    ensures stays { Stays parser.old parser.new result }
+{
+    let numbers: &[Number] = &[];
+    let names: &[&Name<'a, 'b>] = &[];
+    let types: &[&Type<'a, 'b>] = &[];
+    let shape = parser.put(Shape {
+        row,
+        qualifiers,
+        numbers,
+        text: b"",
+        names,
+        types,
+    })?;
+    parser.put_type(Type::Shape(shape))
+}
+
+/// Stores a type of a row that has qualifiers, if any, and a number.
+pub fn put_number_type<'a, 'b, L: NodeBudget, A: Allocator>(
+    parser: &mut Parser<'a, 'b, L, A>,
+    row: u8,
+    qualifiers: StorageClass,
+    number: Number,
+) -> Result<&'b Type<'a, 'b>, Failed>
+    ensures value { ReadsAs type_at parser.old parser.new result
+        (with_value (Some (shape row qualifiers.0 (number ∷ []) [] no_names no_types))) }
+    ensures stays { Stays parser.old parser.new result }
+{
+    let Some(numbers) = list_of(parser.arena, number) else {
+        return Err(parser.no_memory());
+    };
+    let names: &[&Name<'a, 'b>] = &[];
+    let types: &[&Type<'a, 'b>] = &[];
+    let shape = parser.put(Shape {
+        row,
+        qualifiers,
+        numbers: numbers.items,
+        text: b"",
+        names,
+        types,
+    })?;
+    parser.put_type(Type::Shape(shape))
+}
+
+/// Stores a type of a row that has qualifiers, if any, and a name.
+#[inline(never)]
+pub fn put_named_type<'a, 'b, L: NodeBudget, A: Allocator>(
+    parser: &mut Parser<'a, 'b, L, A>,
+    row: u8,
+    qualifiers: StorageClass,
+    name: &'b Name<'a, 'b>,
+) -> Result<&'b Type<'a, 'b>, Failed>
+    ensures value { ReadsAs type_at parser.old parser.new result
+        (with_value (Some (shape row qualifiers.0 [] [] (names (name_of name.now) no_names) no_types))) }
+    ensures stays { Stays parser.old parser.new result }
+{
+    let Some(names) = list_of(parser.arena, name) else {
+        return Err(parser.no_memory());
+    };
+    let numbers: &[Number] = &[];
+    let types: &[&Type<'a, 'b>] = &[];
+    let shape = parser.put(Shape {
+        row,
+        qualifiers,
+        numbers,
+        text: b"",
+        names: names.items,
+        types,
+    })?;
+    parser.put_type(Type::Shape(shape))
+}
+
+/// Stores arrays of these lengths.
+#[inline(never)]
+pub fn put_arrays<'a, 'b, L: NodeBudget, A: Allocator>(
+    parser: &mut Parser<'a, 'b, L, A>,
+    lengths: &'b [Number],
+    element: &'b Type<'a, 'b>,
+    qualifiers: StorageClass,
+) -> Result<&'b Type<'a, 'b>, Failed>
+    ensures value { ReadsAs type_at parser.old parser.new result
+        (with_value (Some (arrays_of lengths.now (type_of element.now) qualifiers.0))) }
+    ensures stays { Stays parser.old parser.new result }
+{
+    let Some(types) = list_of(parser.arena, element) else {
+        return Err(parser.no_memory());
+    };
+    let names: &[&Name<'a, 'b>] = &[];
+    let shape = parser.put(Shape {
+        row: rows::ARRAYS,
+        qualifiers,
+        numbers: lengths,
+        text: b"",
+        names,
+        types: types.items,
+    })?;
+    parser.put_type(Type::Shape(shape))
+}
+
+/// Stores a pointer to a member of a class.
+#[inline(never)]
+pub fn put_member_pointer<'a, 'b, L: NodeBudget, A: Allocator>(
+    parser: &mut Parser<'a, 'b, L, A>,
+    class: &'b Name<'a, 'b>,
+    member: &'b Type<'a, 'b>,
+    qualifiers: StorageClass,
+) -> Result<&'b Type<'a, 'b>, Failed>
+    ensures value { ReadsAs type_at parser.old parser.new result
+        (with_value (Some (member_pointer (name_of class.now) (type_of member.now) qualifiers.0))) }
+    ensures stays { Stays parser.old parser.new result }
+{
+    let Some(names) = list_of(parser.arena, class) else {
+        return Err(parser.no_memory());
+    };
+    let Some(types) = list_of(parser.arena, member) else {
+        return Err(parser.no_memory());
+    };
+    let numbers: &[Number] = &[];
+    let shape = parser.put(Shape {
+        row: rows::MEMBER_POINTER,
+        qualifiers,
+        numbers,
+        text: b"",
+        names: names.items,
+        types: types.items,
+    })?;
+    parser.put_type(Type::Shape(shape))
+}
+
+/// Stores a name of a row that has nothing in it.
+pub fn put_empty_name<'a, 'b, L: NodeBudget, A: Allocator>(
+    parser: &mut Parser<'a, 'b, L, A>,
+    row: u8,
+) -> Result<&'b Name<'a, 'b>, Failed>
+    ensures value { ReadsAs name_at parser.old parser.new result
+        (with_value (Some (shaped row 0 [] [] no_names no_types))) }
+    ensures stays { Stays parser.old parser.new result }
+{
+    let numbers: &[Number] = &[];
+    let names: &[&Name<'a, 'b>] = &[];
+    let types: &[&Type<'a, 'b>] = &[];
+    let shape = parser.put(Shape {
+        row,
+        qualifiers: StorageClass::empty(),
+        numbers,
+        text: b"",
+        names,
+        types,
+    })?;
+    parser.put_name(Name::Shape(shape))
+}
+
+/// Stores a name of a row that has a name.
+#[inline(never)]
+pub fn put_named_name<'a, 'b, L: NodeBudget, A: Allocator>(
+    parser: &mut Parser<'a, 'b, L, A>,
+    row: u8,
+    name: &'b Name<'a, 'b>,
+) -> Result<&'b Name<'a, 'b>, Failed>
+    ensures value { ReadsAs name_at parser.old parser.new result
+        (with_value (Some (shaped row 0 [] [] (names (name_of name.now) no_names) no_types))) }
+    ensures stays { Stays parser.old parser.new result }
+{
+    let Some(names) = list_of(parser.arena, name) else {
+        return Err(parser.no_memory());
+    };
+    let numbers: &[Number] = &[];
+    let types: &[&Type<'a, 'b>] = &[];
+    let shape = parser.put(Shape {
+        row,
+        qualifiers: StorageClass::empty(),
+        numbers,
+        text: b"",
+        names: names.items,
+        types,
+    })?;
+    parser.put_name(Name::Shape(shape))
+}
+
+/// Stores a scope inside a function.
+#[inline(never)]
+pub fn put_frame<'a, 'b, L: NodeBudget, A: Allocator>(
+    parser: &mut Parser<'a, 'b, L, A>,
+    number: Number,
+    function: &'b Name<'a, 'b>,
+) -> Result<&'b Name<'a, 'b>, Failed>
+    ensures value { ReadsAs name_at parser.old parser.new result
+        (with_value (Some (shaped 6 0 (number ∷ []) [] (names (name_of function.now) no_names) no_types))) }
+    ensures stays { Stays parser.old parser.new result }
+{
+    let Some(numbers) = list_of(parser.arena, number) else {
+        return Err(parser.no_memory());
+    };
+    let Some(names) = list_of(parser.arena, function) else {
+        return Err(parser.no_memory());
+    };
+    let types: &[&Type<'a, 'b>] = &[];
+    let shape = parser.put(Shape {
+        row: rows::FRAME,
+        qualifiers: StorageClass::empty(),
+        numbers: numbers.items,
+        text: b"",
+        names: names.items,
+        types,
+    })?;
+    parser.put_name(Name::Shape(shape))
+}
+
+/// Counts and stores an operator with nothing in it.
+#[inline(never)]
+pub fn new_operator<'a, 'b, L: NodeBudget, A: Allocator>(
+    parser: &mut Parser<'a, 'b, L, A>,
+    kind: PlainOperator,
+) -> Result<&'b Name<'a, 'b>, Failed>
+    ensures value { ReadsAs name_at parser.old parser.new result
+        (λ left s. in_node left s (with_value (Some (tree.operator kind)))) }
+    ensures stays { Stays parser.old parser.new result }
+{
+    parser.count_node()?;
+    parser.put_name(Name::Plain(kind))
+}
+
+/// Stores a class as a symbol without a type, whose node it counts. That of the symbol is already counted.
+#[tactic(auto, using(msvc_cursor::proofs::Nodes::views), unfolding(msvc_rules::specs::Readers::counting, msvc_nodes::specs::NodeView::name_of, msvc_nodes::specs::NodeView::type_of))]
+#[inline(never)]
+pub fn put_class<'a, 'b, L: NodeBudget, A: Allocator>(
+    parser: &mut Parser<'a, 'b, L, A>,
+    symbol: &'b Symbol<'a, 'b>,
+) -> Result<&'b Name<'a, 'b>, Failed>
+    ensures value { ReadsAs name_at parser.old parser.new result
+        (λ left s. in_node left s (with_value (Some (nested (name_of symbol.now.name.now)
+        (name_trees (map name_at symbol.now.scope.now)) (plain plain_kind.None))))) }
+    ensures stays { Stays parser.old parser.new result }
+{
+    let symbol_type = parser.new_plain(PlainType::None)?;
+    let class = parser.put_typed_symbol(symbol, symbol_type)?;
+    parser.put_nested(class)
+}
+
+/// Reads the end of a signature, `"_E" | "Z"`, and stores its parts with the parameters on the list.
+#[inline(never)]
+pub fn put_signature<'a, 'b, L: NodeBudget, A: Allocator>(
+    parser: &mut Parser<'a, 'b, L, A>,
+    convention: Convention,
+    class: FuncClass,
+    qualifiers: StorageClass,
+    returned: &'b Type<'a, 'b>,
+    checkpoint: Checkpoint,
+) -> Result<&'b Function<'a, 'b>, Failed>
+    requires { checkpoint.from ≤ length (enclosing parser.old.listed_types) }
+    ensures value { ReadsAs signature_at parser.old parser.new result
+        (read (signature_end qualifiers.0 convention (type_of returned.now)
+        (map type_at (current parser.old.listed_types)))) }
+    ensures given { IfOk result (λ f. f.now.class.0 ≡ class.0) }
+    ensures shorter { IfOk result (λ _. length parser.new.rest.now < length parser.old.rest.now) }
+    ensures kept { EndsTypes checkpoint parser.old parser.new result }
+{
+    if parser.consume(b"_E") {
+        let with_noexcept = noexcept().union(qualifiers);
+        return parser.put_parts(convention, class, with_noexcept, returned, checkpoint);
+    }
+    parser.expect(b"Z", Message::ZExpected)?;
+    parser.put_parts(convention, class, qualifiers, returned, checkpoint)
+}
