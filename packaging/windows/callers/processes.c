@@ -102,12 +102,12 @@ static bool is_silent(struct run *run, int stream)
     return !ReadFile(run->ends[stream], &byte, 1, &count, NULL) || count == 0;
 }
 
-/* Closes the program's input. Returns whether it ends with this status within ten seconds. */
+/* Closes the program's input. Returns whether it ends with this status within a minute. */
 static bool ends(struct run *run, DWORD status)
 {
     DWORD found = 0;
     leave(run, INPUT_END);
-    bool good = WaitForSingleObject(run->process, 10000) == WAIT_OBJECT_0 &&
+    bool good = WaitForSingleObject(run->process, 60000) == WAIT_OBJECT_0 &&
                 GetExitCodeProcess(run->process, &found) && found == status;
     TerminateProcess(run->process, 99);
     CloseHandle(run->process);
