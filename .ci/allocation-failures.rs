@@ -3,9 +3,9 @@
 //! the call that returns the error for memory, and prints its name.
 
 use msvc_demangler::{
-    BackReference, DemangleFlags, Demangler, Error, Fault, Limit, ParseResult, Watched, back_references, demangle,
-    demangle_within, filter_slice, filter_text, parse, parse_prefix, parse_within, serialize, symbol_length,
-    symbol_length_within, undname_lines,
+    BackReference, DemangleFlags, Demangler, Error, Failure, Fault, Grammar, Limit, Limits, ParseResult, Watched,
+    back_references, demangle, demangle_within, filter_slice, filter_slice_in, filter_text, filter_text_in, parse,
+    parse_prefix, parse_within, serialize, symbol_length, symbol_length_within, undname_lines,
 };
 use std::alloc::{AllocError, Global};
 use std::fmt;
@@ -292,25 +292,31 @@ fn lines(rt: &HostRuntime) -> Result<(), AllocError> {
     Ok(())
 }
 
-/// Runs over a text, likewise.
-fn filter(rt: &HostRuntime) -> Result<(), AllocError> {
+/// Runs over a text, likewise: without a demangler for the crate's grammar, and with one for Full.
+fn filter(rt: &HostRuntime, grammar: Grammar) -> Result<(), AllocError> {
     let mut input = Watched::new(UNFILTERED);
     let mut out = Watched::new(buffer(rt)?);
-    let done = filter_text(rt.alloc(), &mut input, &mut out, DemangleFlags::llvm());
+    let mut demangler = Demangler::with_grammar(rt.alloc(), grammar);
+    let flags = DemangleFlags::llvm();
+    let (name, done) = match grammar {
+        Grammar::Crate => ("filter_text", filter_text(rt.alloc(), &mut input, &mut out, flags)),
+        Grammar::Full => ("full.filter_text_in", filter_text_in(&mut demangler, &mut input, &mut out, flags)),
+    };
     check(rt, "failed", !input.failed() && !out.failed());
     let out = out.into_inner();
     if done == Err(Fault::Memory) {
-        let _ = println!(rt; "filter_text");
-        check(rt, "filter_text", begins_with_lines(FILTERED, &out));
+        let _ = println!(rt; "{name}");
+        check(rt, name, begins_with_lines(FILTERED, &out));
+        check(rt, name, demangler.demangle("?x@@3HA", flags).is_ok());
         return Err(AllocError);
     }
-    check(rt, "filter_text", done == Ok(()) && *out == *FILTERED);
+    check(rt, name, done == Ok(()) && *out == *FILTERED);
     Ok(())
 }
 
 /// Calls a kept demangler: after an allocation failure the next call succeeds.
-fn kept(rt: &HostRuntime, symbol: &str) -> Result<(), AllocError> {
-    let mut demangler = Demangler::new(rt.alloc());
+fn kept(rt: &HostRuntime, grammar: Grammar, symbol: &str) -> Result<(), AllocError> {
+    let mut demangler = Demangler::with_grammar(rt.alloc(), grammar);
     let flags = DemangleFlags::COMPLETE;
     match demangler.demangle(symbol, flags) {
         Ok(_) => Ok(()),
@@ -321,16 +327,122 @@ fn kept(rt: &HostRuntime, symbol: &str) -> Result<(), AllocError> {
     }
 }
 
-/// Filters a slice.
-fn slice(rt: &HostRuntime) -> Result<(), AllocError> {
+/// Filters a slice, likewise.
+fn slice(rt: &HostRuntime, grammar: Grammar) -> Result<(), AllocError> {
     let mut out = [0; CAPACITY];
-    let Ok(filtered) = filter_slice(rt.alloc(), UNFILTERED, DemangleFlags::llvm(), &mut out) else {
-        let _ = println!(rt; "filter_slice");
+    let mut demangler = Demangler::with_grammar(rt.alloc(), grammar);
+    let flags = DemangleFlags::llvm();
+    let (name, done) = match grammar {
+        Grammar::Crate => ("filter_slice", filter_slice(rt.alloc(), UNFILTERED, flags, &mut out)),
+        Grammar::Full => ("full.filter_slice_in", filter_slice_in(&mut demangler, UNFILTERED, flags, &mut out)),
+    };
+    let Ok(filtered) = done else {
+        let _ = println!(rt; "{name}");
+        check(rt, name, demangler.demangle("?x@@3HA", flags).is_ok());
         return Err(AllocError);
     };
     let written = &out[..filtered.written];
-    check(rt, "filter_slice", filtered.length == FILTERED.len() && written == FILTERED);
+    check(rt, name, filtered.length == FILTERED.len() && written == FILTERED);
     Ok(())
+}
+
+/// Makes each call of a demangler of Full on a symbol, by one without memory each.
+fn full(rt: &HostRuntime, row: &Row<'_>) -> Result<(), AllocError> {
+    full_text(rt, row)?;
+    full_text_within(rt, row)?;
+    full_length(rt, row)?;
+    full_declaration(rt, row)?;
+    full_declare(rt, row)?;
+    full_measure(rt, row)?;
+    full_digits(rt, row)
+}
+
+fn full_text(rt: &HostRuntime, row: &Row<'_>) -> Result<(), AllocError> {
+    let mut demangler = Demangler::with_grammar(rt.alloc(), Grammar::Full);
+    let text = demangler.demangle(row.symbol, DemangleFlags::COMPLETE);
+    let done = ended(compare(rt, "full.demangle", row, text, |text| *text == row.text));
+    again(rt, &mut demangler, row, done)
+}
+
+fn full_text_within(rt: &HostRuntime, row: &Row<'_>) -> Result<(), AllocError> {
+    let mut demangler = Demangler::with_grammar(rt.alloc(), Grammar::Full);
+    let text = demangler.demangle_within(row.symbol, DemangleFlags::COMPLETE, NODES, row.text.len());
+    let done = ended(compare(rt, "full.demangle_within", row, text, |text| *text == row.text));
+    again(rt, &mut demangler, row, done)
+}
+
+fn full_length(rt: &HostRuntime, row: &Row<'_>) -> Result<(), AllocError> {
+    let mut demangler = Demangler::with_grammar(rt.alloc(), Grammar::Full);
+    let bytes = demangler.symbol_length_within(row.symbol, NODES);
+    let done = ended(compare(rt, "full.symbol_length_within", row, bytes, |bytes| prints(bytes, row.length)));
+    again(rt, &mut demangler, row, done)
+}
+
+fn full_declaration(rt: &HostRuntime, row: &Row<'_>) -> Result<(), AllocError> {
+    let mut demangler = Demangler::with_grammar(rt.alloc(), Grammar::Full);
+    let limits = Limits::new(NODES, row.text.len());
+    let text = demangler.declaration(Grammar::Full, row.symbol, DemangleFlags::COMPLETE, limits);
+    let text = with_error(rt, row, text);
+    let done = ended(compare(rt, "full.declaration", row, text, |text| *text == row.text));
+    again(rt, &mut demangler, row, done)
+}
+
+fn full_declare(rt: &HostRuntime, row: &Row<'_>) -> Result<(), AllocError> {
+    let mut demangler = Demangler::with_grammar(rt.alloc(), Grammar::Full);
+    let limits = Limits::new(NODES, row.text.len());
+    let bytes = demangler.declare(Grammar::Full, row.symbol, DemangleFlags::COMPLETE, limits);
+    let bytes = with_error(rt, row, bytes);
+    let declared = demangler.declared() == row.text.as_bytes();
+    let done = ended(compare(rt, "full.declare", row, bytes, |bytes| declared && prints(bytes, row.length)));
+    again(rt, &mut demangler, row, done)
+}
+
+fn full_measure(rt: &HostRuntime, row: &Row<'_>) -> Result<(), AllocError> {
+    let mut demangler = Demangler::with_grammar(rt.alloc(), Grammar::Full);
+    let bytes = demangler.measure(Grammar::Full, row.symbol, Limits::new(NODES, row.text.len()));
+    let bytes = with_error(rt, row, bytes);
+    let done = ended(compare(rt, "full.measure", row, bytes, |bytes| prints(bytes, row.length)));
+    again(rt, &mut demangler, row, done)
+}
+
+fn full_digits(rt: &HostRuntime, row: &Row<'_>) -> Result<(), AllocError> {
+    let mut demangler = Demangler::with_grammar(rt.alloc(), Grammar::Full);
+    let found = demangler.back_references(row.symbol);
+    let done = ended(compare(rt, "full.back_references", row, found, |found| lists(found, row.digits)));
+    again(rt, &mut demangler, row, done)
+}
+
+/// Converts the failure of a call to its error.
+fn with_error<T: Drop>(rt: &HostRuntime, row: &Row<'_>, outcome: Result<T, Failure>) -> Result<T, Error> {
+    match outcome {
+        Ok(given) => Ok(given),
+        Err(failure) => Err(failure.error(rt.alloc(), row.symbol)),
+    }
+}
+
+/// Drops what a call returned, which may borrow from its demangler. Fails if the call ran out of memory.
+fn ended<T: Drop>(outcome: Result<Option<T>, AllocError>) -> Result<(), AllocError> {
+    match outcome {
+        Ok(_) => Ok(()),
+        Err(error) => Err(error),
+    }
+}
+
+/// Calls a demangler again after an allocation failure: it returns the usual result.
+fn again(
+    rt: &HostRuntime,
+    demangler: &mut Demangler,
+    row: &Row<'_>,
+    done: Result<(), AllocError>,
+) -> Result<(), AllocError> {
+    if done.is_err() {
+        let right = match demangler.demangle(row.symbol, DemangleFlags::COMPLETE) {
+            Ok(text) => text == row.text,
+            Err(error) => row.length.is_empty() && prints(&error, row.text),
+        };
+        check(rt, "Demangler", right);
+    }
+    done
 }
 
 /// Prints a declaration that exceeds the limit on bytes.

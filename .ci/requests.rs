@@ -1,7 +1,7 @@
 //! The program of .ci/requests: a kept demangler reads as many of the symbols as standard input has bytes.
 #![tactic(auto)]
 
-use msvc_demangler::{DemangleFlags, Demangler, Limits};
+use msvc_demangler::{DemangleFlags, Demangler, Grammar, Limits};
 use std::io::{self, Read};
 
 /// Symbols; the first needs at least as much memory as each other one.
@@ -21,7 +21,9 @@ fn main(rt: HostRuntime) -> io::Result<()> {
     let mut bytes = [0u8; 64];
     let count = rt.stdin().read(&mut bytes)?;
     for symbol in &SYMBOLS[..count.min(SYMBOLS.len())] {
-        let _ = demangler.declaration(symbol, DemangleFlags::llvm(), Limits::none()).is_ok();
+        let flags = DemangleFlags::llvm();
+        let limits = Limits::none();
+        let _ = demangler.declaration(Grammar::Crate, symbol, flags, limits).is_ok();
     }
     Ok(())
 }

@@ -2,10 +2,12 @@
 _msvcfilt() {
   local options='-s --symbols -n --name-only --no-calling-convention --no-access-specifier --no-member-type
     --no-function-returns --no-this-type --no-class-type --with-ptr64 --ms-typenames --space-after-comma --hug-type
-    --space-before-pointer --flags -h --help -V --version'
+    --space-before-pointer --flags --grammar -h --help -V --version'
   COMPREPLY=()
   if [[ $3 == --flags ]]; then
     compopt +o default
+  elif [[ $3 == --grammar ]]; then
+    COMPREPLY=($(compgen -W 'crate full' -- "$2"))
   elif [[ $2 == -* && " ${COMP_WORDS[*]:0:COMP_CWORD} " != *' -- '* ]]; then
     COMPREPLY=($(compgen -W "$options" -- "$2"))
   fi

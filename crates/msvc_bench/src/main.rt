@@ -3,9 +3,12 @@
 //!     msvc_bench < stdin
 //!     msvc_bench prefix < prefix.tsv
 //!     msvc_bench within NODES < symbols
+//!     msvc_bench within-full NODES < symbols
 //!     msvc_bench hostile SEED COUNT < stdin
+//!     msvc_bench hostile-full SEED COUNT < stdin
 //!     msvc_bench measure ROUNDS < names
 //!     msvc_bench kept ROUNDS < names
+//!     msvc_bench kept-full ROUNDS < names
 #![tactic(auto)]
 
 mod calls;
@@ -15,25 +18,35 @@ mod fuse;
 mod limits;
 mod lines;
 mod measure;
-mod rows;
 mod streams;
 
+use msvc_demangler::Grammar;
 use msvc_hostile::{hostile, prefix, within};
 use std::{env, io};
 
 fn main(rt: HostRuntime) -> io::Result<()> {
     let mut words = env::args(&rt)?.skip(1);
     let Some(command) = words.next() else {
-        return rows::compare(&rt);
+        return msvc_rows::compare(&rt, Grammar::Crate);
     };
     let first = number(words.next());
     let second = number(words.next());
+    let grammar = grammar_of(command.as_str());
     match command.as_str() {
         "prefix" => prefix::compare(&rt),
-        "within" => within::reject(&rt, first),
-        "hostile" => hostile::run(&rt, first, second),
-        "kept" => measure::measure_kept(&rt, first),
+        "within" | "within-full" => within::reject(&rt, grammar, first),
+        "hostile" | "hostile-full" => hostile::run(&rt, grammar, first, second),
+        "kept" | "kept-full" => measure::measure_kept(&rt, grammar, first),
         _ => measure::measure(&rt, first),
+    }
+}
+
+/// Returns the grammar of a command.
+fn grammar_of(command: &str) -> Grammar {
+    if command.ends_with("-full") {
+        Grammar::Full
+    } else {
+        Grammar::Crate
     }
 }
 

@@ -1,8 +1,8 @@
 //! Measures the time of the demangler for names, in one process: `msvc_bench measure ROUNDS` with the names as lines of
-//! standard input, and `msvc_bench kept ROUNDS` with one kept demangler. `tools/measure/run` compares both with LLVM's
-//! library.
+//! standard input, `msvc_bench kept ROUNDS` with one kept demangler, `msvc_bench kept-full ROUNDS` with one of Full.
+//! `tools/measure/run` compares the first two with LLVM's library.
 
-use msvc_demangler::{DemangleFlags, Demangler, demangle};
+use msvc_demangler::{DemangleFlags, Demangler, Grammar, demangle};
 use std::alloc::Global;
 use std::io;
 use std::time::{Duration, Instant};
@@ -24,10 +24,10 @@ pub fn measure(rt: &HostRuntime, rounds: u64) -> io::Result<()> {
     print_round(rt, fastest, bytes)
 }
 
-/// Does the same by one demangler, which is kept from name to name and from round to round.
-pub fn measure_kept(rt: &HostRuntime, rounds: u64) -> io::Result<()> {
+/// Does the same by one demangler of a grammar, which is kept from name to name and from round to round.
+pub fn measure_kept(rt: &HostRuntime, grammar: Grammar, rounds: u64) -> io::Result<()> {
     let names = read_names(rt)?;
-    let mut demangler = Demangler::new(rt.alloc());
+    let mut demangler = Demangler::with_grammar(rt.alloc(), grammar);
     let mut fastest = Duration::MAX;
     let mut bytes = 0;
     for _ in 0..rounds {

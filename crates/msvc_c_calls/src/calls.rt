@@ -15,7 +15,7 @@ use crate::{
     status_of, write,
 };
 use bumpalo::Bump;
-use msvc_demangler::{DemangleFlags, Demangler, Failure, Limits, filter_slice_in};
+use msvc_demangler::{DemangleFlags, Demangler, Failure, Grammar, Limits, filter_slice_as};
 use std::alloc::Allocator;
 
 /// Writes that memory ran out, and returns that.
@@ -64,7 +64,7 @@ pub fn declare<A: Allocator + Copy>(
     ensures { (shown : List ℕ) × IsFound limits symbol.now flags.0 result.status result.offset shown
         × (result.length ≡ length shown) × IsWritten shown out.old out.new }
 {
-    let failure = match demangler.declaration(symbol, flags, limits) {
+    let failure = match demangler.declaration(Grammar::Crate, symbol, flags, limits) {
         Ok(declaration) => {
             return CallResult {
                 status: OK,
@@ -85,7 +85,7 @@ pub fn measure<A: Allocator + Copy>(
 ) -> CallResult
     ensures { IsMeasured limits symbol.now result.status result.offset result.length }
 {
-    match demangler.measure(symbol, limits) {
+    match demangler.measure(Grammar::Crate, symbol, limits) {
         Ok(length) => CallResult {
             status: OK,
             offset: 0,
@@ -106,7 +106,7 @@ pub fn filter<A: Allocator + Copy>(
     ensures offset { result.offset ≡ 0 }
 {
     let room = out.len().saturating_sub(1);
-    let found = filter_slice_in(demangler, input, flags, &mut out[..room]);
+    let found = filter_slice_as(demangler, Grammar::Crate, input, flags, &mut out[..room]);
     end_filtered(found, out)
 }
 

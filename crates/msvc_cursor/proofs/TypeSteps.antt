@@ -1,7 +1,7 @@
 -- Step lemmas of types, by the text that a type begins with.
-use Rattle.std.proofs.Common.{ℕ, ℤ, pos, negsuc, zero, suc, List, [], ◌∷◌, Option, Some, None, true, cond, not}
+use Rattle.std.proofs.Common.{ℕ, ℤ, pos, negsuc, zero, suc, List, [], ◌∷◌, Option, Some, None}
 use Rattle.std.proofs.Common.{◌≡◌, refl, sym, ap, ◌∙◌}
-use Rattle.std.specs.Prelude.{is_some, slice_get, codes, bit_or, unwrap_or}
+use Rattle.std.specs.Prelude.{slice_get, codes, bit_or, unwrap_or}
 use Rattle.std.specs.Option.{option_map, option_map_or}
 use Rattle.std.specs.Int.{int_wrapping_neg, w32}
 use Rattle.msvc_nodes.specs.Trees as tree
@@ -11,14 +11,12 @@ use Rattle.msvc_nodes.specs.declared.kinds.TagKind.{TagKind}
 use Rattle.msvc_nodes.specs.declared.kinds.NumberedType.TheVariants as number_kind
 use Rattle.msvc_nodes.specs.declared.kinds.PlainType.TheVariants as plain_kind
 use Rattle.msvc_nodes.specs.Trees.{TypeTree, name_trees, numbered, plain, pointing, tagged}
-use Rattle.msvc_cursor.specs.Parser.{byte_here, found_or, this_or, text_at}
+use Rattle.msvc_cursor.specs.Parser.{byte_here, found_or, text_at}
 use Rattle.msvc_nodes.specs.declared.kinds.PointerAffinity.TheVariants as mark_kind
 use Rattle.msvc_nodes.specs.declared.kinds.TagKind.TheVariants as tag_kind
-use Rattle.msvc_rules.specs.Readers.{Found, read_by, letter_here, with_value, type_known, after_literal, and_then}
-use Rattle.msvc_rules.specs.Readers.{in_node, or_else}
-use Rattle.msvc_rules.specs.Rules.{some_of, begins, after, lookup, Rule, give, letter, literal, call, literal_or}
-use Rattle.msvc_rules.specs.Rules.{optional, every, text_and, text_or, texts_of, ◌>>=◌}
-use Rattle.msvc_rules.specs.Sorts.{Sort, bits, type_tree, TypeLetter, arrayed, based, extended, indexed, named, points}
+use Rattle.msvc_rules.specs.Readers.{Found, read_by, letter_here, with_value, type_known, and_then, in_node}
+use Rattle.msvc_rules.specs.Rules.{after, lookup, Rule, give, letter, literal, call, literal_or, optional, ◌>>=◌}
+use Rattle.msvc_rules.specs.Sorts.{bits, type_tree, TypeLetter, arrayed, based, extended, indexed, named, points}
 use Rattle.msvc_rules.specs.Sorts.{referred}
 use Rattle.msvc_rules.specs.State.{State}
 use Rattle.msvc_grammar.specs.Grammar.{grammar, array_class, arrays}
@@ -28,15 +26,13 @@ use Rattle.msvc_grammar.specs.Productions.{Production, type_, plain_type, type_a
 use Rattle.msvc_grammar.specs.Productions.{positive, lengths, qualified_name, number, function_type, member_pointer}
 use Rattle.msvc_grammar.specs.Productions.{prefixed_type}
 use Rattle.msvc_grammar.specs.Reading.{read_name, read}
-use Rattle.msvc_rules.proofs.Checks.{apart_texts, differ}
-use Rattle.msvc_rules.proofs.FirstSets.{differ-never, if_both}
 use Rattle.msvc_grammar.proofs.Checks.{no_text_begins_another}
 use Rattle.msvc_grammar.proofs.Laws.{read_name-is}
 use Rattle.msvc_grammar.specs.declared.forms.TypePrefix.TheVariants as form
 use Rattle.msvc_grammar.specs.declared.forms.ObjectQualifiers.TheVariants as object_qualifiers
 use Rattle.msvc_grammar.specs.declared.forms.MemberPointerForm.TheVariants as pointer_form
 use Rattle.msvc_grammar.specs.declared.forms.TemplateNames.TheVariants as templates
-use Rattle.msvc_cursor.proofs.Choices.{or_none, chosen, literal_or-is, lookup-rows, letter_step, letter_following}
+use Rattle.msvc_cursor.proofs.Choices.{chosen, literal_or-is, lookup-rows, letter_step, letter_following}
 use Rattle.msvc_cursor.proofs.Choices.{by_text, text_or-is}
 
 -- Types

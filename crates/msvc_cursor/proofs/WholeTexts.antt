@@ -61,7 +61,8 @@ module _ {D : Dialect} (L : Lawful D) where
   -- the grammar derives the tree, with so many bytes before the rest
   abbrev DerivedTo : List ℕ → SymbolTree → ℕ → Type 0
   DerivedTo text tree n =
-      (rest : List ℕ) × (notes : List Note) × (derived : DerivesIn D.grammar text tree rest notes) × (length text - length rest ≡ n)
+      (rest : List ℕ) × (notes : List Note) × (derived : DerivesIn D.grammar text tree rest notes)
+      × (length text - length rest ≡ n)
 
   -- bytes before others are as many as the text has more than these
   front : (text consumed rest : List ℕ) (n : ℕ) → text ≡ consumed ++ rest → length text - length rest ≡ n → length
@@ -74,8 +75,11 @@ module _ {D : Dialect} (L : Lawful D) where
       → (consumed : List ℕ) × (text ≡ consumed ++ rest) × (length consumed ≡ n)
   left-after text tree n found other rest notes d =
       let same : rest ≡ found.0 = (derived-only L.fit text other tree rest found.0 notes found.1 d found.2).1 in
-      let consumed : IsTail text rest = tail L.fit d.1 in
-      (consumed.0, consumed.1, front text consumed.0 rest n consumed.1 (ap (λ z. length text - length z) same ∙ found.3))
+      let consumed : IsTail text rest = tail L.fit d.1 in (
+        consumed.0,
+        consumed.1,
+        front text consumed.0 rest n consumed.1 (ap (λ z. length text - length z) same ∙ found.3),
+      )
 
   read-to : (text : List ℕ) (tree : SymbolTree) (n : ℕ) → DerivedTo text tree n
       → (other : SymbolTree) (rest : List ℕ) (notes : List Note) → DerivesIn D.grammar text other rest notes
@@ -86,7 +90,8 @@ module _ {D : Dialect} (L : Lawful D) where
       ap (λ m. take m text) (sym left.2) ∙ ap (take (length left.0)) left.1 ∙ take-append_seam left.0 rest in (
         omega (arith, left.2, ap length left.1, length-append left.0 rest),
         left.1 ∙ ap (λ z. z ++ rest) (sym cut),
-        subst (λ z. DerivesIn D.grammar z other [] notes) (sym cut) (derived-alone L.fit text left.0 other rest notes left.1 d),
+        subst (λ z. DerivesIn D.grammar z other [] notes) (sym cut)
+            (derived-alone L.fit text left.0 other rest notes left.1 d),
       )
 
   boundary : (text : List ℕ) (tree : SymbolTree) (n : ℕ) → IsUtf8 text → DerivedTo text tree n → IsCharBoundary text n
@@ -123,7 +128,8 @@ module _ {D : Dialect} (L : Lawful D) where
 
   -- what is read of a text under a limit: the tree, how many bytes, and the digits that were read as whole parameters
   abbrev pub symbol_under : Option ℕ → List ℕ → Option (SymbolTree × ℕ × List Note)
-  symbol_under nodes text = with_length text (read_name_in D.grammar D.grammar.start text (beginning_with (count_under nodes) text))
+  symbol_under nodes text =
+      with_length text (read_name_in D.grammar D.grammar.start text (beginning_with (count_under nodes) text))
 
   whole : (text : List ℕ) (r : Found SymbolTree) (tree : SymbolTree) (n : ℕ) (notes : List Note)
       → with_length text r ≡ Some (tree, n, notes)
@@ -155,7 +161,8 @@ module _ {D : Dialect} (L : Lawful D) where
         tt,
       )
   read-derived (Some max) text tree n notes e =
-      let found = whole text (read_name_in D.grammar D.grammar.start text (beginning_with (at_most max) text)) tree n notes e in
+      let found = whole text
+      (read_name_in D.grammar D.grammar.start text (beginning_with (at_most max) text)) tree n notes e in
       let within = within_derived L.fit L.counted text max tree found.0 found.1 found.2 in
       (found.0, subst (DerivesIn D.grammar text tree found.0) found.4 within.0, found.3, within.1)
 
@@ -188,9 +195,11 @@ module _ {D : Dialect} (L : Lawful D) where
   none text (Some x) k = absurd (cc)
 
   read-none : (nodes : Option ℕ) (text : List ℕ) → symbol_under nodes text ≡ None → IsNoSymbolIn D.grammar nodes text
-  read-none None text e = symbol-rejected L.fit text (none text (read_name_in D.grammar D.grammar.start text (beginning text)) e)
+  read-none None text e =
+      symbol-rejected L.fit text (none text (read_name_in D.grammar D.grammar.start text (beginning text)) e)
   read-none (Some max) text e =
-      within_rejected L.fit L.counted text max (none text (read_name_in D.grammar D.grammar.start text (beginning_with (at_most max) text)) e)
+      within_rejected L.fit L.counted text max
+      (none text (read_name_in D.grammar D.grammar.start text (beginning_with (at_most max) text)) e)
 
   at_rejected : (nodes : Option ℕ) (text : List ℕ) (left : ℕ) (e : ErrorRepr) → IsNoSymbolIn D.grammar nodes text
       → IsRejectionAt text (length text - left) e → IsRejectedRightlyIn D.grammar nodes text e
@@ -203,8 +212,8 @@ module _ {D : Dialect} (L : Lawful D) where
   at_rejected nodes text left (error.FromUtf8 m) none h = absurd h
 
   -- the error that a caller sees says what the failure inside the reader says
-  error-rejected : (nodes : Option ℕ) (text : List ℕ) (r : Failure) (e : ErrorRepr) → Rejects r (symbol_under nodes text)
-      → IsErrorOf r text e → IsRejectedRightlyIn D.grammar nodes text e
+  error-rejected : (nodes : Option ℕ) (text : List ℕ) (r : Failure) (e : ErrorRepr)
+      → Rejects r (symbol_under nodes text) → IsErrorOf r text e → IsRejectedRightlyIn D.grammar nodes text e
   error-rejected nodes text failure.Memory e h is =
       subst (λ (x : ErrorRepr). IsRejectedRightlyIn D.grammar nodes text x) (sym is) tt
   error-rejected nodes text (failure.Rejected message left) e h is =
@@ -237,7 +246,8 @@ module _ {D : Dialect} (L : Lawful D) where
   error-about None e about none (inl same) = same ∙ none
   error-about None e about none (inr other) = other
   error-about (Some max) e about other (inl same) = λ bytes. other (sym same ∙ bytes)
-  error-about (Some max) e about other (inr none) = λ bytes. let no : None ≡ Some Bytes = sym none ∙ bytes in absurd (cc)
+  error-about (Some max) e about other (inr none) =
+      λ bytes. let no : None ≡ Some Bytes = sym none ∙ bytes in absurd (cc)
 
   -- a text that doesn't begin with a question mark is rejected at its beginning
   rejected-at-once : {A : Type 0} (text : List ℕ) (r : Failure) (e : ErrorRepr)
@@ -249,8 +259,8 @@ module _ {D : Dialect} (L : Lawful D) where
       let here : length text - length text ≡ 0 = omega arith in
       subst (λ n. IsRejectionAt text n e) here (subst (λ x. IsErrorOf x text e) same is).0
 
-  hashes-under : (nodes : Option ℕ) (text : List ℕ) (e : ErrorRepr) → IsRejectedRightlyIn D.grammar nodes text e → nodes ≡ None
-      → D.AreRead text e
+  hashes-under : (nodes : Option ℕ) (text : List ℕ) (e : ErrorRepr) → IsRejectedRightlyIn D.grammar nodes text e
+      → nodes ≡ None → D.AreRead text e
   hashes-under None text e rightly unlimited = L.are_read text e rightly
   hashes-under (Some max) text e rightly unlimited = absurd (cc)
 

@@ -69,7 +69,8 @@ impl<'a, 'b, L: NodeBudget, A: Allocator> Parser<'a, 'b, L, A> {
     ) -> Result<&'b Name<'a, 'b>, Failed>
         requires { checkpoint.from ≤ length (enclosing self.old.listed_types) }
         ensures value { ReadsAs name_at self.old self.new result
-            (with_value (Some (template (name_of name.now) (type_trees (map type_at (current self.old.listed_types)))))) }
+            (with_value (Some (template (name_of name.now)
+            (type_trees (map type_at (current self.old.listed_types)))))) }
         ensures rest { IfOk result (λ _. self.new.rest.now ≡ self.old.rest.now) }
         ensures kept { EndsTypes checkpoint self.old self.new result }
     {

@@ -38,6 +38,8 @@ pub use Rattle.msvc_streams.specs.Streams
 pub use Rattle.msvc_streams.specs.declared.watched.Fault
 pub use Rattle.msvc_symbol.specs.Demangled
 pub use Rattle.msvc_symbol.specs.Failures
+pub use Rattle.msvc_symbol.specs.Grammars
+pub use Rattle.msvc_symbol.specs.declared.grammar.Grammar as GrammarNames
 pub use Rattle.msvc_tree.specs.Equality
 pub use Rattle.msvc_tree.specs.View
 pub use Rattle.msvc_write.specs.Serialized

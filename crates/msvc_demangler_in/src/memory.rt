@@ -5,7 +5,7 @@ ghost use Rattle.lent_memory.specs.Blocks.{no_memory};
 
 use bumpalo::Bump;
 use lent_memory::{Lent, Workspace};
-use msvc_demangler::{Demangler, Fuse, Text};
+use msvc_demangler::{Demangler, Fuse, Grammar, Text};
 
 /// Bytes of the pages that an arena's first chunk comes to.
 const PAGE: usize = 4096;
@@ -52,12 +52,12 @@ fn arena_in(memory: &Lent) -> Option<Bump<Fuse<&Lent>>> {
 pub(crate) fn demangler_in<'a>(arena: &'a Lent, text: &'a Lent) -> Option<Demangler<&'a Lent>> {
     let mut declaration = Text::new(text);
     match declaration.try_reserve(text.size()) {
-        Ok(()) => Some(Demangler::over(arena, arena_in(arena)?, declaration)),
+        Ok(()) => Some(Demangler::over(arena, Grammar::Crate, arena_in(arena)?, declaration)),
         Err(_) => None,
     }
 }
 
 /// Makes a demangler of all the memory that has none for a declaration: it can read a symbol, but not print it.
 pub(crate) fn demangler_without_text(arena: &Lent) -> Option<Demangler<&Lent>> {
-    Some(Demangler::over(arena, arena_in(arena)?, Text::new(arena)))
+    Some(Demangler::over(arena, Grammar::Crate, arena_in(arena)?, Text::new(arena)))
 }

@@ -9,6 +9,8 @@ use Rattle.msvc_demangler.specs.Filtered.{AreOnlyParts, IsFilteredFrom, IsFilter
 use Rattle.msvc_demangler.specs.Filtered.{IsSymbol, Part, declared, kept, max_declared, max_nodes, nothing, replaced}
 use Rattle.msvc_demangler.specs.Filtered.{stays, text_of_parts}
 use Rattle.msvc_demangler.specs.SymbolBounds.{candidate, continues, is_start, symbol_extent}
+use Rattle.msvc_demangler.specs.GrammarNames.TheVariants.{Crate}
+use Rattle.msvc_demangler.specs.Grammars.{under}
 use Rattle.msvc_filter.proofs.Replaced.{filtered-only, parts-only}
 use Rattle.msvc_filter.proofs.Symbols.{symbol-consumed, symbol-of}
 use Rattle.msvc_facts.proofs.Symbols.{Reading, read-derived, read-rejected, read_of}
@@ -43,8 +45,8 @@ symbol_at flags left = if_read flags left (read_of (candidate left))
 
 -- what it is, and that there is none
 abbrev IsFound : (flags : ℕ) (left : List ℕ) → Found → Type 0
-IsFound flags left None = IsNoStart flags left
-IsFound flags left (Some s) = IsSymbol flags left s.0 s.1
+IsFound flags left None = IsNoStart (under Crate flags) left
+IsFound flags left (Some s) = IsSymbol (under Crate flags) left s.0 s.1
 
 if_fits-is : (flags : ℕ) (left : List ℕ) (x : Reading) → Derives (candidate left) x.0 x.1 x.2.notes
     → node_count x.0 ≤ max_nodes
@@ -63,10 +65,10 @@ if_fits-is flags left x d few true false short ends = record {
   ends = ends;
 }
 if_fits-is flags left x d few true true short ends = λ bytes text other.
-    let one = symbol-of flags left bytes text x.0 x.1 x.2.notes d other in
+    let one = symbol-of (under Crate flags) left bytes text x.0 x.1 x.2.notes d other in
     true≢false (sym ends ∙ ap (λ n. continues (drop n left)) (sym one.3) ∙ other.ends)
 if_fits-is flags left x d few false goes_on long ends = λ bytes text other.
-    let one = symbol-of flags left bytes text x.0 x.1 x.2.notes d other in
+    let one = symbol-of (under Crate flags) left bytes text x.0 x.1 x.2.notes d other in
     let more = leb-false (length (declaration x.0 flags)) max_declared long in
     omega (arith, more, other.short, ap length one.4)
 
@@ -74,7 +76,7 @@ if_few-is : (flags : ℕ) (left : List ℕ) (x : Reading) → Derives (candidate
     → (few : Bool) → nat_le (node_count x.0) max_nodes ≡ few → IsFound flags left (if_few few flags left x)
 if_few-is flags left x d true few = if_fits-is flags left x d (leb-true _ _ few) _ _ refl refl
 if_few-is flags left x d false many = λ bytes text other.
-    let one = symbol-of flags left bytes text x.0 x.1 x.2.notes d other in
+    let one = symbol-of (under Crate flags) left bytes text x.0 x.1 x.2.notes d other in
     let more = leb-false (node_count x.0) max_nodes many in
     omega (arith, more, one.2, ap node_count one.1)
 
@@ -108,21 +110,22 @@ parts_from (suc most) flags last passed (b ∷ left) =
 
 abbrev AreFollowing : (most flags : ℕ) → Following → Type 0
 AreFollowing most flags go =
-    (last : ℕ) (passed left : List ℕ) → length left ≤ most → IsFilteredFrom flags last passed left (go last passed left)
+    (last : ℕ) (passed left : List ℕ) → length left ≤ most → IsFilteredFrom (under Crate flags) last passed left
+    (go last passed left)
 
 part_at-is : (most flags : ℕ) (go : Following) → AreFollowing most flags go → (last b : ℕ) (passed left : List ℕ)
     → length left ≤ most → is_start last passed b ≡ true → (s : Found) → IsFound flags (b ∷ left) s
-    → IsFilteredFrom flags last passed (b ∷ left) (part_at s go last b passed left)
+    → IsFilteredFrom (under Crate flags) last passed (b ∷ left) (part_at s go last b passed left)
 part_at-is most flags go goes last b passed left short start None none =
     stays (λ _. none) (goes last (b ∷ passed) left short)
 part_at-is most flags go goes last b passed left short start (Some s) is =
-    let some = symbol-consumed flags (b ∷ left) s.0 s.1 is in
+    let some = symbol-consumed (under Crate flags) (b ∷ left) s.0 s.1 is in
     replaced start is
     (goes (slice_index (b ∷ left) (s.0 - 1)) [] (drop s.0 (b ∷ left)) (omega (arith, length-drop s.0 (b ∷ left))))
 
 part_after-is : (most flags : ℕ) (go : Following) → AreFollowing most flags go → (last b : ℕ) (passed left : List ℕ)
     → length left ≤ most → (start : Bool) → is_start last passed b ≡ start
-    → IsFilteredFrom flags last passed (b ∷ left) (part_after start flags go last b passed left)
+    → IsFilteredFrom (under Crate flags) last passed (b ∷ left) (part_after start flags go last b passed left)
 part_after-is most flags go goes last b passed left short true start =
     part_at-is most flags go goes last b passed left short start (symbol_at flags (b ∷ left))
     (symbol_at-is flags (b ∷ left))
@@ -145,11 +148,11 @@ pub are_parts : {flags : ℕ} {bytes : List ℕ} {parts : List Part} → parts_o
     → AreOnlyParts flags bytes parts
 are_parts {flags} {bytes} {parts} e =
     let made = parts_from-are (length bytes) flags 10 [] bytes (omega arith) in
-    let are = subst (IsFilteredFrom flags 10 [] bytes) e made in
-    (are, λ others so. parts-only flags 10 [] bytes parts others are so)
+    let are = subst (IsFilteredFrom (under Crate flags) 10 [] bytes) e made in
+    (are, λ others so. parts-only (under Crate flags) 10 [] bytes parts others are so)
 
 pub is_made : {bytes text : List ℕ} → text_of_parts (parts_of 0 bytes) ≡ text → IsMade bytes text
 is_made {bytes} {text} e =
-    let is : IsFilteredText 0 bytes text =
+    let is : IsFilteredText (under Crate 0) bytes text =
     (parts_of 0 bytes, parts_from-are (length bytes) 0 10 [] bytes (omega arith), sym e) in
-    record { filtered = (is, λ other so. filtered-only 0 bytes text other is so) }
+    record { filtered = (is, λ other so. filtered-only (under Crate 0) bytes text other is so) }

@@ -5,12 +5,12 @@ pub mod Declarations
 pub mod Errors
 pub mod Filtered
 pub mod Filtering
+pub mod FullTexts
 pub mod Letters
 pub mod OnLiterals
 pub mod Reading
 pub mod Runs
 pub mod Same
-pub mod ShapeTexts
 pub mod Symbols
 pub mod Texts
 pub mod Trees

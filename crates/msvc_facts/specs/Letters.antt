@@ -23,7 +23,7 @@ use Rattle.msvc_grammar.specs.Letters.{special_texts, storage_classes, type_lett
 use Rattle.msvc_grammar.specs.declared.forms.SpecialForm.{SpecialForm}
 use Rattle.msvc_grammar.specs.declared.forms.SpecialForm.TheVariants as special
 use Rattle.msvc_grammar.specs.declared.forms.TypePrefix.TheVariants as form
-use Rattle.msvc_print.specs.Functions.{convention_word, member_words}
+use Rattle.msvc_print.specs.Functions.{spaced_convention, member_words}
 use Rattle.msvc_print.specs.Operators.{guard_word, operator_word}
 use Rattle.msvc_print.specs.Pieces.{resolve}
 use Rattle.msvc_print.specs.Words.{base_word, mark_word, tag_word, variable_word}
@@ -176,7 +176,7 @@ pub record AreTables : Type 0 where
   pub of_restricted : IsTable restricts "I" (32 ∷ [])
   pub of_unaligned : IsTable alignments "F" (16 ∷ [])
   pub of_references : IsTable reference_qualifiers "GH" (128 ∷ 256 ∷ [])
-  pub calls : with_words convention_word conventions ≡ row "A" convention.Cdecl "__cdecl "
+  pub calls : with_words spaced_convention conventions ≡ row "A" convention.Cdecl "__cdecl "
       ∷ row "B" convention.Cdecl "__cdecl " ∷ row "C" convention.Pascal "__pascal "
       ∷ row "E" convention.Thiscall "__thiscall " ∷ row "G" convention.Stdcall "__stdcall "
       ∷ row "I" convention.Fastcall "__fastcall " ∷ []

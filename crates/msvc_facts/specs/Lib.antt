@@ -3,9 +3,9 @@ pub mod Buffers
 pub mod Declarations
 pub mod Errors
 pub mod Filtered
+pub mod FullTexts
 pub mod Letters
 pub mod Runs
-pub mod ShapeTexts
 pub mod Symbols
 pub mod Texts
 pub mod Trees

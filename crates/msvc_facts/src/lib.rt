@@ -16,9 +16,9 @@ ghost use Rattle.msvc_facts.specs.Declarations.{
 };
 ghost use Rattle.msvc_facts.specs.Errors.{AreErrors};
 ghost use Rattle.msvc_facts.specs.Filtered.{AreCandidates, AreFiltered, AreFitting};
+ghost use Rattle.msvc_facts.specs.FullTexts.{AreFullTexts};
 ghost use Rattle.msvc_facts.specs.Letters.{AreTables};
 ghost use Rattle.msvc_facts.specs.Runs.{AreFaults, AreLineRuns};
-ghost use Rattle.msvc_facts.specs.ShapeTexts.{AreShapeTexts};
 ghost use Rattle.msvc_facts.specs.Texts.{AreAnswered, AreArguments, AreLines, AreWords};
 ghost use Rattle.msvc_facts.specs.Trees.{AreCounted, AreRefused, AreTrees};
 
@@ -38,7 +38,7 @@ pub fn facts()
     ensures types { AreTypes }
     ensures template_arguments { AreTemplateArguments }
     ensures flags { AreFlags }
-    ensures shapes { AreShapeTexts }
+    ensures full_texts { AreFullTexts }
     ensures errors { AreErrors }
     ensures lines { AreLines }
     ensures answers { AreAnswered }

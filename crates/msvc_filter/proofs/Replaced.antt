@@ -2,7 +2,7 @@
 -- another.
 use Rattle.std.proofs.Common.{◌≡◌, ◌≤◌, ◌<◌, ◌+◌, ◌-◌, ◌++◌, ◌∷◌, [], ◌∙◌, ◌⊎◌, inl, inr, ℕ, List, Bool, true, false}
 use Rattle.std.proofs.Common.{cond, suc, zero}
-use Rattle.std.proofs.Common.{Option, Some, None, length, drop, slice_index, nat_le, refl, sym, ap, subst, arith}
+use Rattle.std.proofs.Common.{Some, None, length, drop, slice_index, nat_le, refl, sym, ap, subst, arith}
 use Rattle.std.proofs.Common.{append_assoc, length-append, length-drop}
 use Rattle.std.specs.Prelude.{◌==◌, ◌&&◌, ◌||◌, not}
 use Rattle.std.specs.List.{prefix_len}
@@ -11,13 +11,12 @@ use Rattle.std.proofs.lemmas.List.{drop-append-le, get_or_append_left}
 use Rattle.msvc_nodes.specs.Trees.{SymbolTree}
 use Rattle.msvc_rules.specs.Counts.{node_count}
 use Rattle.msvc_rules.specs.State.{State, beginning}
-use Rattle.msvc_grammar.specs.Derived.{Derives}
-use Rattle.msvc_grammar.specs.Productions.{symbol}
-use Rattle.msvc_grammar.specs.Reading.{read_name}
-use Rattle.msvc_grammar.proofs.Laws.{symbol-derived, symbol-rejected}
-use Rattle.msvc_print.specs.Declaration.{declaration}
-use Rattle.msvc_filter.specs.Filtered.{AreParts, IsFilteredFrom, IsFilteredText, IsNoStart, IsSymbol, Part}
-use Rattle.msvc_filter.specs.Filtered.{declared}
+use Rattle.msvc_rules.specs.Readers.{Found, read_name_in}
+use Rattle.msvc_rules.proofs.Laws.{symbol-derived, symbol-rejected}
+use Rattle.msvc_symbol.proofs.Lawful.{lawful_of}
+use Rattle.msvc_symbol.specs.Grammars.{Choice, dialect_of}
+use Rattle.msvc_filter.specs.Filtered.{AreParts, DerivesUnder, IsFilteredFrom, IsFilteredText, IsNoStart, IsSymbol}
+use Rattle.msvc_filter.specs.Filtered.{Part, declaration_under, declared}
 use Rattle.msvc_filter.specs.Filtered.{kept, max_declared, max_nodes, nothing, replaced, stays, text_of_parts}
 use Rattle.msvc_streams.specs.Runs.{IsLines}
 use Rattle.msvc_filter.specs.WordStates.{AreRest, Keeps}
@@ -30,36 +29,41 @@ use Rattle.msvc_filter.proofs.Symbols.{symbol-consumed, symbol-of, symbol-only}
 
 -- One list of parts at most
 
-pub parts-only : (flags : ℕ) (last : ℕ) (passed left : List ℕ) (first second : List Part)
-    → IsFilteredFrom flags last passed left first → IsFilteredFrom flags last passed left second → second ≡ first
-parts-only flags _ _ _ _ _ nothing nothing = refl
-parts-only flags _ _ _ _ _ (stays {b = b} rejected t) (stays again u) = ap (λ l. kept b ∷ l)
-    (parts-only flags _ _ _ _ _ t u)
-parts-only flags _ _ _ _ _ (stays rejected t) (replaced start is u) = absurd (rejected start _ _ is)
-parts-only flags _ _ _ _ _ (replaced start is t) (stays rejected u) = absurd (rejected start _ _ is)
-parts-only flags _ _ _ _ _
+pub parts-only : (how : Choice) (last : ℕ) (passed left : List ℕ) (first second : List Part)
+    → IsFilteredFrom how last passed left first → IsFilteredFrom how last passed left second → second ≡ first
+parts-only how _ _ _ _ _ nothing nothing = refl
+parts-only how _ _ _ _ _ (stays {b = b} rejected t) (stays again u) = ap (λ l. kept b ∷ l)
+    (parts-only how _ _ _ _ _ t u)
+parts-only how _ _ _ _ _ (stays rejected t) (replaced start is u) = absurd (rejected start _ _ is)
+parts-only how _ _ _ _ _ (replaced start is t) (stays rejected u) = absurd (rejected start _ _ is)
+parts-only how _ _ _ _ _
     (replaced {b = b} {bytes = bytes} {left = left} {text = first} {parts = parts} start is t)
     (replaced {bytes = others} {text = other} {parts = more} again so u) =
-    let one = symbol-only flags (b ∷ left) bytes others first other is so in
-    let rest = subst (λ n. IsFilteredFrom flags (slice_index (b ∷ left) (n - 1)) [] (drop n (b ∷ left)) more) one.0 u in
-    ap (λ l. declared l ∷ more) one.1 ∙ ap (λ l. declared first ∷ l) (parts-only flags _ _ _ parts more t rest)
+    let one = symbol-only how (b ∷ left) bytes others first other is so in
+    let rest = subst (λ n. IsFilteredFrom how (slice_index (b ∷ left) (n - 1)) [] (drop n (b ∷ left)) more) one.0 u in
+    ap (λ l. declared l ∷ more) one.1 ∙ ap (λ l. declared first ∷ l) (parts-only how _ _ _ parts more t rest)
 
 -- Some list of parts
 
+-- what is read of a text in the grammar that is chosen
+abbrev read_under : Choice → List ℕ → Found SymbolTree
+read_under how text =
+    read_name_in (dialect_of how.grammar).grammar (dialect_of how.grammar).grammar.start text (beginning text)
+
 -- whether a symbol begins at a start can be computed
-symbol-decided : (flags : ℕ) (left : List ℕ)
-    → ((bytes : ℕ) × (text : List ℕ) × IsSymbol flags left bytes text) ⊎ IsNoStart flags left
-symbol-decided flags left =
-    at (read_name symbol (candidate left) (beginning (candidate left))) refl
+symbol-decided : (how : Choice) (left : List ℕ)
+    → ((bytes : ℕ) × (text : List ℕ) × IsSymbol how left bytes text) ⊎ IsNoStart how left
+symbol-decided how left =
+    at (read_under how (candidate left)) refl
   where
-    by-end : (tree : SymbolTree) (rest : List ℕ) (s : State) → Derives (candidate left) tree rest s.notes
-        → node_count tree ≤ max_nodes → length (declaration tree flags) ≤ max_declared
+    by-end : (tree : SymbolTree) (rest : List ℕ) (s : State) → DerivesUnder how (candidate left) tree rest s.notes
+        → node_count tree ≤ max_nodes → length (declaration_under how tree) ≤ max_declared
         → (on : Bool) → continues (drop (symbol_extent left (length (candidate left) - length rest)) left) ≡ on
-        → ((bytes : ℕ) × (text : List ℕ) × IsSymbol flags left bytes text) ⊎ IsNoStart flags left
+        → ((bytes : ℕ) × (text : List ℕ) × IsSymbol how left bytes text) ⊎ IsNoStart how left
     by-end tree rest s d few short false ends =
         inl (
           symbol_extent left (length (candidate left) - length rest),
-          declaration tree flags,
+          declaration_under how tree,
           record {
             tree = tree;
             rest = rest;
@@ -73,34 +77,34 @@ symbol-decided flags left =
           },
         )
     by-end tree rest s d few short true ends = inr (λ bytes text other.
-        let one = symbol-of flags left bytes text tree rest s.notes d other in
+        let one = symbol-of how left bytes text tree rest s.notes d other in
         let no : true ≡ false = sym ends ∙ ap (λ n. continues (drop n left)) (sym one.3) ∙ other.ends in cc)
 
-    by-length : (tree : SymbolTree) (rest : List ℕ) (s : State) → Derives (candidate left) tree rest s.notes
+    by-length : (tree : SymbolTree) (rest : List ℕ) (s : State) → DerivesUnder how (candidate left) tree rest s.notes
         → node_count tree ≤ max_nodes
-        → (short : Bool) → nat_le (length (declaration tree flags)) max_declared ≡ short
-        → ((bytes : ℕ) × (text : List ℕ) × IsSymbol flags left bytes text) ⊎ IsNoStart flags left
+        → (short : Bool) → nat_le (length (declaration_under how tree)) max_declared ≡ short
+        → ((bytes : ℕ) × (text : List ℕ) × IsSymbol how left bytes text) ⊎ IsNoStart how left
     by-length tree rest s d few true e = by-end tree rest s d few (leb-true _ _ e) _ refl
     by-length tree rest s d few false e = inr (λ bytes text other.
-        let one = symbol-of flags left bytes text tree rest s.notes d other in
-        let long = leb-false (length (declaration tree flags)) max_declared e in
+        let one = symbol-of how left bytes text tree rest s.notes d other in
+        let long = leb-false (length (declaration_under how tree)) max_declared e in
         omega (arith, long, other.short, ap length one.4))
 
-    by-nodes : (tree : SymbolTree) (rest : List ℕ) (s : State) → Derives (candidate left) tree rest s.notes
+    by-nodes : (tree : SymbolTree) (rest : List ℕ) (s : State) → DerivesUnder how (candidate left) tree rest s.notes
         → (few : Bool) → nat_le (node_count tree) max_nodes ≡ few
-        → ((bytes : ℕ) × (text : List ℕ) × IsSymbol flags left bytes text) ⊎ IsNoStart flags left
+        → ((bytes : ℕ) × (text : List ℕ) × IsSymbol how left bytes text) ⊎ IsNoStart how left
     by-nodes tree rest s d true e = by-length tree rest s d (leb-true _ _ e) _ refl
     by-nodes tree rest s d false e = inr (λ bytes text other.
-        let one = symbol-of flags left bytes text tree rest s.notes d other in
+        let one = symbol-of how left bytes text tree rest s.notes d other in
         let many = leb-false (node_count tree) max_nodes e in
         omega (arith, many, one.2, ap node_count one.1))
 
-    at : (found : Option (SymbolTree × List ℕ × State))
-        → read_name symbol (candidate left) (beginning (candidate left)) ≡ found
-        → ((bytes : ℕ) × (text : List ℕ) × IsSymbol flags left bytes text) ⊎ IsNoStart flags left
+    at : (found : Found SymbolTree) → read_under how (candidate left) ≡ found
+        → ((bytes : ℕ) × (text : List ℕ) × IsSymbol how left bytes text) ⊎ IsNoStart how left
     at None e = inr (λ bytes text other.
-        symbol-rejected (candidate left) e other.tree other.rest other.notes other.derived)
-    at (Some x) e = by-nodes x.0 x.1 x.2 (symbol-derived (candidate left) x.0 x.1 x.2 e) _ refl
+        symbol-rejected (lawful_of how.grammar).fit (candidate left) e other.tree other.rest other.notes other.derived)
+    at (Some x) e =
+        by-nodes x.0 x.1 x.2 (symbol-derived (lawful_of how.grammar).fit (candidate left) x.0 x.1 x.2 e) _ refl
 
 next : WordState → ℕ → WordState
 next scan b = record { seen_question_mark = (scan.seen_question_mark || b == 63) && is_word_byte b; last = b }
@@ -117,17 +121,17 @@ fresh last = record { seen_question_mark = false; last = last }
 pub Keeps-fresh : (last : ℕ) → Keeps (fresh last) last []
 Keeps-fresh last = record { seen = refl; before = refl }
 
-pub rest-exists : (flags most : ℕ) (scan : WordState) (left : List ℕ) → length left ≤ most
-    → (parts : List Part) × AreRest flags scan left parts
-rest-exists flags most scan [] short = ([], λ last passed so. nothing)
-rest-exists flags zero scan (b ∷ left) short = absurd (omega arith)
-rest-exists flags (suc most) scan (b ∷ left) short =
+pub rest-exists : (how : Choice) (most : ℕ) (scan : WordState) (left : List ℕ) → length left ≤ most
+    → (parts : List Part) × AreRest how scan left parts
+rest-exists how most scan [] short = ([], λ last passed so. nothing)
+rest-exists how zero scan (b ∷ left) short = absurd (omega arith)
+rest-exists how (suc most) scan (b ∷ left) short =
     at (b == 63 && not (scan.seen_question_mark || blocks_start scan.last)) refl
-    (rest-exists flags most (next scan b) left (omega arith)) (λ last l h. rest-exists flags most (fresh last) l h)
+    (rest-exists how most (next scan b) left (omega arith)) (λ last l h. rest-exists how most (fresh last) l h)
   where
-    keep : (b == 63 && not (scan.seen_question_mark || blocks_start scan.last) ≡ true → IsNoStart flags (b ∷ left))
-        → (parts : List Part) × AreRest flags (next scan b) left parts
-        → (parts : List Part) × AreRest flags scan (b ∷ left) parts
+    keep : (b == 63 && not (scan.seen_question_mark || blocks_start scan.last) ≡ true → IsNoStart how (b ∷ left))
+        → (parts : List Part) × AreRest how (next scan b) left parts
+        → (parts : List Part) × AreRest how scan (b ∷ left) parts
     keep none rest = (
       kept b ∷ rest.0,
       λ last passed so.
@@ -136,12 +140,12 @@ rest-exists flags (suc most) scan (b ∷ left) short =
     )
 
     decided : b == 63 && not (scan.seen_question_mark || blocks_start scan.last) ≡ true
-        → ((bytes : ℕ) × (text : List ℕ) × IsSymbol flags (b ∷ left) bytes text) ⊎ IsNoStart flags (b ∷ left)
-        → (parts : List Part) × AreRest flags (next scan b) left parts
-        → ((last : ℕ) (l : List ℕ) → length l ≤ most → (parts : List Part) × AreRest flags (fresh last) l parts)
-        → (parts : List Part) × AreRest flags scan (b ∷ left) parts
+        → ((bytes : ℕ) × (text : List ℕ) × IsSymbol how (b ∷ left) bytes text) ⊎ IsNoStart how (b ∷ left)
+        → (parts : List Part) × AreRest how (next scan b) left parts
+        → ((last : ℕ) (l : List ℕ) → length l ≤ most → (parts : List Part) × AreRest how (fresh last) l parts)
+        → (parts : List Part) × AreRest how scan (b ∷ left) parts
     decided start (inl s) rest after =
-        let consumed = symbol-consumed flags (b ∷ left) s.0 s.1 s.2 in
+        let consumed = symbol-consumed how (b ∷ left) s.0 s.1 s.2 in
         let more = after (slice_index (b ∷ left) (s.0 - 1)) (drop s.0 (b ∷ left))
         (omega (arith, short, consumed, length-drop s.0 (b ∷ left))) in (
           declared s.1 ∷ more.0,
@@ -152,16 +156,16 @@ rest-exists flags (suc most) scan (b ∷ left) short =
     decided start (inr none) rest after = keep (λ again. none) rest
 
     at : (start : Bool) → b == 63 && not (scan.seen_question_mark || blocks_start scan.last) ≡ start
-        → (parts : List Part) × AreRest flags (next scan b) left parts
-        → ((last : ℕ) (l : List ℕ) → length l ≤ most → (parts : List Part) × AreRest flags (fresh last) l parts)
-        → (parts : List Part) × AreRest flags scan (b ∷ left) parts
+        → (parts : List Part) × AreRest how (next scan b) left parts
+        → ((last : ℕ) (l : List ℕ) → length l ≤ most → (parts : List Part) × AreRest how (fresh last) l parts)
+        → (parts : List Part) × AreRest how scan (b ∷ left) parts
     at false e rest after = keep (λ start. let no : false ≡ true = sym e ∙ start in absurd (cc)) rest
-    at true e rest after = decided e (symbol-decided flags (b ∷ left)) rest after
+    at true e rest after = decided e (symbol-decided how (b ∷ left)) rest after
 
-pub filtered-only : (flags : ℕ) (bytes first second : List ℕ) → IsFilteredText flags bytes first
-    → IsFilteredText flags bytes second → second ≡ first
-filtered-only flags bytes first second a b =
-    b.2 ∙ ap text_of_parts (parts-only flags 10 [] bytes a.0 b.0 a.1 b.1) ∙ sym a.2
+pub filtered-only : (how : Choice) (bytes first second : List ℕ) → IsFilteredText how bytes first
+    → IsFilteredText how bytes second → second ≡ first
+filtered-only how bytes first second a b =
+    b.2 ∙ ap text_of_parts (parts-only how 10 [] bytes a.0 b.0 a.1 b.1) ∙ sym a.2
 
 -- Lines one after another
 
@@ -186,70 +190,71 @@ ended-enough : (left front : List ℕ) → left ≡ front ++ 10 ∷ [] → AreEn
 ended-enough left front e =
     subst AreEnough (sym e) (inr (omega (arith, visible-ended front, length-append front (10 ∷ []))))
 
-none-left : {flags last : ℕ} {passed left : List ℕ} {parts : List Part} → IsFilteredFrom flags last passed left parts
+none-left : {how : Choice} {last : ℕ} {passed left : List ℕ} {parts : List Part}
+    → IsFilteredFrom how last passed left parts
     → left ≡ [] → parts ≡ []
 none-left nothing e = refl
 none-left (stays none rest) e = absurd (cc)
 none-left (replaced start is rest) e = absurd (cc)
 
 -- what stands after a byte that stays
-joined-stays : (flags last b : ℕ) (passed left front part : List ℕ) (parts more : List Part)
+joined-stays : (how : Choice) (last b : ℕ) (passed left front part : List ℕ) (parts more : List Part)
     → b ∷ left ≡ front ++ 10 ∷ []
-    → AreParts flags part more → IsFilteredFrom flags last (b ∷ passed) left parts
-    → ((rest : List ℕ) → left ≡ rest ++ 10 ∷ [] → IsFilteredFrom flags last (b ∷ passed) (left ++ part) (parts ++ more))
-    → IsFilteredFrom flags last (b ∷ passed) (left ++ part) (parts ++ more)
-joined-stays flags last b passed left [] part parts more e h t further =
+    → AreParts how part more → IsFilteredFrom how last (b ∷ passed) left parts
+    → ((rest : List ℕ) → left ≡ rest ++ 10 ∷ [] → IsFilteredFrom how last (b ∷ passed) (left ++ part) (parts ++ more))
+    → IsFilteredFrom how last (b ∷ passed) (left ++ part) (parts ++ more)
+joined-stays how last b passed left [] part parts more e h t further =
     let ended : b ≡ 10 = cc in
     let empty : left ≡ [] = cc in
     let over : parts ≡ [] = none-left t empty in
     let fresh_keeps : Keeps (fresh 10) last (b ∷ passed) =
     subst (λ c. Keeps (fresh 10) last (c ∷ passed)) (sym ended) (record { seen = refl; before = refl }) in
-    rw (empty, over) (parts-kept flags (fresh 10) (Keeps-fresh 10) h last (b ∷ passed) fresh_keeps)
-joined-stays flags last b passed left (x ∷ front) part parts more e h t further = further front cc
+    rw (empty, over) (parts-kept how (fresh 10) (Keeps-fresh 10) h last (b ∷ passed) fresh_keeps)
+joined-stays how last b passed left (x ∷ front) part parts more e h t further = further front cc
 
-pub parts-joined : (flags : ℕ) (part : List ℕ) (more : List Part) → AreParts flags part more
-    → {last : ℕ} {passed left : List ℕ} {parts : List Part} → IsFilteredFrom flags last passed left parts
-    → (front : List ℕ) → left ≡ front ++ 10 ∷ [] → IsFilteredFrom flags last passed (left ++ part) (parts ++ more)
-parts-joined flags part more h nothing front e = absurd (no front e)
+pub parts-joined : (how : Choice) (part : List ℕ) (more : List Part) → AreParts how part more
+    → {last : ℕ} {passed left : List ℕ} {parts : List Part} → IsFilteredFrom how last passed left parts
+    → (front : List ℕ) → left ≡ front ++ 10 ∷ [] → IsFilteredFrom how last passed (left ++ part) (parts ++ more)
+parts-joined how part more h nothing front e = absurd (no front e)
   where
     no : (front : List ℕ) → [] ≡ front ++ 10 ∷ [] → ⊥
     no [] e = cc
     no (x ∷ xs) e = cc
-parts-joined flags part more h {last = last} {passed = passed} (stays {b = b} {left = left} {parts = parts} none t)
+parts-joined how part more h {last = last} {passed = passed} (stays {b = b} {left = left} {parts = parts} none t)
     front e =
-    stays (λ start. no_symbol-more flags (b ∷ left) part (ended-enough (b ∷ left) front e) (none start))
-    (joined-stays flags last b passed left front part parts more e h t
-    (λ rest is. parts-joined flags part more h t rest is))
-parts-joined flags part more h {last = last} {passed = passed}
+    stays (λ start. no_symbol-more how (b ∷ left) part (ended-enough (b ∷ left) front e) (none start))
+    (joined-stays how last b passed left front part parts more e h t
+    (λ rest is. parts-joined how part more h t rest is))
+parts-joined how part more h {last = last} {passed = passed}
     (replaced {b = b} {bytes = bytes} {left = left} {text = text} {parts = parts} start is t) front e =
     let enough = ended-enough (b ∷ left) front e in
-    let inside : bytes < length (b ∷ left) = symbol-inside flags (b ∷ left) bytes text enough is in
+    let inside : bytes < length (b ∷ left) = symbol-inside how (b ∷ left) bytes text enough is in
     let long : length (b ∷ left) ≡ length front + 1 = ap length e ∙ length-append front (10 ∷ []) in
     let within : bytes ≤ length front = omega arith in
     let rest : drop bytes (b ∷ left) ≡ drop bytes front ++ 10 ∷ [] =
     ap (drop bytes) e ∙ drop-append-le bytes front (10 ∷ []) within in
     let past : drop bytes (b ∷ left) ++ part ≡ drop bytes (b ∷ (left ++ part)) =
     sym (drop-append-le bytes (b ∷ left) part (omega arith)) in
-    let consumed = symbol-consumed flags (b ∷ left) bytes text is in
+    let consumed = symbol-consumed how (b ∷ left) bytes text is in
     let end : slice_index (b ∷ left) (bytes - 1) ≡ slice_index (b ∷ (left ++ part)) (bytes - 1) =
     sym (get_or_append_left (b ∷ left) part 0 (bytes - 1) (omega (arith, consumed, inside))) in
-    replaced start (symbol-more flags (b ∷ left) part bytes text enough is)
-    (subst (λ n. IsFilteredFrom flags n [] (drop bytes (b ∷ (left ++ part))) (parts ++ more)) end
-    (subst (λ l. IsFilteredFrom flags (slice_index (b ∷ left) (bytes - 1)) [] l (parts ++ more)) past
-    (parts-joined flags part more h t (drop bytes front) rest)))
+    replaced start (symbol-more how (b ∷ left) part bytes text enough is)
+    (subst (λ n. IsFilteredFrom how n [] (drop bytes (b ∷ (left ++ part))) (parts ++ more)) end
+    (subst (λ l. IsFilteredFrom how (slice_index (b ∷ left) (bytes - 1)) [] l (parts ++ more)) past
+    (parts-joined how part more h t (drop bytes front) rest)))
 
-parts-after : (flags : ℕ) (finished part : List ℕ) (parts more : List Part) → IsLines finished
-    → AreParts flags finished parts → AreParts flags part more → AreParts flags (finished ++ part) (parts ++ more)
-parts-after flags finished part parts more (inl e) is h =
+parts-after : (how : Choice) (finished part : List ℕ) (parts more : List Part) → IsLines finished
+    → AreParts how finished parts → AreParts how part more → AreParts how (finished ++ part) (parts ++ more)
+parts-after how finished part parts more (inl e) is h =
     let over : parts ≡ [] = none-left is e in rw (e, over) h
-parts-after flags finished part parts more (inr ended) is h =
-    parts-joined flags part more h is ended.0 ended.1
+parts-after how finished part parts more (inr ended) is h =
+    parts-joined how part more h is ended.0 ended.1
 
-pub filtered-after : (flags : ℕ) (finished part text more : List ℕ) → IsLines finished
-    → IsFilteredText flags finished text → IsFilteredText flags part more
-    → IsFilteredText flags (finished ++ part) (text ++ more)
-filtered-after flags finished part text more lines is h = (
+pub filtered-after : (how : Choice) (finished part text more : List ℕ) → IsLines finished
+    → IsFilteredText how finished text → IsFilteredText how part more
+    → IsFilteredText how (finished ++ part) (text ++ more)
+filtered-after how finished part text more lines is h = (
   is.0 ++ h.0,
-  parts-after flags finished part is.0 h.0 lines is.1 h.1,
+  parts-after how finished part is.0 h.0 lines is.1 h.1,
   ap (λ t. t ++ more) is.2 ∙ ap (λ t. text_of_parts is.0 ++ t) h.2 ∙ sym (text-append is.0 h.0),
 )

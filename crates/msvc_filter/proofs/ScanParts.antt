@@ -11,6 +11,7 @@ use Rattle.std.proofs.lemmas.List.Elements.{All-head, All-tail}
 use Rattle.std.proofs.lemmas.Simd.{chunk-drop}
 use Rattle.std.specs.List.{list_any}
 use Rattle.std.specs.Prelude.{◌==◌, ◌&&◌, ◌||◌, not}
+use Rattle.msvc_symbol.specs.Grammars.{Choice}
 use Rattle.msvc_filter.specs.Filtered.{IsFilteredFrom, IsNoStart, IsSymbol, Part, declared, kept}
 use Rattle.msvc_filter.specs.Filtered.{nothing, replaced, stays, text_of_parts}
 use Rattle.msvc_filter.specs.WordStates.{ArePartsUpTo, AreRest, IsDecided, IsFound, IsPlain, IsSymbolShown, Keeps}
@@ -25,26 +26,27 @@ enough : (left : List ℕ) (at until : ℕ) → at < until → until + max_looke
     → max_looked_at ≤ length (drop at left)
 enough left at until below far = omega (arith, length-drop at left)
 
-no_symbol-decided : (flags : ℕ) (left : List ℕ) (at until : ℕ) (more : List ℕ) → at < until → IsDecided left until more
-    → IsNoStart flags (drop at left) → IsNoStart flags (drop at left ++ more)
-no_symbol-decided flags left at until more below (inl e) none =
-    subst (IsNoStart flags) (sym (append-nil (drop at left)) ∙ ap (λ l. drop at left ++ l) (sym e)) none
-no_symbol-decided flags left at until more below (inr far) none =
-    no_symbol-more flags (drop at left) more (inl (enough left at until below far)) none
+no_symbol-decided : (how : Choice) (left : List ℕ) (at until : ℕ) (more : List ℕ) → at < until
+    → IsDecided left until more
+    → IsNoStart how (drop at left) → IsNoStart how (drop at left ++ more)
+no_symbol-decided how left at until more below (inl e) none =
+    subst (IsNoStart how) (sym (append-nil (drop at left)) ∙ ap (λ l. drop at left ++ l) (sym e)) none
+no_symbol-decided how left at until more below (inr far) none =
+    no_symbol-more how (drop at left) more (inl (enough left at until below far)) none
 
-symbol-decided : (flags : ℕ) (left : List ℕ) (at until : ℕ) (more : List ℕ) (bytes : ℕ) (text : List ℕ) → at < until
-    → IsDecided left until more → IsSymbol flags (drop at left) bytes text
-    → IsSymbol flags (drop at left ++ more) bytes text
-symbol-decided flags left at until more bytes text below (inl e) is =
-    subst (λ l. IsSymbol flags l bytes text)
+symbol-decided : (how : Choice) (left : List ℕ) (at until : ℕ) (more : List ℕ) (bytes : ℕ) (text : List ℕ) → at < until
+    → IsDecided left until more → IsSymbol how (drop at left) bytes text
+    → IsSymbol how (drop at left ++ more) bytes text
+symbol-decided how left at until more bytes text below (inl e) is =
+    subst (λ l. IsSymbol how l bytes text)
     (sym (append-nil (drop at left)) ∙ ap (λ l. drop at left ++ l) (sym e)) is
-symbol-decided flags left at until more bytes text below (inr far) is =
-    symbol-more flags (drop at left) more bytes text (inl (enough left at until below far)) is
+symbol-decided how left at until more bytes text below (inr far) is =
+    symbol-more how (drop at left) more bytes text (inl (enough left at until below far)) is
 
 -- before the first byte
-pub parts-start : (flags : ℕ) (scan : WordState) (left : List ℕ) (until : ℕ) → ArePartsUpTo flags scan left until [] 0
+pub parts-start : (how : Choice) (scan : WordState) (left : List ℕ) (until : ℕ) → ArePartsUpTo how scan left until [] 0
     scan
-parts-start flags scan left until more rest decided h = h
+parts-start how scan left until more rest decided h = h
 
 -- the bytes from a place on begin with that one
 from : (left more : List ℕ) (at : ℕ) → at < length left
@@ -66,23 +68,23 @@ no_start last passed b is starts =
     let blocked = has_question_mark (word_before passed) || blocks_start (byte_before last passed) in
     let no : false && not blocked ≡ true = subst (λ t. t && not blocked ≡ true) is starts in cc
 
-plain-parts : (flags last : ℕ) (passed run left : List ℕ) (rest : List Part) → IsPlain run
-    → IsFilteredFrom flags last (past run passed) left rest
-    → IsFilteredFrom flags last passed (run ++ left) (map kept run ++ rest)
-plain-parts flags last passed [] left rest plain h = h
-plain-parts flags last passed (b ∷ run) left rest plain h =
+plain-parts : (how : Choice) (last : ℕ) (passed run left : List ℕ) (rest : List Part) → IsPlain run
+    → IsFilteredFrom how last (past run passed) left rest
+    → IsFilteredFrom how last passed (run ++ left) (map kept run ++ rest)
+plain-parts how last passed [] left rest plain h = h
+plain-parts how last passed (b ∷ run) left rest plain h =
     let none = ne_eqb b 63 (All-head (λ b. b ≢ 63) b run plain) in
     stays (λ starts. absurd (no_start last passed b none starts))
-    (plain-parts flags last (b ∷ passed) run left rest (All-tail (λ b. b ≢ 63) b run plain) h)
+    (plain-parts how last (b ∷ passed) run left rest (All-tail (λ b. b ≢ 63) b run plain) h)
 
 -- bytes without a `?` stay
-pub parts-plain : (flags : ℕ) (scan now after : WordState) (left : List ℕ) (until at end : ℕ)
-    → ArePartsUpTo flags scan left until (map kept (take at left)) at now → at ≤ end → end ≤ length left
+pub parts-plain : (how : Choice) (scan now after : WordState) (left : List ℕ) (until at end : ℕ)
+    → ArePartsUpTo how scan left until (map kept (take at left)) at now → at ≤ end → end ≤ length left
     → IsPlain (take (end - at) (drop at left))
     → ((last : ℕ) (passed : List ℕ) → Keeps now last passed
     → Keeps after last (past (take (end - at) (drop at left)) passed))
-    → ArePartsUpTo flags scan left until (map kept (take end left)) end after
-parts-plain flags scan now after left until at end so order within plain keeps more rest decided h =
+    → ArePartsUpTo how scan left until (map kept (take end left)) end after
+parts-plain how scan now after left until at end so order within plain keeps more rest decided h =
     let run = take (end - at) (drop at left) in
     let count : at + (end - at) ≡ end = omega arith in
     let front : take at left ++ run ≡ take end left =
@@ -93,10 +95,10 @@ parts-plain flags scan now after left until at end so order within plain keeps m
     let parts : map kept (take at left) ++ (map kept run ++ rest) ≡ map kept (take end left) ++ rest =
     sym (append_assoc (map kept (take at left)) (map kept run) rest)
     ∙ ap (λ l. l ++ rest) (sym (map-append kept (take at left) run) ∙ ap (map kept) front) in
-    subst (AreRest flags scan (left ++ more)) parts
+    subst (AreRest how scan (left ++ more)) parts
     (so more (map kept run ++ rest) decided (λ last passed k.
-    subst (λ l. IsFilteredFrom flags last passed l (map kept run ++ rest)) (sym past_run)
-    (plain-parts flags last passed run (drop end left ++ more) rest plain (h last (past run passed)
+    subst (λ l. IsFilteredFrom how last passed l (map kept run ++ rest)) (sym past_run)
+    (plain-parts how last passed run (drop end left ++ more) rest plain (h last (past run passed)
     (keeps last passed k)))))
 
 -- the bytes before the first `?` of a part
@@ -110,31 +112,31 @@ plain-run left at count until within plain =
     subst IsPlain same plain
 
 -- a byte stays
-pub parts-stays : (flags : ℕ) (scan now after : WordState) (left : List ℕ) (until at : ℕ)
-    → ArePartsUpTo flags scan left until (map kept (take at left)) at now → at < until → until ≤ length left
+pub parts-stays : (how : Choice) (scan now after : WordState) (left : List ℕ) (until at : ℕ)
+    → ArePartsUpTo how scan left until (map kept (take at left)) at now → at < until → until ≤ length left
     → ((last : ℕ) (passed : List ℕ) → Keeps now last passed → is_start last passed (get_or left at 0) ≡ true
-    → IsNoStart flags (drop at left))
+    → IsNoStart how (drop at left))
     → ((last : ℕ) (passed : List ℕ) → Keeps now last passed → Keeps after last (get_or left at 0 ∷ passed))
-    → ArePartsUpTo flags scan left until (map kept (take (at + 1) left)) (at + 1) after
-parts-stays flags scan now after left until at so below within none keeps more rest decided h =
+    → ArePartsUpTo how scan left until (map kept (take (at + 1) left)) (at + 1) after
+parts-stays how scan now after left until at so below within none keeps more rest decided h =
     let inside : at < length left = omega arith in
     let b = get_or left at 0 in
     let whole = from left more at inside in
-    subst (AreRest flags scan (left ++ more)) (kept-more left at rest inside)
+    subst (AreRest how scan (left ++ more)) (kept-more left at rest inside)
     (so more (kept b ∷ rest) decided (λ last passed k.
-    subst (λ l. IsFilteredFrom flags last passed l (kept b ∷ rest)) (sym whole)
-    (stays (λ start. subst (IsNoStart flags) whole
-    (no_symbol-decided flags left at until more below decided (none last passed k start)))
+    subst (λ l. IsFilteredFrom how last passed l (kept b ∷ rest)) (sym whole)
+    (stays (λ start. subst (IsNoStart how) whole
+    (no_symbol-decided how left at until more below decided (none last passed k start)))
     (h last (b ∷ passed) (keeps last passed k)))))
 
 -- a symbol is found
-pub parts-found : (flags : ℕ) (scan now after : WordState) (left : List ℕ) (until at bytes : ℕ) (shown : Option (List
+pub parts-found : (how : Choice) (scan now after : WordState) (left : List ℕ) (until at bytes : ℕ) (shown : Option (List
     ℕ))
-    → ArePartsUpTo flags scan left until (map kept (take at left)) at now → at < until → until ≤ length left
+    → ArePartsUpTo how scan left until (map kept (take at left)) at now → at < until → until ≤ length left
     → ((last : ℕ) (passed : List ℕ) → Keeps now last passed → is_start last passed (get_or left at 0) ≡ true)
-    → IsSymbolShown flags (drop at left) bytes shown → Keeps after (get_or left (at + bytes - 1) 0) []
-    → IsFound flags scan left until at bytes shown after
-parts-found flags scan now after left until at bytes shown so below within start is keeps = record {
+    → IsSymbolShown how (drop at left) bytes shown → Keeps after (get_or left (at + bytes - 1) 0) []
+    → IsFound how scan left until at bytes shown after
+parts-found how scan now after left until at bytes shown so below within start is keeps = record {
   text = is.0;
   printed = is.1;
   some = is.3;
@@ -149,29 +151,29 @@ parts-found flags scan now after left until at bytes shown so below within start
       ∙ ap (λ i. get_or left i 0) (let e : at + (bytes - 1) ≡ at + bytes - 1 = omega (arith, is.3) in e) in
       let past : drop (at + bytes) left ++ more ≡ drop bytes (drop at left ++ more) =
       ap (λ l. l ++ more) (sym (drop-drop bytes at left)) ∙ sym (drop-append-le bytes (drop at left) more fits) in
-      subst (AreRest flags scan (left ++ more))
+      subst (AreRest how scan (left ++ more))
       (sym (append_assoc (map kept (take at left)) (declared is.0 ∷ []) rest))
       (so more (declared is.0 ∷ rest) decided (λ last passed k.
-      subst (λ l. IsFilteredFrom flags last passed l (declared is.0 ∷ rest)) (sym whole)
+      subst (λ l. IsFilteredFrom how last passed l (declared is.0 ∷ rest)) (sym whole)
       (replaced (start last passed k)
-      (subst (λ l. IsSymbol flags l bytes is.0) whole
-      (symbol-decided flags left at until more bytes is.0 below decided is.2))
-      (subst (λ l. IsFilteredFrom flags (get_or l (bytes - 1) 0) [] (drop bytes l) rest) whole
-      (subst (λ n. IsFilteredFrom flags n [] (drop bytes (drop at left ++ more)) rest) (sym last_byte)
-      (subst (λ l. IsFilteredFrom flags (get_or left (at + bytes - 1) 0) [] l rest) past
+      (subst (λ l. IsSymbol how l bytes is.0) whole
+      (symbol-decided how left at until more bytes is.0 below decided is.2))
+      (subst (λ l. IsFilteredFrom how (get_or l (bytes - 1) 0) [] (drop bytes l) rest) whole
+      (subst (λ n. IsFilteredFrom how n [] (drop bytes (drop at left ++ more)) rest) (sym last_byte)
+      (subst (λ l. IsFilteredFrom how (get_or left (at + bytes - 1) 0) [] l rest) past
       (h (get_or left (at + bytes - 1) 0) [] keeps)))))));
 }
 
 -- parts after others
-pub parts-further : (flags : ℕ) (scan now after : WordState) (left : List ℕ) (until at on : ℕ) (parts others : List
+pub parts-further : (how : Choice) (scan now after : WordState) (left : List ℕ) (until at on : ℕ) (parts others : List
     Part)
-    → ArePartsUpTo flags scan left until parts at now → at ≤ until → until ≤ length left
-    → ArePartsUpTo flags now (drop at left) (until - at) others on after
-    → ArePartsUpTo flags scan left until (parts ++ others) (at + on) after
-parts-further flags scan now after left until at on parts others so below within further more rest decided h =
-    subst (AreRest flags scan (left ++ more)) (sym (append_assoc parts others rest))
+    → ArePartsUpTo how scan left until parts at now → at ≤ until → until ≤ length left
+    → ArePartsUpTo how now (drop at left) (until - at) others on after
+    → ArePartsUpTo how scan left until (parts ++ others) (at + on) after
+parts-further how scan now after left until at on parts others so below within further more rest decided h =
+    subst (AreRest how scan (left ++ more)) (sym (append_assoc parts others rest))
     (so more (others ++ rest) decided (further more rest (later decided)
-    (subst (λ l. AreRest flags after (l ++ more) rest) (sym (drop-drop on at left)) h)))
+    (subst (λ l. AreRest how after (l ++ more) rest) (sym (drop-drop on at left)) h)))
   where
     later : IsDecided left until more → IsDecided (drop at left) (until - at) more
     later (inl e) = inl e
@@ -183,27 +185,27 @@ text-kept [] = refl
 text-kept (b ∷ bytes) = ap (λ l. b ∷ l) (text-kept bytes)
 
 -- to the end
-pub parts-all : (flags : ℕ) (scan after : WordState) (left : List ℕ) (until at : ℕ) (parts : List Part)
-    → ArePartsUpTo flags scan left until parts at after → length left ≤ at → AreRest flags scan left parts
-parts-all flags scan after left until at parts so end =
+pub parts-all : (how : Choice) (scan after : WordState) (left : List ℕ) (until at : ℕ) (parts : List Part)
+    → ArePartsUpTo how scan left until parts at after → length left ≤ at → AreRest how scan left parts
+parts-all how scan after left until at parts so end =
     let none : drop at left ++ [] ≡ [] =
     append-nil (drop at left) ∙ empty (drop at left) (omega (arith, length-drop at left)) in
-    subst (AreRest flags scan left) (append-nil parts)
-    (subst (λ l. AreRest flags scan l (parts ++ [])) (append-nil left)
-    (so [] [] (inl refl) (λ last passed k. subst (λ l. IsFilteredFrom flags last passed l []) (sym none) nothing)))
+    subst (AreRest how scan left) (append-nil parts)
+    (subst (λ l. AreRest how scan l (parts ++ [])) (append-nil left)
+    (so [] [] (inl refl) (λ last passed k. subst (λ l. IsFilteredFrom how last passed l []) (sym none) nothing)))
   where
     empty : (l : List ℕ) → length l ≡ 0 → l ≡ []
     empty [] e = refl
     empty (x ∷ xs) e = absurd (omega arith)
 
 -- what has no `?` stays as it is
-pub without_question_mark : (flags : ℕ) (last : ℕ) (passed left : List ℕ) → list_any (λ b. b == 63) left ≡ false
-    → IsFilteredFrom flags last passed left (map kept left)
-without_question_mark flags last passed [] none = nothing
-without_question_mark flags last passed (b ∷ bs) none =
+pub without_question_mark : (how : Choice) (last : ℕ) (passed left : List ℕ) → list_any (λ b. b == 63) left ≡ false
+    → IsFilteredFrom how last passed left (map kept left)
+without_question_mark how last passed [] none = nothing
+without_question_mark how last passed (b ∷ bs) none =
     let parts = or_parts (b == 63) (list_any (λ c. c == 63) bs) none in
     stays (λ starts. absurd (no_start last passed b parts.0 starts))
-    (without_question_mark flags last (b ∷ passed) bs parts.1)
+    (without_question_mark how last (b ∷ passed) bs parts.1)
 
 pub first-of : (left : List ℕ) (at : ℕ) → get_or (drop at left) 0 0 ≡ get_or left at 0
 first-of left at = get_or-drop at left 0 0 ∙ ap (λ i. get_or left i 0) (let e : at + 0 ≡ at = omega arith in e)

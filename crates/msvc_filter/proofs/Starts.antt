@@ -5,6 +5,7 @@ use Rattle.std.specs.List.{list_all}
 use Rattle.std.specs.Prelude.{◌==◌, ◌&&◌, ◌||◌, not}
 use Rattle.std.proofs.lemmas.List.Elements.{All-head, All-tail}
 use Rattle.std.proofs.lemmas.List.Sums.{take_while-cons}
+use Rattle.msvc_symbol.specs.Grammars.{Choice}
 use Rattle.msvc_filter.specs.Filtered.{IsFilteredFrom, Part, nothing, replaced, stays}
 use Rattle.msvc_filter.specs.WordStates.{AreRest, IsPlain, Keeps, past}
 use Rattle.msvc_filter.specs.SymbolBounds.{blocks_start, byte_before, has_question_mark}
@@ -85,17 +86,17 @@ start-kept scan b last passed so =
     ∙ ap (λ l. b == 63 && not (has_question_mark (word_before passed) || blocks_start l)) so.before
 
 -- of the bytes passed no more than this matters
-pub parts-kept : (flags : ℕ) (scan : WordState) {last : ℕ} {passed left : List ℕ} {parts : List Part}
-    → Keeps scan last passed → IsFilteredFrom flags last passed left parts → AreRest flags scan left parts
-parts-kept flags scan so nothing other more also = nothing
-parts-kept flags scan {last = last} {passed = passed} so (stays {b = b} none rest) other more also =
+pub parts-kept : (how : Choice) (scan : WordState) {last : ℕ} {passed left : List ℕ} {parts : List Part}
+    → Keeps scan last passed → IsFilteredFrom how last passed left parts → AreRest how scan left parts
+parts-kept how scan so nothing other more also = nothing
+parts-kept how scan {last = last} {passed = passed} so (stays {b = b} none rest) other more also =
     let same = sym (start-kept scan b last passed so) ∙ start-kept scan b other more also in
     stays (λ start. none (same ∙ start))
-    (parts-kept flags (next b) (Keeps-more scan (next b) b last passed refl refl so)
+    (parts-kept how (next b) (Keeps-more scan (next b) b last passed refl refl so)
     rest other (b ∷ more) (Keeps-more scan (next b) b other more refl refl also))
   where
     next : ℕ → WordState
     next b = record { seen_question_mark = (scan.seen_question_mark || b == 63) && is_word_byte b; last = b }
-parts-kept flags scan {last = last} {passed = passed} so (replaced {b = b} start is rest) other more also =
+parts-kept how scan {last = last} {passed = passed} so (replaced {b = b} start is rest) other more also =
     let same = sym (start-kept scan b last passed so) ∙ start-kept scan b other more also in
     replaced (sym same ∙ start) is rest

@@ -11,8 +11,8 @@ use Rattle.std.proofs.lemmas.Bool.{ltb-false, ltb-true}
 use Rattle.std.proofs.lemmas.Bool.Decides.{nat_tests}
 use Rattle.std.proofs.lemmas.List.{drop-append-le, take-append-le, take-take}
 use Rattle.std.proofs.lemmas.List.Sums.{prefix_len_stops}
-use Rattle.msvc_grammar.specs.Derived.{Derives}
-use Rattle.msvc_filter.specs.Filtered.{IsNoStart, IsSymbol}
+use Rattle.msvc_symbol.specs.Grammars.{Choice}
+use Rattle.msvc_filter.specs.Filtered.{DerivesUnder, IsNoStart, IsSymbol}
 use Rattle.msvc_filter.specs.WordStates.{max_looked_at}
 use Rattle.msvc_filter.specs.SymbolBounds.{candidate, continues, ends_word, is_trailing_byte, is_visible, max_bytes}
 use Rattle.msvc_filter.specs.SymbolBounds.{symbol_extent, utf8_front}
@@ -151,9 +151,9 @@ continues-some left more n inside =
     ∙ sym (ap continues some)
 
 -- so bytes after these change no symbol
-pub symbol-more : (flags : ℕ) (left more : List ℕ) (bytes : ℕ) (text : List ℕ) → AreEnough left
-    → IsSymbol flags left bytes text → IsSymbol flags (left ++ more) bytes text
-symbol-more flags left more bytes text enough s =
+pub symbol-more : (how : Choice) (left more : List ℕ) (bytes : ℕ) (text : List ℕ) → AreEnough left
+    → IsSymbol how left bytes text → IsSymbol how (left ++ more) bytes text
+symbol-more how left more bytes text enough s =
     let same = candidate-more left more enough in
     let read = length (candidate left) - length s.rest in
     let within : read ≤ length (candidate left) = omega arith in
@@ -163,7 +163,7 @@ symbol-more flags left more bytes text enough s =
       tree = s.tree;
       rest = s.rest;
       notes = s.notes;
-      derived = subst (λ l. Derives l s.tree s.rest s.notes) (sym same) s.derived;
+      derived = subst (λ l. DerivesUnder how l s.tree s.rest s.notes) (sym same) s.derived;
       nodes = s.nodes;
       declared = s.declared;
       short = s.short;
@@ -171,9 +171,9 @@ symbol-more flags left more bytes text enough s =
       ends = continues-some left more bytes inside ∙ s.ends;
     }
 
-pub symbol-less : (flags : ℕ) (left more : List ℕ) (bytes : ℕ) (text : List ℕ) → AreEnough left
-    → IsSymbol flags (left ++ more) bytes text → IsSymbol flags left bytes text
-symbol-less flags left more bytes text enough s =
+pub symbol-less : (how : Choice) (left more : List ℕ) (bytes : ℕ) (text : List ℕ) → AreEnough left
+    → IsSymbol how (left ++ more) bytes text → IsSymbol how left bytes text
+symbol-less how left more bytes text enough s =
     let same = candidate-more left more enough in
     let read = length (candidate left) - length s.rest in
     let within : read ≤ length (candidate left) = omega arith in
@@ -185,7 +185,7 @@ symbol-less flags left more bytes text enough s =
       tree = s.tree;
       rest = s.rest;
       notes = s.notes;
-      derived = subst (λ l. Derives l s.tree s.rest s.notes) same s.derived;
+      derived = subst (λ l. DerivesUnder how l s.tree s.rest s.notes) same s.derived;
       nodes = s.nodes;
       declared = s.declared;
       short = s.short;
@@ -193,13 +193,13 @@ symbol-less flags left more bytes text enough s =
       ends = sym (continues-some left more bytes inside) ∙ s.ends;
     }
 
-pub no_symbol-more : (flags : ℕ) (left more : List ℕ) → AreEnough left → IsNoStart flags left
-    → IsNoStart flags (left ++ more)
-no_symbol-more flags left more enough none bytes text s =
-    none bytes text (symbol-less flags left more bytes text enough s)
+pub no_symbol-more : (how : Choice) (left more : List ℕ) → AreEnough left → IsNoStart how left
+    → IsNoStart how (left ++ more)
+no_symbol-more how left more enough none bytes text s =
+    none bytes text (symbol-less how left more bytes text enough s)
 
 -- and a symbol leaves the last of them
-pub symbol-inside : (flags : ℕ) (left : List ℕ) (bytes : ℕ) (text : List ℕ) → AreEnough left
-    → IsSymbol flags left bytes text → bytes < length left
-symbol-inside flags left bytes text enough s =
+pub symbol-inside : (how : Choice) (left : List ℕ) (bytes : ℕ) (text : List ℕ) → AreEnough left
+    → IsSymbol how left bytes text → bytes < length left
+symbol-inside how left bytes text enough s =
     rw s.takes (extent-inside left (length (candidate left) - length s.rest) enough (omega arith))

@@ -3,7 +3,9 @@ use Rattle.std.specs.Prelude.{ℕ, List, [], ◌++◌, ◌≡◌, ◌≢◌, ◌
 use Rattle.msvc_streams.specs.Runs.{IsLines, IsOfOneLine, IsWithoutEnd}
 use Rattle.msvc_streams.specs.declared.watched.Fault.{Fault}
 use Rattle.msvc_streams.specs.declared.watched.Fault.TheVariants.{Read, Write}
-use Rattle.msvc_filter.specs.Filtered.{IsFiltered}
+use Rattle.msvc_symbol.specs.Grammars.{Choice, under}
+use Rattle.msvc_symbol.specs.declared.grammar.Grammar.TheVariants.{Crate}
+use Rattle.msvc_filter.specs.Filtered.{IsFilteredIn}
 
 -- the most bytes of a line that is written whole; a longer line is written in pieces
 abbrev pub max_held : ℕ
@@ -11,7 +13,7 @@ max_held = 65536
 
 -- What a run of the filter that failed has written for the bytes that it took from the reader: the text of the lines
 -- finished before, and a beginning of the text of the next line.
-pub record LeavesFiltered (fault : Fault) (flags : ℕ) (taken text : List ℕ) : Type 0 where
+pub record LeavesFilteredIn (fault : Fault) (how : Choice) (taken text : List ℕ) : Type 0 where
   -- the lines finished before, and the bytes that were taken of the next line
   pub finished : List ℕ
   pub part : List ℕ
@@ -23,15 +25,19 @@ pub record LeavesFiltered (fault : Fault) (flags : ℕ) (taken text : List ℕ) 
   pub before : List ℕ
   pub begun : List ℕ
   pub is_written : text ≡ before ++ begun
-  pub is_filtered : IsFiltered flags finished before
+  pub is_filtered : IsFilteredIn how finished before
   -- the written text is a beginning of the text of all bytes that were taken
   pub more : List ℕ
-  pub begins : IsFiltered flags taken (text ++ more)
+  pub begins : IsFilteredIn how taken (text ++ more)
   -- unless a write failed, nothing is written of a next line of at most `max_held` bytes
   pub nothing_of_short : fault ≢ Write → length part ≤ max_held → begun ≡ []
 
 -- What a run of the filter has written: the text of all bytes that it took from the reader, or what it has written up
 -- to a fault.
-abbrev pub WritesFiltered : {A : Type 0} → Result A Fault → ℕ → List ℕ → List ℕ → Type 0
-WritesFiltered result flags taken text =
-    MatchResult result (λ _. IsFiltered flags taken text) (λ fault. LeavesFiltered fault flags taken text)
+abbrev pub WritesFilteredIn : {A : Type 0} → Result A Fault → Choice → List ℕ → List ℕ → Type 0
+WritesFilteredIn result how taken text =
+    MatchResult result (λ _. IsFilteredIn how taken text) (λ fault. LeavesFilteredIn fault how taken text)
+
+-- the same in the crate's grammar
+abbrev pub WritesFiltered : {A : Type 0} → Result A Fault → (flags : ℕ) → List ℕ → List ℕ → Type 0
+WritesFiltered result flags taken text = WritesFilteredIn result (under Crate flags) taken text

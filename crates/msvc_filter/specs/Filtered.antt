@@ -4,10 +4,11 @@ use Rattle.std.specs.Prelude.{◌<◌, ◌⊎◌, Some, nat_le, if◌then◌else
 use Rattle.msvc_nodes.specs.Trees.{SymbolTree}
 use Rattle.msvc_rules.specs.Counts.{node_count}
 use Rattle.msvc_rules.specs.State.{Note}
-use Rattle.msvc_grammar.specs.Derived.{Derives}
-use Rattle.msvc_grammar.specs.Parsed.{IsParsed}
-use Rattle.msvc_grammar.specs.Rejections.{IsNoSymbol}
-use Rattle.msvc_print.specs.Declaration.{declaration}
+use Rattle.msvc_rules.specs.Parsed.{IsParsedIn}
+use Rattle.msvc_rules.specs.Reads.{DerivesIn}
+use Rattle.msvc_rules.specs.Rejections.{IsNoSymbolIn}
+use Rattle.msvc_symbol.specs.Grammars.{Choice, declaration_in, dialect_of, under}
+use Rattle.msvc_symbol.specs.declared.grammar.Grammar.TheVariants.{Crate}
 use Rattle.msvc_filter.specs.SymbolBounds.{candidate, continues, is_start, symbol_extent, utf8_front}
 
 -- the most nodes of a symbol that the filter replaces
@@ -18,28 +19,37 @@ max_nodes = 10000
 abbrev pub max_declared : ℕ
 max_declared = 65536
 
+-- the grammar that is chosen derives this tree from a text, with bytes left and digits noted
+abbrev pub DerivesUnder : Choice → List ℕ → SymbolTree → List ℕ → List Note → Type 0
+DerivesUnder how text tree rest notes = DerivesIn (dialect_of how.grammar).grammar text tree rest notes
+
+-- a tree's declaration, as is chosen
+abbrev pub declaration_under : Choice → SymbolTree → List ℕ
+declaration_under how tree = declaration_in how.grammar tree how.flags
+
 -- The bytes `left` at a start begin with a symbol: the grammar derives a tree from the candidate there, and the tree
 -- and its declaration are not too large. The symbol takes `bytes` bytes and doesn't go on after these.
-pub record IsSymbol (flags : ℕ) (left : List ℕ) (bytes : ℕ) (text : List ℕ) : Type 0 where
+pub record IsSymbol (how : Choice) (left : List ℕ) (bytes : ℕ) (text : List ℕ) : Type 0 where
   pub tree : SymbolTree
   pub rest : List ℕ
   pub notes : List Note
-  pub derived : Derives (candidate left) tree rest notes
+  pub derived : DerivesUnder how (candidate left) tree rest notes
   pub nodes : node_count tree ≤ max_nodes
-  pub declared : text ≡ declaration tree flags
+  pub declared : text ≡ declaration_under how tree
   pub short : length text ≤ max_declared
   pub takes : bytes ≡ symbol_extent left (length (candidate left) - length rest)
   pub ends : continues (drop bytes left) ≡ false
 
 -- the bytes `left` begin with no symbol
-abbrev pub IsNoStart : (flags : ℕ) (left : List ℕ) → Type 0
-IsNoStart flags left = (bytes : ℕ) (text : List ℕ) → IsSymbol flags left bytes text → ⊥
+abbrev pub IsNoStart : (how : Choice) (left : List ℕ) → Type 0
+IsNoStart how left = (bytes : ℕ) (text : List ℕ) → IsSymbol how left bytes text → ⊥
 
 -- The input has no declaration within the default limits: it begins with no symbol of at most `max_nodes` nodes, or the
 -- declaration of this symbol has more than `max_declared` bytes.
-abbrev pub IsNoneWithin : (flags : ℕ) (input : List ℕ) → Type 0
-IsNoneWithin flags input = IsNoSymbol (Some max_nodes) input
-    ⊎ ((tree : SymbolTree) × IsParsed input tree × (max_declared < length (declaration tree flags)))
+abbrev pub IsNoneWithin : (how : Choice) (input : List ℕ) → Type 0
+IsNoneWithin how input = IsNoSymbolIn (dialect_of how.grammar).grammar (Some max_nodes) input
+    ⊎ ((tree : SymbolTree) × IsParsedIn (dialect_of how.grammar) input tree
+    × (max_declared < length (declaration_under how tree)))
 
 -- A part of the filter's text: a byte that stays, or the declaration that replaces a symbol.
 pub data Part : Type 0 where
@@ -56,35 +66,42 @@ text_of_parts (declared text ∷ parts) = text ++ text_of_parts parts
 -- since the beginning, last byte first, and before `passed` stands the byte `last`. Each byte stays, unless a symbol
 -- begins at it: then the symbol's declaration replaces the bytes that the symbol takes, and a new word begins after
 -- them.
-pub data IsFilteredFrom (flags : ℕ) : (last : ℕ) (passed left : List ℕ) → List Part → Type 0 where
-  nothing : {last : ℕ} {passed : List ℕ} → IsFilteredFrom flags last passed [] []
+pub data IsFilteredFrom (how : Choice) : (last : ℕ) (passed left : List ℕ) → List Part → Type 0 where
+  nothing : {last : ℕ} {passed : List ℕ} → IsFilteredFrom how last passed [] []
   stays : {last b : ℕ} {passed left : List ℕ} {parts : List Part}
-      → (is_start last passed b ≡ true → IsNoStart flags (b ∷ left))
-      → IsFilteredFrom flags last (b ∷ passed) left parts
-      → IsFilteredFrom flags last passed (b ∷ left) (kept b ∷ parts)
+      → (is_start last passed b ≡ true → IsNoStart how (b ∷ left))
+      → IsFilteredFrom how last (b ∷ passed) left parts
+      → IsFilteredFrom how last passed (b ∷ left) (kept b ∷ parts)
   replaced : {last b bytes : ℕ} {passed left text : List ℕ} {parts : List Part}
       → is_start last passed b ≡ true
-      → IsSymbol flags (b ∷ left) bytes text
-      → IsFilteredFrom flags (slice_index (b ∷ left) (bytes - 1)) [] (drop bytes (b ∷ left)) parts
-      → IsFilteredFrom flags last passed (b ∷ left) (declared text ∷ parts)
+      → IsSymbol how (b ∷ left) bytes text
+      → IsFilteredFrom how (slice_index (b ∷ left) (bytes - 1)) [] (drop bytes (b ∷ left)) parts
+      → IsFilteredFrom how last passed (b ∷ left) (declared text ∷ parts)
 
 -- the parts that the filter makes of some bytes, as if these stood after a line feed
-abbrev pub AreParts : ℕ → List ℕ → List Part → Type 0
-AreParts flags bytes parts = IsFilteredFrom flags 10 [] bytes parts
+abbrev pub AreParts : Choice → List ℕ → List Part → Type 0
+AreParts how bytes parts = IsFilteredFrom how 10 [] bytes parts
 
 -- these parts, and no others, are those that the filter makes of some bytes
-abbrev pub AreOnlyParts : ℕ → List ℕ → List Part → Type 0
-AreOnlyParts flags bytes parts =
-    AreParts flags bytes parts × ((others : List Part) → AreParts flags bytes others → others ≡ parts)
+abbrev pub AreOnlyPartsIn : Choice → List ℕ → List Part → Type 0
+AreOnlyPartsIn how bytes parts =
+    AreParts how bytes parts × ((others : List Part) → AreParts how bytes others → others ≡ parts)
 
 -- a text that the filter makes of some bytes
-abbrev pub IsFilteredText : ℕ → List ℕ → List ℕ → Type 0
-IsFilteredText flags bytes text = (parts : List Part) × AreParts flags bytes parts × (text ≡ text_of_parts parts)
+abbrev pub IsFilteredText : Choice → List ℕ → List ℕ → Type 0
+IsFilteredText how bytes text = (parts : List Part) × AreParts how bytes parts × (text ≡ text_of_parts parts)
 
 -- this text, and no other, is one that the filter makes of some bytes
-abbrev pub IsFiltered : ℕ → List ℕ → List ℕ → Type 0
-IsFiltered flags bytes text =
-    IsFilteredText flags bytes text × ((other : List ℕ) → IsFilteredText flags bytes other → other ≡ text)
+abbrev pub IsFilteredIn : Choice → List ℕ → List ℕ → Type 0
+IsFilteredIn how bytes text =
+    IsFilteredText how bytes text × ((other : List ℕ) → IsFilteredText how bytes other → other ≡ text)
+
+-- the same in the crate's grammar
+abbrev pub AreOnlyParts : (flags : ℕ) → List ℕ → List Part → Type 0
+AreOnlyParts flags bytes parts = AreOnlyPartsIn (under Crate flags) bytes parts
+
+abbrev pub IsFiltered : (flags : ℕ) → List ℕ → List ℕ → Type 0
+IsFiltered flags bytes text = IsFilteredIn (under Crate flags) bytes text
 
 -- The bytes of some parts that fit into `room` bytes: those of whole parts, and of a declaration that doesn't fit the
 -- longest beginning that is UTF-8.

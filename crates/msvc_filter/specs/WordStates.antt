@@ -1,6 +1,7 @@
 -- What the filter's scan knows of the bytes before a place, and what it has found.
 use Rattle.std.specs.Prelude.{ℕ, List, [], ◌∷◌, ◌+◌, ◌++◌, ◌≡◌, ◌≢◌, ◌≤◌, ◌<◌, ◌⊎◌, All, Option, Some}
 use Rattle.std.specs.Prelude.{drop, length, map, take}
+use Rattle.msvc_symbol.specs.Grammars.{Choice}
 use Rattle.msvc_filter.specs.Filtered.{IsFilteredFrom, IsSymbol, Part, declared, kept, text_of_parts}
 use Rattle.msvc_filter.specs.FilterRuns.{max_held}
 use Rattle.msvc_filter.specs.SymbolBounds.{byte_before, has_question_mark, word_before}
@@ -21,9 +22,9 @@ past [] passed = passed
 past (b ∷ bytes) passed = past bytes (b ∷ passed)
 
 -- the parts of the bytes left, whatever bytes were passed of which the scan knows this
-abbrev pub AreRest : ℕ → WordState → List ℕ → List Part → Type 0
-AreRest flags scan left parts =
-    (last : ℕ) (passed : List ℕ) → Keeps scan last passed → IsFilteredFrom flags last passed left parts
+abbrev pub AreRest : Choice → WordState → List ℕ → List Part → Type 0
+AreRest how scan left parts =
+    (last : ℕ) (passed : List ℕ) → Keeps scan last passed → IsFilteredFrom how last passed left parts
 
 -- the number of bytes that decide whether a symbol begins at the first of them: a candidate, and two bytes after it
 abbrev pub max_looked_at : ℕ
@@ -36,48 +37,48 @@ IsDecided left until more = (more ≡ []) ⊎ (until + max_looked_at ≤ length 
 
 -- The bytes left become these parts up to the place `at`, where the scan is `after`: these parts stand before the parts
 -- of the bytes from there on, also if more bytes follow.
-abbrev pub ArePartsUpTo : ℕ → (scan : WordState) (left : List ℕ) (until : ℕ) → List Part → (at : ℕ) (after : WordState)
-    → Type 0
-ArePartsUpTo flags scan left until parts at after = (more : List ℕ) (rest : List Part) → IsDecided left until more
-    → AreRest flags after (drop at left ++ more) rest → AreRest flags scan (left ++ more) (parts ++ rest)
+abbrev pub ArePartsUpTo : Choice → (scan : WordState) (left : List ℕ) (until : ℕ) → List Part
+    → (at : ℕ) (after : WordState) → Type 0
+ArePartsUpTo how scan left until parts at after = (more : List ℕ) (rest : List Part) → IsDecided left until more
+    → AreRest how after (drop at left ++ more) rest → AreRest how scan (left ++ more) (parts ++ rest)
 
 -- The first symbol stands after `before` of the bytes left and takes `bytes` bytes, and its declaration is shown.
-pub record IsFound (flags : ℕ) (scan : WordState) (left : List ℕ) (until before bytes : ℕ) (shown : Option (List ℕ))
+pub record IsFound (how : Choice) (scan : WordState) (left : List ℕ) (until before bytes : ℕ) (shown : Option (List ℕ))
     (after : WordState) : Type 0 where
   pub text : List ℕ
   pub printed : shown ≡ Some text
   pub some : 0 < bytes
   pub inside : before + bytes ≤ length left
-  pub parts : ArePartsUpTo flags scan left until (map kept (take before left) ++ declared text ∷ []) (before + bytes)
+  pub parts : ArePartsUpTo how scan left until (map kept (take before left) ++ declared text ∷ []) (before + bytes)
       after
 
 -- the bytes left are filtered up to the place `at`, and the text is what they became
-abbrev pub IsFilteredUpTo : ℕ → (scan : WordState) (left : List ℕ) (until : ℕ) → List ℕ → (at : ℕ) (after : WordState) →
-    Type 0
-IsFilteredUpTo flags scan left until text at after = (until ≤ at) × (at ≤ length left) × (parts : List Part)
-    × (text ≡ text_of_parts parts) × ArePartsUpTo flags scan left until parts at after
+abbrev pub IsFilteredUpTo : Choice → (scan : WordState) (left : List ℕ) (until : ℕ) → List ℕ
+    → (at : ℕ) (after : WordState) → Type 0
+IsFilteredUpTo how scan left until text at after = (until ≤ at) × (at ≤ length left) × (parts : List Part)
+    × (text ≡ text_of_parts parts) × ArePartsUpTo how scan left until parts at after
 
 -- The bytes left begin with a symbol that takes `bytes` bytes, and its declaration is shown.
-abbrev pub IsSymbolShown : ℕ → (left : List ℕ) (bytes : ℕ) (shown : Option (List ℕ)) → Type 0
-IsSymbolShown flags left bytes shown = (text : List ℕ) × (shown ≡ Some text) × IsSymbol flags left bytes text
+abbrev pub IsSymbolShown : Choice → (left : List ℕ) (bytes : ℕ) (shown : Option (List ℕ)) → Type 0
+IsSymbolShown how left bytes shown = (text : List ℕ) × (shown ≡ Some text) × IsSymbol how left bytes text
     × (0 < bytes) × (bytes ≤ length left)
 
 -- the text is that of parts of the bytes left
-abbrev pub IsRestText : ℕ → WordState → List ℕ → List ℕ → Type 0
-IsRestText flags scan left text = (parts : List Part) × AreRest flags scan left parts × (text ≡ text_of_parts parts)
+abbrev pub IsRestText : Choice → WordState → List ℕ → List ℕ → Type 0
+IsRestText how scan left text = (parts : List Part) × AreRest how scan left parts × (text ≡ text_of_parts parts)
 
 -- The text is written for some of the bytes left, after which the rest is left. The text stands before that of the
 -- rest, whatever bytes follow. Nothing is written if at most `max_held` bytes are left.
-pub record IsDecidedText (flags : ℕ) (scan : WordState) (left text : List ℕ) (after : WordState) (rest : List ℕ) : Type
-    0 where
+pub record IsDecidedText (how : Choice) (scan : WordState) (left text : List ℕ) (after : WordState) (rest : List ℕ)
+    : Type 0 where
   pub parts : List Part
   pub is_text : text ≡ text_of_parts parts
   pub fewer : length rest ≤ length left
   pub nothing_of_short : length left ≤ max_held → parts ≡ []
-  pub before_rest : (more : List ℕ) (others : List Part) → AreRest flags after (rest ++ more) others
-      → AreRest flags scan (left ++ more) (parts ++ others)
+  pub before_rest : (more : List ℕ) (others : List Part) → AreRest how after (rest ++ more) others
+      → AreRest how scan (left ++ more) (parts ++ others)
 
 -- the text is written for some of the bytes left
-abbrev pub IsDecidedTextOf : ℕ → WordState → List ℕ → List ℕ → Type 0
-IsDecidedTextOf flags scan left text = (after : WordState) × (rest : List ℕ) × IsDecidedText flags scan left text after
+abbrev pub IsDecidedTextOf : Choice → WordState → List ℕ → List ℕ → Type 0
+IsDecidedTextOf how scan left text = (after : WordState) × (rest : List ℕ) × IsDecidedText how scan left text after
     rest

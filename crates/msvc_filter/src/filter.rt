@@ -6,14 +6,14 @@ ghost use Rattle.std.specs.Prelude.{OnOk, OnSome, Some, drop, length, map, slice
 ghost use Rattle.std.specs.Io.KnownBytes.{Appends, Consumes, IsAtEnd};
 ghost use Rattle.msvc_nodes.specs.Trees.{SymbolTree};
 ghost use Rattle.msvc_rules.specs.Counts.{node_count};
-ghost use Rattle.msvc_grammar.specs.Parsed.{IsParsed, IsSymbolLength};
-ghost use Rattle.msvc_print.specs.Declaration.{declaration};
+ghost use Rattle.msvc_rules.specs.Parsed.{IsParsedIn, IsSymbolLengthIn};
+ghost use Rattle.msvc_symbol.specs.Grammars.{declaration_in, dialect_of, under};
 ghost use Rattle.msvc_streams.specs.Faults.{SetsFailureFlag, failure_flag, no_stream};
 ghost use Rattle.msvc_filter.specs.SliceWriters.{IsSliceWriter, space_after};
-ghost use Rattle.msvc_filter.specs.Filtered.{AreOnlyParts, IsNoStart, IsNoneWithin, Part, declared, fitting};
-ghost use Rattle.msvc_filter.specs.Filtered.{kept, max_declared, max_nodes, text_of_parts};
+ghost use Rattle.msvc_filter.specs.Filtered.{AreOnlyParts, AreOnlyPartsIn, IsNoStart, IsNoneWithin, Part};
+ghost use Rattle.msvc_filter.specs.Filtered.{declared, fitting, kept, max_declared, max_nodes, text_of_parts};
 ghost use Rattle.msvc_streams.specs.Runs.{Writes, WritesPart};
-ghost use Rattle.msvc_filter.specs.FilterRuns.{WritesFiltered};
+ghost use Rattle.msvc_filter.specs.FilterRuns.{WritesFiltered, WritesFilteredIn};
 ghost use Rattle.msvc_filter.specs.WordStates.{ArePartsUpTo, IsFilteredUpTo, IsFound};
 ghost use Rattle.msvc_filter.specs.WordStates.{IsDecidedText, IsDecidedTextOf, IsRestText};
 ghost use Rattle.msvc_filter.specs.WordStates.{IsSymbolShown, Keeps};
@@ -25,7 +25,7 @@ use crate::symbol_bounds::{
 use msvc_cursor::limits::{DEFAULT_BYTE_LIMIT, DEFAULT_NODE_LIMIT, Limits};
 use msvc_nodes::flags::DemangleFlags;
 use msvc_streams::{Fault, Polls, Taken, Watched, consume, fail, fill_buf, line_end, write_all};
-use msvc_symbol::Demangler;
+use msvc_symbol::{Demangler, Grammar};
 use std::alloc::{AllocError, Allocator, Global};
 use std::io::{BufRead, Write};
 
@@ -70,7 +70,59 @@ pub fn filter_text<R: BufRead, W: Write>(
     ensures sets_failed { SetsFailureFlag result (failure_flag input.old input.new) (failure_flag out.old out.new)
         no_stream }
 {
-    let mut demangler = Demangler::new(alloc);
+    filter_text_in(&mut Demangler::new(alloc), input, out, flags)
+}
+
+/// Copies `input` to `out`, as [`filter_text`] does, with the grammar and the memory of a demangler.
+///
+/// # Errors
+///
+/// Fails where [`filter_text`] does.
+///
+/// # Examples
+///
+/// ```
+/// let mut demangler = Demangler::with_grammar(alloc, Grammar::Full);
+/// let mut input = Watched::new(b"at ?f@@YA?A?<auto>@@H@Z+0x5\n".as_slice());
+/// let mut out = Watched::new(Vec::new(alloc));
+/// let flags = DemangleFlags::llvm();
+/// assert!(rt; filter_text_in(&mut demangler, &mut input, &mut out, flags).is_ok());
+/// let expected = b"at <auto> __cdecl f(int)+0x5\n".as_slice();
+/// assert_eq!(rt; out.into_inner().as_slice(), expected);
+/// ```
+pub fn filter_text_in<R: BufRead, W: Write>(
+    demangler: &mut Demangler,
+    input: &mut Watched<R>,
+    out: &mut Watched<W>,
+    flags: DemangleFlags,
+) -> Result<(), Fault>
+    ensures text { (taken text : List ℕ) × Consumes (R.remaining input.old.stream) (R.remaining input.new.stream) taken
+        × Appends (W.contents out.old.stream) (W.contents out.new.stream) text
+        × WritesFilteredIn result (under demangler.old.grammar flags.0) taken text }
+    ensures end { OnOk result (OnSome (R.remaining input.old.stream) (IsAtEnd (R.remaining input.new.stream))) }
+    ensures sets_failed { SetsFailureFlag result (failure_flag input.old input.new) (failure_flag out.old out.new)
+        no_stream }
+{
+    let grammar = demangler.grammar();
+    filter_lines(demangler, grammar, input, out, flags)
+}
+
+/// Copies `input` to `out`, as [`filter_text`] does, with each symbol of a grammar replaced.
+fn filter_lines<R: BufRead, W: Write>(
+    demangler: &mut Demangler,
+    grammar: Grammar,
+    input: &mut Watched<R>,
+    out: &mut Watched<W>,
+    flags: DemangleFlags,
+) -> Result<(), Fault>
+    ensures text { (taken text : List ℕ) × Consumes (R.remaining input.old.stream) (R.remaining input.new.stream) taken
+        × Appends (W.contents out.old.stream) (W.contents out.new.stream) text
+        × WritesFilteredIn result (under grammar flags.0) taken text }
+    ensures end { OnOk result (OnSome (R.remaining input.old.stream) (IsAtEnd (R.remaining input.new.stream))) }
+    ensures sets_failed { SetsFailureFlag result (failure_flag input.old input.new) (failure_flag out.old out.new)
+        no_stream }
+{
+    let alloc = demangler.alloc();
     let mut text = Vec::new(alloc);
     let mut piece = Vec::new(alloc);
     let mut scan = WordState::new(b'\n');
@@ -84,7 +136,8 @@ pub fn filter_text<R: BufRead, W: Write>(
         match taken {
             Taken::Line if piece.is_empty() => {
                 // A line that the reader shows whole is not copied.
-                let put = write_rest(&mut demangler, &mut text, &shown[..end], scan, out, flags);
+                let line = &shown[..end];
+                let put = write_rest(demangler, grammar, &mut text, line, scan, out, flags);
                 consume(input, end);
                 put?;
                 scan = WordState::new(b'\n');
@@ -94,7 +147,7 @@ pub fn filter_text<R: BufRead, W: Write>(
                     return Err(Fault::Memory);
                 }
                 consume(input, end);
-                write_rest(&mut demangler, &mut text, &piece, scan, out, flags)?;
+                write_rest(demangler, grammar, &mut text, &piece, scan, out, flags)?;
                 piece.clear();
                 scan = WordState::new(b'\n');
             }
@@ -103,9 +156,13 @@ pub fn filter_text<R: BufRead, W: Write>(
                     return Err(Fault::Memory);
                 }
                 consume(input, end);
-                write_decided(&mut demangler, &mut text, &mut piece, &mut scan, out, flags)?;
+                write_decided(
+                    demangler, grammar, &mut text, &mut piece, &mut scan, out, flags,
+                )?;
             }
-            Taken::End => return write_rest(&mut demangler, &mut text, &piece, scan, out, flags),
+            Taken::End => {
+                return write_rest(demangler, grammar, &mut text, &piece, scan, out, flags);
+            }
         }
     }
 }
@@ -114,6 +171,7 @@ pub fn filter_text<R: BufRead, W: Write>(
 /// leaves the other bytes in `piece`.
 fn write_decided<W: Write>(
     demangler: &mut Demangler,
+    grammar: Grammar,
     text: &mut Vec<u8>,
     piece: &mut Vec<u8>,
     scan: &mut WordState,
@@ -121,15 +179,16 @@ fn write_decided<W: Write>(
     flags: DemangleFlags,
 ) -> Result<(), Fault>
     ensures text { (written : List ℕ) × Appends (W.contents out.old.stream) (W.contents out.new.stream) written
-        × MatchResult result (λ _. IsDecidedText flags.0 scan.old piece.old.items written scan.new piece.new.items)
-        (λ fault. WritesPart fault (IsDecidedTextOf flags.0 scan.old piece.old.items) written) }
+        × MatchResult result (λ _. IsDecidedText (under grammar flags.0) scan.old piece.old.items written scan.new
+        piece.new.items)
+        (λ fault. WritesPart fault (IsDecidedTextOf (under grammar flags.0) scan.old piece.old.items) written) }
     ensures sets_failed { SetsFailureFlag result no_stream (failure_flag out.old out.new) no_stream }
 {
     if piece.len() <= MAX_HELD {
         return Ok(());
     }
     let until = piece.len() - MAX_LOOKED_AT;
-    match filter_piece(demangler, piece, until, scan, text, flags) {
+    match filter_piece(demangler, grammar, piece, until, scan, text, flags) {
         Ok(at) => {
             write_all(out, text)?;
             drop_front(piece, at);
@@ -150,8 +209,32 @@ fn drop_front(bytes: &mut Vec<u8>, count: usize)
 }
 
 /// Writes the filtered text of the rest of a line. `text` has the capacity for it.
+#[inline(always)]
 fn write_rest<W: Write>(
     demangler: &mut Demangler,
+    grammar: Grammar,
+    text: &mut Vec<u8>,
+    piece: &[u8],
+    scan: WordState,
+    out: &mut Watched<W>,
+    flags: DemangleFlags,
+) -> Result<(), Fault>
+    ensures text { (written : List ℕ) × Appends (W.contents out.old.stream) (W.contents out.new.stream) written
+        × Writes result (IsRestText (under grammar flags.0) scan piece.now) written }
+    ensures sets_failed { SetsFailureFlag result no_stream (failure_flag out.old out.new) no_stream }
+{
+    // Most lines have no symbol, and stay as they are.
+    if !piece.contains(&b'?') {
+        return write_all(out, piece);
+    }
+    write_filtered(demangler, grammar, text, piece, scan, out, flags)
+}
+
+/// Writes the filtered text of the rest of a line that may have a symbol.
+#[inline(never)]
+fn write_filtered<W: Write>(
+    demangler: &mut Demangler,
+    grammar: Grammar,
     text: &mut Vec<u8>,
     piece: &[u8],
     mut scan: WordState,
@@ -159,14 +242,11 @@ fn write_rest<W: Write>(
     flags: DemangleFlags,
 ) -> Result<(), Fault>
     ensures text { (written : List ℕ) × Appends (W.contents out.old.stream) (W.contents out.new.stream) written
-        × Writes result (IsRestText flags.0 scan piece.now) written }
+        × Writes result (IsRestText (under grammar flags.0) scan piece.now) written }
     ensures sets_failed { SetsFailureFlag result no_stream (failure_flag out.old out.new) no_stream }
 {
-    // Most lines have no symbol, and stay as they are.
-    if !piece.contains(&b'?') {
-        return write_all(out, piece);
-    }
-    match filter_piece(demangler, piece, piece.len(), &mut scan, text, flags) {
+    let end = piece.len();
+    match filter_piece(demangler, grammar, piece, end, &mut scan, text, flags) {
         Ok(_) => write_all(out, text),
         Err(_) => Err(Fault::Memory),
     }
@@ -215,7 +295,7 @@ pub fn filter_slice(
     filter_slice_in(&mut Demangler::new(alloc), text, flags, out)
 }
 
-/// Writes `text` into `out`, as [`filter_slice`] does, with the memory of a demangler.
+/// Writes `text` into `out`, as [`filter_slice`] does, with the grammar and the memory of a demangler.
 ///
 /// # Errors
 ///
@@ -226,7 +306,29 @@ pub fn filter_slice_in<A: Allocator + Copy>(
     flags: DemangleFlags,
     out: &mut [u8],
 ) -> Result<Filtered, AllocError>
-    ensures text { IfOk result (λ f. (parts : List Part) × AreOnlyParts flags.0 text.now parts
+    ensures text { IfOk result (λ f. (parts : List Part) × AreOnlyPartsIn (under demangler.old.grammar flags.0)
+        text.now parts
+        × (f.length ≡ length (text_of_parts parts)) × (f.written ≡ length (fitting (length out.old) parts))
+        × (out.new ≡ fitting (length out.old) parts ++ drop (length (fitting (length out.old) parts)) out.old)) }
+{
+    let grammar = demangler.grammar();
+    filter_slice_as(demangler, grammar, text, flags, out)
+}
+
+/// Writes `text` into `out`, as [`filter_slice`] does, with each symbol of a grammar replaced, with the memory of a
+/// demangler, whose grammar may be another.
+///
+/// # Errors
+///
+/// Fails where [`filter_slice`] does.
+pub fn filter_slice_as<A: Allocator + Copy>(
+    demangler: &mut Demangler<A>,
+    grammar: Grammar,
+    text: &[u8],
+    flags: DemangleFlags,
+    out: &mut [u8],
+) -> Result<Filtered, AllocError>
+    ensures text { IfOk result (λ f. (parts : List Part) × AreOnlyPartsIn (under grammar flags.0) text.now parts
         × (f.length ≡ length (text_of_parts parts)) × (f.written ≡ length (fitting (length out.old) parts))
         × (out.new ≡ fitting (length out.old) parts ++ drop (length (fitting (length out.old) parts)) out.old)) }
 {
@@ -238,7 +340,14 @@ pub fn filter_slice_in<A: Allocator + Copy>(
     };
     let mut at = 0;
     'symbols: while at < text.len() {
-        match next_symbol(demangler, &text[at..], text.len() - at, &mut scan, flags)? {
+        match next_symbol(
+            demangler,
+            grammar,
+            &text[at..],
+            text.len() - at,
+            &mut scan,
+            flags,
+        )? {
             Some(found) => {
                 writer = write_verbatim(out, writer, &text[at..at + found.before])?;
                 writer = write_declaration(out, writer, demangler.declared())?;
@@ -351,6 +460,7 @@ fn copy_into(out: &mut [u8], at: usize, bytes: &[u8])
 /// `until` is inside. Returns how many bytes of `piece` these are.
 fn filter_piece(
     demangler: &mut Demangler,
+    grammar: Grammar,
     piece: &[u8],
     until: usize,
     scan: &mut WordState,
@@ -359,12 +469,12 @@ fn filter_piece(
 ) -> Result<usize, AllocError>
     requires { until ≤ length piece.now }
     ensures { IfOk result (λ at.
-        IsFilteredUpTo flags.0 scan.old piece.now until text.new.items at scan.new) }
+        IsFilteredUpTo (under grammar flags.0) scan.old piece.now until text.new.items at scan.new) }
 {
     text.clear();
     let mut at = 0;
     'symbols: while at < until {
-        match next_symbol(demangler, &piece[at..], until - at, scan, flags)? {
+        match next_symbol(demangler, grammar, &piece[at..], until - at, scan, flags)? {
             Some(found) => {
                 text.extend_from_slice(&piece[at..at + found.before])?;
                 text.extend_from_slice(demangler.declared())?;
@@ -392,6 +502,7 @@ struct Found {
 /// Moves the scan to the end of the symbol, or to `until` if there is none.
 fn next_symbol<A: Allocator + Copy>(
     demangler: &mut Demangler<A>,
+    grammar: Grammar,
     left: &[u8],
     until: usize,
     scan: &mut WordState,
@@ -399,9 +510,10 @@ fn next_symbol<A: Allocator + Copy>(
 ) -> Result<Option<Found>, AllocError>
     requires { until ≤ length left.now }
     ensures none { IfOk result (λ found. IfNone found
-        (ArePartsUpTo flags.0 scan.old left.now until (map kept (take until left.now)) until scan.new)) }
+        (ArePartsUpTo (under grammar flags.0) scan.old left.now until (map kept (take until left.now)) until
+        scan.new)) }
     ensures some { IfOk result (λ found. IfSome found (λ f.
-        IsFound flags.0 scan.old left.now until f.before f.bytes demangler.new.text scan.new)) }
+        IsFound (under grammar flags.0) scan.old left.now until f.before f.bytes demangler.new.text scan.new)) }
 {
     let mut at = 0;
     'bytes: while at < until {
@@ -412,7 +524,7 @@ fn next_symbol<A: Allocator + Copy>(
             at = end;
             continue;
         }
-        match symbol_at(demangler, &left[at..], *scan, flags)? {
+        match symbol_at(demangler, grammar, &left[at..], *scan, flags)? {
             Some(bytes) => {
                 *scan = WordState::new(left[at + bytes - 1]);
                 return Ok(Some(Found { before: at, bytes }));
@@ -430,18 +542,19 @@ fn next_symbol<A: Allocator + Copy>(
 /// text.
 fn symbol_at<A: Allocator + Copy>(
     demangler: &mut Demangler<A>,
+    grammar: Grammar,
     left: &[u8],
     scan: WordState,
     flags: DemangleFlags,
 ) -> Result<Option<usize>, AllocError>
     ensures none { IfOk result (λ found. IfNone found ((last : ℕ) (passed : List ℕ) → Keeps scan last passed
-        → is_start last passed (slice_index left.now 0) ≡ true → IsNoStart flags.0 left.now)) }
+        → is_start last passed (slice_index left.now 0) ≡ true → IsNoStart (under grammar flags.0) left.now)) }
     ensures some { IfOk result (λ found. IfSome found (λ bytes. ((last : ℕ) (passed : List ℕ) → Keeps scan last passed
         → is_start last passed (slice_index left.now 0) ≡ true)
-        × IsSymbolShown flags.0 left.now bytes demangler.new.text)) }
+        × IsSymbolShown (under grammar flags.0) left.now bytes demangler.new.text)) }
 {
     match left {
-        [byte, ..] if scan.is_start(*byte) => match_symbol(demangler, left, flags),
+        [byte, ..] if scan.is_start(*byte) => match_symbol(demangler, grammar, left, flags),
         _ => Ok(None),
     }
 }
@@ -450,14 +563,15 @@ fn symbol_at<A: Allocator + Copy>(
 /// demangler's text.
 fn match_symbol<A: Allocator + Copy>(
     demangler: &mut Demangler<A>,
+    grammar: Grammar,
     left: &[u8],
     flags: DemangleFlags,
 ) -> Result<Option<usize>, AllocError>
-    ensures none { IfOk result (λ found. IfNone found (IsNoStart flags.0 left.now)) }
+    ensures none { IfOk result (λ found. IfNone found (IsNoStart (under grammar flags.0) left.now)) }
     ensures some { IfOk result (λ found. IfSome found (λ bytes.
-        IsSymbolShown flags.0 left.now bytes demangler.new.text)) }
+        IsSymbolShown (under grammar flags.0) left.now bytes demangler.new.text)) }
 {
-    match demangle_candidate(demangler, candidate(left), flags)? {
+    match demangle_candidate(demangler, grammar, candidate(left), flags)? {
         Some(read) => {
             let bytes = symbol_extent(left, read);
             if continues(left, bytes) {
@@ -474,19 +588,22 @@ fn match_symbol<A: Allocator + Copy>(
 /// declaration then.
 fn demangle_candidate<A: Allocator + Copy>(
     demangler: &mut Demangler<A>,
+    grammar: Grammar,
     input: &str,
     flags: DemangleFlags,
 ) -> Result<Option<usize>, AllocError>
-    ensures declared { IfOk result (λ found. IfSome found (λ bytes. (tree : SymbolTree) × IsParsed input.now tree
-        × (demangler.new.text ≡ Some (declaration tree flags.0)) × (node_count tree ≤ max_nodes)
-        × IsSymbolLength bytes input.now × (length (declaration tree flags.0) ≤ max_declared))) }
-    ensures none { IfOk result (λ found. IfNone found (IsNoneWithin flags.0 input.now)) }
+    ensures declared { IfOk result (λ found. IfSome found (λ bytes. (tree : SymbolTree)
+        × IsParsedIn (dialect_of grammar) input.now tree
+        × (demangler.new.text ≡ Some (declaration_in grammar tree flags.0)) × (node_count tree ≤ max_nodes)
+        × IsSymbolLengthIn (dialect_of grammar) bytes input.now
+        × (length (declaration_in grammar tree flags.0) ≤ max_declared))) }
+    ensures none { IfOk result (λ found. IfNone found (IsNoneWithin (under grammar flags.0) input.now)) }
 {
     let limits = Limits {
         nodes: Some(DEFAULT_NODE_LIMIT),
         bytes: Some(DEFAULT_BYTE_LIMIT),
     };
-    match demangler.declare(input, flags, limits) {
+    match demangler.declare(grammar, input, flags, limits) {
         Ok(length) => Ok(Some(length)),
         Err(failure) => {
             if failure.is_out_of_memory() {

@@ -4,4 +4,6 @@
 mod filter;
 mod symbol_bounds;
 
-pub use filter::{Filtered, filter_slice, filter_slice_in, filter_text};
+pub use filter::{
+    Filtered, filter_slice, filter_slice_as, filter_slice_in, filter_text, filter_text_in,
+};

@@ -5,6 +5,8 @@ use Rattle.msvc_demangler.specs.ErrorRepr.TheVariants as error
 use Rattle.msvc_demangler.specs.Answers.{line_flags}
 use Rattle.msvc_demangler.specs.Demangled.{IsErrorUnder}
 use Rattle.msvc_demangler.specs.Filtered.{IsNoneWithin, max_declared, max_nodes}
+use Rattle.msvc_demangler.specs.GrammarNames.TheVariants.{Crate}
+use Rattle.msvc_demangler.specs.Grammars.{under}
 use Rattle.msvc_demangler.specs.Limits.{limits_of}
 use Rattle.msvc_demangler.specs.Rejections.{IsNoSymbol, IsRejectedRightly}
 use Rattle.msvc_front.specs.Readable.{IsReadable}
@@ -18,7 +20,7 @@ no_symbol name (error.FromUtf8 cause) other refused = absurd refused
 no_symbol name (error.Other message) other refused = absurd refused
 
 none : (name : List ℕ) (e : ErrorRepr) → (e ≡ error.Memory → ⊥)
-    → IsErrorUnder (limits_of max_nodes max_declared) name line_flags e → IsNoneWithin line_flags name
+    → IsErrorUnder (limits_of max_nodes max_declared) name line_flags e → IsNoneWithin (under Crate line_flags) name
 none name e other (inl rejected) = inl (no_symbol name e other rejected.rejected)
 none name e other (inr longer) = inr (longer.tree, longer.parsed, longer.longer)
 

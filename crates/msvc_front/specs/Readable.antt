@@ -3,6 +3,8 @@ use Rattle.std.specs.Prelude.{ℕ, List, ◌≡◌, ◌⊎◌, codes}
 use Rattle.msvc_demangler.specs.Answers.{line_flags}
 use Rattle.msvc_demangler.specs.Demangled.{IsDeclaredWithin}
 use Rattle.msvc_demangler.specs.Filtered.{IsNoneWithin, max_declared, max_nodes}
+use Rattle.msvc_demangler.specs.GrammarNames.TheVariants.{Crate}
+use Rattle.msvc_demangler.specs.Grammars.{under}
 use Rattle.msvc_demangler.specs.Limits.{limits_of}
 use Rattle.msvc_demangler.specs.Rejections.{begins_with}
 
@@ -13,7 +15,7 @@ IsMicrosofts name = begins_with (codes "?") name
 -- the text is the declaration of the name within the default limits, or the name itself if it has none
 abbrev pub IsDeclaredOrStays : List ℕ → List ℕ → Type 0
 IsDeclaredOrStays name text = IsDeclaredWithin (limits_of max_nodes max_declared) name line_flags text
-    ⊎ (IsNoneWithin line_flags name × (text ≡ name))
+    ⊎ (IsNoneWithin (under Crate line_flags) name × (text ≡ name))
 
 -- the text is what people read in place of the name
 pub record IsReadable (name text : List ℕ) : Type 0 where

@@ -90,8 +90,9 @@ a_member = refl
 
 -- the same of a class in an anonymous namespace, which a capital keeps out of the table
 pub an_anonymous_member : read_of "?x@@3PEQC@?A0x5B@@HEQ1?A0x5B@@" ≡ whole (source "x") []
-    (variable (shape member_pointer_row 64 [] [] (names (nested (source "C") (name_trees (anonymous (Some (codes "0x5B"))
-    ∷ [])) (plain p.None)) no_names) (types (base b.Int 0) no_types)) v.Global 0)
+    (variable (shape member_pointer_row 64 [] [] (names (nested (source "C")
+    (name_trees (anonymous (Some (codes "0x5B")) ∷ [])) (plain p.None)) no_names)
+    (types (base b.Int 0) no_types)) v.Global 0)
 unfolding read_name read_name_in read_within read_by part_here counting grammar
 an_anonymous_member = refl
 
@@ -104,8 +105,8 @@ a_member_function = refl
 
 -- a pointer to an array of arrays, the outer of unknown length
 pub an_array : read_of "?x@@3PEAY1A@2HEA" ≡ whole (source "x") []
-    (variable (pointing m.Pointer (shape arrays_row 0 (plus 0 ∷ plus 3 ∷ []) [] no_names (types (base b.Int 0) no_types))
-    64) v.Global 0)
+    (variable (pointing m.Pointer (shape arrays_row 0 (plus 0 ∷ plus 3 ∷ []) [] no_names
+    (types (base b.Int 0) no_types)) 64) v.Global 0)
 unfolding read_name read_name_in read_within read_by part_here counting grammar
 an_array = refl
 

@@ -22,7 +22,8 @@ use Rattle.msvc_full_grammar.specs.Productions.{named_symbol, encoding, other_en
 use Rattle.msvc_full_grammar.specs.Productions.{variable_end, repeated_class, repeated_scope, repeated_name}
 use Rattle.msvc_full_grammar.specs.Productions.{symbol_name, operator_name, operator_after, type_name, type_symbol}
 use Rattle.msvc_full_grammar.specs.Productions.{class_symbol, template_name, scope, nested_name, anonymous_digits}
-use Rattle.msvc_full_grammar.specs.Productions.{anonymous_kept, hexadecimal_digits, name_row, type_row, source_name, function_type}
+use Rattle.msvc_full_grammar.specs.Productions.{anonymous_kept, hexadecimal_digits, name_row, type_row, source_name}
+use Rattle.msvc_full_grammar.specs.Productions.{function_type}
 use Rattle.msvc_full_grammar.specs.Productions.{signature, own_qualifiers, marks, returned, function_parameters}
 use Rattle.msvc_full_grammar.specs.Productions.{parameters, parameter, type_, type_after, pointer, reference, arrays}
 use Rattle.msvc_full_grammar.specs.Productions.{dimensions, positive, lengths, arguments, argument, argument_after}

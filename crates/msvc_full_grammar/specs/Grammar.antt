@@ -2,7 +2,7 @@
 -- letters stand for is in the tables of Letters.
 use Rattle.std.specs.Prelude.{ℕ, List, [], ◌∷◌, ◌++◌, ◌==◌, ◌+◌, ◌*◌, ◌%◌, ◌^◌, Bool, true, false, Some, None}
 use Rattle.std.specs.Prelude.{bit_and, bit_or, suc, zero, codes, if◌then◌else◌}
-use Rattle.msvc_nodes.specs.Trees.{NameTree, TypeTree, spelled, operator, template, nested, anonymous, shaped, no_names}
+use Rattle.msvc_nodes.specs.Trees.{TypeTree, spelled, operator, template, nested, anonymous, shaped, no_names}
 use Rattle.msvc_nodes.specs.Trees.{names, name_trees, plain, base, tagged, pointing, member_function, shape, no_types}
 use Rattle.msvc_nodes.specs.Trees.{types, type_trees}
 use Rattle.msvc_nodes.specs.Trees as tree
@@ -19,10 +19,11 @@ use Rattle.msvc_full_grammar.specs.Forms.{OwnQualifiers, absent, present}
 use Rattle.msvc_full_grammar.specs.Forms.{plain_operator, operator_by_row}
 use Rattle.msvc_full_grammar.specs.Forms.{encoding_by_row, free_function, function_of}
 use Rattle.msvc_full_grammar.specs.Forms.{VariableEnd, of_pointer, of_member_pointer, of_value}
-use Rattle.msvc_full_grammar.specs.Forms.{named, pointer_with, reference_by, arrayed, function_with, the_same, qualified}
-use Rattle.msvc_full_grammar.specs.Forms.{type_by_row, extended}
+use Rattle.msvc_full_grammar.specs.Forms.{named, pointer_with, reference_by, arrayed, function_with, the_same}
+use Rattle.msvc_full_grammar.specs.Forms.{qualified, type_by_row, extended}
 use Rattle.msvc_full_grammar.specs.Forms.{empty_pack, alias, argument_by_row}
-use Rattle.msvc_full_grammar.specs.Letters.{digits, hexadecimal, hexadecimal_base, capitals, hexadecimal_codes, noexcept}
+use Rattle.msvc_full_grammar.specs.Letters.{digits, hexadecimal, hexadecimal_base, capitals, hexadecimal_codes}
+use Rattle.msvc_full_grammar.specs.Letters.{noexcept}
 use Rattle.msvc_full_grammar.specs.Letters.{qualifiers, member_qualifiers, pointer_sizes, restricts, alignments}
 use Rattle.msvc_full_grammar.specs.Letters.{reference_qualifiers, base_types, extended_types, type_texts}
 use Rattle.msvc_full_grammar.specs.Letters.{argument_texts, conventions, global, static, encoding_texts, variable_texts}

@@ -1,15 +1,15 @@
-//! What the tables of texts stand for, and the rows of the table of shapes that are read field by field.
+//! Tells what the tables of texts stand for, and which rows of the table of shapes are read field by field.
 
 use msvc_nodes::kinds::PlainOperator;
 
-/// Whether a function has qualifiers of its own, which it has on the object that it is called on.
+/// Tells whether a function has qualifiers of its own, which it has on the object that it is called on.
 #[derive(Clone, Copy)]
 pub enum OwnQualifiers {
     Absent,
     Present,
 }
 
-/// A row of types that is read field by field.
+/// Tells which row of types is read field by field.
 #[derive(Clone, Copy)]
 pub enum TypeRow {
     /// A number as an argument of a template.
@@ -22,7 +22,7 @@ pub enum TypeRow {
     ExternC,
 }
 
-/// A row of names that is read field by field.
+/// Tells which row of names is read field by field.
 #[derive(Clone, Copy)]
 pub enum NameRow {
     /// A scope inside a function.
@@ -33,7 +33,7 @@ pub enum NameRow {
     Spaceship,
 }
 
-/// What the code of an operator stands for.
+/// Tells what the code of an operator stands for.
 #[derive(Clone, Copy)]
 pub enum OperatorForm {
     /// An operator with nothing in it.
@@ -42,7 +42,7 @@ pub enum OperatorForm {
     Row(NameRow),
 }
 
-/// What an argument of a template begins with, where it is no type.
+/// Tells what an argument of a template begins with, where it is no type.
 #[derive(Clone, Copy)]
 pub enum ArgumentForm {
     /// No arguments for a parameter pack.

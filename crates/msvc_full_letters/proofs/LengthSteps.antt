@@ -1,5 +1,6 @@
 -- Step lemmas of the lengths of arrays, as a loop reads them.
-use Rattle.std.proofs.Common.{ℕ, suc, zero, List, [], ◌∷◌, ◌++◌, Some, None, false, ◌≡◌, ◌<◌, ◌∙◌, ap, append-nil, arith}
+use Rattle.std.proofs.Common.{ℕ, suc, zero, List, [], ◌∷◌, ◌++◌, Some, None, false, ◌≡◌, ◌<◌, ◌∙◌, ap, append-nil}
+use Rattle.std.proofs.Common.{arith}
 use Rattle.msvc_nodes.specs.declared.nodes.Number.{Number}
 use Rattle.msvc_rules.specs.Readers.{Found, and_then, read_by}
 use Rattle.msvc_rules.specs.State.{State}

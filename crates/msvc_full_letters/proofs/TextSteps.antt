@@ -14,7 +14,8 @@ use Rattle.msvc_full_grammar.specs.Grammar.{grammar}
 use Rattle.msvc_full_grammar.specs.Letters.{argument_texts, base_types, encoding_texts, extended_types, operator_texts}
 use Rattle.msvc_full_grammar.specs.Letters.{label_texts, type_texts, variable_texts}
 use Rattle.msvc_full_grammar.specs.Productions.{argument, argument_after, encoding, encoding_after, operator_after}
-use Rattle.msvc_full_grammar.specs.Productions.{operator_name, other_encoding, symbol, type_, type_after, variable, whole_text}
+use Rattle.msvc_full_grammar.specs.Productions.{operator_name, other_encoding, symbol, type_, type_after, variable}
+use Rattle.msvc_full_grammar.specs.Productions.{whole_text}
 use Rattle.msvc_full_grammar.specs.Reading.{read_name, read}
 use Rattle.msvc_full_grammar.proofs.Checks.{no_encoding_begins_another, no_operator_begins_another}
 use Rattle.msvc_full_grammar.proofs.Checks.{no_type_begins_another, no_variable_begins_another}

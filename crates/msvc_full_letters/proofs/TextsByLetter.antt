@@ -4,7 +4,8 @@ use Rattle.std.proofs.lemmas.Bool.{eqb-true}
 use Rattle.msvc_rules.specs.Rules.{after, lookup}
 use Rattle.msvc_full_grammar.specs.Letters.{encoding_texts, operator_texts}
 use Rattle.msvc_cursor.specs.Parser.{at_rest, letter_at, this_or, text_at}
-use Rattle.msvc_full_letters.specs.Texts.{encoding_letters, operator_at, operator_letters, under_operator_texts, underscore}
+use Rattle.msvc_full_letters.specs.Texts.{encoding_letters, operator_at, operator_letters, under_operator_texts}
+use Rattle.msvc_full_letters.specs.Texts.{underscore}
 
 -- what one table has, or what others have
 abbrev first_of : {A : Type 0} → Option A → Option A → Option A

@@ -1,10 +1,10 @@
-//! What the tables of texts of Full stand for where the grammar has the bits of a set: the same with the set.
+//! Tells what the tables of texts of Full stand for, as `msvc_full_grammar` does, with sets in place of their bits.
 
 use msvc_full_grammar::forms::{OwnQualifiers, TypeRow};
 use msvc_nodes::flags::{FuncClass, StorageClass};
 use msvc_nodes::kinds::{PointerAffinity, TagKind};
 
-/// What the type of a symbol begins with, where the symbol is no variable.
+/// Tells what the type of a symbol begins with, where the symbol is no variable.
 #[derive(Clone, Copy)]
 pub enum EncodingForm {
     /// The fields of a row follow.
@@ -15,7 +15,7 @@ pub enum EncodingForm {
     Function(FuncClass),
 }
 
-/// What a type begins with, but for the base types of one letter.
+/// Tells what a type begins with, but for the base types of one letter.
 #[derive(Clone, Copy)]
 pub enum TypeForm {
     /// A class, and its name follows.

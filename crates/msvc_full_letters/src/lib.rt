@@ -1,7 +1,7 @@
-//! What Full, the second grammar, reads without recursion: letters, texts of tables, numbers, qualifiers and names. A
-//! reader takes the parser of `msvc_cursor`, which has the state of both grammars. Where the two have the same table, as
-//! `proofs/SharedTables` shows, the function of `msvc_cursor` reads it. The steps of productions that begin with a text
-//! of a table are in `proofs/TextSteps`.
+//! Reads what Full, the second grammar, has without recursion: letters, texts of tables, numbers, qualifiers and names.
+//! A reader takes the parser of `msvc_cursor`, which has the state of both grammars. Where the two have the same table,
+//! as `proofs/SharedTables` shows, the function of `msvc_cursor` reads it. The steps of productions that begin with a
+//! text of a table are in `proofs/TextSteps`.
 #![tactic(auto)]
 
 pub mod arrays;

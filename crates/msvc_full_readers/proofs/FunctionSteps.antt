@@ -6,8 +6,8 @@ use Rattle.msvc_nodes.specs.Trees.{TypeTree, base, function, member_function, pl
 use Rattle.msvc_nodes.specs.declared.kinds.Convention.{Convention}
 use Rattle.msvc_nodes.specs.declared.kinds.PlainType.TheVariants as plain_kind
 use Rattle.msvc_nodes.specs.declared.kinds.PrimitiveKind.TheVariants as base_kind
-use Rattle.msvc_rules.specs.Readers.{Found, after_literal, and_then, entered_by, in_node, letter_here, noted_by, or_else}
-use Rattle.msvc_rules.specs.Readers.{read_by, type_noted, with_value}
+use Rattle.msvc_rules.specs.Readers.{Found, after_literal, and_then, entered_by, in_node, letter_here, noted_by}
+use Rattle.msvc_rules.specs.Readers.{or_else, read_by, type_noted, with_value}
 use Rattle.msvc_rules.specs.Rules.{Rule, after, begins_of, call, give, holds, letter, literal, literal_or, lookup, node}
 use Rattle.msvc_rules.specs.Rules.{none_of, ◌>>=◌}
 use Rattle.msvc_rules.specs.Sorts.{bits, list, type_tree}

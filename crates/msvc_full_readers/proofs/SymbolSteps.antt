@@ -17,8 +17,8 @@ use Rattle.msvc_full_grammar.specs.Forms.{encoding_by_row, free_function}
 use Rattle.msvc_full_grammar.specs.Grammar.{end_of, grammar}
 use Rattle.msvc_full_grammar.specs.Letters.{label_texts, variable_texts}
 use Rattle.msvc_full_grammar.specs.Productions.{Production, encoding, encoding_after, function_type, named_symbol}
-use Rattle.msvc_full_grammar.specs.Productions.{other_encoding, scope, symbol, template_name, template_symbol, type_, type_row}
-use Rattle.msvc_full_grammar.specs.Productions.{variable, variable_end, whole_text, symbol_name}
+use Rattle.msvc_full_grammar.specs.Productions.{other_encoding, scope, symbol, template_name, template_symbol, type_}
+use Rattle.msvc_full_grammar.specs.Productions.{type_row, variable, variable_end, whole_text, symbol_name}
 use Rattle.msvc_full_grammar.specs.Reading.{read_name, read}
 use Rattle.msvc_full_grammar.specs.declared.forms.OwnQualifiers.TheVariants as own
 use Rattle.msvc_full_grammar.specs.declared.forms.TypeRow.{TypeRow}
@@ -167,7 +167,8 @@ variable_step kind left s = read_name-is (variable kind) left s
 pub encoding_at_end : (left : List ℕ) (s : State) → (length left == 0) ≡ true
     → read_name other_encoding left s ≡ in_node left s (λ l t. Some (plain plain_kind.None, l, t))
 encoding_at_end [] s e = other_encoding_step [] s
-encoding_at_end (b ∷ bs) s e = let none : length (b ∷ bs) ≡ 0 = eqb-true (length (b ∷ bs)) 0 e in absurd (omega (arith, none))
+encoding_at_end (b ∷ bs) s e =
+    let none : length (b ∷ bs) ≡ 0 = eqb-true (length (b ∷ bs)) 0 e in absurd (omega (arith, none))
 
 pub ruleset steps = (
   symbol_step,

@@ -34,8 +34,8 @@ pub fn read<'a, 'b, A: Allocator>(
     input: &'a str,
     limits: Limits,
 ) -> Result<SymbolRead<'a, 'b, A>, Failure>
-    ensures read { IfOk result (λ r. IsSymbolReadIn full_dialect limits.nodes input.now (typed_symbol_of r.symbol) r.length
-        (map note_of r.references.items)) }
+    ensures read { IfOk result (λ r. IsSymbolReadIn full_dialect limits.nodes input.now (typed_symbol_of r.symbol)
+        r.length (map note_of r.references.items)) }
     ensures fails { IfErr result (λ reason. FailsIn full_dialect limits.nodes input.now reason) }
     ensures inside { IfErr result (λ reason. IsInside input.now reason) }
     ensures laws { FullLaws input.now }

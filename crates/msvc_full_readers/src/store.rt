@@ -10,6 +10,7 @@ ghost use Rattle.msvc_nodes.specs.Trees as tree;
 ghost use Rattle.msvc_nodes.specs.declared.kinds.PlainType.TheVariants as plain_kind;
 ghost use Rattle.msvc_rules.specs.Readers.{in_node, with_value};
 ghost use Rattle.msvc_full_grammar.specs.Reading.{read};
+ghost use Rattle.msvc_full_grammar.specs.Rows.{frame_row};
 ghost use Rattle.msvc_cursor.specs.NestedList.{current, enclosing};
 ghost use Rattle.msvc_cursor.specs.Parser.{ReadsAs, Stays};
 ghost use Rattle.msvc_cursor.specs.Rows.{EndsTypes};
@@ -234,7 +235,7 @@ pub fn put_frame<'a, 'b, L: NodeBudget, A: Allocator>(
     function: &'b Name<'a, 'b>,
 ) -> Result<&'b Name<'a, 'b>, Failed>
     ensures value { ReadsAs name_at parser.old parser.new result
-        (with_value (Some (shaped 6 0 (number ∷ []) [] (names (name_of function.now) no_names) no_types))) }
+        (with_value (Some (shaped frame_row 0 (number ∷ []) [] (names (name_of function.now) no_names) no_types))) }
     ensures stays { Stays parser.old parser.new result }
 {
     let Some(numbers) = list_of(parser.arena, number) else {

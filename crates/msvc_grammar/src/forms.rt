@@ -1,8 +1,8 @@
-//! What the tables of texts and of codes stand for, and the cases that one production has.
+//! Tells what the tables of texts and of codes stand for, and which cases one production has.
 
 use msvc_nodes::kinds::{Guard, PlainOperator};
 
-/// What a type begins with, where it begins with one of the texts that are tried before a plain type.
+/// Tells what a type begins with, where it begins with one of the texts that are tried before a plain type.
 #[derive(Clone, Copy)]
 pub enum TypePrefix {
     /// An enumeration, and its name follows.
@@ -37,7 +37,7 @@ pub enum TypePrefix {
     MemberPointer,
 }
 
-/// What the code of a special name stands for.
+/// Tells what the code of a special name stands for.
 #[derive(Clone, Copy)]
 pub enum SpecialForm {
     /// An operator with nothing in it.
@@ -50,7 +50,7 @@ pub enum SpecialForm {
     BaseClass,
 }
 
-/// Whether a function has qualifiers on `this`, the object that it is called on.
+/// Tells whether a function has qualifiers on `this`, the object that it is called on.
 #[derive(Clone, Copy)]
 pub enum ObjectQualifiers {
     Absent,
@@ -66,21 +66,21 @@ pub enum MemberPointerForm {
     OfClass,
 }
 
-/// Whether a function is a member of a class.
+/// Tells whether a function is a member of a class.
 #[derive(Clone, Copy)]
 pub enum FunctionKind {
     Free,
     Member,
 }
 
-/// Whether a list of parameters ends with an ellipsis.
+/// Tells whether a list of parameters ends with an ellipsis.
 #[derive(Clone, Copy)]
 pub enum Ellipsis {
     Absent,
     Present,
 }
 
-/// Whether a template name is memorized: all are but the name of a symbol.
+/// Tells whether a template name is memorized: all are but the name of a symbol.
 #[derive(Clone, Copy)]
 pub enum TemplateNames {
     Memorized,

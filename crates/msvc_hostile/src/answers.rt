@@ -1,16 +1,13 @@
 //! Makes all calls on one text, with ample memory. Calls that accept it must not run out of memory, and calls that
 //! reject it must print the same error. Proofs cover which texts they accept and what they return.
 
-use crate::made::{is_made, is_rejected_so, is_within, shown_as};
-use crate::within;
+use crate::made::{WORDS, is_made, is_rejected_so, is_within, shown_as};
+use crate::{kept, within};
 use msvc_demangler::{
-    DemangleFlags, Error, Flags, ParseResult, back_references, demangle, parse, parse_prefix,
-    serialize, symbol_length,
+    DemangleFlags, Demangler, Error, Flags, Grammar, ParseResult, back_references, demangle, parse,
+    parse_prefix, serialize, symbol_length,
 };
 use std::alloc::Global;
-
-/// The flags under which each text is tried: none, and those of LLVM's texts.
-const WORDS: [u32; 2] = [0, 0xE00400];
 
 /// The common result of all calls on a text.
 #[derive(Clone, Copy, Drop)]
@@ -28,24 +25,57 @@ pub enum Answer {
     Contradicted,
 }
 
-/// Makes all calls on a text: `parse_prefix`, `parse`, `demangle`, `back_references`, `serialize`, `symbol_length` and
-/// their variants with a limit. Returns their common result.
-pub fn all_answers(alloc: Global, text: &str) -> Answer {
+/// Makes all calls of a demangler's grammar on a text. Returns their common result.
+///
+/// Those of the crate's grammar are `parse_prefix`, `parse`, `demangle`, `back_references`, `serialize`,
+/// `symbol_length` and their variants with a limit; those of Full are the calls of the demangler.
+pub fn all_answers(alloc: Global, demangler: &mut Demangler, text: &str) -> Answer {
+    match demangler.grammar() {
+        Grammar::Crate => free_answers(alloc, demangler, text),
+        Grammar::Full => kept_answers(alloc, demangler, text),
+    }
+}
+
+/// Makes all calls of the crate's grammar on a text.
+fn free_answers(alloc: Global, demangler: &mut Demangler, text: &str) -> Answer {
     let read = parse_prefix(alloc, text);
     let answer = match &read {
-        Ok(whole) => accepted(alloc, text, whole),
-        Err(refusal) => rejected(alloc, text, refusal),
+        Ok(whole) => accepted(alloc, demangler, text, whole),
+        Err(refusal) => rejected(alloc, demangler, text, refusal),
     };
     drop(read);
     answer
 }
 
+/// Makes all calls of a demangler on a text.
+fn kept_answers(alloc: Global, demangler: &mut Demangler, text: &str) -> Answer {
+    let bytes = match demangler.symbol_length_within(text, usize::MAX) {
+        Ok(bytes) => bytes,
+        Err(refusal) => return rejected(alloc, demangler, text, &refusal),
+    };
+    let Ok(found) = demangler.back_references(text) else {
+        return Answer::Contradicted;
+    };
+    if kept::all_accept(alloc, demangler, text, bytes) {
+        return Answer::Accepted {
+            bytes,
+            digits: found.len(),
+        };
+    }
+    Answer::Contradicted
+}
+
 /// Returns the result for an accepted text, of which a tree and a number of bytes were read.
-fn accepted(alloc: Global, text: &str, read: &(ParseResult<'_>, usize)) -> Answer {
+fn accepted(
+    alloc: Global,
+    demangler: &mut Demangler,
+    text: &str,
+    read: &(ParseResult<'_>, usize),
+) -> Answer {
     let Ok(found) = back_references(alloc, text) else {
         return Answer::Contradicted;
     };
-    if all_accept(alloc, text, &read.0) {
+    if all_accept(alloc, demangler, text, &read.0) {
         return Answer::Accepted {
             bytes: read.1,
             digits: found.len(),
@@ -55,11 +85,16 @@ fn accepted(alloc: Global, text: &str, read: &(ParseResult<'_>, usize)) -> Answe
 }
 
 /// Returns whether each other call accepts a text of this tree, and those with a limit name it if no node is allowed.
-fn all_accept(alloc: Global, text: &str, tree: &ParseResult<'_>) -> bool {
+fn all_accept(
+    alloc: Global,
+    demangler: &mut Demangler,
+    text: &str,
+    tree: &ParseResult<'_>,
+) -> bool {
     is_made(parse(alloc, text))
         && is_made(symbol_length(alloc, text))
         && is_printed(alloc, text, tree)
-        && within::wants_nodes(alloc, text, 0)
+        && within::wants_nodes(alloc, demangler, text, 0)
 }
 
 /// Returns whether a text and its tree have declarations under each set of flags.
@@ -73,23 +108,32 @@ fn is_printed(alloc: Global, text: &str, tree: &ParseResult<'_>) -> bool {
     true
 }
 
-/// Returns the result for a text that `parse_prefix` rejects.
-fn rejected(alloc: Global, text: &str, refusal: &Error) -> Answer {
+/// Returns the result for a text that one call rejects.
+fn rejected(alloc: Global, demangler: &mut Demangler, text: &str, refusal: &Error) -> Answer {
     match shown_as(alloc, refusal) {
-        Ok(shown) if is_within(refusal, text) && all_reject(alloc, text, shown.as_str()) => {
+        Ok(shown)
+            if is_within(refusal, text) && all_reject(alloc, demangler, text, shown.as_str()) => {
             Answer::Rejected
         }
         _ => Answer::Contradicted,
     }
 }
 
-/// Returns whether each other call rejects a text with the error text `shown`.
-fn all_reject(alloc: Global, text: &str, shown: &str) -> bool {
+/// Returns whether each call of a demangler's grammar rejects a text with the error text `shown`.
+fn all_reject(alloc: Global, demangler: &mut Demangler, text: &str, shown: &str) -> bool {
+    let reject = match demangler.grammar() {
+        Grammar::Crate => free_reject(alloc, text, shown),
+        Grammar::Full => kept::all_reject(alloc, demangler, text, shown),
+    };
+    reject && within::is_rejected(alloc, demangler, text, shown)
+}
+
+/// Returns whether the calls of the crate's grammar without a limit reject a text with the error text `shown`.
+fn free_reject(alloc: Global, text: &str, shown: &str) -> bool {
     is_rejected_so(alloc, parse(alloc, text), shown)
         && is_rejected_so(alloc, symbol_length(alloc, text), shown)
         && is_rejected_so(alloc, back_references(alloc, text), shown)
         && is_rejected(alloc, text, shown)
-        && within::is_rejected(alloc, text, shown)
 }
 
 /// Returns whether `demangle` rejects a text with the error text `shown` under each set of flags.

@@ -1,33 +1,9 @@
-//! The grammar of symbols as tables of rows, from which texts are generated.
-//!
-//! A row is a list of words: the name of a table, of which one row is written there; a word of the writer; or a literal
-//! text. The first row of each table leads to an end soon.
+//! The crate's grammar as tables of rows, from which `written` generates texts.
 //!
 //! A text is read as it was generated, since the text in place of an optional part begins with none of its letters: the
 //! rows of a table whose name ends in `clear` begin with no letter of a storage class and no `?`.
 
-/// The table that a text begins with.
-pub const TEXT: &str = "text";
-
-/// Words of the writer: a name was written that the table of names gets, or a parameter that the table of types gets.
-pub const NAME_DONE: &str = "name_done";
-
-pub const TYPE_DONE: &str = "type_done";
-
-/// Words of the writer: the part between these two has a table of names and one of types of its own.
-pub const TEMPLATE_BEGINS: &str = "template_begins";
-
-pub const TEMPLATE_ENDS: &str = "template_ends";
-
-/// The tables whose rows after the first are the digits of the table of names, and of the table of types: as a whole
-/// parameter, and elsewhere.
-pub const KNOWN_NAME: &str = "known_name";
-
-pub const KNOWN_PARAMETER: &str = "known_parameter";
-
-pub const KNOWN_TYPE: &str = "known_type";
-
-/// A line for each table: its name, and its rows, parted by bars.
+/// The tables of the crate's grammar.
 pub const TABLES: &str = "
 # Symbols. Only a whole text can end before a type, an index, or the end of parameters.
 text = ? function_name scope encoding | ? symbol | ? symbol_at_the_end

@@ -1,5 +1,5 @@
-//! Texts that are meant to break the calls: `msvc_bench hostile SEED COUNT`, with rows on standard input. All calls
-//! must return the same result for
+//! Texts that are meant to break the calls: `msvc_bench hostile SEED COUNT`, or `hostile-full` for Full, with rows on
+//! standard input. All calls of the grammar must return the same result for
 //!
 //! - the symbol of each row, its beginnings, and the symbol with another character in the place of each of its own,
 //! - symbols whose digits multiply,
@@ -12,7 +12,8 @@
 use crate::answers::{Answer, all_answers};
 use crate::multiplied::multiplied;
 use crate::written::{Draft, Table, below, tables, written};
-use msvc_demangler::back_references;
+use crate::{full_grammar, grammar};
+use msvc_demangler::{Demangler, Grammar};
 use rand_pcg::Pcg32;
 use std::alloc::{AllocError, Global};
 use std::io;
@@ -29,9 +30,10 @@ const DRAWN: usize = 60;
 /// The most bytes of a text that is generated from the grammar. A longer one is not tried.
 const WRITTEN: usize = 100;
 
-/// The counts for one kind of texts.
-#[derive(Clone, Copy, Drop)]
+/// The counts for one kind of texts, and the demangler that all of them share.
+#[derive(Drop)]
 struct Tally {
+    demangler: Demangler,
     texts: u64,
     accepted: u64,
     digits: u64,
@@ -39,8 +41,9 @@ struct Tally {
 }
 
 impl Tally {
-    fn new() -> Self {
+    fn new(alloc: Global, grammar: Grammar) -> Self {
         Self {
+            demangler: Demangler::with_grammar(alloc, grammar),
             texts: 0,
             accepted: 0,
             digits: 0,
@@ -51,7 +54,7 @@ impl Tally {
     /// Tries a text.
     fn count(&mut self, rt: &HostRuntime, text: &str) -> io::Result<Answer> {
         self.texts = self.texts.saturating_add(1);
-        let answer = all_answers(rt.alloc(), text);
+        let answer = all_answers(rt.alloc(), &mut self.demangler, text);
         match answer {
             Answer::Accepted { digits, .. } => {
                 self.accepted = self.accepted.saturating_add(1);
@@ -75,17 +78,17 @@ impl Tally {
     }
 }
 
-pub fn run(rt: &HostRuntime, seed: u64, count: u64) -> io::Result<()> {
-    let changed = changed_rows(rt)?;
+pub fn run(rt: &HostRuntime, grammar: Grammar, seed: u64, count: u64) -> io::Result<()> {
+    let changed = changed_rows(rt, grammar)?;
     changed.print(rt, "rows and their changes")?;
-    let multiplied = multiplied_digits(rt)?;
+    let multiplied = multiplied_digits(rt, grammar)?;
     multiplied.print(rt, "digits that multiply")?;
-    let drawn = drawn_texts(rt, seed, count, "")?;
+    let drawn = drawn_texts(rt, grammar, seed, count, "")?;
     drawn.print(rt, "drawn from an alphabet")?;
-    let marked = drawn_texts(rt, seed, count, "?")?;
+    let marked = drawn_texts(rt, grammar, seed, count, "?")?;
     marked.print(rt, "drawn after a question mark")?;
-    let mut tables = tables(rt.alloc())?;
-    let written = written_texts(rt, seed, count, &mut tables)?;
+    let mut tables = tables(rt.alloc(), lines_of(grammar))?;
+    let written = written_texts(rt, grammar, seed, count, &mut tables)?;
     written.print(rt, "written by the grammar")?;
     let all_read = print_read(rt, &tables)?;
     if all_read
@@ -98,9 +101,17 @@ pub fn run(rt: &HostRuntime, seed: u64, count: u64) -> io::Result<()> {
     Err(io::Error::from(ErrorKind::Other))
 }
 
+/// Returns the lines that describe the tables of a grammar.
+fn lines_of(grammar: Grammar) -> &'static str {
+    match grammar {
+        Grammar::Crate => grammar::TABLES,
+        Grammar::Full => full_grammar::TABLES,
+    }
+}
+
 /// Tries the symbols of the rows on standard input, and their changed forms.
-fn changed_rows(rt: &HostRuntime) -> io::Result<Tally> {
-    let mut tally = Tally::new();
+fn changed_rows(rt: &HostRuntime, grammar: Grammar) -> io::Result<Tally> {
+    let mut tally = Tally::new(rt.alloc(), grammar);
     for line in rt.lines(rt.alloc()) {
         let line = line?;
         if !line.starts_with("# ") {
@@ -138,8 +149,8 @@ fn replacements(rt: &HostRuntime, tally: &mut Tally, before: &str, after: &str) 
 }
 
 /// Tries symbols of no function up to as many functions as the table of types holds.
-fn multiplied_digits(rt: &HostRuntime) -> io::Result<Tally> {
-    let mut tally = Tally::new();
+fn multiplied_digits(rt: &HostRuntime, grammar: Grammar) -> io::Result<Tally> {
+    let mut tally = Tally::new(rt.alloc(), grammar);
     for functions in 0..=10 {
         let text = multiplied(rt.alloc(), functions)?;
         tally.count(rt, text.as_str())?;
@@ -148,8 +159,14 @@ fn multiplied_digits(rt: &HostRuntime) -> io::Result<Tally> {
 }
 
 /// Tries `count` random texts with this beginning.
-fn drawn_texts(rt: &HostRuntime, seed: u64, count: u64, beginning: &str) -> io::Result<Tally> {
-    let mut tally = Tally::new();
+fn drawn_texts(
+    rt: &HostRuntime,
+    grammar: Grammar,
+    seed: u64,
+    count: u64,
+    beginning: &str,
+) -> io::Result<Tally> {
+    let mut tally = Tally::new(rt.alloc(), grammar);
     let mut random = Pcg32::new(seed, 0);
     for _ in 0..count {
         let text = drawn(rt.alloc(), &mut random, beginning)?;
@@ -174,11 +191,12 @@ fn drawn(alloc: Global, random: &mut Pcg32, beginning: &str) -> Result<String, A
 /// Tries `count` texts that are generated from the grammar.
 fn written_texts(
     rt: &HostRuntime,
+    grammar: Grammar,
     seed: u64,
     count: u64,
     tables: &mut Vec<Table>,
 ) -> io::Result<Tally> {
-    let mut tally = Tally::new();
+    let mut tally = Tally::new(rt.alloc(), grammar);
     let mut random = Pcg32::new(seed, 1);
     for _ in 0..count.saturating_mul(4) {
         if tally.texts == count {
@@ -205,15 +223,19 @@ fn read_back(
             draft.count_rows(tables);
             bytes == text.len()
         }
-        Answer::Rejected => lacks_an_entry(rt.alloc(), text)?,
+        Answer::Rejected => lacks_an_entry(rt.alloc(), &mut tally.demangler, text)?,
         Answer::Contradicted => true,
     };
     if right { Ok(()) } else { tally.blame(rt, text) }
 }
 
 /// Returns whether a text is rejected for a digit that has no entry in its table.
-fn lacks_an_entry(alloc: Global, text: &str) -> Result<bool, AllocError> {
-    let Some(refusal) = back_references(alloc, text).err() else {
+fn lacks_an_entry(
+    alloc: Global,
+    demangler: &mut Demangler,
+    text: &str,
+) -> Result<bool, AllocError> {
+    let Some(refusal) = demangler.symbol_length_within(text, usize::MAX).err() else {
         return Ok(false);
     };
     let shown = format!(in alloc; "{refusal}")?;

@@ -4,8 +4,11 @@
 #![tactic(auto)]
 
 mod answers;
+mod failures;
+mod full_grammar;
 mod grammar;
 pub mod hostile;
+mod kept;
 mod made;
 pub mod multiplied;
 pub mod prefix;

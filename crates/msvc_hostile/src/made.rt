@@ -4,6 +4,9 @@
 use msvc_demangler::Error;
 use std::alloc::{AllocError, Global};
 
+/// The flags under which each text is tried: none, and those of LLVM's texts.
+pub const WORDS: [u32; 2] = [0, 0xE00400];
+
 /// Returns whether a call succeeded.
 pub fn is_made<T: Drop>(made: Result<T, Error>) -> bool {
     made.is_ok()
@@ -26,7 +29,7 @@ pub fn is_rejected_so<T: Drop>(alloc: Global, made: Result<T, Error>, shown: &st
 }
 
 /// Returns whether the text of an error is `shown`.
-fn is_shown(alloc: Global, refusal: &Error, shown: &str) -> bool {
+pub fn is_shown(alloc: Global, refusal: &Error, shown: &str) -> bool {
     match shown_as(alloc, refusal) {
         Ok(other) => other.as_str() == shown,
         Err(_) => false,

@@ -1,12 +1,32 @@
-//! Random texts that are generated from the grammar.
+//! Random texts that are generated from a grammar, which is given as tables of rows.
+//!
+//! A line is a table: its name, and its rows, parted by bars. A row is a list of words: the name of a table, of which
+//! one row is written there; a word of the writer; or a literal text. The first row of each table leads to an end soon.
 
-use crate::grammar::{
-    KNOWN_NAME, KNOWN_PARAMETER, KNOWN_TYPE, NAME_DONE, TABLES, TEMPLATE_BEGINS, TEMPLATE_ENDS,
-    TEXT, TYPE_DONE,
-};
 use rand_core::utils::NextWord;
 use rand_pcg::Pcg32;
 use std::alloc::{AllocError, Global};
+
+/// The table that a text begins with.
+const TEXT: &str = "text";
+
+/// Words of the writer: a name was written that the table of names gets, or a parameter that the table of types gets.
+const NAME_DONE: &str = "name_done";
+
+const TYPE_DONE: &str = "type_done";
+
+/// Words of the writer: the part between these two has a table of names and one of types of its own.
+const TEMPLATE_BEGINS: &str = "template_begins";
+
+const TEMPLATE_ENDS: &str = "template_ends";
+
+/// The tables whose rows after the first are the digits of the table of names, and of the table of types: as a whole
+/// parameter, and elsewhere.
+const KNOWN_NAME: &str = "known_name";
+
+const KNOWN_PARAMETER: &str = "known_parameter";
+
+const KNOWN_TYPE: &str = "known_type";
 
 /// The number of bytes and remaining words from which on the first row of a table is taken.
 const ROOM: usize = 70;
@@ -42,10 +62,10 @@ struct Known {
     types: usize,
 }
 
-/// Returns the tables of the grammar.
-pub fn tables(alloc: Global) -> Result<Vec<Table>, AllocError> {
+/// Returns the tables that these lines describe.
+pub fn tables(alloc: Global, lines: &'static str) -> Result<Vec<Table>, AllocError> {
     let mut tables = Vec::new(alloc);
-    for line in TABLES.lines() {
+    for line in lines.lines() {
         if let Some((name, rows)) = line.split_once(" = ") {
             tables.push(table_of(alloc, name, rows)?)?;
         }
@@ -64,7 +84,7 @@ fn table_of(alloc: Global, name: &'static str, listed: &'static str) -> Result<T
     Ok(Table { name, rows, read })
 }
 
-/// Returns a text that is generated from the grammar.
+/// Returns a text that is generated from the tables of a grammar.
 pub fn written(alloc: Global, tables: &[Table], random: &mut Pcg32) -> Result<Draft, AllocError> {
     let mut draft = Draft {
         text: String::new(alloc),

@@ -22,9 +22,8 @@ use msvc_debug::write_tree;
 use msvc_nodes::error::Error;
 use msvc_nodes::flags::DemangleFlags;
 use msvc_print::Text;
-use msvc_productions::read;
 use msvc_streams::{Fault, Polls, Taken, Watched, read_piece, write_all, write_line};
-use msvc_symbol::{Arena, print};
+use msvc_symbol::{Arena, Grammar, print, read};
 use std::alloc::{AllocError, Global};
 use std::io::{BufRead, Write};
 use std::str::from_utf8;
@@ -111,12 +110,13 @@ fn declare(
         symbol: nodes,
         length,
         ..
-    } = read(arena, symbol, limits)?;
+    } = read(Grammar::Crate, arena, symbol, limits)?;
     if verbose {
         write_tree(alloc, &nodes, tree)?;
         tree.push('\n')?;
     }
-    print(arena, &nodes, length, DemangleFlags::llvm(), limits, text)
+    let flags = DemangleFlags::llvm();
+    print(Grammar::Crate, arena, &nodes, length, flags, limits, text)
 }
 
 /// Writes the error of a symbol that is rejected for this reason.

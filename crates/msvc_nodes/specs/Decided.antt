@@ -101,26 +101,26 @@ numbers_discrete =
 pub name_discrete : Discrete NameTree
 name_discrete =
     NameTree-discrete spelling_discrete text_discrete operator_discrete guard_discrete (option_discrete ℕ_discrete)
-    ℕ_discrete ℤ_discrete (option_discrete text_discrete) numbers_discrete plain_discrete base_discrete tag_discrete number_discrete
-    mark_discrete convention_discrete kind_discrete table_discrete
+    ℕ_discrete ℤ_discrete (option_discrete text_discrete) numbers_discrete plain_discrete base_discrete tag_discrete
+    number_discrete mark_discrete convention_discrete kind_discrete table_discrete
 
 pub names_discrete : Discrete NameTrees
 names_discrete =
     NameTrees-discrete spelling_discrete text_discrete operator_discrete guard_discrete (option_discrete ℕ_discrete)
-    ℕ_discrete ℤ_discrete (option_discrete text_discrete) numbers_discrete plain_discrete base_discrete tag_discrete number_discrete
-    mark_discrete convention_discrete kind_discrete table_discrete
+    ℕ_discrete ℤ_discrete (option_discrete text_discrete) numbers_discrete plain_discrete base_discrete tag_discrete
+    number_discrete mark_discrete convention_discrete kind_discrete table_discrete
 
 pub type_discrete : Discrete TypeTree
 type_discrete =
     TypeTree-discrete spelling_discrete text_discrete operator_discrete guard_discrete (option_discrete ℕ_discrete)
-    ℕ_discrete ℤ_discrete (option_discrete text_discrete) numbers_discrete plain_discrete base_discrete tag_discrete number_discrete
-    mark_discrete convention_discrete kind_discrete table_discrete
+    ℕ_discrete ℤ_discrete (option_discrete text_discrete) numbers_discrete plain_discrete base_discrete tag_discrete
+    number_discrete mark_discrete convention_discrete kind_discrete table_discrete
 
 pub types_discrete : Discrete TypeTrees
 types_discrete =
     TypeTrees-discrete spelling_discrete text_discrete operator_discrete guard_discrete (option_discrete ℕ_discrete)
-    ℕ_discrete ℤ_discrete (option_discrete text_discrete) numbers_discrete plain_discrete base_discrete tag_discrete number_discrete
-    mark_discrete convention_discrete kind_discrete table_discrete
+    ℕ_discrete ℤ_discrete (option_discrete text_discrete) numbers_discrete plain_discrete base_discrete tag_discrete
+    number_discrete mark_discrete convention_discrete kind_discrete table_discrete
 
 pub symbol_discrete : Discrete (NameTree × NameTrees)
 symbol_discrete = ×_discrete name_discrete names_discrete

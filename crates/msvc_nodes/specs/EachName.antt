@@ -1,5 +1,5 @@
--- A fact P about every name that is spelled in a tree: a source name, the name of an interface, a hash, or the bytes of a
--- shape.
+-- A fact P about every name that is spelled in a tree: a source name, the name of an interface, a hash, or the bytes of
+-- a shape.
 use Rattle.std.specs.Prelude.{ℕ, List}
 use Rattle.msvc_nodes.specs.Trees.{NameTree, NameTrees, TypeTree, TypeTrees, SymbolTree, spelled, operator, guard}
 use Rattle.msvc_nodes.specs.Trees.{type_descriptor, base_class_descriptor, template, discriminator, nested, anonymous}

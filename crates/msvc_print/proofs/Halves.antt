@@ -8,7 +8,7 @@ use Rattle.msvc_nodes.specs.Trees.{TypeTrees, no_types, shape, types}
 use Rattle.msvc_nodes.specs.declared.kinds.NumberedType.TheVariants as number_kind
 use Rattle.msvc_nodes.specs.declared.kinds.PlainType.TheVariants as plain_kind
 use Rattle.msvc_print.specs.Declaration.{conversion, grown, length_pieces, parameters, symbol_name, symbol_pieces}
-use Rattle.msvc_print.specs.Declaration.{grown_around}
+use Rattle.msvc_print.specs.Declaration.{grown_around, returned_end}
 use Rattle.msvc_print.specs.Functions.{calling, member_start, function_qualifier, function_qualifiers, parameter_list}
 use Rattle.msvc_print.specs.Halves.{after, before, function_end, member_pointer_end, pieces_around, pointed_name}
 use Rattle.msvc_print.specs.Halves.{shape_parts}
@@ -69,14 +69,14 @@ grown-halves (pointing m t set) pointed inside flags =
     grown-halves t true (between more inside []) flags
     ∙ between-twice (before t true flags) more [] (after t true flags) inside
 grown-halves (array n t set) pointed inside flags =
-    let more = qualifiers set flags ++ opening pointed in
+    let more = qualifiers set flags ++ opening pointed flags in
     let end = closing pointed ++ length_pieces n in
     grown-halves t false (between more inside end) flags
     ∙ between-twice (before t false flags) more end (after t false flags) inside
     ∙ ap (λ x. between (before t false flags ++ more) inside x)
     (append_assoc (closing pointed) (length_pieces n) (after t false flags))
 grown-halves (function convention ts set t) pointed inside flags =
-    let more = calling pointed convention flags in
+    let more = returned_end t flags ++ calling pointed convention flags in
     let ps = parameters ts true flags in
     let end = parameter_list pointed ps set flags in
     grown-halves t false (between more inside end) flags
@@ -85,7 +85,7 @@ grown-halves (function convention ts set t) pointed inside flags =
     (function_end-parts pointed ps set flags (after t false flags))
 grown-halves (member_function class convention ts set t) pointed inside flags =
     let words = member_start pointed class flags in
-    let more = calling pointed convention flags in
+    let more = returned_end t flags ++ calling pointed convention flags in
     let ps = parameters ts true flags in
     let end = parameter_list pointed ps set flags in
     let both = function_end pointed ps set flags (after t false flags) in
@@ -96,7 +96,7 @@ grown-halves (member_function class convention ts set t) pointed inside flags =
     ∙ between-twice words (before t false flags ++ more) both [] inside
     ∙ ap (λ x. between (words ++ (before t false flags ++ more)) inside x) (append-nil both)
 grown-halves (member_pointer n scope class convention ts set t) pointed inside flags =
-    let more = calling true convention flags ++ pointed_name n scope flags in
+    let more = (returned_end t flags ++ calling true convention flags) ++ pointed_name n scope flags in
     let ps = parameters ts true flags in
     let end = text (codes ")(") ∷ (ps ++ text (codes ")") ∷ []) in
     let const = function_qualifier 1 (codes "const") set in
@@ -121,7 +121,8 @@ grown-halves (plain plain_kind.Variadic) pointed inside flags = refl
 grown-halves (plain plain_kind.Nullptr) pointed inside flags = refl
 grown-halves (shape row set zs bytes ns no_types) pointed inside flags = refl
 grown-halves (shape row set zs bytes ns (types t ts)) pointed inside flags =
-    around_shape-halves (layout_of row).around t ts (laid (slots row side.Left) pointed (shape_parts set zs ns flags) flags)
+    around_shape-halves (layout_of row).around t ts (laid (slots row side.Left) pointed (shape_parts set zs ns flags)
+    flags)
     (laid (slots row side.Right) pointed (shape_parts set zs ns flags) flags) inside flags
     (λ p s. grown-halves t p s flags)
 grown-halves _ pointed inside flags = between-nothing inside

@@ -1,7 +1,8 @@
 -- What flags do not change: bits that no definition asks for, and under NAME_ONLY the type of a symbol.
 use Rattle.std.proofs.Common.{◌≡◌, ℕ, ℤ, List, [], ◌∷◌, ◌++◌, Bool, true, false, cond, refl, ap, sym, ◌∙◌, bit_and}
-use Rattle.std.proofs.Common.{◌==◌, append_assoc, codes, Option, Some, None}
-use Rattle.std.proofs.lemmas.Nat.{and_assoc}
+use Rattle.std.proofs.Common.{◌==◌, ◌<◌, append_assoc, arith, codes, Option, Some, None}
+use Rattle.std.proofs.lemmas.Bool.{ne_eqb}
+use Rattle.std.proofs.lemmas.Nat.{and_assoc, and_le_l}
 use Rattle.std.specs.Fmt.{signed_decimal}
 use Rattle.msvc_nodes.specs.BaseTypes.{basic_types, under_types}
 use Rattle.msvc_nodes.specs.Trees.{NameTree, NameTrees, TypeTree, TypeTrees, spelled, operator, guard}
@@ -18,29 +19,38 @@ use Rattle.msvc_nodes.specs.declared.kinds.Spelling.TheVariants as spelling_kind
 use Rattle.msvc_nodes.specs.declared.kinds.TagKind.{TagKind}
 use Rattle.msvc_nodes.specs.declared.kinds.Convention.{Convention}
 use Rattle.msvc_print.proofs.Dropped.{kept_left-name_only, kept_right-dropped}
-use Rattle.msvc_print.specs.Declaration.{ScopePieces, angled, conversion, declaration, grown, is_empty_pack}
+use Rattle.msvc_print.specs.Declaration.{ScopePieces, angled, arguments, conversion, declaration, full_conversion}
+use Rattle.msvc_print.specs.Declaration.{grown, is_empty_pack, is_none}
 use Rattle.msvc_print.specs.Declaration.{length_pieces, name_pieces, named, parameters, pointed_class, quoted_unless}
+use Rattle.msvc_print.specs.Declaration.{returned_end}
 use Rattle.msvc_print.specs.Declaration.{scope_path, scope_pieces, scope_prefix, symbol_name, symbol_pieces, table_end}
 use Rattle.msvc_print.specs.Declaration.{each_name, grown_around, with_inner}
 use Rattle.msvc_print.specs.Flags.{has, hug_type, ms_type_names, name_only, no_access_specifiers, no_class_type}
+use Rattle.msvc_print.specs.Flags.{full_style}
 use Rattle.msvc_print.specs.Flags.{no_function_returns, no_member_type, no_ms_keywords, no_this_type}
 use Rattle.msvc_print.specs.Flags.{space_after_comma, space_before_pointer, with_ptr64}
-use Rattle.msvc_print.specs.Functions.{access_words, calling, convention_pieces, convention_word}
+use Rattle.msvc_print.specs.Functions.{access_words, calling, convention_pieces, extern_words, full_calling}
+use Rattle.msvc_print.specs.Functions.{full_function_qualifiers, full_reference_words, full_this_words}
+use Rattle.msvc_print.specs.Functions.{full_wide_word, noexcept}
 use Rattle.msvc_print.specs.Functions.{each_function_qualifier, kind_words, member_start, member_word, member_words}
 use Rattle.msvc_print.specs.Functions.{parameter_list}
 use Rattle.msvc_print.specs.Functions.{function_qualifier, function_qualifiers, separator, wide_qualifier}
 use Rattle.msvc_print.specs.Laws.{Agree, HashIsItsText, NameOnlyAsksNoType, OtherBitsChangeNothing, obeyed_flags}
-use Rattle.msvc_print.specs.Operators.{base_class_pieces, name_kind, unqualified_name, scoped}
+use Rattle.msvc_nodes.specs.declared.kinds.PlainOperator.{PlainOperator}
+use Rattle.msvc_print.specs.Operators.{base_class_pieces, name_kind, operator_pieces, unqualified_name, scoped}
+use Rattle.msvc_print.specs.Operators.{template_kind}
 use Rattle.msvc_print.specs.Pieces.{Piece, resolve, settle_all, space, text}
 use Rattle.msvc_print.specs.Shapes.{Parts, laid, parts, slot_pieces}
 use Rattle.msvc_print.specs.Sides.{Sides, alone, around, between, kept, kept_left, kept_right}
 use Rattle.msvc_print.specs.Words.{base_word, base_words, chosen_word, closing, kind_word, mark_space, mark_word}
 use Rattle.msvc_print.specs.Words.{marked, name_space, opening, qualifier, qualifier_space, qualifiers, tag_word}
+use Rattle.msvc_print.specs.Words.{angle_end, full_mark_space, full_marked, full_space, mark_qualifiers, set_word}
 use Rattle.msvc_print.specs.Words.{variable_word}
 use Rattle.msvc_print.specs.declared.operators.NameKind.{NameKind}
 use Rattle.msvc_print.specs.declared.operators.NameKind.TheVariants as name_kinds
 use Rattle.msvc_print.specs.declared.spaces.Space.TheVariants.{AfterPointer, AfterReference, AfterWord, UnlessOpen}
 use Rattle.msvc_shapes.specs.Layouts.{Slot, layout_of, slots}
+use Rattle.msvc_print.specs.declared.spaces.Space.TheVariants.{AfterFullPointer, AfterFullReference, AfterFullWord}
 use Rattle.msvc_shapes.specs.Layouts as slot
 use Rattle.msvc_shapes.specs.declared.layouts.Side.TheVariants as side
 
@@ -58,6 +68,7 @@ record Same (a b : ℕ) : Type 0 where
   hug : has a hug_type ≡ has b hug_type
   pointer : has a space_before_pointer ≡ has b space_before_pointer
   wide : has a with_ptr64 ≡ has b with_ptr64
+  style : has a full_style ≡ has b full_style
 
 -- words that agree on some bits agree on fewer
 fewer : (a b many few : ℕ) → bit_and many few ≡ few → Agree many a b → Agree few a b
@@ -82,6 +93,7 @@ all-same a b e = record {
   hug = has-same a b hug_type refl e;
   pointer = has-same a b space_before_pointer refl e;
   wide = has-same a b with_ptr64 refl e;
+  style = has-same a b full_style refl e;
 }
 
 -- lists of the same parts are the same
@@ -94,6 +106,12 @@ same-choice c xs xs' ys ys' e e' = ap (λ x. cond c x ys) e ∙ ap (λ y. cond c
 -- pieces that one question decides about
 same-unless : (c c' : Bool) (xs xs' : List Piece) → c ≡ c' → xs ≡ xs' → cond c [] xs ≡ cond c' [] xs'
 same-unless c c' xs xs' e e' = ap (λ x. cond x [] xs) e ∙ ap (λ x. cond c' [] x) e'
+
+-- pieces that the style decides about
+same-style : (xs xs' ys ys' : List Piece) (a b : ℕ) → Same a b → xs ≡ xs' → ys ≡ ys' →
+    cond (has a full_style) xs ys ≡ cond (has b full_style) xs' ys'
+same-style xs xs' ys ys' a b e h h' =
+    ap (λ c. cond c xs ys) e.style ∙ same-choice (has b full_style) xs xs' ys ys' h h'
 
 -- words and spaces
 chosen_word-same : (ws : List ℕ × Option (List ℕ)) (a b : ℕ) → Same a b → chosen_word a ws ≡ chosen_word b ws
@@ -108,15 +126,47 @@ tag_word-same : (tag : TagKind) (a b : ℕ) → Same a b → tag_word tag a ≡ 
 tag_word-same tag a b e = ap (λ c. cond c [] (kind_word tag)) e.class_type
 
 name_space-same : (a b : ℕ) → Same a b → name_space a ≡ name_space b
-name_space-same a b e = ap (λ c. cond c AfterWord AfterReference) e.pointer
+name_space-same a b e =
+    ap (λ c. cond (has a full_style) (cond c AfterFullWord AfterFullReference) (cond c AfterWord AfterReference))
+    e.pointer
+    ∙ ap (λ c. cond c (cond (has b space_before_pointer) AfterFullWord AfterFullReference)
+    (cond (has b space_before_pointer) AfterWord AfterReference)) e.style
 
 qualifier_space-same : (a b : ℕ) → Same a b → qualifier_space a ≡ qualifier_space b
 qualifier_space-same a b e = ap (λ c. cond c AfterWord AfterPointer) e.pointer
 
 qualifiers-same : (set a b : ℕ) → Same a b → qualifiers set a ≡ qualifiers set b
 unfolding qualifiers
-qualifiers-same set a b e = ap (λ s. qualifier s 1 (codes "const") set ++ qualifier s 2 (codes "volatile") set)
-    (qualifier_space-same a b e)
+qualifiers-same set a b e = same-style _ _ _ _ a b e refl
+    (ap (λ s. qualifier s 1 (codes "const") set ++ qualifier s 2 (codes "volatile") set) (qualifier_space-same a b e))
+
+full_space-same : (a b : ℕ) → Same a b → full_space a ≡ full_space b
+full_space-same a b e = ap (λ c. cond c AfterFullWord AfterFullPointer) e.pointer
+
+full_mark_space-same : (a b : ℕ) → Same a b → full_mark_space a ≡ full_mark_space b
+full_mark_space-same a b e =
+    ap (λ c. cond c (cond (has a space_before_pointer) (space AfterFullWord ∷ []) []) (space AfterFullPointer ∷ []))
+    e.hug
+    ∙ ap (λ c. cond (has b hug_type) (cond c (space AfterFullWord ∷ []) []) (space AfterFullPointer ∷ [])) e.pointer
+
+full_marked-same : (word : List ℕ) (set a b : ℕ) → Same a b → full_marked word set a ≡ full_marked word set b
+unfolding full_marked
+full_marked-same word set a b e =
+    ap (λ s. qualifier s 16 (codes "__unaligned ") set ++ (full_mark_space a ++ (text word ∷ mark_qualifiers s set)))
+    (full_space-same a b e)
+    ∙ ap (λ x. qualifier (full_space b) 16 (codes "__unaligned ") set
+    ++ (x ++ (text word ∷ mark_qualifiers (full_space b) set))) (full_mark_space-same a b e)
+
+opening-same : (pointed : Bool) (a b : ℕ) → Same a b → opening pointed a ≡ opening pointed b
+unfolding opening
+opening-same pointed a b e =
+    ap (λ s. cond pointed (space (cond (has a full_style) s AfterPointer) ∷ text (codes "(") ∷ []) [])
+    (full_space-same a b e)
+    ∙ ap (λ c. cond pointed (space (cond c (full_space b) AfterPointer) ∷ text (codes "(") ∷ []) []) e.style
+
+angle_end-same : (a b : ℕ) → Same a b → angle_end a ≡ angle_end b
+unfolding angle_end
+angle_end-same a b e = same-style _ _ _ _ a b e refl refl
 
 mark_space-same : (a b : ℕ) → Same a b → mark_space a ≡ mark_space b
 mark_space-same a b e =
@@ -125,8 +175,9 @@ mark_space-same a b e =
 
 marked-same : (word : List ℕ) (set a b : ℕ) → Same a b → marked word set a ≡ marked word set b
 unfolding marked
-marked-same word set a b e = same-append (mark_space a) (mark_space b) (text word ∷ qualifiers set a)
-    (text word ∷ qualifiers set b) (mark_space-same a b e) (ap (λ x. text word ∷ x) (qualifiers-same set a b e))
+marked-same word set a b e = same-style _ _ _ _ a b e (full_marked-same word set a b e)
+    (same-append (mark_space a) (mark_space b) (text word ∷ qualifiers set a) (text word ∷ qualifiers set b)
+    (mark_space-same a b e) (ap (λ x. text word ∷ x) (qualifiers-same set a b e)))
 
 separator-same : (first : Bool) (a b : ℕ) → Same a b → separator first a ≡ separator first b
 unfolding separator
@@ -148,9 +199,15 @@ unfolding access_words
 access_words-same class a b e =
     same-unless (has a no_access_specifiers) (has b no_access_specifiers) _ _ e.access refl
 
+extern_words-same : (class a b : ℕ) → Same a b → extern_words class a ≡ extern_words class b
+unfolding extern_words
+extern_words-same class a b e = same-style _ _ _ _ a b e refl refl
+
 kind_words-same : (class a b : ℕ) → Same a b → kind_words class a ≡ kind_words class b
 unfolding kind_words
-kind_words-same class a b e = same-unless (has a no_member_type) (has b no_member_type) _ _ e.member refl
+kind_words-same class a b e = same-unless (has a no_member_type) (has b no_member_type) _ _ e.member
+    (ap (λ x. member_word 16 (codes "static ") class ++ (member_word 32 (codes "virtual ") class ++ x))
+    (extern_words-same class a b e))
 
 member_start-same : (pointed : Bool) (class a b : ℕ) → Same a b →
     member_start pointed class a ≡ member_start pointed class b
@@ -164,20 +221,55 @@ wide_qualifier-same : (set a b : ℕ) → Same a b → wide_qualifier set a ≡ 
 unfolding wide_qualifier
 wide_qualifier-same set a b e = ap (λ c. cond c (function_qualifier 64 (codes "__ptr64") set) []) e.wide
 
+full_this_words-same : (set a b : ℕ) → Same a b → full_this_words set a ≡ full_this_words set b
+unfolding full_this_words full_wide_word
+full_this_words-same set a b e = same-unless (has a no_this_type) (has b no_this_type) _ _ e.this_type
+    (ap (λ c. set_word 1 (codes " const") set ++ (set_word 2 (codes " volatile") set
+    ++ (cond c (set_word 64 (codes " __ptr64") set) []
+    ++ (set_word 32 (codes " __restrict") set ++ set_word 16 (codes " __unaligned") set)))) e.wide)
+
+full_reference_words-same : (set a b : ℕ) → Same a b → full_reference_words set a ≡ full_reference_words set b
+unfolding full_reference_words
+full_reference_words-same set a b e =
+    same-unless (has a no_this_type) (has b no_this_type) _ _ e.this_type refl
+
+full_function_qualifiers-same : (set a b : ℕ) → Same a b →
+    full_function_qualifiers set a ≡ full_function_qualifiers set b
+unfolding full_function_qualifiers
+full_function_qualifiers-same set a b e = same-append _ _ _ _ (full_this_words-same set a b e)
+    (ap (λ x. set_word noexcept (codes " noexcept") set ++ x) (full_reference_words-same set a b e))
+
 function_qualifiers-same : (set a b : ℕ) → Same a b → function_qualifiers set a ≡ function_qualifiers set b
 unfolding function_qualifiers each_function_qualifier
-function_qualifiers-same set a b e = same-unless (has a no_this_type) (has b no_this_type)
+function_qualifiers-same set a b e = same-style _ _ _ _ a b e (full_function_qualifiers-same set a b e)
+    (same-unless (has a no_this_type) (has b no_this_type)
     (each_function_qualifier set a) (each_function_qualifier set b) e.this_type
     (ap (λ x. function_qualifier 1 (codes "const") set ++ (function_qualifier 2 (codes "volatile") set
     ++ (x ++ (function_qualifier 32 (codes "__restrict") set
     ++ (function_qualifier 128 (codes "&") set ++ function_qualifier 256 (codes "&&") set)))))
-    (wide_qualifier-same set a b e))
+    (wide_qualifier-same set a b e)))
 
 calling-same : (pointed : Bool) (convention : Convention) (a b : ℕ) → Same a b →
     calling pointed convention a ≡ calling pointed convention b
-unfolding calling convention_pieces
-calling-same pointed convention a b e =
-    ap (λ c. opening pointed ++ (space UnlessOpen ∷ cond c [] (text (convention_word convention) ∷ []))) e.keywords
+unfolding calling full_calling convention_pieces
+calling-same pointed convention a b e = same-style _ _ _ _ a b e
+    (same-append _ _ _ _ (opening-same pointed a b e)
+    (same-unless (has a no_ms_keywords) (has b no_ms_keywords) _ _ e.keywords refl))
+    (same-append _ _ _ _ (opening-same pointed a b e) (ap (λ x. space UnlessOpen ∷ x)
+    (same-unless (has a no_ms_keywords) (has b no_ms_keywords) _ _ e.keywords refl)))
+
+returned_end-same : (t : TypeTree) (a b : ℕ) → Same a b → returned_end t a ≡ returned_end t b
+unfolding returned_end
+returned_end-same t a b e = same-style _ _ _ _ a b e refl refl
+
+returned-same : (t : TypeTree) (pointed : Bool) (convention : Convention) (a b : ℕ) → Same a b →
+    returned_end t a ++ calling pointed convention a ≡ returned_end t b ++ calling pointed convention b
+returned-same t pointed convention a b e =
+    same-append _ _ _ _ (returned_end-same t a b e) (calling-same pointed convention a b e)
+
+angled-same : (xs ys : List Piece) (a b : ℕ) → xs ≡ ys → Same a b → angled xs a ≡ angled ys b
+angled-same xs ys a b h e =
+    ap (λ x. text (codes "<") ∷ x) (same-append xs ys (angle_end a) (angle_end b) h (angle_end-same a b e))
 
 parameter_list-same : (pointed : Bool) (xs ys : List Piece) (set a b : ℕ) → xs ≡ ys → Same a b →
     parameter_list pointed xs set a ≡ parameter_list pointed ys set b
@@ -200,11 +292,35 @@ scoped-flags name_kinds.Literal prefix path name a b e =
 scoped-flags name_kinds.Ordinary prefix path name a b e = ap (λ s. space s ∷ (prefix ++ name)) (name_space-same a b e)
 scoped-flags _ prefix path name a b e = ap (λ s. space s ∷ (prefix ++ name)) (name_space-same a b e)
 
-named-same : (kind : NameKind) (scope scope' : ScopePieces) (v v' n n' : List Piece) (a b : ℕ) → scope ≡ scope' →
-    v ≡ v' → n ≡ n' → Same a b → named kind scope v n a ≡ named kind scope' v' n' b
-named-same kind scope scope' v v' n n' a b hs hv hn e =
-    ap (λ x. named kind x v n a) hs ∙ ap (λ x. named kind scope' x n a) hv ∙ ap (λ x. named kind scope' v' x a) hn
-    ∙ scoped-flags kind scope'.prefix scope'.path _ a b e
+named-same : (kind kind' : NameKind) (scope scope' : ScopePieces) (l l' v v' n n' : List Piece) (a b : ℕ) →
+    kind ≡ kind' → scope ≡ scope' → l ≡ l' → v ≡ v' → n ≡ n' → Same a b →
+    named kind scope l v n a ≡ named kind' scope' l' v' n' b
+named-same kind kind' scope scope' l l' v v' n n' a b hk hs hl hv hn e =
+    ap (λ x. named x scope l v n a) hk ∙ ap (λ x. named kind' x l v n a) hs ∙ ap (λ x. named kind' scope' x v n a) hl
+    ∙ ap (λ x. named kind' scope' l' x n a) hv ∙ ap (λ x. named kind' scope' l' v' x a) hn
+    ∙ scoped-flags kind' scope'.prefix scope'.path _ a b e
+
+operator_pieces-same : (o : PlainOperator) (a b : ℕ) → Same a b → operator_pieces o a ≡ operator_pieces o b
+unfolding operator_pieces
+operator_pieces-same o a b e = same-style _ _ _ _ a b e refl refl
+
+name_kind-same : (n : NameTree) (a b : ℕ) → Same a b → name_kind n a ≡ name_kind n b
+unfolding name_kind
+name_kind-same (operator plain_operator.Ctor) a b e = refl
+name_kind-same (operator plain_operator.Dtor) a b e = refl
+name_kind-same (operator plain_operator.Conversion) a b e = refl
+name_kind-same (operator plain_operator.VBTable) a b e =
+    ap (λ c. cond c name_kinds.Ordinary name_kinds.BaseTable) e.style
+name_kind-same (operator plain_operator.LiteralOperatorName) a b e = refl
+name_kind-same (operator o) a b e = refl
+name_kind-same (template n ts) a b e = ap (λ c. cond c (template_kind n) name_kinds.Ordinary) e.style
+name_kind-same _ a b e = refl
+
+full_conversion-same : (none : Bool) (l l' v v' n n' : List Piece) → l ≡ l' → v ≡ v' → n ≡ n' →
+    full_conversion none l v n ≡ full_conversion none l' v' n'
+full_conversion-same none l l' v v' n n' hl hv hn =
+    ap (λ x. full_conversion none x v n) hl ∙ ap (λ x. full_conversion none l' x n) hv
+    ∙ ap (λ x. full_conversion none l' v' x) hn
 
 -- sides
 between-same : (x x' : List Piece) (s s' : Sides) (y y' : List Piece) → x ≡ x' → s ≡ s' → y ≡ y' →
@@ -225,7 +341,9 @@ unfolding slot_pieces
 slot_pieces-same (slot.kind_word w) pointed p a b e =
     same-unless (has a no_member_type) (has b no_member_type) _ _ e.member refl
 slot_pieces-same slot.qualifiers pointed p a b e = qualifiers-same p.set a b e
-slot_pieces-same slot.pointer_qualifiers pointed p a b e = qualifiers-same p.set a b e
+slot_pieces-same slot.pointer_qualifiers pointed p a b e =
+    ap (λ s. mark_qualifiers s p.set) (full_space-same a b e)
+slot_pieces-same slot.opening pointed p a b e = opening-same pointed a b e
 slot_pieces-same _ pointed p a b e = refl
 
 laid-flags : (ss : List Slot) (pointed : Bool) (p : Parts) (a b : ℕ) → Same a b →
@@ -249,22 +367,23 @@ same-cons x x' xs xs' h hs = ap (λ z. z ∷ xs) h ∙ ap (λ z. x' ∷ z) hs
 
 -- names, scopes, types and their lists
 mutual
-  unfolding name_pieces scope_pieces conversion grown grown_around each_name parameters
+  unfolding name_pieces scope_pieces arguments conversion grown grown_around each_name parameters
 
   name_pieces-same : (n : NameTree) (of_symbol : Bool) (a b : ℕ) → Same a b →
       name_pieces n of_symbol a ≡ name_pieces n of_symbol b
   name_pieces-same (spelled how bytes) of_symbol a b e = refl
   name_pieces-same (template n ts) of_symbol a b e = same-append (name_pieces n false a) (name_pieces n false b)
-      (angled (parameters ts true a)) (angled (parameters ts true b)) (name_pieces-same n false a b e)
-      (ap angled (parameters-same ts true a b e))
+      (angled (parameters ts true a) a) (angled (parameters ts true b) b) (name_pieces-same n false a b e)
+      (angled-same _ _ a b (parameters-same ts true a b e) e)
   name_pieces-same (discriminator z) of_symbol a b e = refl
   name_pieces-same (nested n ns t) of_symbol a b e = ap (quoted_unless of_symbol) (around_kept-same _ _ _ _ a b
       (grown-same t false alone alone a b refl e)
-      (named-same (name_kind n) _ _ _ _ _ _ a b (scope_pieces-same ns a b e)
-      (conversion-same t (name_pieces n true a) (name_pieces n true b) a b (name_pieces-same n true a b e) e)
+      (named-same _ _ _ _ _ _ _ _ _ _ a b (name_kind-same n a b e) (scope_pieces-same ns a b e)
+      (arguments-same n a b e)
+      (conversion-same t _ _ _ _ a b (arguments-same n a b e) (name_pieces-same n true a b e) e)
       (name_pieces-same n true a b e) e) e)
   name_pieces-same (anonymous digits) of_symbol a b e = refl
-  name_pieces-same (operator o) of_symbol a b e = refl
+  name_pieces-same (operator o) of_symbol a b e = operator_pieces-same o a b e
   name_pieces-same (guard g n) of_symbol a b e = refl
   name_pieces-same (type_descriptor set t) of_symbol a b e =
       ap (λ s. space AfterPointer ∷ (s.left ++ text (codes "::`RTTI Type Descriptor'") ∷ []))
@@ -285,11 +404,21 @@ mutual
       ap (λ x. with_inner x (name_pieces n false a)) (scope_pieces-same ns a b e)
       ∙ ap (λ x. with_inner (scope_pieces ns b) x) (name_pieces-same n false a b e)
 
-  conversion-same : (t : TypeTree) (name name' : List Piece) (a b : ℕ) → name ≡ name' → Same a b →
-      conversion t name a ≡ conversion t name' b
-  conversion-same (member_function class convention ts set t) name name' a b h e =
-      ap (λ s. text (codes "operator ") ∷ around s []) (grown-same t false alone alone a b refl e)
-  conversion-same _ name name' a b h e = h
+  arguments-same : (n : NameTree) (a b : ℕ) → Same a b → arguments n a ≡ arguments n b
+  arguments-same (template n ts) a b e = angled-same _ _ a b (parameters-same ts true a b e) e
+  arguments-same _ a b e = refl
+
+  conversion-same : (t : TypeTree) (list list' name name' : List Piece) (a b : ℕ) → list ≡ list' → name ≡ name' →
+      Same a b → conversion t list name a ≡ conversion t list' name' b
+  conversion-same (function convention ts set t) list list' name name' a b h h' e = same-style _ _ _ _ a b e
+      (full_conversion-same (is_none t) _ _ _ _ _ _ h
+      (ap (λ s. around s []) (grown-same t false alone alone a b refl e)) h') h'
+  conversion-same (member_function class convention ts set t) list list' name name' a b h h' e =
+      same-style _ _ _ _ a b e
+      (full_conversion-same (is_none t) _ _ _ _ _ _ h
+      (ap (λ s. around s []) (grown-same t false alone alone a b refl e)) h')
+      (ap (λ s. text (codes "operator ") ∷ around s []) (grown-same t false alone alone a b refl e))
+  conversion-same _ list list' name name' a b h h' e = h'
 
   grown-same : (t : TypeTree) (pointed : Bool) (s s' : Sides) (a b : ℕ) → s ≡ s' → Same a b →
       grown t pointed s a ≡ grown t pointed s' b
@@ -297,27 +426,28 @@ mutual
       (ap (λ x. text x ∷ []) (base_word-same w a b e)) (qualifiers-same set a b e)) h refl
   grown-same (tagged tag n scope set) pointed s s' a b h e = between-same _ _ s s' [] [] (same-append _ _ _ _
       (ap (λ x. text x ∷ []) (tag_word-same tag a b e)) (same-append _ _ _ _
-      (named-same (name_kind n) _ _ _ _ _ _ a b (scope_pieces-same scope a b e) (name_pieces-same n true a b e)
-      (name_pieces-same n true a b e) e) (qualifiers-same set a b e))) h refl
+      (named-same _ _ _ _ _ _ _ _ _ _ a b (name_kind-same n a b e) (scope_pieces-same scope a b e)
+      (arguments-same n a b e) (name_pieces-same n true a b e) (name_pieces-same n true a b e) e)
+      (qualifiers-same set a b e))) h refl
   grown-same (pointing m t set) pointed s s' a b h e = grown-same t true _ _ a b
       (between-same _ _ s s' [] [] (marked-same (mark_word m) set a b e) h refl) e
   grown-same (array n t set) pointed s s' a b h e =
       let end : List Piece = closing pointed ++ length_pieces n in
       grown-same t false _ _ a b (between-same _ _ s s' end end
-      (ap (λ x. x ++ opening pointed) (qualifiers-same set a b e)) h refl) e
+      (same-append _ _ _ _ (qualifiers-same set a b e) (opening-same pointed a b e)) h refl) e
   grown-same (function convention ts set t) pointed s s' a b h e = grown-same t false _ _ a b
-      (between-same _ _ s s' _ _ (calling-same pointed convention a b e) h
+      (between-same _ _ s s' _ _ (returned-same t pointed convention a b e) h
       (parameter_list-same pointed _ _ set a b (parameters-same ts true a b e) e)) e
   grown-same (member_function class convention ts set t) pointed s s' a b h e =
       between-same _ _ _ _ [] [] (member_start-same pointed class a b e) (grown-same t false _ _ a b
-      (between-same _ _ s s' _ _ (calling-same pointed convention a b e) h
+      (between-same _ _ s s' _ _ (returned-same t pointed convention a b e) h
       (parameter_list-same pointed _ _ set a b (parameters-same ts true a b e) e)) e) refl
   grown-same (member_pointer n scope class convention ts set t) pointed s s' a b h e =
       let const : List Piece = function_qualifier 1 (codes "const") set in
       between-same [] [] _ _ const const refl (grown-same t false _ _ a b
-      (between-same _ _ s s' _ _ (same-append _ _ _ _ (calling-same true convention a b e) (ap pointed_class
-      (named-same (name_kind n) _ _ _ _ _ _ a b (scope_pieces-same scope a b e) (name_pieces-same n true a b e)
-      (name_pieces-same n true a b e) e))) h
+      (between-same _ _ s s' _ _ (same-append _ _ _ _ (returned-same t true convention a b e) (ap pointed_class
+      (named-same _ _ _ _ _ _ _ _ _ _ a b (name_kind-same n a b e) (scope_pieces-same scope a b e)
+      (arguments-same n a b e) (name_pieces-same n true a b e) (name_pieces-same n true a b e) e))) h
       (ap (λ x. text (codes ")(") ∷ (x ++ text (codes ")") ∷ [])) (parameters-same ts true a b e))) e) refl
   grown-same (variable t kind set) pointed s s' a b h e =
       let word : List Piece = text (variable_word kind) ∷ [] in
@@ -358,8 +488,8 @@ mutual
 symbol_pieces-same : (n : NameTree) (ns : NameTrees) (t : TypeTree) (a b : ℕ) → Same a b →
     symbol_pieces n ns t a ≡ symbol_pieces n ns t b
 symbol_pieces-same n ns t a b e = around_kept-same _ _ _ _ a b (grown-same t false alone alone a b refl e)
-    (named-same (name_kind n) _ _ _ _ _ _ a b (scope_pieces-same ns a b e)
-    (conversion-same t (name_pieces n true a) (name_pieces n true b) a b (name_pieces-same n true a b e) e)
+    (named-same _ _ _ _ _ _ _ _ _ _ a b (name_kind-same n a b e) (scope_pieces-same ns a b e)
+    (arguments-same n a b e) (conversion-same t _ _ _ _ a b (arguments-same n a b e) (name_pieces-same n true a b e) e)
     (name_pieces-same n true a b e) e) e
 
 pub other_bits-change-nothing : OtherBitsChangeNothing
@@ -375,25 +505,46 @@ name_only-pieces n scope t flags only = same-append _ _ _ _
     (ap (λ x. symbol_name n scope t flags ++ x) (kept_right-dropped (grown t false alone flags).right flags only))
 
 -- only a conversion operator prints what its symbol returns
-unqualified_name-conversion : (n : NameTree) (c d v v' name : List Piece) →
-    (n ≡ operator plain_operator.Conversion → ⊥) →
-    unqualified_name (name_kind n) c d v name ≡ unqualified_name (name_kind n) c d v' name
-unfolding name_kind
-unqualified_name-conversion (operator plain_operator.Ctor) c d v v' name other = refl
-unqualified_name-conversion (operator plain_operator.Dtor) c d v v' name other = refl
-unqualified_name-conversion (operator plain_operator.Conversion) c d v v' name other = absurd (other refl)
-unqualified_name-conversion (operator plain_operator.VBTable) c d v v' name other = refl
-unqualified_name-conversion (operator plain_operator.LiteralOperatorName) c d v v' name other = refl
-unqualified_name-conversion (operator o) c d v v' name other = refl
-unqualified_name-conversion _ c d v v' name other = refl
+unqualified_name-conversion : (kind : NameKind) (c d v v' name : List Piece) → (kind ≡ name_kinds.Conversion → ⊥) →
+    unqualified_name kind c d v name ≡ unqualified_name kind c d v' name
+unqualified_name-conversion name_kinds.Conversion c d v v' name other = absurd (other refl)
+unqualified_name-conversion name_kinds.Constructor c d v v' name other = refl
+unqualified_name-conversion name_kinds.Destructor c d v v' name other = refl
+unqualified_name-conversion name_kinds.BaseTable c d v v' name other = refl
+unqualified_name-conversion name_kinds.Literal c d v v' name other = refl
+unqualified_name-conversion name_kinds.Ordinary c d v v' name other = refl
 
 pub name_only-asks-no-type : NameOnlyAsksNoType
 unfolding declaration
 name_only-asks-no-type = λ n scope t other flags only no_conversion.
     ap resolve (name_only-pieces n scope t flags only
-    ∙ ap (λ x. scoped (name_kind n) (scope_prefix scope flags) (scope_path scope flags) x flags ++ [])
-    (unqualified_name-conversion n _ _ _ _ _ no_conversion)
+    ∙ ap (λ x. scoped (name_kind n flags) (scope_prefix scope flags) (scope_path scope flags) x flags ++ [])
+    (unqualified_name-conversion (name_kind n flags) _ _ _ _ _ no_conversion)
     ∙ sym (name_only-pieces n scope other flags only))
+
+-- in the style of the crate's grammar only the plain operator is a conversion
+conversion-of-kind : (n : NameTree) (flags : ℕ) → has flags full_style ≡ false →
+    (n ≡ operator plain_operator.Conversion → ⊥) → name_kind n flags ≡ name_kinds.Conversion → ⊥
+unfolding name_kind
+conversion-of-kind (operator plain_operator.Conversion) flags e other is = other refl
+conversion-of-kind (operator plain_operator.VBTable) flags e other is =
+    let table : name_kinds.BaseTable ≡ name_kinds.Conversion
+    = sym (ap (λ c. cond c name_kinds.Ordinary name_kinds.BaseTable) e) ∙ is in
+    absurd (cc)
+conversion-of-kind (template n ts) flags e other is =
+    let ordinary : name_kinds.Ordinary ≡ name_kinds.Conversion
+    = sym (ap (λ c. cond c (template_kind n) name_kinds.Ordinary) e) ∙ is in
+    absurd (cc)
+conversion-of-kind _ flags e other is = absurd (cc)
+
+-- no word of 32 bits has the bit of the style
+plain-style : (flags : ℕ) → flags < full_style → has flags full_style ≡ false
+plain-style flags small = ne_eqb (bit_and flags full_style) full_style
+    (λ e. absurd (omega (arith, and_le_l flags full_style, e, small)))
+
+pub no_conversion-of-kind : (n : NameTree) (flags : ℕ) → flags < full_style →
+    (n ≡ operator plain_operator.Conversion → ⊥) → name_kind n flags ≡ name_kinds.Conversion → ⊥
+no_conversion-of-kind n flags small = conversion-of-kind n flags (plain-style flags small)
 
 -- no flag puts anything before nothing
 none-before : (flags : ℕ) → kept_left [] flags ≡ []
@@ -423,14 +574,16 @@ hash-pieces digits flags =
     ∙ ap (λ xs. symbol_name (spelled spelling_kind.Md5 digits) no_names (plain plain_kind.None) flags ++ xs)
     (none-after flags)
 
-hash-text : (only : Bool) (digits : List ℕ)
-    → resolve (space (cond only AfterWord AfterReference) ∷ text (codes "??@") ∷ text digits ∷ text (codes "@") ∷ [])
-    ≡ codes "??@" ++ (digits ++ codes "@")
+hash-text : (style only : Bool) (digits : List ℕ)
+    → resolve (space (cond style (cond only AfterFullWord AfterFullReference) (cond only AfterWord AfterReference))
+    ∷ text (codes "??@") ∷ text digits ∷ text (codes "@") ∷ []) ≡ codes "??@" ++ (digits ++ codes "@")
 unfolding settle_all
-hash-text true digits = append_assoc (codes "??@") digits (codes "@")
-hash-text false digits = append_assoc (codes "??@") digits (codes "@")
+hash-text true true digits = append_assoc (codes "??@") digits (codes "@")
+hash-text true false digits = append_assoc (codes "??@") digits (codes "@")
+hash-text false true digits = append_assoc (codes "??@") digits (codes "@")
+hash-text false false digits = append_assoc (codes "??@") digits (codes "@")
 
 pub hash-is-its-text : HashIsItsText
 unfolding declaration
 hash-is-its-text = λ digits flags.
-    ap resolve (hash-pieces digits flags) ∙ hash-text (has flags space_before_pointer) digits
+    ap resolve (hash-pieces digits flags) ∙ hash-text (has flags full_style) (has flags space_before_pointer) digits

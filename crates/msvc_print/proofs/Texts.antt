@@ -35,15 +35,17 @@ use Rattle.msvc_nodes.specs.declared.kinds.VarStorageKind.{VarStorageKind}
 use Rattle.msvc_nodes.specs.declared.kinds.VarStorageKind.TheVariants.{PrivateStatic}
 use Rattle.msvc_print.specs.Declaration.{ScopePieces, angled, class_after, conversion, declaration, grown}
 use Rattle.msvc_print.specs.Declaration.{is_empty_pack, length_pieces, name_pieces, named, parameters, pointed_class}
+use Rattle.msvc_print.specs.Declaration.{arguments, full_conversion, is_none, returned_end}
 use Rattle.msvc_print.specs.Declaration.{quoted, quoted_unless, scope_pieces, spelled_name, symbol_pieces, table_end}
 use Rattle.msvc_print.specs.Declaration.{each_name, grown_around, thunk_end, tilde, with_inner}
 use Rattle.msvc_print.specs.Operators.{base_class_pieces, guard_number, guard_pieces, guard_word, listed, operator_word}
-use Rattle.msvc_print.specs.Operators.{name_kind, unqualified_name, scoped, spaced}
+use Rattle.msvc_print.specs.Operators.{full_operator_word, name_kind, operator_pieces, unqualified_name, scoped, spaced}
 use Rattle.msvc_print.specs.declared.operators.NameKind.{NameKind}
 use Rattle.msvc_print.specs.declared.operators.NameKind.TheVariants as name_kinds
-use Rattle.msvc_print.specs.Flags.{has}
+use Rattle.msvc_print.specs.Flags.{full_style, has, no_this_type, with_ptr64}
 use Rattle.msvc_print.specs.Functions.{access_words, calling, convention_pieces, convention_word}
-use Rattle.msvc_print.specs.Functions.{each_function_qualifier}
+use Rattle.msvc_print.specs.Functions.{each_function_qualifier, extern_words, full_calling, full_function_qualifiers}
+use Rattle.msvc_print.specs.Functions.{full_reference_words, full_this_words, full_wide_word, spaced_convention}
 use Rattle.msvc_print.specs.Functions.{kind_words, member_start, member_words, function_qualifier, function_qualifiers}
 use Rattle.msvc_print.specs.Functions.{parameter_list, separator, wide_qualifier}
 use Rattle.msvc_print.specs.Pieces.{Piece, blank, text, space, settle, settle_all}
@@ -51,6 +53,8 @@ use Rattle.msvc_print.specs.Pieces.{is_written_after, last_byte}
 use Rattle.msvc_print.specs.Shapes.{Parts, each_level, laid, level_pieces, number_at, number_pieces, parts, pieces_at}
 use Rattle.msvc_print.specs.Shapes.{slot_pieces}
 use Rattle.msvc_print.specs.Sides.{Sides, alone, around, between, kept, kept_left, kept_right}
+use Rattle.msvc_print.specs.Words.{angle_end, full_mark_space, full_marked, full_qualifiers, full_space}
+use Rattle.msvc_print.specs.Words.{mark_qualifiers}
 use Rattle.msvc_print.specs.Words.{base_word, base_words, chosen_word, closing, kind_word, mark_space, mark_word}
 use Rattle.msvc_print.specs.Words.{marked, name_space, opening, qualifiers, tag_word, variable_word}
 use Rattle.msvc_print.specs.declared.spaces.Space.{Space}
@@ -177,6 +181,11 @@ unfolding lib.Utf8.encode
 convention_word-utf8 Cdecl = (convention_word Cdecl, (refl, refl))
 convention_word-utf8 convention = (convention_word convention, (refl, refl))
 
+spaced_convention-utf8 : (convention : Convention) → IsUtf8 (spaced_convention convention)
+unfolding lib.Utf8.encode
+spaced_convention-utf8 convention =
+    IsUtf8-append (convention_word convention) (codes " ") (convention_word-utf8 convention) (codes " ", (refl, refl))
+
 -- a word with its space, or nothing
 AreTexts-spaced : (b : Bool) (s : Space) (word : List ℕ) → IsUtf8 word → AreTexts (cond b (space s ∷ text word ∷ []) [])
 AreTexts-spaced b s word h = AreTexts-choice b (space s ∷ text word ∷ []) []
@@ -186,29 +195,60 @@ AreTexts-spaced b s word h = AreTexts-choice b (space s ∷ text word ∷ []) []
 AreTexts-word : (b : Bool) (word : List ℕ) → IsUtf8 word → AreTexts (cond b (text word ∷ []) [])
 AreTexts-word b word h = AreTexts-choice b (text word ∷ []) [] (AreTexts-text word [] h AreTexts-none) AreTexts-none
 
+full_qualifiers-texts : (set : ℕ) → AreTexts (full_qualifiers set)
+unfolding full_qualifiers lib.Utf8.encode
+full_qualifiers-texts set = AreTexts-append _ _ (AreTexts-word _ (codes " const") (codes " const", (refl, refl)))
+    (AreTexts-append _ _ (AreTexts-word _ (codes " volatile") (codes " volatile", (refl, refl)))
+    (AreTexts-word _ (codes " __restrict") (codes " __restrict", (refl, refl))))
+
 qualifiers-texts : (set flags : ℕ) → AreTexts (qualifiers set flags)
 unfolding qualifiers lib.Utf8.encode
-qualifiers-texts set flags = AreTexts-append _ _
+qualifiers-texts set flags = AreTexts-choice (has flags full_style) _ _ (full_qualifiers-texts set)
+    (AreTexts-append _ _
     (AreTexts-spaced _ _ (codes "const") (codes "const", (refl, refl)))
-    (AreTexts-spaced _ _ (codes "volatile") (codes "volatile", (refl, refl)))
+    (AreTexts-spaced _ _ (codes "volatile") (codes "volatile", (refl, refl))))
 
 mark_space-texts : (flags : ℕ) → AreTexts (mark_space flags)
 mark_space-texts flags = AreTexts-choice _ _ _
     (AreTexts-choice _ _ _ (AreTexts-space _ _ AreTexts-none) AreTexts-none)
     (AreTexts-space _ _ AreTexts-none)
 
+full_mark_space-texts : (flags : ℕ) → AreTexts (full_mark_space flags)
+full_mark_space-texts flags = AreTexts-choice _ _ _
+    (AreTexts-choice _ _ _ (AreTexts-space _ _ AreTexts-none) AreTexts-none)
+    (AreTexts-space _ _ AreTexts-none)
+
+mark_qualifiers-texts : (s : Space) (set : ℕ) → AreTexts (mark_qualifiers s set)
+unfolding mark_qualifiers lib.Utf8.encode
+mark_qualifiers-texts s set = AreTexts-append _ _ (AreTexts-spaced _ s (codes "const") (codes "const", (refl, refl)))
+    (AreTexts-append _ _ (AreTexts-spaced _ s (codes "volatile") (codes "volatile", (refl, refl)))
+    (AreTexts-spaced _ s (codes "__restrict") (codes "__restrict", (refl, refl))))
+
+full_marked-texts : (word : List ℕ) (set flags : ℕ) → IsUtf8 word → AreTexts (full_marked word set flags)
+unfolding full_marked lib.Utf8.encode
+full_marked-texts word set flags h =
+    AreTexts-append _ _ (AreTexts-spaced _ _ (codes "__unaligned ") (codes "__unaligned ", (refl, refl)))
+    (AreTexts-append _ _ (full_mark_space-texts flags)
+    (AreTexts-text word _ h (mark_qualifiers-texts (full_space flags) set)))
+
 marked-texts : (word : List ℕ) (set flags : ℕ) → IsUtf8 word → AreTexts (marked word set flags)
 unfolding marked
-marked-texts word set flags h =
-    AreTexts-append _ _ (mark_space-texts flags) (AreTexts-text word _ h (qualifiers-texts set flags))
+marked-texts word set flags h = AreTexts-choice (has flags full_style) _ _ (full_marked-texts word set flags h)
+    (AreTexts-append _ _ (mark_space-texts flags) (AreTexts-text word _ h (qualifiers-texts set flags)))
 
-opening-texts : (pointed : Bool) → AreTexts (opening pointed)
+opening-texts : (pointed : Bool) (flags : ℕ) → AreTexts (opening pointed flags)
 unfolding opening lib.Utf8.encode
-opening-texts pointed = AreTexts-spaced pointed _ (codes "(") (codes "(", (refl, refl))
+opening-texts pointed flags = AreTexts-spaced pointed _ (codes "(") (codes "(", (refl, refl))
 
 closing-texts : (pointed : Bool) → AreTexts (closing pointed)
 unfolding closing lib.Utf8.encode
 closing-texts pointed = AreTexts-word pointed (codes ")") (codes ")", (refl, refl))
+
+angle_end-texts : (flags : ℕ) → AreTexts (angle_end flags)
+unfolding angle_end lib.Utf8.encode
+angle_end-texts flags = AreTexts-choice (has flags full_style) _ _
+    (AreTexts-text (codes ">") [] (codes ">", (refl, refl)) AreTexts-none)
+    (AreTexts-space _ _ (AreTexts-text (codes ">") [] (codes ">", (refl, refl)) AreTexts-none))
 
 -- pieces that a flag drops
 AreTexts-unless : (b : Bool) (xs : List Piece) → AreTexts xs → AreTexts (cond b [] xs)
@@ -221,11 +261,17 @@ access_words-texts class flags = AreTexts-unless _ _
     (AreTexts-append _ _ (AreTexts-word _ (codes "protected: ") (codes "protected: ", (refl, refl)))
     (AreTexts-word _ (codes "public: ") (codes "public: ", (refl, refl)))))
 
+extern_words-texts : (class flags : ℕ) → AreTexts (extern_words class flags)
+unfolding extern_words lib.Utf8.encode
+extern_words-texts class flags = AreTexts-choice (has flags full_style) _ _
+    (AreTexts-word _ (codes "extern \"C\" ") (codes "extern \"C\" ", (refl, refl))) AreTexts-none
+
 kind_words-texts : (class flags : ℕ) → AreTexts (kind_words class flags)
 unfolding kind_words lib.Utf8.encode
 kind_words-texts class flags = AreTexts-unless _ _
     (AreTexts-append _ _ (AreTexts-word _ (codes "static ") (codes "static ", (refl, refl)))
-    (AreTexts-word _ (codes "virtual ") (codes "virtual ", (refl, refl))))
+    (AreTexts-append _ _ (AreTexts-word _ (codes "virtual ") (codes "virtual ", (refl, refl)))
+    (extern_words-texts class flags)))
 
 member_words-texts : (class flags : ℕ) → AreTexts (member_words class flags)
 unfolding member_words lib.Utf8.encode
@@ -257,19 +303,54 @@ each_function_qualifier-texts set flags =
     (AreTexts-append _ _ (function_qualifier-texts 128 (codes "&") set (codes "&", (refl, refl)))
     (function_qualifier-texts 256 (codes "&&") set (codes "&&", (refl, refl)))))))
 
+full_function_qualifiers-texts : (set flags : ℕ) → AreTexts (full_function_qualifiers set flags)
+unfolding full_function_qualifiers full_this_words full_wide_word full_reference_words lib.Utf8.encode
+full_function_qualifiers-texts set flags =
+    AreTexts-append _ _ (AreTexts-unless (has flags no_this_type) _
+    (AreTexts-append _ _ (AreTexts-word _ (codes " const") (codes " const", (refl, refl)))
+    (AreTexts-append _ _ (AreTexts-word _ (codes " volatile") (codes " volatile", (refl, refl)))
+    (AreTexts-append _ _ (AreTexts-choice (has flags with_ptr64) _ []
+    (AreTexts-word _ (codes " __ptr64") (codes " __ptr64", (refl, refl))) AreTexts-none)
+    (AreTexts-append _ _ (AreTexts-word _ (codes " __restrict") (codes " __restrict", (refl, refl)))
+    (AreTexts-word _ (codes " __unaligned") (codes " __unaligned", (refl, refl))))))))
+    (AreTexts-append _ _ (AreTexts-word _ (codes " noexcept") (codes " noexcept", (refl, refl)))
+    (AreTexts-unless (has flags no_this_type) _
+    (AreTexts-append _ _ (AreTexts-word _ (codes " &") (codes " &", (refl, refl)))
+    (AreTexts-word _ (codes " &&") (codes " &&", (refl, refl))))))
+
 function_qualifiers-texts : (set flags : ℕ) → AreTexts (function_qualifiers set flags)
 unfolding function_qualifiers
-function_qualifiers-texts set flags = AreTexts-unless _ _ (each_function_qualifier-texts set flags)
+function_qualifiers-texts set flags = AreTexts-choice (has flags full_style) _ _
+    (full_function_qualifiers-texts set flags) (AreTexts-unless _ _ (each_function_qualifier-texts set flags))
 
 convention-texts : (convention : Convention) (flags : ℕ) → AreTexts (convention_pieces convention flags)
 unfolding convention_pieces
 convention-texts convention flags =
-    AreTexts-unless _ _ (AreTexts-text _ _ (convention_word-utf8 convention) AreTexts-none)
+    AreTexts-unless _ _ (AreTexts-text _ _ (spaced_convention-utf8 convention) AreTexts-none)
+
+full_calling-texts : (pointed : Bool) (convention : Convention) (flags : ℕ) →
+    AreTexts (full_calling pointed convention flags)
+unfolding full_calling
+full_calling-texts pointed convention flags = AreTexts-append _ _ (opening-texts pointed flags)
+    (AreTexts-unless _ _ (AreTexts-choice pointed _ _
+    (AreTexts-text _ _ (spaced_convention-utf8 convention) AreTexts-none)
+    (AreTexts-space _ _ (AreTexts-text _ _ (convention_word-utf8 convention) AreTexts-none))))
 
 calling-texts : (pointed : Bool) (convention : Convention) (flags : ℕ) → AreTexts (calling pointed convention flags)
 unfolding calling
-calling-texts pointed convention flags =
-    AreTexts-append _ _ (opening-texts pointed) (AreTexts-space _ _ (convention-texts convention flags))
+calling-texts pointed convention flags = AreTexts-choice (has flags full_style) _ _
+    (full_calling-texts pointed convention flags)
+    (AreTexts-append _ _ (opening-texts pointed flags) (AreTexts-space _ _ (convention-texts convention flags)))
+
+returned_end-texts : (t : TypeTree) (flags : ℕ) → AreTexts (returned_end t flags)
+unfolding returned_end lib.Utf8.encode
+returned_end-texts t flags = AreTexts-choice (has flags full_style) _ []
+    (AreTexts-unless _ _ (AreTexts-text (codes " ") [] (codes " ", (refl, refl)) AreTexts-none)) AreTexts-none
+
+returned-texts : (t : TypeTree) (pointed : Bool) (convention : Convention) (flags : ℕ) →
+    AreTexts (returned_end t flags ++ calling pointed convention flags)
+returned-texts t pointed convention flags =
+    AreTexts-append _ _ (returned_end-texts t flags) (calling-texts pointed convention flags)
 
 kept_left-texts : (pieces : List Piece) (flags : ℕ) → AreTexts pieces → AreTexts (kept_left pieces flags)
 unfolding kept_left
@@ -316,6 +397,11 @@ unfolding operator_word lib.Utf8.encode
 operator_word-utf8 plain_operator.Ctor = (codes "ctor", (refl, refl))
 operator_word-utf8 o = (operator_word o, (refl, refl))
 
+full_operator_word-utf8 : (o : PlainOperator) → IsUtf8 (full_operator_word o)
+unfolding full_operator_word operator_word lib.Utf8.encode
+full_operator_word-utf8 plain_operator.Ctor = (codes "ctor", (refl, refl))
+full_operator_word-utf8 o = (full_operator_word o, (refl, refl))
+
 guard_word-utf8 : (g : Guard) → IsUtf8 (guard_word g)
 unfolding lib.Utf8.encode
 guard_word-utf8 guard_kind.Static = (guard_word guard_kind.Static, (refl, refl))
@@ -323,6 +409,12 @@ guard_word-utf8 g = (guard_word g, (refl, refl))
 
 spaced-texts : (word : List ℕ) → IsUtf8 word → AreTexts (spaced word)
 spaced-texts word h = AreTexts-space _ _ (AreTexts-text word [] h AreTexts-none)
+
+operator_pieces-texts : (o : PlainOperator) (flags : ℕ) → AreTexts (operator_pieces o flags)
+unfolding operator_pieces
+operator_pieces-texts o flags = AreTexts-choice (has flags full_style) _ _
+    (AreTexts-text (full_operator_word o) [] (full_operator_word-utf8 o) AreTexts-none)
+    (spaced-texts (operator_word o) (operator_word-utf8 o))
 
 guard_number-texts : (n : Option ℕ) → AreTexts (guard_number n)
 unfolding guard_number lib.Utf8.encode
@@ -422,12 +514,21 @@ with_inner-texts outer name h h' = record {
   innermost = λ word e. AreTexts-append _ _ e h';
 }
 
-named-texts : (kind : NameKind) (scope : ScopePieces) (conversion name : List Piece) (flags : ℕ) → ScopeIsText scope →
-    AreTexts conversion → AreTexts name → AreTexts (named kind scope conversion name flags)
+named-texts : (kind : NameKind) (scope : ScopePieces) (list conversion name : List Piece) (flags : ℕ) →
+    ScopeIsText scope → AreTexts list → AreTexts conversion → AreTexts name →
+    AreTexts (named kind scope list conversion name flags)
 unfolding lib.Utf8.encode
-named-texts kind scope conversion name flags h h' h'' = scoped-texts kind _ _ _ flags h.prefix h.path
-    (unqualified_name-texts kind _ _ _ _ (h.innermost [] AreTexts-none)
-    (h.innermost tilde (AreTexts-text (codes "~") [] (codes "~", (refl, refl)) AreTexts-none)) h' h'')
+named-texts kind scope list conversion name flags h hl h' h'' = scoped-texts kind _ _ _ flags h.prefix h.path
+    (unqualified_name-texts kind _ _ _ _ (AreTexts-append _ list (h.innermost [] AreTexts-none) hl)
+    (AreTexts-append _ list
+    (h.innermost tilde (AreTexts-text (codes "~") [] (codes "~", (refl, refl)) AreTexts-none)) hl) h' h'')
+
+full_conversion-texts : (none : Bool) (list value name : List Piece) → AreTexts list → AreTexts value → AreTexts name →
+    AreTexts (full_conversion none list value name)
+unfolding full_conversion lib.Utf8.encode
+full_conversion-texts none list value name h h' h'' = AreTexts-choice none _ _ h''
+    (AreTexts-text (codes "operator") _ (codes "operator", (refl, refl))
+    (AreTexts-append _ _ h (AreTexts-text (codes " ") _ (codes " ", (refl, refl)) h')))
 
 -- both sides of a name
 record SidesAreTexts (s : Sides) : Type 0 where
@@ -455,10 +556,10 @@ kept-texts : (s : Sides) (flags : ℕ) → SidesAreTexts s → SidesAreTexts (ke
 kept-texts s flags h =
     record { left = kept_left-texts s.left flags h.left; right = kept_right-texts s.right flags h.right }
 
-angled-texts : (arguments : List Piece) → AreTexts arguments → AreTexts (angled arguments)
+angled-texts : (arguments : List Piece) (flags : ℕ) → AreTexts arguments → AreTexts (angled arguments flags)
 unfolding lib.Utf8.encode
-angled-texts arguments h = AreTexts-text (codes "<") _ (codes "<", (refl, refl)) (AreTexts-append _ _ h
-    (AreTexts-space _ _ (AreTexts-text (codes ">") [] (codes ">", (refl, refl)) AreTexts-none)))
+angled-texts arguments flags h =
+    AreTexts-text (codes "<") _ (codes "<", (refl, refl)) (AreTexts-append _ _ h (angle_end-texts flags))
 
 -- numbers of shapes
 number_pieces-texts : (n : Number) → AreTexts (number_pieces n)
@@ -501,8 +602,8 @@ slot-texts (slot.kind_word w) pointed p flags h hs hn =
 slot-texts (slot.number i) pointed p flags h hs hn = number_at-texts p.numbers i
 slot-texts slot.lengths pointed p flags h hs hn = each_level-texts p.numbers
 slot-texts slot.qualifiers pointed p flags h hs hn = qualifiers-texts p.set flags
-slot-texts slot.pointer_qualifiers pointed p flags h hs hn = qualifiers-texts p.set flags
-slot-texts slot.opening pointed p flags h hs hn = opening-texts pointed
+slot-texts slot.pointer_qualifiers pointed p flags h hs hn = mark_qualifiers-texts (full_space flags) p.set
+slot-texts slot.opening pointed p flags h hs hn = opening-texts pointed flags
 slot-texts slot.closing pointed p flags h hs hn = closing-texts pointed
 slot-texts (slot.symbol i) pointed p flags h hs hn = pieces_at-texts p.symbols i hs
 slot-texts (slot.name i) pointed p flags h hs hn = pieces_at-texts p.names i hn
@@ -521,23 +622,24 @@ slots-texts row s pointed set zs ns os flags hs hn =
 
 -- names, scopes, types and their lists
 mutual
-  unfolding name_pieces scope_pieces conversion grown grown_around each_name parameters lib.Utf8.encode
+  unfolding name_pieces scope_pieces arguments conversion grown grown_around each_name parameters lib.Utf8.encode
 
   name_pieces-texts : (n : NameTree) (of_symbol : Bool) (flags : ℕ) → EachNameOfName IsUtf8 n →
       AreTexts (name_pieces n of_symbol flags)
   name_pieces-texts (spelled how bytes) of_symbol flags h = spelled_name-texts how bytes h
   name_pieces-texts (template n ts) of_symbol flags h = AreTexts-append _ _ (name_pieces-texts n false flags h.0)
-      (angled-texts _ (parameters-texts ts true flags h.1))
+      (angled-texts _ flags (parameters-texts ts true flags h.1))
   name_pieces-texts (discriminator z) of_symbol flags h =
       quoted-texts _ (AreTexts-text _ _ (signed_decimal-utf8 z) AreTexts-none)
   name_pieces-texts (nested n ns t) of_symbol flags h = quoted_unless-texts of_symbol _
       (around-texts (kept (grown t false alone flags) flags) _
       (kept-texts (grown t false alone flags) flags (grown-texts t false alone flags alone-texts h.2))
-      (named-texts (name_kind n) _ _ _ flags (scope_pieces-texts ns flags h.1)
-      (conversion-texts t _ flags h.2 (name_pieces-texts n true flags h.0)) (name_pieces-texts n true flags h.0)))
+      (named-texts (name_kind n flags) _ _ _ _ flags (scope_pieces-texts ns flags h.1) (arguments-texts n flags h.0)
+      (conversion-texts t _ _ flags h.2 (arguments-texts n flags h.0) (name_pieces-texts n true flags h.0))
+      (name_pieces-texts n true flags h.0)))
   name_pieces-texts (anonymous digits) of_symbol flags h =
       AreTexts-text (codes "`anonymous namespace'") [] (codes "`anonymous namespace'", (refl, refl)) AreTexts-none
-  name_pieces-texts (operator o) of_symbol flags h = spaced-texts _ (operator_word-utf8 o)
+  name_pieces-texts (operator o) of_symbol flags h = operator_pieces-texts o flags
   name_pieces-texts (guard g n) of_symbol flags h = guard_pieces-texts g n
   name_pieces-texts (type_descriptor set t) of_symbol flags h =
       let whole = grown-texts t false alone flags alone-texts h in
@@ -558,12 +660,20 @@ mutual
   scope_pieces-texts (names n ns) flags h =
       with_inner-texts _ _ (scope_pieces-texts ns flags h.1) (name_pieces-texts n false flags h.0)
 
-  conversion-texts : (t : TypeTree) (name : List Piece) (flags : ℕ) → EachNameOfType IsUtf8 t → AreTexts name →
-      AreTexts (conversion t name flags)
-  conversion-texts (member_function class convention ts set t) name flags h h' =
-      AreTexts-text (codes "operator ") _ (codes "operator ", (refl, refl))
-      (around-texts _ [] (grown-texts t false alone flags alone-texts h.1) AreTexts-none)
-  conversion-texts _ name flags h h' = h'
+  arguments-texts : (n : NameTree) (flags : ℕ) → EachNameOfName IsUtf8 n → AreTexts (arguments n flags)
+  arguments-texts (template n ts) flags h = angled-texts _ flags (parameters-texts ts true flags h.1)
+  arguments-texts _ flags h = AreTexts-none
+
+  conversion-texts : (t : TypeTree) (list name : List Piece) (flags : ℕ) → EachNameOfType IsUtf8 t → AreTexts list →
+      AreTexts name → AreTexts (conversion t list name flags)
+  conversion-texts (function convention ts set t) list name flags h h' h'' = AreTexts-choice (has flags full_style) _ _
+      (full_conversion-texts (is_none t) list _ name h'
+      (around-texts _ [] (grown-texts t false alone flags alone-texts h.1) AreTexts-none) h'') h''
+  conversion-texts (member_function class convention ts set t) list name flags h h' h'' =
+      let value = around-texts _ [] (grown-texts t false alone flags alone-texts h.1) AreTexts-none in
+      AreTexts-choice (has flags full_style) _ _ (full_conversion-texts (is_none t) list _ name h' value h'')
+      (AreTexts-text (codes "operator ") _ (codes "operator ", (refl, refl)) value)
+  conversion-texts _ list name flags h h' h'' = h''
 
   grown-texts : (t : TypeTree) (pointed : Bool) (s : Sides) (flags : ℕ) → SidesAreTexts s → EachNameOfType IsUtf8 t →
       SidesAreTexts (grown t pointed s flags)
@@ -571,25 +681,25 @@ mutual
       before-texts _ s (AreTexts-text _ _ (base_word-utf8 b flags) (qualifiers-texts set flags)) hs
   grown-texts (tagged tag n scope set) pointed s flags hs h = before-texts _ s
       (AreTexts-text _ _ (tag_word-utf8 tag flags) (AreTexts-append _ _
-      (named-texts (name_kind n) _ _ _ flags (scope_pieces-texts scope flags h.1) (name_pieces-texts n true flags h.0)
-      (name_pieces-texts n true flags h.0)) (qualifiers-texts set flags))) hs
+      (named-texts (name_kind n flags) _ _ _ _ flags (scope_pieces-texts scope flags h.1) (arguments-texts n flags h.0)
+      (name_pieces-texts n true flags h.0) (name_pieces-texts n true flags h.0)) (qualifiers-texts set flags))) hs
   grown-texts (pointing m t set) pointed s flags hs h = grown-texts t true _ flags
       (before-texts _ s (marked-texts _ set flags (mark_word-utf8 m)) hs) h
   grown-texts (array n t set) pointed s flags hs h = grown-texts t false _ flags (between-texts _ s _
-      (AreTexts-append _ _ (qualifiers-texts set flags) (opening-texts pointed)) hs
+      (AreTexts-append _ _ (qualifiers-texts set flags) (opening-texts pointed flags)) hs
       (AreTexts-append _ _ (closing-texts pointed) (length_pieces-texts n))) h
   grown-texts (function convention ts set t) pointed s flags hs h = grown-texts t false _ flags (between-texts _ s _
-      (calling-texts pointed convention flags) hs
+      (returned-texts t pointed convention flags) hs
       (parameter_list-texts pointed _ set flags (parameters-texts ts true flags h.0))) h.1
   grown-texts (member_function class convention ts set t) pointed s flags hs h =
       before-texts _ _ (member_start-texts pointed class flags) (grown-texts t false _ flags (between-texts _ s _
-      (calling-texts pointed convention flags) hs
+      (returned-texts t pointed convention flags) hs
       (parameter_list-texts pointed _ set flags (parameters-texts ts true flags h.0))) h.1)
   grown-texts (member_pointer n scope class convention ts set t) pointed s flags hs h = between-texts [] _ _
       AreTexts-none (grown-texts t false _ flags (between-texts _ s _
-      (AreTexts-append _ _ (calling-texts true convention flags) (pointed_class-texts _
-      (named-texts (name_kind n) _ _ _ flags (scope_pieces-texts scope flags h.1) (name_pieces-texts n true flags h.0)
-      (name_pieces-texts n true flags h.0)))) hs
+      (AreTexts-append _ _ (returned-texts t true convention flags) (pointed_class-texts _
+      (named-texts (name_kind n flags) _ _ _ _ flags (scope_pieces-texts scope flags h.1) (arguments-texts n flags h.0)
+      (name_pieces-texts n true flags h.0) (name_pieces-texts n true flags h.0)))) hs
       (AreTexts-text (codes ")(") _ (codes ")(", (refl, refl)) (AreTexts-append _ _ (parameters-texts ts true flags h.2)
       (AreTexts-text (codes ")") [] (codes ")", (refl, refl)) AreTexts-none)))) h.3)
       (function_qualifier-texts 1 (codes "const") set (codes "const", (refl, refl)))
@@ -645,6 +755,7 @@ declaration-utf8 tree flags h =
     let t = tree.symbol_type in
     let all : AreTexts (symbol_pieces n ns t flags) = around-texts (kept (grown t false alone flags) flags) _
     (kept-texts (grown t false alone flags) flags (grown-texts t false alone flags alone-texts h.2))
-    (named-texts (name_kind n) _ _ _ flags (scope_pieces-texts ns flags h.1)
-    (conversion-texts t _ flags h.2 (name_pieces-texts n true flags h.0)) (name_pieces-texts n true flags h.0)) in
+    (named-texts (name_kind n flags) _ _ _ _ flags (scope_pieces-texts ns flags h.1) (arguments-texts n flags h.0)
+    (conversion-texts t _ _ flags h.2 (arguments-texts n flags h.0) (name_pieces-texts n true flags h.0))
+    (name_pieces-texts n true flags h.0)) in
     settle_all-utf8 [] (symbol_pieces n ns t flags) IsUtf8-nil all.each

@@ -12,18 +12,19 @@ use Rattle.msvc_nodes.specs.declared.kinds.SpecialTableKind.TheVariants as table
 use Rattle.msvc_nodes.specs.Trees.{NameTree, NameTrees, SymbolTree, TypeTree, TypeTrees, spelled, operator, guard}
 use Rattle.msvc_nodes.specs.Trees.{type_descriptor, base_class_descriptor, template, discriminator, nested, anonymous}
 use Rattle.msvc_nodes.specs.Trees.{no_names, names, no_types, types, plain, base, tagged, numbered, pointing, array}
-use Rattle.msvc_nodes.specs.Trees.{function, member_function, member_pointer, variable, table, vcall_thunk}
-use Rattle.msvc_nodes.specs.Trees.{shape, shaped}
+use Rattle.msvc_nodes.specs.Trees.{function, member_function, member_pointer, variable, table, vcall_thunk, shape}
+use Rattle.msvc_nodes.specs.Trees.{shaped}
+use Rattle.msvc_print.specs.Flags.{full_style, has}
 use Rattle.msvc_print.specs.Functions.{calling, member_start, function_qualifier, parameter_list, separator}
-use Rattle.msvc_print.specs.Operators.{base_class_pieces, guard_pieces, name_kind, operator_word, scoped, spaced}
+use Rattle.msvc_print.specs.Operators.{base_class_pieces, guard_pieces, name_kind, operator_pieces, scoped}
 use Rattle.msvc_print.specs.Operators.{unqualified_name}
 use Rattle.msvc_print.specs.declared.operators.NameKind.{NameKind}
 use Rattle.msvc_print.specs.Pieces.{Piece, text, space, resolve}
 use Rattle.msvc_print.specs.Shapes.{laid, parts}
 use Rattle.msvc_print.specs.Sides.{Sides, alone, around, between, kept}
-use Rattle.msvc_print.specs.declared.spaces.Space.TheVariants.{AfterAngle, AfterPointer}
+use Rattle.msvc_print.specs.declared.spaces.Space.TheVariants.{AfterPointer}
 use Rattle.msvc_print.specs.Words.{base_word, variable_word, tag_word, mark_word, qualifiers, marked}
-use Rattle.msvc_print.specs.Words.{opening, closing}
+use Rattle.msvc_print.specs.Words.{opening, closing, angle_end}
 use Rattle.msvc_shapes.specs.Layouts.{layout_of, slots}
 use Rattle.msvc_shapes.specs.declared.layouts.Side.TheVariants as side
 
@@ -42,8 +43,8 @@ unfoldable pub quoted_unless : Bool → List Piece → List Piece
 quoted_unless of_symbol pieces = cond of_symbol pieces (quoted pieces)
 
 -- the arguments of a template, between `<` and `>`
-abbrev pub angled : List Piece → List Piece
-angled arguments = text (codes "<") ∷ (arguments ++ (space AfterAngle ∷ text (codes ">") ∷ []))
+abbrev pub angled : List Piece → ℕ → List Piece
+angled arguments flags = text (codes "<") ∷ (arguments ++ angle_end flags)
 
 -- The pieces of a scope: its names, the outermost first, with `::` after each name (`prefix`) or between the names
 -- (`path`), and its innermost name.
@@ -70,14 +71,21 @@ class_after word None = text (codes "[invalid]") ∷ []
 class_after word (Some class) = word ++ class
 
 -- The name of a symbol in its scope. `name` has its pieces as a name of any scope, `conversion` those of a conversion
--- operator.
-abbrev pub named : NameKind → ScopePieces → List Piece → List Piece → ℕ → List Piece
-named kind scope conversion name flags = scoped kind scope.prefix scope.path
-    (unqualified_name kind (class_after [] scope.innermost) (class_after tilde scope.innermost) conversion name) flags
+-- operator, and `list` the arguments of a template, which stand behind the name of a constructor or a destructor.
+abbrev pub named : NameKind → ScopePieces → List Piece → List Piece → List Piece → ℕ → List Piece
+named kind scope list conversion name flags = scoped kind scope.prefix scope.path
+    (unqualified_name kind (class_after [] scope.innermost ++ list) (class_after tilde scope.innermost ++ list)
+    conversion name) flags
 
 -- the name of a class or an enumeration in its scope, which has no type that a conversion operator could print
-abbrev pub named_class : NameKind → ScopePieces → List Piece → ℕ → List Piece
-named_class kind scope name flags = named kind scope name name flags
+abbrev pub named_class : NameKind → ScopePieces → List Piece → List Piece → ℕ → List Piece
+named_class kind scope list name flags = named kind scope list name name flags
+
+-- a conversion operator in the second grammar's style: the arguments of its template stand before the type that it
+-- converts to, `value`; if that is none, it has its `name`
+unfoldable pub full_conversion : Bool → List Piece → List Piece → List Piece → List Piece
+full_conversion none list value name =
+    cond none name (text (codes "operator") ∷ (list ++ (text (codes " ") ∷ value)))
 
 -- the class of a pointer to a member function, with `::*` after its name
 abbrev pub pointed_class : List Piece → List Piece
@@ -103,18 +111,27 @@ unfoldable pub is_empty_pack : TypeTree → Bool
 is_empty_pack (plain plain_kind.EmptyPack) = true
 is_empty_pack _ = false
 
+-- whether a type is none
+unfoldable pub is_none : TypeTree → Bool
+is_none (plain plain_kind.None) = true
+is_none _ = false
+
+-- the space after what a function returns, of type `t`, in the second grammar's style
+unfoldable pub returned_end : TypeTree → ℕ → List Piece
+returned_end t flags = cond (has flags full_style) (cond (is_none t) [] (text (codes " ") ∷ [])) []
+
 unfoldable mutual
   -- The pieces of a name. `of_symbol` says whether the name is that of a symbol itself, where a nested symbol has no
   -- quotes, or stands in a scope.
   pub name_pieces : NameTree → Bool → ℕ → List Piece
   name_pieces (spelled how bytes) of_symbol flags = spelled_name how bytes
-  name_pieces (template n ts) of_symbol flags = name_pieces n false flags ++ angled (parameters ts true flags)
+  name_pieces (template n ts) of_symbol flags = name_pieces n false flags ++ angled (parameters ts true flags) flags
   name_pieces (discriminator z) of_symbol flags = quoted (text (signed_decimal z) ∷ [])
   name_pieces (nested n ns t) of_symbol flags = quoted_unless of_symbol (around (kept (grown t false alone flags) flags)
-      (named (name_kind n) (scope_pieces ns flags) (conversion t (name_pieces n true flags) flags)
-      (name_pieces n true flags) flags))
+      (named (name_kind n flags) (scope_pieces ns flags) (arguments n flags)
+      (conversion t (arguments n flags) (name_pieces n true flags) flags) (name_pieces n true flags) flags))
   name_pieces (anonymous digits) of_symbol flags = text (codes "`anonymous namespace'") ∷ []
-  name_pieces (operator o) of_symbol flags = spaced (operator_word o)
+  name_pieces (operator o) of_symbol flags = operator_pieces o flags
   name_pieces (guard g n) of_symbol flags = guard_pieces g n
   name_pieces (type_descriptor set t) of_symbol flags =
       space AfterPointer ∷ ((grown t false alone flags).left ++ text (codes "::`RTTI Type Descriptor'") ∷ [])
@@ -132,12 +149,20 @@ unfoldable mutual
   scope_pieces no_names flags = record { prefix = []; path = []; innermost = None }
   scope_pieces (names n ns) flags = with_inner (scope_pieces ns flags) (name_pieces n false flags)
 
+  -- the arguments of a name that is a template
+  pub arguments : NameTree → ℕ → List Piece
+  arguments (template n ts) flags = angled (parameters ts true flags) flags
+  arguments _ flags = []
+
   -- the pieces of a conversion operator, by the type of its symbol: the type that a member function returns, or `name`
-  -- where the symbol is no member function
-  pub conversion : TypeTree → List Piece → ℕ → List Piece
-  conversion (member_function class convention ts set t) name flags =
-      text (codes "operator ") ∷ around (grown t false alone flags) []
-  conversion _ name flags = name
+  -- where the symbol is no member function; in the second grammar's style the type that any function returns
+  pub conversion : TypeTree → List Piece → List Piece → ℕ → List Piece
+  conversion (function convention ts set t) list name flags = cond (has flags full_style)
+      (full_conversion (is_none t) list (around (grown t false alone flags) []) name) name
+  conversion (member_function class convention ts set t) list name flags = cond (has flags full_style)
+      (full_conversion (is_none t) list (around (grown t false alone flags) []) name)
+      (text (codes "operator ") ∷ around (grown t false alone flags) [])
+  conversion _ list name flags = name
 
   -- The sides of a name with one more type: the pieces of the type on the left and on the right of `sides`, and around
   -- these the pieces of the types inside the type. `pointed` says whether the type stands directly under a pointer or a
@@ -145,26 +170,27 @@ unfoldable mutual
   pub grown : TypeTree → Bool → Sides → ℕ → Sides
   grown (base b set) pointed sides flags = between (text (base_word b flags) ∷ qualifiers set flags) sides []
   grown (tagged tag n scope set) pointed sides flags = between (text (tag_word tag flags)
-      ∷ (named_class (name_kind n) (scope_pieces scope flags) (name_pieces n true flags) flags
+      ∷ (named_class (name_kind n flags) (scope_pieces scope flags) (arguments n flags) (name_pieces n true flags) flags
       ++ qualifiers set flags)) sides []
   grown (pointing m t set) pointed sides flags =
       grown t true (between (marked (mark_word m) set flags) sides []) flags
   grown (array n t set) pointed sides flags = grown t false
-      (between (qualifiers set flags ++ opening pointed) sides (closing pointed ++ length_pieces n)) flags
+      (between (qualifiers set flags ++ opening pointed flags) sides (closing pointed ++ length_pieces n)) flags
   grown (function convention ts set t) pointed sides flags = grown t false
-      (between (calling pointed convention flags) sides
+      (between (returned_end t flags ++ calling pointed convention flags) sides
       (parameter_list pointed (parameters ts true flags) set flags)) flags
   -- A member function grows as a function does. Its words stand before all other pieces.
   grown (member_function class convention ts set t) pointed sides flags = between (member_start pointed class flags)
       (grown t false
-      (between (calling pointed convention flags) sides
+      (between (returned_end t flags ++ calling pointed convention flags) sides
       (parameter_list pointed (parameters ts true flags) set flags)) flags) []
   -- A pointer to a member function grows as a pointer to a function does, with the name of the class. The `const` of
   -- the member function stands after all other pieces.
   grown (member_pointer n scope class convention ts set t) pointed sides flags = between []
       (grown t false
-      (between (calling true convention flags ++ pointed_class
-      (named_class (name_kind n) (scope_pieces scope flags) (name_pieces n true flags) flags)) sides
+      (between ((returned_end t flags ++ calling true convention flags) ++ pointed_class
+      (named_class (name_kind n flags) (scope_pieces scope flags) (arguments n flags) (name_pieces n true flags) flags))
+      sides
       (text (codes ")(") ∷ (parameters ts true flags ++ text (codes ")") ∷ []))) flags)
       (function_qualifier 1 (codes "const") set)
   -- A variable has its qualifiers and its type. Its words stand before all other pieces.
@@ -189,8 +215,8 @@ unfoldable mutual
       flags
   grown _ pointed sides flags = sides
 
-  -- the sides of a name with the first of some types around them, which is told `pointed`; the same sides where no type is
-  -- around them
+  -- the sides of a name with the first of some types around them, which is told `pointed`; the same sides where no type
+  -- is around them
   pub grown_around : TypeTrees → Option Bool → Sides → ℕ → Sides
   grown_around (types t ts) (Some pointed) sides flags = grown t pointed sides flags
   grown_around _ _ sides flags = sides
@@ -216,8 +242,8 @@ class_name ns word flags = class_after word (scope_pieces ns flags).innermost
 
 -- the name `n` of a symbol of type `t`, in the scope of the symbol
 abbrev pub symbol_name : NameTree → NameTrees → TypeTree → ℕ → List Piece
-symbol_name n scope t flags = named (name_kind n) (scope_pieces scope flags)
-    (conversion t (name_pieces n true flags) flags) (name_pieces n true flags) flags
+symbol_name n scope t flags = named (name_kind n flags) (scope_pieces scope flags) (arguments n flags)
+    (conversion t (arguments n flags) (name_pieces n true flags) flags) (name_pieces n true flags) flags
 
 -- the pieces of a symbol: its name, and what the flags keep of both sides of the name
 abbrev pub symbol_pieces : NameTree → NameTrees → TypeTree → ℕ → List Piece

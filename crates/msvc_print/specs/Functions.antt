@@ -4,28 +4,29 @@ use Rattle.msvc_nodes.specs.declared.kinds.Convention.{Convention}
 use Rattle.msvc_nodes.specs.declared.kinds.Convention.TheVariants.{Cdecl, Pascal, Thiscall, Stdcall, Fastcall}
 use Rattle.msvc_nodes.specs.declared.kinds.Convention.TheVariants.{_Regcall, Clrcall, Eabi, Vectorcall, Swift}
 use Rattle.msvc_nodes.specs.declared.kinds.Convention.TheVariants.{SwiftAsync, PreserveMost, PreserveNone, Regcall4}
-use Rattle.msvc_print.specs.Flags.{has, no_access_specifiers, no_member_type, no_ms_keywords, no_this_type}
+use Rattle.msvc_print.specs.Flags.{full_style, has, no_access_specifiers, no_member_type, no_ms_keywords}
+use Rattle.msvc_print.specs.Flags.{no_this_type}
 use Rattle.msvc_print.specs.Flags.{space_after_comma, with_ptr64}
 use Rattle.msvc_print.specs.Pieces.{Piece, text, space}
-use Rattle.msvc_print.specs.Words.{opening, closing, qualifier}
-use Rattle.msvc_print.specs.declared.spaces.Space.TheVariants.{AfterPointer, UnlessOpen}
+use Rattle.msvc_print.specs.Words.{opening, closing, qualifier, set_word}
+use Rattle.msvc_print.specs.declared.spaces.Space.TheVariants.{AfterFullWord, AfterPointer, UnlessOpen}
 
--- the word of a calling convention, with one space after it
+-- the word of a calling convention
 abbrev pub convention_word : Convention → List ℕ
-convention_word Cdecl = codes "__cdecl "
-convention_word Pascal = codes "__pascal "
-convention_word Thiscall = codes "__thiscall "
-convention_word Stdcall = codes "__stdcall "
-convention_word Fastcall = codes "__fastcall "
-convention_word _Regcall = codes "__regcall "
-convention_word Clrcall = codes "__clrcall "
-convention_word Eabi = codes "__eabi "
-convention_word Vectorcall = codes "__vectorcall "
+convention_word Cdecl = codes "__cdecl"
+convention_word Pascal = codes "__pascal"
+convention_word Thiscall = codes "__thiscall"
+convention_word Stdcall = codes "__stdcall"
+convention_word Fastcall = codes "__fastcall"
+convention_word _Regcall = codes "__regcall"
+convention_word Clrcall = codes "__clrcall"
+convention_word Eabi = codes "__eabi"
+convention_word Vectorcall = codes "__vectorcall"
 convention_word Swift = codes "__attribute__((__swiftcall__)) "
 convention_word SwiftAsync = codes "__attribute__((__swiftasynccall__)) "
 convention_word PreserveMost = codes "__attribute__((__preserve_most__)) "
 convention_word PreserveNone = codes "__attribute__((__preserve_none__)) "
-convention_word Regcall4 = codes "__regcall4 "
+convention_word Regcall4 = codes "__regcall4"
 
 -- a word of a member function, where the set `class` has its bit
 abbrev pub member_word : ℕ → List ℕ → ℕ → List Piece
@@ -38,10 +39,19 @@ access_words class flags = cond (has flags no_access_specifiers) []
     ++ (member_word 2 (codes "protected: ") class
     ++ member_word 1 (codes "public: ") class))
 
--- `static` and `virtual` of a member function, which NO_MEMBER_TYPE drops
+-- the bit of `extern "C"` in the class of a function; only the second grammar gives it
+abbrev pub extern_c : ℕ
+extern_c = 256
+
+-- `extern "C"` of a function, which only the second grammar's style shows
+unfoldable pub extern_words : ℕ → ℕ → List Piece
+extern_words class flags = cond (has flags full_style) (member_word extern_c (codes "extern \"C\" ") class) []
+
+-- `static`, `virtual` and `extern "C"` of a member function, which NO_MEMBER_TYPE drops
 unfoldable pub kind_words : ℕ → ℕ → List Piece
 kind_words class flags = cond (has flags no_member_type) []
-    (member_word 16 (codes "static ") class ++ member_word 32 (codes "virtual ") class)
+    (member_word 16 (codes "static ") class
+    ++ (member_word 32 (codes "virtual ") class ++ extern_words class flags))
 
 -- all words of a member function
 unfoldable pub member_words : ℕ → ℕ → List Piece
@@ -70,17 +80,56 @@ each_function_qualifier set flags =
     ++ (function_qualifier 128 (codes "&") set
     ++ function_qualifier 256 (codes "&&") set))))
 
+-- the bit of `noexcept` in the qualifiers of a function itself; only the second grammar gives it
+abbrev pub noexcept : ℕ
+noexcept = 512
+
+-- `__ptr64` after one space, which only WITH_PTR64 shows
+unfoldable pub full_wide_word : ℕ → ℕ → List Piece
+full_wide_word set flags = cond (has flags with_ptr64) (set_word 64 (codes " __ptr64") set) []
+
+-- what the second grammar's style shows of the qualifiers of a function itself before `noexcept`, each after one space
+unfoldable pub full_this_words : ℕ → ℕ → List Piece
+full_this_words set flags = cond (has flags no_this_type) []
+    (set_word 1 (codes " const") set
+    ++ (set_word 2 (codes " volatile") set
+    ++ (full_wide_word set flags
+    ++ (set_word 32 (codes " __restrict") set ++ set_word 16 (codes " __unaligned") set))))
+
+-- what it shows of them after `noexcept`
+unfoldable pub full_reference_words : ℕ → ℕ → List Piece
+full_reference_words set flags = cond (has flags no_this_type) []
+    (set_word 128 (codes " &") set ++ set_word 256 (codes " &&") set)
+
+-- the qualifiers of a function itself in the second grammar's style; NO_THISTYPE leaves `noexcept`
+unfoldable pub full_function_qualifiers : ℕ → ℕ → List Piece
+full_function_qualifiers set flags = full_this_words set flags
+    ++ (set_word noexcept (codes " noexcept") set ++ full_reference_words set flags)
+
 -- the qualifiers of a function itself, which NO_THISTYPE drops
 unfoldable pub function_qualifiers : ℕ → ℕ → List Piece
-function_qualifiers set flags = cond (has flags no_this_type) [] (each_function_qualifier set flags)
+function_qualifiers set flags = cond (has flags full_style) (full_function_qualifiers set flags)
+    (cond (has flags no_this_type) [] (each_function_qualifier set flags))
 
--- the word of a calling convention, which NO_MS_KEYWORDS drops
+-- the word of a calling convention, with one space after it
+abbrev pub spaced_convention : Convention → List ℕ
+spaced_convention convention = convention_word convention ++ codes " "
+
+-- the word of a calling convention with one space after it, which NO_MS_KEYWORDS drops
 unfoldable pub convention_pieces : Convention → ℕ → List Piece
-convention_pieces convention flags = cond (has flags no_ms_keywords) [] (text (convention_word convention) ∷ [])
+convention_pieces convention flags = cond (has flags no_ms_keywords) [] (text (spaced_convention convention) ∷ [])
+
+-- the calling convention of a function in the second grammar's style: that of a function that is pointed to has one
+-- space after it, any other has a space before it
+unfoldable pub full_calling : Bool → Convention → ℕ → List Piece
+full_calling pointed convention flags = opening pointed flags ++ cond (has flags no_ms_keywords) []
+    (cond pointed (text (spaced_convention convention) ∷ [])
+    (space AfterFullWord ∷ text (convention_word convention) ∷ []))
 
 -- the calling convention of a function, after the parenthesis before the mark of a pointer to the function
 unfoldable pub calling : Bool → Convention → ℕ → List Piece
-calling pointed convention flags = opening pointed ++ (space UnlessOpen ∷ convention_pieces convention flags)
+calling pointed convention flags = cond (has flags full_style) (full_calling pointed convention flags)
+    (opening pointed flags ++ (space UnlessOpen ∷ convention_pieces convention flags))
 
 -- the pieces on the right of the name of a function: its parameters, and the qualifiers of the function itself
 abbrev pub parameter_list : Bool → List Piece → ℕ → ℕ → List Piece

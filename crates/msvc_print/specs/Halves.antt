@@ -11,7 +11,7 @@ use Rattle.msvc_nodes.specs.Trees.{function, member_function, member_pointer, va
 use Rattle.msvc_nodes.specs.Trees.{shape, no_types, types}
 use Rattle.msvc_nodes.specs.declared.nodes.Number.{Number}
 use Rattle.msvc_print.specs.Declaration.{length_pieces, parameters, pointed_class, scope_path, symbol_name, table_end}
-use Rattle.msvc_print.specs.Declaration.{each_name, thunk_end}
+use Rattle.msvc_print.specs.Declaration.{each_name, thunk_end, returned_end}
 use Rattle.msvc_print.specs.Functions.{calling, member_start, function_qualifier, function_qualifiers}
 use Rattle.msvc_print.specs.Pieces.{Piece, text}
 use Rattle.msvc_print.specs.Shapes.{Parts, laid, parts}
@@ -59,12 +59,13 @@ before (numbered number_kind.TemplateParameter n) pointed flags =
     text (codes "`template-parameter") ∷ text (signed_decimal n) ∷ text (codes "'") ∷ []
 before (numbered number_kind.ThreadSafeGuard n) pointed flags = text (codes "TSS") ∷ text (signed_decimal n) ∷ []
 before (pointing m t set) pointed flags = before t true flags ++ marked (mark_word m) set flags
-before (array n t set) pointed flags = before t false flags ++ (qualifiers set flags ++ opening pointed)
-before (function convention ts set t) pointed flags = before t false flags ++ calling pointed convention flags
+before (array n t set) pointed flags = before t false flags ++ (qualifiers set flags ++ opening pointed flags)
+before (function convention ts set t) pointed flags =
+    before t false flags ++ (returned_end t flags ++ calling pointed convention flags)
 before (member_function class convention ts set t) pointed flags = member_start pointed class flags
-    ++ (before t false flags ++ calling pointed convention flags)
+    ++ (before t false flags ++ (returned_end t flags ++ calling pointed convention flags))
 before (member_pointer n scope class convention ts set t) pointed flags =
-    before t false flags ++ (calling true convention flags ++ pointed_name n scope flags)
+    before t false flags ++ ((returned_end t flags ++ calling true convention flags) ++ pointed_name n scope flags)
 before (plain plain_kind.Variadic) pointed flags = text (codes "...") ∷ []
 before (plain plain_kind.Nullptr) pointed flags = text (codes "std::nullptr_t") ∷ []
 before (table k scope set) pointed flags = qualifiers set flags

@@ -6,10 +6,12 @@ use Rattle.msvc_nodes.specs.Trees.{NameTree, NameTrees, SymbolTree, TypeTree, md
 use Rattle.msvc_nodes.specs.declared.kinds.PlainOperator.TheVariants as plain_operator
 use Rattle.msvc_print.specs.Declaration.{declaration}
 use Rattle.msvc_print.specs.Flags.{has, name_only}
+use Rattle.msvc_print.specs.Operators.{name_kind}
+use Rattle.msvc_print.specs.declared.operators.NameKind.TheVariants as name_kinds
 
--- the bits of all flags that definitions read; the bit of DECODE_32_BIT is none of them
+-- the bits of all flags that definitions read, and the bit of the style; the bit of DECODE_32_BIT is none of them
 abbrev pub obeyed_flags : ℕ
-obeyed_flags = 0x1F016E6
+obeyed_flags = 0x101F016E6
 
 -- the words `a` and `b` have the same bits among `bits`
 abbrev pub Agree : ℕ → ℕ → ℕ → Type 0
@@ -19,10 +21,11 @@ Agree bits a b = bit_and a bits ≡ bit_and b bits
 abbrev pub OtherBitsChangeNothing : Type 0
 OtherBitsChangeNothing = (s : SymbolTree) (a b : ℕ) → Agree obeyed_flags a b → declaration s a ≡ declaration s b
 
--- under NAME_ONLY symbols that differ only in their types have the same declaration, except conversion operators
+-- under NAME_ONLY symbols that differ only in their types have the same declaration, except conversion operators, of
+-- which the second grammar's style knows templates too
 abbrev pub NameOnlyAsksNoType : Type 0
 NameOnlyAsksNoType = (n : NameTree) (scope : NameTrees) (t other : TypeTree) (flags : ℕ) → has flags name_only ≡ true →
-    (n ≡ operator plain_operator.Conversion → ⊥) →
+    (name_kind n flags ≡ name_kinds.Conversion → ⊥) →
     declaration (record { name = n; scope = scope; symbol_type = t }) flags
     ≡ declaration (record { name = n; scope = scope; symbol_type = other }) flags
 

@@ -4,12 +4,12 @@ use Rattle.std.specs.Fmt.{decimal}
 use Rattle.msvc_nodes.specs.declared.nodes.Number.{Number}
 use Rattle.msvc_print.specs.Flags.{has, no_member_type}
 use Rattle.msvc_print.specs.Pieces.{Piece, text}
-use Rattle.msvc_print.specs.Words.{closing, opening, qualifiers}
+use Rattle.msvc_print.specs.Words.{closing, full_space, mark_qualifiers, opening, qualifiers}
 use Rattle.msvc_shapes.specs.Layouts.{Slot}
 use Rattle.msvc_shapes.specs.Layouts as slot
 
--- the parts of a shape: its qualifiers, its numbers, and the pieces of each of its names, as that of a symbol itself and
--- as in a scope
+-- the parts of a shape: its qualifiers, its numbers, and the pieces of each of its names, as that of a symbol itself
+-- and as in a scope
 pub record Parts : Type 0 where
   pub set : ℕ
   pub numbers : List Number
@@ -56,8 +56,8 @@ slot_pieces (slot.kind_word w) pointed p flags = kind_word_pieces w flags
 slot_pieces (slot.number i) pointed p flags = number_at p.numbers i
 slot_pieces slot.lengths pointed p flags = each_level p.numbers
 slot_pieces slot.qualifiers pointed p flags = qualifiers p.set flags
-slot_pieces slot.pointer_qualifiers pointed p flags = qualifiers p.set flags
-slot_pieces slot.opening pointed p flags = opening pointed
+slot_pieces slot.pointer_qualifiers pointed p flags = mark_qualifiers (full_space flags) p.set
+slot_pieces slot.opening pointed p flags = opening pointed flags
 slot_pieces slot.closing pointed p flags = closing pointed
 slot_pieces (slot.symbol i) pointed p flags = pieces_at p.symbols i
 slot_pieces (slot.name i) pointed p flags = pieces_at p.names i

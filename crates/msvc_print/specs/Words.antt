@@ -11,10 +11,11 @@ use Rattle.msvc_nodes.specs.declared.kinds.TagKind.TheVariants as tag_kind
 use Rattle.msvc_nodes.specs.declared.kinds.VarStorageKind.{VarStorageKind}
 use Rattle.msvc_nodes.specs.declared.kinds.VarStorageKind.TheVariants.{PrivateStatic, ProtectedStatic, PublicStatic}
 use Rattle.msvc_nodes.specs.declared.kinds.VarStorageKind.TheVariants.{Global, FunctionLocalStatic}
-use Rattle.msvc_print.specs.Flags.{has, hug_type, ms_type_names, no_class_type, space_before_pointer}
+use Rattle.msvc_print.specs.Flags.{full_style, has, hug_type, ms_type_names, no_class_type, space_before_pointer}
 use Rattle.msvc_print.specs.Pieces.{Piece, text, space}
 use Rattle.msvc_print.specs.declared.spaces.Space.{Space}
-use Rattle.msvc_print.specs.declared.spaces.Space.TheVariants.{AfterPointer, AfterReference, AfterWord}
+use Rattle.msvc_print.specs.declared.spaces.Space.TheVariants.{AfterAngle, AfterPointer, AfterReference, AfterWord}
+use Rattle.msvc_print.specs.declared.spaces.Space.TheVariants.{AfterFullPointer, AfterFullReference, AfterFullWord}
 
 -- the words in the row of a base type: its word, and the one that MS_TYPENAMES chooses, if it is another
 abbrev pub base_words : PrimitiveKind → List BaseRow → List ℕ × Option (List ℕ)
@@ -40,20 +41,36 @@ variable_word FunctionLocalStatic = []
 
 -- the space before the name of a symbol
 abbrev pub name_space : ℕ → Space
-name_space flags = cond (has flags space_before_pointer) AfterWord AfterReference
+name_space flags = cond (has flags full_style)
+    (cond (has flags space_before_pointer) AfterFullWord AfterFullReference)
+    (cond (has flags space_before_pointer) AfterWord AfterReference)
 
 -- the space before `const` and `volatile`
 abbrev pub qualifier_space : ℕ → Space
 qualifier_space flags = cond (has flags space_before_pointer) AfterWord AfterPointer
 
+-- the space before a qualifier of a pointer and before the parenthesis before its mark, in the second grammar's style
+abbrev pub full_space : ℕ → Space
+full_space flags = cond (has flags space_before_pointer) AfterFullWord AfterFullPointer
+
 -- a qualifier after a space, where `set` has its bit
 abbrev pub qualifier : Space → ℕ → List ℕ → ℕ → List Piece
 qualifier s bit word set = cond (has set bit) (space s ∷ text word ∷ []) []
 
+-- a word, where `set` has its bit
+abbrev pub set_word : ℕ → List ℕ → ℕ → List Piece
+set_word bit word set = cond (has set bit) (text word ∷ []) []
+
+-- the qualifiers of a type that is no pointer, in the second grammar's style: each after one space
+unfoldable pub full_qualifiers : ℕ → List Piece
+full_qualifiers set = set_word 1 (codes " const") set
+    ++ (set_word 2 (codes " volatile") set ++ set_word 32 (codes " __restrict") set)
+
 -- the `const` and the `volatile` of a set of qualifiers
 unfoldable pub qualifiers : ℕ → ℕ → List Piece
-qualifiers set flags = qualifier (qualifier_space flags) 1 (codes "const") set
-    ++ qualifier (qualifier_space flags) 2 (codes "volatile") set
+qualifiers set flags = cond (has flags full_style) (full_qualifiers set)
+    (qualifier (qualifier_space flags) 1 (codes "const") set
+    ++ qualifier (qualifier_space flags) 2 (codes "volatile") set)
 
 -- the word for the kind of a named type
 abbrev pub kind_word : TagKind → List ℕ
@@ -79,14 +96,40 @@ mark_space flags = cond (has flags hug_type)
     (cond (has flags space_before_pointer) (space AfterWord ∷ []) [])
     (space AfterPointer ∷ [])
 
+-- the same in the second grammar's style
+abbrev pub full_mark_space : ℕ → List Piece
+full_mark_space flags = cond (has flags hug_type)
+    (cond (has flags space_before_pointer) (space AfterFullWord ∷ []) [])
+    (space AfterFullPointer ∷ [])
+
+-- the qualifiers of a pointer in the second grammar's style, each after the space `s`
+unfoldable pub mark_qualifiers : Space → ℕ → List Piece
+mark_qualifiers s set = qualifier s 1 (codes "const") set
+    ++ (qualifier s 2 (codes "volatile") set ++ qualifier s 32 (codes "__restrict") set)
+
+-- the mark of a pointer or a reference in the second grammar's style, with its qualifiers: `__unaligned` before the
+-- mark, the others after it
+unfoldable pub full_marked : List ℕ → ℕ → ℕ → List Piece
+full_marked word set flags = qualifier (full_space flags) 16 (codes "__unaligned ") set
+    ++ (full_mark_space flags ++ (text word ∷ mark_qualifiers (full_space flags) set))
+
 -- the mark of a pointer or a reference, with its qualifiers
 unfoldable pub marked : List ℕ → ℕ → ℕ → List Piece
-marked word set flags = mark_space flags ++ (text word ∷ qualifiers set flags)
+marked word set flags = cond (has flags full_style) (full_marked word set flags)
+    (mark_space flags ++ (text word ∷ qualifiers set flags))
+
+-- the space before the parenthesis before the mark of a pointer
+abbrev pub opening_space : ℕ → Space
+opening_space flags = cond (has flags full_style) (full_space flags) AfterPointer
 
 -- the parenthesis before the mark of a pointer to an array or a function
-unfoldable pub opening : Bool → List Piece
-opening pointed = cond pointed (space AfterPointer ∷ text (codes "(") ∷ []) []
+unfoldable pub opening : Bool → ℕ → List Piece
+opening pointed flags = cond pointed (space (opening_space flags) ∷ text (codes "(") ∷ []) []
 
 -- the parenthesis after the name of a pointer to an array or a function
 unfoldable pub closing : Bool → List Piece
 closing pointed = cond pointed (text (codes ")") ∷ []) []
+
+-- the end of the arguments of a template
+unfoldable pub angle_end : ℕ → List Piece
+angle_end flags = cond (has flags full_style) (text (codes ">") ∷ []) (space AfterAngle ∷ text (codes ">") ∷ [])

@@ -1,22 +1,22 @@
 -- The pieces that the items of the printer's stack stand for, and their weights. No public contract speaks of these
 -- definitions.
-use Rattle.std.specs.Prelude.{ℕ, ◌+◌, ◌<◌, ◌≤◌, ◌≡◌, List, [], ◌∷◌, ◌++◌, Bool, Option, Some, None}
-use Rattle.std.specs.Prelude.{codes}
+use Rattle.std.specs.Prelude.{ℕ, ◌+◌, ◌<◌, ◌≤◌, ◌≡◌, List, [], ◌∷◌, ◌++◌, Bool, false, Option, Some, None}
+use Rattle.std.specs.Prelude.{codes, cond}
 use Rattle.std.specs.Borrow.{Bor}
 use Rattle.msvc_nodes.specs.NodeView.{name_of, names_in, type_of, types_in}
-use Rattle.msvc_nodes.specs.Trees.{TypeTree, member_function}
+use Rattle.msvc_nodes.specs.Trees.{TypeTree, function, member_function}
 use Rattle.msvc_nodes.specs.declared.nodes.Type.{«Type»}
-use Rattle.msvc_print.specs.Declaration.{name_pieces, parameters, scope_prefix}
+use Rattle.msvc_print.specs.Declaration.{is_none, name_pieces, parameters, scope_prefix}
 use Rattle.msvc_print.specs.Functions.{calling, function_qualifiers}
 use Rattle.msvc_print.specs.Halves.{after, before}
 use Rattle.msvc_print.specs.Operators.{spaced}
 use Rattle.msvc_print.specs.Limited.{LimitedText, add_all}
-use Rattle.msvc_print.specs.Pieces.{Piece, text, space}
+use Rattle.msvc_print.specs.Pieces.{Piece, text}
 use Rattle.msvc_print.specs.ShapeNodes.{rest_of_slots, rest_weight}
 use Rattle.msvc_print.specs.Weights.{name_weight, scope_weight, type_weight, types_weight}
 use Rattle.msvc_print.specs.SymbolNodes.{class_pieces_of, class_weight_of, symbol_name_of, symbol_weight_of}
 use Rattle.msvc_print.specs.SymbolNodes.{type_or_none}
-use Rattle.msvc_print.specs.Words.{qualifiers, marked, opening}
+use Rattle.msvc_print.specs.Words.{angle_end, qualifiers, marked, opening}
 use Rattle.msvc_print.specs.declared.item.Item.{Item}
 use Rattle.msvc_print.specs.declared.item.Item.TheVariants.{Text, Spaced, Name, Scope, Symbol, Class}
 use Rattle.msvc_print.specs.declared.item.Item.TheVariants.{Qualifiers, Mark, ArrayLevel, Calling, Parameters}
@@ -24,18 +24,30 @@ use Rattle.msvc_print.specs.declared.item.Item.TheVariants.{Before, After, Slots
 use Rattle.msvc_print.specs.declared.item.ListEnd.{ListEnd}
 use Rattle.msvc_print.specs.declared.item.ListEnd.TheVariants.{Round, Bare, Angle}
 use Rattle.msvc_print.specs.declared.printer.Printer.{Printer}
-use Rattle.msvc_print.specs.declared.spaces.Space.TheVariants.{AfterAngle}
 
 -- the type that a member function returns, or `None` of any other type
 unfoldable pub member_return : TypeTree → Option TypeTree
 member_return (member_function class convention ts set t) = Some t
 member_return _ = None
 
+-- the type that a function returns, or `None` of any other type and of a function that returns nothing
+unfoldable pub full_return : TypeTree → Option TypeTree
+full_return (function convention ts set t) = cond (is_none t) None (Some t)
+full_return (member_function class convention ts set t) = cond (is_none t) None (Some t)
+full_return _ = None
+
+-- the pieces of a conversion operator in the second grammar's style, by the type that its function returns and the
+-- arguments of its template, or `name` if it returns none
+unfoldable pub full_conversion_to : Option TypeTree → List Piece → List Piece → ℕ → List Piece
+full_conversion_to None list name flags = name
+full_conversion_to (Some t) list name flags =
+    text (codes "operator") ∷ (list ++ (text (codes " ") ∷ (before t false flags ++ after t false flags)))
+
 -- the pieces after the last type of a list
 abbrev pub end_pieces : ListEnd → ℕ → List Piece
 end_pieces (Round set) flags = text (codes ")") ∷ function_qualifiers set.0 flags
 end_pieces Bare flags = text (codes ")") ∷ []
-end_pieces Angle flags = space AfterAngle ∷ text (codes ">") ∷ []
+end_pieces Angle flags = angle_end flags
 
 -- the types that are left of a list, and the pieces after the last type
 abbrev pub rest_of_parameters : List (Bor «Type») → Bool → ListEnd → ℕ → List Piece
@@ -51,7 +63,7 @@ item_pieces (Class s) flags = class_pieces_of s.now flags
 item_pieces (Spaced word) flags = spaced word.now
 item_pieces (Qualifiers set) flags = qualifiers set.0 flags
 item_pieces (Mark word set) flags = marked word.now set.0 flags
-item_pieces (ArrayLevel set pointed) flags = qualifiers set.0 flags ++ opening pointed
+item_pieces (ArrayLevel set pointed) flags = qualifiers set.0 flags ++ opening pointed flags
 item_pieces (Calling pointed convention) flags = calling pointed convention flags
 item_pieces (Parameters list) flags = rest_of_parameters list.types.now list.first list.end flags
 item_pieces (Before t pointed) flags = before (type_of t.now) pointed flags
@@ -99,22 +111,22 @@ abbrev pub AddsLess : ℕ → List Item → List Item → Type 0
 AddsLess weight stack stack' = work stack' < weight + work stack
 
 -- the text `out` once all items of a printer's stack are written after it
-abbrev pub finished_after : {S A : Type 0} → Printer S A → LimitedText → LimitedText
-finished_after printer out = finished printer.stack.now.items out printer.flags.0
+abbrev pub finished_after : {W S A : Type 0} {g : _} → Printer W S A g → LimitedText → LimitedText
+finished_after printer out = finished printer.stack.now.items out printer.flags.bits
 
 -- a step of the printer printed `pieces`: it wrote some of them, and left the others on the stack
-abbrev pub Prints : {S A : Type 0} → List Piece → Printer S A → Printer S A → Type 0
+abbrev pub Prints : {W S A : Type 0} {g : _} → List Piece → Printer W S A g → Printer W S A g → Type 0
 Prints pieces printer printer' =
     finished_after printer' printer'.out.now ≡ finished_after printer (add_all printer.out.now pieces)
 
 -- a step of the printer added at most `weight` to the weight of its stack
-abbrev pub LeavesAtMost : {S A : Type 0} → ℕ → Printer S A → Printer S A → Type 0
+abbrev pub LeavesAtMost : {W S A : Type 0} {g : _} → ℕ → Printer W S A g → Printer W S A g → Type 0
 LeavesAtMost weight printer printer' = AddsAtMost weight printer.stack.now.items printer'.stack.now.items
 
 -- a step of the printer added less than `weight` to the weight of its stack
-abbrev pub Lightens : {S A : Type 0} → ℕ → Printer S A → Printer S A → Type 0
+abbrev pub Lightens : {W S A : Type 0} {g : _} → ℕ → Printer W S A g → Printer W S A g → Type 0
 Lightens weight printer printer' = AddsLess weight printer.stack.now.items printer'.stack.now.items
 
 -- a step of the printer kept the flags, and wrote to the text that it was given
-abbrev pub Keeps : {S A : Type 0} → Printer S A → Printer S A → Type 0
+abbrev pub Keeps : {W S A : Type 0} {g : _} → Printer W S A g → Printer W S A g → Type 0
 Keeps printer printer' = (printer'.flags ≡ printer.flags) × (printer'.out.ghost_name ≡ printer.out.ghost_name)

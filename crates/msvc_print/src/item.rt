@@ -57,8 +57,8 @@ pub enum Item<'a, 'b> {
     Before(&'b Type<'a, 'b>, bool),
     /// What a type has after the name.
     After(&'b Type<'a, 'b>, bool),
-    /// The slots of a side of a shape from a place on. The flag says whether the shape stands directly under a pointer or
-    /// a reference.
+    /// The slots of a side of a shape from a place on. The flag says whether the shape stands directly under a pointer
+    /// or a reference.
     Slots(&'b Shape<'a, 'b>, Side, bool, usize),
 }
 

@@ -7,6 +7,8 @@
 //! stack. Each step is a method of `Printer` in `qualified_names` or `types`; these call `simple_types`,
 //! `function_types`, `operators` and `words`; `spaces` writes the spaces, and `text` the bytes.
 //!
+//! One printer prints the trees of both grammars: `style` says whose spaces and words it prints.
+//!
 //! A method `print_*` works on the stack and the text, a function `write_*` on the text alone, and a function `push_*`
 //! on the stack alone.
 #![tactic(auto, using(crate::proofs::Stack::pushes))]
@@ -19,9 +21,11 @@ mod qualified_names;
 mod shapes;
 mod simple_types;
 mod spaces;
+mod style;
 mod text;
 mod types;
 mod words;
 
-pub use printer::{print, print_within};
+pub use printer::{print, print_styled, print_within};
+pub use style::{CrateWording, FullWording, Style, Wording};
 pub use text::{Text, into_string_lossy};

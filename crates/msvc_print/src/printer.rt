@@ -1,8 +1,9 @@
 //! The printer: its state, its loop over the stack, and one step for each item.
 
-ghost use Rattle.std.specs.Prelude.{◌≡◌, OnOk, IfOk, Some, true};
+ghost use Rattle.std.specs.Prelude.{◌≡◌, ◌<◌, OnOk, IfOk, Some, true};
 ghost use Rattle.msvc_nodes.specs.NodeView.{typed_symbol_of};
 ghost use Rattle.msvc_print.specs.Declaration.{declaration};
+ghost use Rattle.msvc_print.specs.Flags.{full_style};
 ghost use Rattle.msvc_print.specs.Within.{IsPrintedWithin};
 ghost use Rattle.msvc_print.specs.Work.{Keeps, Lightens, Prints, finished_after, item_pieces, item_weight};
 
@@ -11,6 +12,7 @@ use crate::item::Item;
 use crate::operators::write_spaced_word;
 use crate::qualified_names::push_typed_symbol;
 use crate::spaces::{write_mark, write_qualifiers};
+use crate::style::{Style, Wording};
 use crate::text::{Text, write_text};
 use crate::types::write_array_prefix;
 use bumpalo::Bump;
@@ -22,19 +24,19 @@ use std::alloc::{AllocError, Allocator};
 /// The state of the printer. Both parts are borrowed: of a struct that owns memory, the prover does not learn what a
 /// reference in it held at its end.
 #[derive(Drop)]
-pub struct Printer<'a, 'b, 't, S: Allocator, A: Allocator> {
+pub struct Printer<'a, 'b, 't, W: Wording, S: Allocator, A: Allocator> {
     /// The items that are not printed yet. The last one is printed next.
     pub stack: &'t mut Vec<Item<'a, 'b>, S>,
     /// The text that pieces are written to.
     pub out: &'t mut Text<A>,
-    /// The flags that the symbol is printed under. They stay as they are.
-    pub flags: DemangleFlags,
+    /// The flags and the style that the symbol is printed under. They stay as they are.
+    pub flags: Style<W>,
 }
 
-impl<'a, 'b, 't, S: Allocator, A: Allocator> Printer<'a, 'b, 't, S, A> {
+impl<'a, 'b, 't, W: Wording, S: Allocator, A: Allocator> Printer<'a, 'b, 't, W, S, A> {
     /// Prints one item of the stack.
     fn print_item(&mut self, item: Item<'a, 'b>) -> Result<(), AllocError>
-        ensures text { OnOk result (Prints (item_pieces item.entry self.old.flags.0) self.old self.new) }
+        ensures text { OnOk result (Prints (item_pieces item.entry self.old.flags.bits) self.old self.new) }
         ensures lighter { OnOk result (Lightens (item_weight item.entry) self.old self.new) }
         ensures kept { Keeps self.old self.new }
     {
@@ -84,7 +86,8 @@ pub fn print<'a, 'b, B: Allocator, A: Allocator>(
     flags: DemangleFlags,
     out: &mut Text<A>,
 ) -> Result<(), AllocError>
-    ensures { OnOk result (out.new.text ≡ Some (declaration (typed_symbol_of symbol.now) flags.0)) }
+    ensures text { OnOk result (out.new.text ≡ Some (declaration (typed_symbol_of symbol.now) flags.0)) }
+    ensures narrow { flags.0 < full_style }
 {
     print_within(arena, symbol, flags, usize::MAX, out)?;
     Ok(())
@@ -105,14 +108,32 @@ pub fn print_within<'a, 'b, B: Allocator, A: Allocator>(
     ensures printed { IfOk result (λ within.
         IsPrintedWithin max (declaration (typed_symbol_of symbol.now) flags.0) within out.new.text) }
     ensures unlimited { IfOk result (λ within. max ≡ usize.MAX → within ≡ true) }
+    ensures narrow { flags.0 < full_style }
+{
+    print_styled(arena, symbol, Style::new(flags), max, out)
+}
+
+/// Prints as [`print_within`] does, in any style.
+///
+/// Fails only if an allocation fails; `out` is then unspecified.
+pub fn print_styled<'a, 'b, W: Wording, B: Allocator, A: Allocator>(
+    arena: &'b Bump<B>,
+    symbol: &'b TypedSymbol<'a, 'b>,
+    style: Style<W>,
+    max: usize,
+    out: &mut Text<A>,
+) -> Result<bool, AllocError>
+    ensures printed { IfOk result (λ within.
+        IsPrintedWithin max (declaration (typed_symbol_of symbol.now) style.bits) within out.new.text) }
+    ensures unlimited { IfOk result (λ within. max ≡ usize.MAX → within ≡ true) }
 {
     out.clear(max);
     let mut stack = Vec::with_capacity(arena, FIRST_ITEMS)?;
-    push_typed_symbol(&mut stack, symbol, flags)?;
+    push_typed_symbol(&mut stack, symbol, style)?;
     let mut printer = Printer {
         stack: &mut stack,
         out,
-        flags,
+        flags: style,
     };
     printer.run()?;
     let within = printer.out.is_whole();

@@ -1,13 +1,14 @@
 //! Prints names: those of scopes, and that of a symbol in its scope. Spelled names are written at once; what holds
 //! types or other names is pushed.
-#![tactic(auto, using(crate::proofs::Halves::pushed_left, crate::proofs::Nodes::printed), unfolding(crate::specs::Declaration::name_pieces, crate::specs::Declaration::quoted_unless, crate::specs::Operators::scoped, crate::specs::Weights::name_weight, crate::specs::Work::member_return, msvc_nodes::specs::NodeView::name_of, msvc_nodes::specs::NodeView::type_of))]
+#![tactic(auto, using(crate::proofs::Halves::pushed_left, crate::proofs::Nodes::printed), unfolding(crate::specs::Declaration::arguments, crate::specs::Declaration::name_pieces, crate::specs::Declaration::quoted_unless, crate::specs::Operators::scoped, crate::specs::Weights::name_weight, crate::specs::Work::full_return, crate::specs::Work::member_return, msvc_nodes::specs::NodeView::name_of, msvc_nodes::specs::NodeView::type_of))]
 
 ghost use Rattle.std.specs.Prelude.{ℕ, ◌≡◌, ◌≤◌, ◌+◌, ◌++◌, ◌∷◌, [], Bool, true, false, OnOk, IfOk};
-ghost use Rattle.std.specs.Prelude.{codes, cond, take, length, option_map};
+ghost use Rattle.std.specs.Prelude.{codes, cond, take, length, option_map, Some, None};
 ghost use Rattle.std.specs.Fmt.{signed_decimal};
 ghost use Rattle.msvc_nodes.specs.NodeView.{name_of, names_in, type_of, types_in};
 ghost use Rattle.msvc_nodes.specs.declared.kinds.Spelling.TheVariants as spelling_kind;
 ghost use Rattle.msvc_print.specs.Declaration as spec;
+ghost use Rattle.msvc_print.specs.Halves.{after, before};
 ghost use Rattle.msvc_print.specs.Operators.{spaced};
 ghost use Rattle.msvc_print.specs.Limited.{Writes, add_all};
 ghost use Rattle.msvc_print.specs.Pieces.{space, text};
@@ -16,17 +17,19 @@ ghost use Rattle.msvc_print.specs.SymbolNodes.{class_pieces_of, class_weight_of,
 ghost use Rattle.msvc_print.specs.SymbolNodes.{symbol_pieces_of, symbol_weight_of, type_or_none};
 ghost use Rattle.msvc_print.specs.SymbolNodes.{typed_symbol_weight_of};
 ghost use Rattle.msvc_print.specs.Weights.{name_weight, scope_weight, type_weight, types_weight};
-ghost use Rattle.msvc_print.specs.Work.{AddsAtMost, AddsLess, Keeps, Lightens, Prints, Pushes, member_return};
+ghost use Rattle.msvc_print.specs.Work.{AddsAtMost, AddsLess, Keeps, Lightens, Prints, Pushes, full_conversion_to};
+ghost use Rattle.msvc_print.specs.Work.{full_return, member_return};
 ghost use Rattle.msvc_print.specs.declared.spaces.Space.TheVariants.{AfterPointer};
 
 use crate::item::{Item, ListEnd, TypeList, push};
 use crate::operators::{
-    NameKind, name_kind, operator_word, write_base_class, write_guard, write_spaced_word,
+    NameKind, name_kind, write_base_class, write_guard, write_operator, write_spaced_word,
 };
 use crate::printer::Printer;
-use crate::spaces::{Space, word_space, write_space};
+use crate::spaces::{Space, name_space, write_space};
+use crate::style::{Style, Wording};
 use crate::text::{Text, write_number, write_text};
-use bitflags::Flags;
+use crate::types::is_none;
 use msvc_nodes::flags::DemangleFlags;
 use msvc_nodes::nodes::{Name, Scope, Symbol, Type, TypedSymbol};
 use msvc_shapes::layouts::Side;
@@ -130,12 +133,12 @@ fn write_anonymous<A: Allocator>(out: &mut Text<A>) -> Result<(), AllocError>
 
 /// Pushes a symbol with its type: the name between what the type has before and after it. NAME_ONLY drops both, and
 /// NO_FUNCTION_RETURNS what it has before.
-pub fn push_typed_symbol<'a, 'b, S: Allocator>(
+pub fn push_typed_symbol<'a, 'b, W: Wording, S: Allocator>(
     stack: &mut Vec<Item<'a, 'b>, S>,
     tree: &'b TypedSymbol<'a, 'b>,
-    flags: DemangleFlags,
+    flags: Style<W>,
 ) -> Result<(), AllocError>
-    ensures text { OnOk result (Pushes (symbol_pieces_of tree.now flags.0) flags.0
+    ensures text { OnOk result (Pushes (symbol_pieces_of tree.now flags.bits) flags.bits
         stack.old.items stack.new.items) }
     ensures lighter { OnOk result (AddsLess (typed_symbol_weight_of tree.now) stack.old.items stack.new.items) }
 {
@@ -151,14 +154,15 @@ pub fn push_typed_symbol<'a, 'b, S: Allocator>(
     push(stack, Item::Before(tree.symbol_type, false))
 }
 
-impl<'a, 'b, 't, S: Allocator, A: Allocator> Printer<'a, 'b, 't, S, A> {
+impl<'a, 'b, 't, W: Wording, S: Allocator, A: Allocator> Printer<'a, 'b, 't, W, S, A> {
     /// Prints a nested symbol, in quotes unless it is the name of a symbol itself.
     fn print_nested(
         &mut self,
         tree: &'b TypedSymbol<'a, 'b>,
         of_symbol: bool,
     ) -> Result<(), AllocError>
-        ensures text { OnOk result (Prints (spec.quoted_unless of_symbol (symbol_pieces_of tree.now self.old.flags.0))
+        ensures text { OnOk result (Prints (spec.quoted_unless of_symbol
+            (symbol_pieces_of tree.now self.old.flags.bits))
             self.old self.new) }
         ensures lighter { OnOk result (Lightens (3 + typed_symbol_weight_of tree.now) self.old self.new) }
         ensures kept { Keeps self.old self.new }
@@ -175,7 +179,7 @@ impl<'a, 'b, 't, S: Allocator, A: Allocator> Printer<'a, 'b, 't, S, A> {
     #[cold]
     fn print_descriptor(&mut self, described: &'b Type<'a, 'b>) -> Result<(), AllocError>
         ensures text { OnOk result
-            (Prints (space AfterPointer ∷ ((spec.grown (type_of described.now) false alone self.old.flags.0).left
+            (Prints (space AfterPointer ∷ ((spec.grown (type_of described.now) false alone self.old.flags.bits).left
             ++ text (codes "::`RTTI Type Descriptor'") ∷ [])) self.old self.new) }
         ensures lighter { OnOk result (Lightens (3 + type_weight (type_of described.now)) self.old self.new) }
         ensures kept { Keeps self.old self.new }
@@ -191,8 +195,9 @@ impl<'a, 'b, 't, S: Allocator, A: Allocator> Printer<'a, 'b, 't, S, A> {
         name: &'b Name<'a, 'b>,
         arguments: &'b [&'b Type<'a, 'b>],
     ) -> Result<(), AllocError>
-        ensures text { OnOk result (Prints (spec.name_pieces (name_of name.now) false self.old.flags.0
-            ++ spec.angled (spec.parameters (types_in arguments.now) true self.old.flags.0)) self.old self.new) }
+        ensures text { OnOk result (Prints (spec.name_pieces (name_of name.now) false self.old.flags.bits
+            ++ spec.angled (spec.parameters (types_in arguments.now) true self.old.flags.bits) self.old.flags.bits)
+            self.old self.new) }
         ensures lighter { OnOk result
             (Lightens (3 + name_weight (name_of name.now) + types_weight (types_in arguments.now)) self.old self.new) }
         ensures kept { Keeps self.old self.new }
@@ -213,7 +218,7 @@ impl<'a, 'b, 't, S: Allocator, A: Allocator> Printer<'a, 'b, 't, S, A> {
 
     /// Prints a name.
     pub fn print_name(&mut self, name: &'b Name<'a, 'b>, of_symbol: bool) -> Result<(), AllocError>
-        ensures text { OnOk result (Prints (spec.name_pieces (name_of name.now) of_symbol self.old.flags.0)
+        ensures text { OnOk result (Prints (spec.name_pieces (name_of name.now) of_symbol self.old.flags.bits)
             self.old self.new) }
         ensures lighter { OnOk result (Lightens (name_weight (name_of name.now)) self.old self.new) }
         ensures kept { Keeps self.old self.new }
@@ -224,7 +229,7 @@ impl<'a, 'b, 't, S: Allocator, A: Allocator> Printer<'a, 'b, 't, S, A> {
             Name::Md5(bytes) => write_md5(self.out, *bytes),
             Name::Anonymous => write_anonymous(self.out),
             Name::AnonymousDigits(_) => write_anonymous(self.out),
-            Name::Plain(operator) => write_spaced_word(self.out, operator_word(*operator)),
+            Name::Plain(operator) => write_operator(self.out, *operator, self.flags),
             Name::Guard(guard, number) => write_guard(self.out, *guard, *number),
             Name::TypeDescriptor(_, described) => self.print_descriptor(*described),
             Name::BaseClassDescriptor(place) => write_base_class(self.out, *place, self.flags),
@@ -242,7 +247,7 @@ impl<'a, 'b, 't, S: Allocator, A: Allocator> Printer<'a, 'b, 't, S, A> {
         left: usize,
     ) -> Result<(), AllocError>
         requires { left ≤ length names.now }
-        ensures text { OnOk result (Prints (spec.scope_prefix (names_in (take left names.now)) self.old.flags.0)
+        ensures text { OnOk result (Prints (spec.scope_prefix (names_in (take left names.now)) self.old.flags.bits)
             self.old self.new) }
         ensures lighter { OnOk result (Lightens (scope_weight (names_in names.now)) self.old self.new) }
         ensures kept { Keeps self.old self.new }
@@ -258,7 +263,7 @@ impl<'a, 'b, 't, S: Allocator, A: Allocator> Printer<'a, 'b, 't, S, A> {
 
     /// Prints the names of a scope, the outermost first, each with `::` after it.
     pub fn print_scope(&mut self, names: &'b [&'b Name<'a, 'b>]) -> Result<(), AllocError>
-        ensures text { OnOk result (Prints (spec.scope_prefix (names_in names.now) self.old.flags.0)
+        ensures text { OnOk result (Prints (spec.scope_prefix (names_in names.now) self.old.flags.bits)
             self.old self.new) }
         ensures lighter { OnOk result (Lightens (scope_weight (names_in names.now)) self.old self.new) }
         ensures kept { Keeps self.old self.new }
@@ -274,8 +279,8 @@ impl<'a, 'b, 't, S: Allocator, A: Allocator> Printer<'a, 'b, 't, S, A> {
         names: &'b [&'b Name<'a, 'b>],
         name: &'b Name<'a, 'b>,
     ) -> Result<(), AllocError>
-        ensures text { OnOk result (Prints (spec.scope_prefix (names_in names.now) self.old.flags.0
-            ++ spec.name_pieces (name_of name.now) true self.old.flags.0) self.old self.new) }
+        ensures text { OnOk result (Prints (spec.scope_prefix (names_in names.now) self.old.flags.bits
+            ++ spec.name_pieces (name_of name.now) true self.old.flags.bits) self.old self.new) }
         ensures lighter { OnOk result (Lightens (1 + scope_weight (names_in names.now) + name_weight (name_of name.now))
             self.old self.new) }
         ensures kept { Keeps self.old self.new }
@@ -293,7 +298,8 @@ impl<'a, 'b, 't, S: Allocator, A: Allocator> Printer<'a, 'b, 't, S, A> {
 
     /// Prints the names of a scope, the outermost first, with `::` between them.
     pub fn print_path(&mut self, names: &'b [&'b Name<'a, 'b>]) -> Result<(), AllocError>
-        ensures text { OnOk result (Prints (spec.scope_path (names_in names.now) self.old.flags.0) self.old self.new) }
+        ensures text { OnOk result (Prints (spec.scope_path (names_in names.now) self.old.flags.bits) self.old
+            self.new) }
         ensures lighter { OnOk result (Lightens (scope_weight (names_in names.now)) self.old self.new) }
         ensures kept { Keeps self.old self.new }
     {
@@ -312,20 +318,23 @@ impl<'a, 'b, 't, S: Allocator, A: Allocator> Printer<'a, 'b, 't, S, A> {
         symbol: &'b Symbol<'a, 'b>,
         symbol_type: Option<&'b Type<'a, 'b>>,
     ) -> Result<(), AllocError>
-        ensures text { OnOk result (Prints (symbol_name_of symbol.now (type_or_none symbol_type.entry) self.old.flags.0)
+        ensures text { OnOk result (Prints (symbol_name_of symbol.now (type_or_none symbol_type.entry)
+            self.old.flags.bits)
             self.old self.new) }
         ensures lighter { OnOk result (Lightens (symbol_weight_of symbol.now (type_or_none symbol_type.entry))
             self.old self.new) }
         ensures kept { Keeps self.old self.new }
     {
-        write_space(self.out, word_space(self.flags, Space::AfterReference))?;
-        match name_kind(symbol.name) {
+        write_space(self.out, name_space(self.flags))?;
+        match name_kind(symbol.name, self.flags) {
             NameKind::Ordinary => self.print_in_scope(symbol.scope, symbol.name),
             NameKind::Constructor => {
+                push_arguments(self.stack, symbol.name, self.flags)?;
                 push_ctor_dtor_name(self.stack, symbol.scope, false, self.flags)?;
                 self.print_scope(symbol.scope)
             }
             NameKind::Destructor => {
+                push_arguments(self.stack, symbol.name, self.flags)?;
                 push_ctor_dtor_name(self.stack, symbol.scope, true, self.flags)?;
                 self.print_scope(symbol.scope)
             }
@@ -349,7 +358,7 @@ impl<'a, 'b, 't, S: Allocator, A: Allocator> Printer<'a, 'b, 't, S, A> {
         &mut self,
         class: &'b Symbol<'a, 'b>,
     ) -> Result<(), AllocError>
-        ensures text { OnOk result (Prints (class_pieces_of class.now self.old.flags.0) self.old self.new) }
+        ensures text { OnOk result (Prints (class_pieces_of class.now self.old.flags.bits) self.old self.new) }
         ensures lighter { OnOk result (Lightens (class_weight_of class.now) self.old self.new) }
         ensures kept { Keeps self.old self.new }
     {
@@ -375,14 +384,14 @@ fn push_scope<'a, 'b, S: Allocator>(
 }
 
 /// Pushes what a constructor or a destructor prints: the innermost name of its scope, that of a destructor after `~`.
-fn push_ctor_dtor_name<'a, 'b, S: Allocator>(
+fn push_ctor_dtor_name<'a, 'b, W: Wording, S: Allocator>(
     stack: &mut Vec<Item<'a, 'b>, S>,
     names: &'b [&'b Name<'a, 'b>],
     destructor: bool,
-    flags: DemangleFlags,
+    flags: Style<W>,
 ) -> Result<(), AllocError>
     ensures text { OnOk result (Pushes
-        (spec.class_name (names_in names.now) (cond destructor spec.tilde []) flags.0) flags.0
+        (spec.class_name (names_in names.now) (cond destructor spec.tilde []) flags.bits) flags.bits
         stack.old.items stack.new.items) }
     ensures lighter { OnOk result (AddsAtMost (1 + scope_weight (names_in names.now)) stack.old.items stack.new.items) }
 {
@@ -396,6 +405,56 @@ fn push_ctor_dtor_name<'a, 'b, S: Allocator>(
             Ok(())
         }
     }
+}
+
+/// Pushes the arguments of a name that is a template.
+fn push_arguments<'a, 'b, W: Wording, S: Allocator>(
+    stack: &mut Vec<Item<'a, 'b>, S>,
+    name: &'b Name<'a, 'b>,
+    flags: Style<W>,
+) -> Result<(), AllocError>
+    ensures text { OnOk result (Pushes (spec.arguments (name_of name.now) flags.bits) flags.bits
+        stack.old.items stack.new.items) }
+    ensures lighter { OnOk result (AddsLess (name_weight (name_of name.now)) stack.old.items stack.new.items) }
+{
+    match name {
+        Name::Template(template) => push_angled(stack, template.arguments, flags),
+        Name::Source(_) => Ok(()),
+        Name::Interface(_) => Ok(()),
+        Name::Md5(_) => Ok(()),
+        Name::Anonymous => Ok(()),
+        Name::AnonymousDigits(_) => Ok(()),
+        Name::Plain(_) => Ok(()),
+        Name::Guard(_, _) => Ok(()),
+        Name::TypeDescriptor(_, _) => Ok(()),
+        Name::BaseClassDescriptor(_) => Ok(()),
+        Name::Discriminator(_) => Ok(()),
+        Name::Nested(_) => Ok(()),
+        Name::Shape(shape) => Ok(()),
+    }
+}
+
+/// Pushes the arguments of a template, between `<` and `>`.
+fn push_angled<'a, 'b, W: Wording, S: Allocator>(
+    stack: &mut Vec<Item<'a, 'b>, S>,
+    types: &'b [&'b Type<'a, 'b>],
+    flags: Style<W>,
+) -> Result<(), AllocError>
+    ensures text { OnOk result (Pushes (spec.angled (spec.parameters (types_in types.now) true flags.bits) flags.bits)
+        flags.bits
+        stack.old.items stack.new.items) }
+    ensures lighter { OnOk result (AddsAtMost (1 + types_weight (types_in types.now))
+        stack.old.items stack.new.items) }
+{
+    push(
+        stack,
+        Item::Parameters(TypeList {
+            types,
+            first: true,
+            end: ListEnd::Angle,
+        }),
+    )?;
+    push(stack, Item::Text(b"<"))
 }
 
 /// Returns the type that a member function returns, or `None` of any other type.
@@ -418,20 +477,95 @@ fn symbol_return<'a, 'b>(symbol_type: Option<&'b Type<'a, 'b>>) -> Option<&'b Ty
     }
 }
 
-/// Pushes what a conversion operator prints.
-fn push_conversion<'a, 'b, S: Allocator>(
+/// Returns a type, or `None` if it is none.
+fn some_type<'a, 'b>(t: &'b Type<'a, 'b>) -> Option<&'b Type<'a, 'b>>
+    ensures { option_map (λ t. type_of t.now) result ≡ cond (spec.is_none (type_of t.now)) None (Some (type_of t.now)) }
+{
+    if is_none(t) {
+        return None;
+    }
+    Some(t)
+}
+
+/// Returns the type that a function returns, or `None` of any other type and of a function that returns nothing.
+fn full_function_return<'a, 'b>(t: &'b Type<'a, 'b>) -> Option<&'b Type<'a, 'b>>
+    ensures { option_map (λ t. type_of t.now) result ≡ full_return (type_of t.now) }
+{
+    match t {
+        Type::Function(function) => some_type(function.returned),
+        Type::MemberFunction(function) => some_type(function.returned),
+        _ => None,
+    }
+}
+
+/// Returns the type that a symbol returns, if it is a function that returns one.
+fn full_symbol_return<'a, 'b>(symbol_type: Option<&'b Type<'a, 'b>>) -> Option<&'b Type<'a, 'b>>
+    ensures { option_map (λ t. type_of t.now) result ≡ full_return (type_or_none symbol_type.entry) }
+{
+    match symbol_type {
+        Some(t) => full_function_return(t),
+        None => None,
+    }
+}
+
+/// Pushes what a conversion operator to a type prints in the second grammar's style.
+fn push_conversion_to<'a, 'b, W: Wording, S: Allocator>(
+    stack: &mut Vec<Item<'a, 'b>, S>,
+    name: &'b Name<'a, 'b>,
+    returned: &'b Type<'a, 'b>,
+    flags: Style<W>,
+) -> Result<(), AllocError>
+    ensures text { OnOk result (Pushes (text (codes "operator") ∷ (spec.arguments (name_of name.now) flags.bits
+        ++ (text (codes " ") ∷ (before (type_of returned.now) false flags.bits
+        ++ after (type_of returned.now) false flags.bits)))) flags.bits stack.old.items stack.new.items) }
+    ensures lighter { OnOk result (AddsAtMost (1 + name_weight (name_of name.now)
+        + type_weight (type_of returned.now) + type_weight (type_of returned.now)) stack.old.items stack.new.items) }
+{
+    push(stack, Item::After(returned, false))?;
+    push(stack, Item::Before(returned, false))?;
+    push(stack, Item::Text(b" "))?;
+    push_arguments(stack, name, flags)?;
+    push(stack, Item::Text(b"operator"))
+}
+
+/// Pushes what a conversion operator prints in the second grammar's style.
+#[cold]
+fn push_full_conversion<'a, 'b, W: Wording, S: Allocator>(
     stack: &mut Vec<Item<'a, 'b>, S>,
     name: &'b Name<'a, 'b>,
     symbol_type: Option<&'b Type<'a, 'b>>,
-    flags: DemangleFlags,
+    flags: Style<W>,
 ) -> Result<(), AllocError>
-    ensures text { OnOk result (Pushes
-        (spec.conversion (type_or_none symbol_type.entry) (spec.name_pieces (name_of name.now) true flags.0) flags.0)
-        flags.0 stack.old.items stack.new.items) }
+    ensures text { OnOk result (Pushes (full_conversion_to (full_return (type_or_none symbol_type.entry))
+        (spec.arguments (name_of name.now) flags.bits) (spec.name_pieces (name_of name.now) true flags.bits) flags.bits)
+        flags.bits stack.old.items stack.new.items) }
     ensures lighter { OnOk result (AddsAtMost (1 + name_weight (name_of name.now)
         + type_weight (type_or_none symbol_type.entry) + type_weight (type_or_none symbol_type.entry))
         stack.old.items stack.new.items) }
 {
+    match full_symbol_return(symbol_type) {
+        Some(returned) => push_conversion_to(stack, name, returned, flags),
+        None => push(stack, Item::Name(name, true)),
+    }
+}
+
+/// Pushes what a conversion operator prints.
+fn push_conversion<'a, 'b, W: Wording, S: Allocator>(
+    stack: &mut Vec<Item<'a, 'b>, S>,
+    name: &'b Name<'a, 'b>,
+    symbol_type: Option<&'b Type<'a, 'b>>,
+    flags: Style<W>,
+) -> Result<(), AllocError>
+    ensures text { OnOk result (Pushes
+        (spec.conversion (type_or_none symbol_type.entry) (spec.arguments (name_of name.now) flags.bits)
+        (spec.name_pieces (name_of name.now) true flags.bits) flags.bits) flags.bits stack.old.items stack.new.items) }
+    ensures lighter { OnOk result (AddsAtMost (1 + name_weight (name_of name.now)
+        + type_weight (type_or_none symbol_type.entry) + type_weight (type_or_none symbol_type.entry))
+        stack.old.items stack.new.items) }
+{
+    if flags.is_full() {
+        return push_full_conversion(stack, name, symbol_type, flags);
+    }
     match symbol_return(symbol_type) {
         Some(returned) => {
             push(stack, Item::After(returned, false))?;
@@ -443,11 +577,12 @@ fn push_conversion<'a, 'b, S: Allocator>(
 }
 
 /// Pushes what the name of a table of virtual bases prints.
-fn push_base_table<'a, 'b, S: Allocator>(
+fn push_base_table<'a, 'b, W: Wording, S: Allocator>(
     stack: &mut Vec<Item<'a, 'b>, S>,
-    flags: DemangleFlags,
+    flags: Style<W>,
 ) -> Result<(), AllocError>
-    ensures text { OnOk result (Pushes (text (codes "`vbtable'{for `") ∷ []) flags.0 stack.old.items stack.new.items) }
+    ensures text { OnOk result (Pushes (text (codes "`vbtable'{for `") ∷ []) flags.bits stack.old.items
+        stack.new.items) }
     ensures lighter { OnOk result (AddsAtMost 1 stack.old.items stack.new.items) }
 {
     push(stack, Item::Text(b"`vbtable'{for `"))

@@ -1,8 +1,9 @@
-//! Prints shapes by the layouts of the table of shapes: writes the slots that have no name in them, and pushes the rest.
+//! Prints shapes by the layouts of the table of shapes: writes the slots that have no name in them, and pushes the
+//! rest.
 #![tactic(auto, using(crate::proofs::Stack::pushes))]
 
-ghost use Rattle.std.specs.Prelude.{[], ◌∷◌, Bool, Some, None, IfOk, OnOk, ◌≡◌, ◌+◌, cond};
-ghost use Rattle.msvc_nodes.specs.NodeView.{names_in, type_of, types_in};
+ghost use Rattle.std.specs.Prelude.{[], Some, None, IfOk, OnOk, ◌≡◌, ◌+◌, cond};
+ghost use Rattle.msvc_nodes.specs.NodeView.{names_in};
 ghost use Rattle.msvc_print.specs.Declaration.{each_name};
 ghost use Rattle.msvc_print.specs.Halves.{after, before};
 ghost use Rattle.msvc_print.specs.Limited.{Writes};
@@ -15,10 +16,10 @@ ghost use Rattle.msvc_shapes.specs.Layouts as layouts;
 
 use crate::item::{Item, push};
 use crate::printer::Printer;
-use crate::spaces::{write_closing, write_opening, write_qualifiers};
+use crate::spaces::{write_closing, write_opening, write_pointer_qualifiers, write_qualifiers};
+use crate::style::{Style, Wording};
 use crate::text::{Text, write_number, write_text};
 use crate::types::push_suffix;
-use bitflags::Flags;
 use msvc_nodes::flags::DemangleFlags;
 use msvc_nodes::nodes::{Name, Number, Shape};
 use msvc_shapes::layouts::{Side, Slot, around, slots};
@@ -79,12 +80,12 @@ fn write_levels<A: Allocator>(out: &mut Text<A>, lengths: &[Number]) -> Result<(
 }
 
 /// Writes a word, unless NO_MEMBER_TYPE drops it.
-fn write_kind_word<A: Allocator>(
+fn write_kind_word<W: Wording, A: Allocator>(
     out: &mut Text<A>,
     word: &[u8],
-    flags: DemangleFlags,
+    flags: Style<W>,
 ) -> Result<(), AllocError>
-    ensures { OnOk result (Writes (spec.kind_word_pieces word.now flags.0) out.old out.new) }
+    ensures { OnOk result (Writes (spec.kind_word_pieces word.now flags.bits) out.old out.new) }
 {
     if flags.contains(DemangleFlags::NO_MEMBER_TYPE) {
         return Ok(());
@@ -94,15 +95,15 @@ fn write_kind_word<A: Allocator>(
 
 /// Writes a slot that has no name in it, or else returns the place of its name.
 #[tactic(auto, using(crate::proofs::Settling::settling), unfolding(crate::specs::Shapes::slot_pieces))]
-fn write_slot<'a, 'b, A: Allocator>(
+fn write_slot<'a, 'b, W: Wording, A: Allocator>(
     out: &mut Text<A>,
     slot: Slot<'b>,
     shape: &'b Shape<'a, 'b>,
     pointed: bool,
-    flags: DemangleFlags,
+    flags: Style<W>,
 ) -> Result<Option<NamePlace>, AllocError>
     ensures written { IfOk result (λ name. name ≡ None → Writes (spec.slot_pieces (layouts.slot_seen slot.entry) pointed
-        (parts_of shape.now flags.0) flags.0) out.old out.new) }
+        (parts_of shape.now flags.bits) flags.bits) out.old out.new) }
     ensures same { IfOk result (λ name. (p : NamePlaceCode) → name ≡ Some p → out.new ≡ out.old) }
     ensures named { IfOk result (λ name. (p : NamePlaceCode) → name ≡ Some p →
         layouts.slot_seen slot.entry ≡ cond p.of_symbol (layouts.symbol p.at) (layouts.name p.at)) }
@@ -113,8 +114,8 @@ fn write_slot<'a, 'b, A: Allocator>(
         Slot::Number(at) => write_number_at(out, shape.numbers, at)?,
         Slot::Lengths => write_levels(out, shape.numbers)?,
         Slot::Qualifiers => write_qualifiers(out, shape.qualifiers, flags)?,
-        Slot::PointerQualifiers => write_qualifiers(out, shape.qualifiers, flags)?,
-        Slot::Opening => write_opening(out, pointed)?,
+        Slot::PointerQualifiers => write_pointer_qualifiers(out, shape.qualifiers, flags)?,
+        Slot::Opening => write_opening(out, pointed, flags)?,
         Slot::Closing => write_closing(out, pointed)?,
         Slot::Symbol(at) => {
             return Ok(Some(NamePlace {
@@ -133,14 +134,15 @@ fn write_slot<'a, 'b, A: Allocator>(
 }
 
 /// Pushes a name of a list, if the list has one at this place.
-fn push_name_at<'a, 'b, S: Allocator>(
+fn push_name_at<'a, 'b, W: Wording, S: Allocator>(
     stack: &mut Vec<Item<'a, 'b>, S>,
     names: &'b [&'b Name<'a, 'b>],
     place: NamePlace,
-    flags: DemangleFlags,
+    flags: Style<W>,
 ) -> Result<(), AllocError>
-    ensures text { OnOk result (Pushes (spec.pieces_at (each_name (names_in names.now) place.of_symbol flags.0) place.at)
-        flags.0 stack.old.items stack.new.items) }
+    ensures text { OnOk result (Pushes (spec.pieces_at (each_name (names_in names.now) place.of_symbol flags.bits)
+        place.at)
+        flags.bits stack.old.items stack.new.items) }
     ensures lighter { OnOk result (AddsAtMost (scope_weight (names_in names.now)) stack.old.items stack.new.items) }
 {
     if place.at >= names.len() {
@@ -149,9 +151,9 @@ fn push_name_at<'a, 'b, S: Allocator>(
     push(stack, Item::Name(names[place.at], place.of_symbol))
 }
 
-impl<'a, 'b, 't, S: Allocator, A: Allocator> Printer<'a, 'b, 't, S, A> {
-    /// Prints a side of a shape from a slot on: writes slots up to the first that has a name in it, and pushes that name
-    /// and the rest.
+impl<'a, 'b, 't, W: Wording, S: Allocator, A: Allocator> Printer<'a, 'b, 't, W, S, A> {
+    /// Prints a side of a shape from a slot on: writes slots up to the first that has a name in it, and pushes that
+    /// name and the rest.
     #[cold]
     #[inline(never)]
     pub fn print_slots(
@@ -161,7 +163,7 @@ impl<'a, 'b, 't, S: Allocator, A: Allocator> Printer<'a, 'b, 't, S, A> {
         pointed: bool,
         at: usize,
     ) -> Result<(), AllocError>
-        ensures text { OnOk result (Prints (rest_of_slots shape.now side pointed at self.old.flags.0)
+        ensures text { OnOk result (Prints (rest_of_slots shape.now side pointed at self.old.flags.bits)
             self.old self.new) }
         ensures lighter { OnOk result (Lightens (rest_weight shape.now side at) self.old self.new) }
         ensures kept { Keeps self.old self.new }
@@ -190,7 +192,8 @@ impl<'a, 'b, 't, S: Allocator, A: Allocator> Printer<'a, 'b, 't, S, A> {
         shape: &'b Shape<'a, 'b>,
         pointed: bool,
     ) -> Result<(), AllocError>
-        ensures text { OnOk result (Prints (before (shape_of shape.now) pointed self.old.flags.0) self.old self.new) }
+        ensures text { OnOk result (Prints (before (shape_of shape.now) pointed self.old.flags.bits) self.old
+            self.new) }
         ensures lighter { OnOk result (Lightens (type_weight (shape_of shape.now)) self.old self.new) }
         ensures kept { Keeps self.old self.new }
     {
@@ -214,7 +217,7 @@ impl<'a, 'b, 't, S: Allocator, A: Allocator> Printer<'a, 'b, 't, S, A> {
         shape: &'b Shape<'a, 'b>,
         pointed: bool,
     ) -> Result<(), AllocError>
-        ensures text { OnOk result (Prints (after (shape_of shape.now) pointed self.old.flags.0) self.old self.new) }
+        ensures text { OnOk result (Prints (after (shape_of shape.now) pointed self.old.flags.bits) self.old self.new) }
         ensures lighter { OnOk result (Lightens (type_weight (shape_of shape.now)) self.old self.new) }
         ensures kept { Keeps self.old self.new }
     {

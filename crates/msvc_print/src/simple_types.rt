@@ -13,22 +13,23 @@ ghost use Rattle.msvc_print.specs.Words.{base_word, marked, qualifiers as qualif
 
 use crate::function_types::write_separator;
 use crate::spaces::{write_mark, write_qualifiers};
+use crate::style::{Style, Wording};
 use crate::text::{Text, write_text};
 use crate::types::{is_empty_pack, write_numbered};
 use crate::words::{base_word, mark_word};
-use msvc_nodes::flags::{DemangleFlags, StorageClass};
+use msvc_nodes::flags::StorageClass;
 use msvc_nodes::kinds::PrimitiveKind;
 use msvc_nodes::nodes::Type;
 use std::alloc::{AllocError, Allocator};
 
 /// Writes the word of a base type, and its qualifiers.
-pub fn write_base<A: Allocator>(
+pub fn write_base<W: Wording, A: Allocator>(
     out: &mut Text<A>,
     base: PrimitiveKind,
     qualifiers: StorageClass,
-    flags: DemangleFlags,
+    flags: Style<W>,
 ) -> Result<(), AllocError>
-    ensures { OnOk result (Writes (text (base_word base flags.0) ∷ qualifier_pieces qualifiers.0 flags.0) out.old
+    ensures { OnOk result (Writes (text (base_word base flags.bits) ∷ qualifier_pieces qualifiers.0 flags.bits) out.old
         out.new) }
 {
     write_text(out, base_word(base, flags))?;
@@ -36,14 +37,14 @@ pub fn write_base<A: Allocator>(
 }
 
 /// Writes a type that has no other in it, if it is simple. Returns whether it is.
-pub fn write_simple_inner<'a, 'b, A: Allocator>(
+pub fn write_simple_inner<'a, 'b, W: Wording, A: Allocator>(
     out: &mut Text<A>,
     t: &'b Type<'a, 'b>,
-    flags: DemangleFlags,
+    flags: Style<W>,
 ) -> Result<bool, AllocError>
     ensures simple { IfOk result (λ is. is ≡ true → (pointed : Bool) →
-        Writes (before (type_of t.now) pointed flags.0) out.old out.new) }
-    ensures ends { IfOk result (λ is. is ≡ true → (pointed : Bool) → after (type_of t.now) pointed flags.0 ≡ []) }
+        Writes (before (type_of t.now) pointed flags.bits) out.old out.new) }
+    ensures ends { IfOk result (λ is. is ≡ true → (pointed : Bool) → after (type_of t.now) pointed flags.bits ≡ []) }
     ensures other { IfOk result (λ is. is ≡ false → out.new ≡ out.old) }
 {
     match t {
@@ -60,16 +61,17 @@ pub fn write_simple_inner<'a, 'b, A: Allocator>(
 }
 
 /// Writes what a pointer or a reference has before the name, if what it points to is simple. Returns whether it is.
-pub fn write_simple_pointer<'a, 'b, A: Allocator>(
+pub fn write_simple_pointer<'a, 'b, W: Wording, A: Allocator>(
     out: &mut Text<A>,
     word: &[u8],
     qualifiers: StorageClass,
     inner: &'b Type<'a, 'b>,
-    flags: DemangleFlags,
+    flags: Style<W>,
 ) -> Result<bool, AllocError>
     ensures simple { IfOk result (λ is. is ≡ true →
-        Writes (before (type_of inner.now) true flags.0 ++ marked word.now qualifiers.0 flags.0) out.old out.new) }
-    ensures ends { IfOk result (λ is. is ≡ true → after (type_of inner.now) true flags.0 ≡ []) }
+        Writes (before (type_of inner.now) true flags.bits ++ marked word.now qualifiers.0 flags.bits) out.old
+        out.new) }
+    ensures ends { IfOk result (λ is. is ≡ true → after (type_of inner.now) true flags.bits ≡ []) }
     ensures other { IfOk result (λ is. is ≡ false → out.new ≡ out.old) }
 {
     if !write_simple_inner(out, inner, flags)? {
@@ -81,13 +83,13 @@ pub fn write_simple_pointer<'a, 'b, A: Allocator>(
 
 /// Writes a type, if it is simple. Returns whether it is.
 #[inline(always)]
-pub fn write_simple<'a, 'b, A: Allocator>(
+pub fn write_simple<'a, 'b, W: Wording, A: Allocator>(
     out: &mut Text<A>,
     t: &'b Type<'a, 'b>,
-    flags: DemangleFlags,
+    flags: Style<W>,
 ) -> Result<bool, AllocError>
-    ensures simple { IfOk result (λ is. is ≡ true → Writes (before (type_of t.now) false flags.0) out.old out.new) }
-    ensures ends { IfOk result (λ is. is ≡ true → after (type_of t.now) false flags.0 ≡ []) }
+    ensures simple { IfOk result (λ is. is ≡ true → Writes (before (type_of t.now) false flags.bits) out.old out.new) }
+    ensures ends { IfOk result (λ is. is ≡ true → after (type_of t.now) false flags.bits ≡ []) }
     ensures other { IfOk result (λ is. is ≡ false → out.new ≡ out.old) }
 {
     match t {
@@ -101,15 +103,15 @@ pub fn write_simple<'a, 'b, A: Allocator>(
 /// Writes the types of a list that stand before the first one that is not simple, with a comma before each but the
 /// first, and the comma before that one. Returns its place, or the length of the list if all are simple. Ends where
 /// `out` is not whole.
-pub fn write_simple_types<'a, 'b, A: Allocator>(
+pub fn write_simple_types<'a, 'b, W: Wording, A: Allocator>(
     out: &mut Text<A>,
     types: &'b [&'b Type<'a, 'b>],
     first: bool,
-    flags: DemangleFlags,
+    flags: Style<W>,
 ) -> Result<usize, AllocError>
     ensures fits { IfOk result (λ at. at ≤ length types.now) }
-    ensures text { IfOk result (λ at. add_all out.new (spec.begun (drop at types.now) flags.0)
-        ≡ add_all out.old (parameters (types_in types.now) first flags.0)) }
+    ensures text { IfOk result (λ at. add_all out.new (spec.begun (drop at types.now) flags.bits)
+        ≡ add_all out.old (parameters (types_in types.now) first flags.bits)) }
 {
     let mut none_yet = first;
     let mut at = 0;

@@ -1,7 +1,7 @@
 //! Prints types on both sides of a name: writes the pieces that come first, and pushes what is left.
-#![tactic(auto, using(crate::proofs::Nodes::printed), unfolding(crate::specs::Declaration::is_empty_pack, crate::specs::Declaration::table_end, crate::specs::Halves::after, crate::specs::Halves::before, crate::specs::Weights::type_weight, msvc_nodes::specs::NodeView::type_of))]
+#![tactic(auto, using(crate::proofs::Nodes::printed), unfolding(crate::specs::Declaration::is_empty_pack, crate::specs::Declaration::is_none, crate::specs::Declaration::returned_end, crate::specs::Declaration::table_end, crate::specs::Halves::after, crate::specs::Halves::before, crate::specs::Weights::type_weight, msvc_nodes::specs::NodeView::type_of))]
 
-ghost use Rattle.std.specs.Prelude.{ℕ, [], ◌∷◌, ◌++◌, ◌+◌, Bool, true, false, IfOk, OnOk, ◌≡◌, codes};
+ghost use Rattle.std.specs.Prelude.{ℕ, [], ◌∷◌, ◌++◌, ◌+◌, Bool, true, false, IfOk, OnOk, ◌≡◌, codes, cond};
 ghost use Rattle.std.specs.Fmt.{signed_decimal};
 ghost use Rattle.msvc_nodes.specs.Trees.{plain, numbered};
 ghost use Rattle.msvc_nodes.specs.NodeView.{names_in, type_of, types_in};
@@ -23,18 +23,19 @@ use crate::simple_types::{
     write_base, write_simple, write_simple_inner, write_simple_pointer, write_simple_types,
 };
 use crate::spaces::{write_closing, write_opening, write_qualifiers};
+use crate::style::{Style, Wording};
 use crate::text::{Text, write_number, write_text};
 use crate::words::{mark_word, tag_word, variable_word};
 use bitflags::Flags;
-use msvc_nodes::flags::{DemangleFlags, StorageClass};
+use msvc_nodes::flags::StorageClass;
 use msvc_nodes::kinds::{Convention, NumberedType, PlainType, SpecialTableKind, VarStorageKind};
 use msvc_nodes::nodes::{Function, Name, Symbol, Type};
 use std::alloc::{AllocError, Allocator};
 
-impl<'a, 'b, 't, S: Allocator, A: Allocator> Printer<'a, 'b, 't, S, A> {
+impl<'a, 'b, 't, W: Wording, S: Allocator, A: Allocator> Printer<'a, 'b, 't, W, S, A> {
     /// Prints what a type has before the name.
     pub fn print_prefix(&mut self, t: &'b Type<'a, 'b>, pointed: bool) -> Result<(), AllocError>
-        ensures text { OnOk result (Prints (before (type_of t.now) pointed self.old.flags.0) self.old self.new) }
+        ensures text { OnOk result (Prints (before (type_of t.now) pointed self.old.flags.bits) self.old self.new) }
         ensures lighter { OnOk result (Lightens (type_weight (type_of t.now)) self.old self.new) }
         ensures kept { Keeps self.old self.new }
     {
@@ -80,9 +81,9 @@ impl<'a, 'b, 't, S: Allocator, A: Allocator> Printer<'a, 'b, 't, S, A> {
     #[inline(always)]
     fn print_innermost(&mut self, t: &'b Type<'a, 'b>) -> Result<bool, AllocError>
         ensures text { IfOk result (λ is. is ≡ true → (pointed : Bool) →
-            Prints (before (type_of t.now) pointed self.old.flags.0) self.old self.new) }
+            Prints (before (type_of t.now) pointed self.old.flags.bits) self.old self.new) }
         ensures ends { IfOk result (λ is. is ≡ true → (pointed : Bool) →
-            after (type_of t.now) pointed self.old.flags.0 ≡ []) }
+            after (type_of t.now) pointed self.old.flags.bits ≡ []) }
         ensures lighter { IfOk result (λ is. is ≡ true → Lightens (type_weight (type_of t.now)) self.old self.new) }
         ensures other { IfOk result (λ is. is ≡ false →
             (self.new.stack.now ≡ self.old.stack.now) × (self.new.out.now ≡ self.old.out.now)) }
@@ -99,7 +100,7 @@ impl<'a, 'b, 't, S: Allocator, A: Allocator> Printer<'a, 'b, 't, S, A> {
 
     /// Prints what a type inside another has before the name. Most have no type in them, and are printed at once.
     pub fn print_inner(&mut self, t: &'b Type<'a, 'b>, pointed: bool) -> Result<(), AllocError>
-        ensures text { OnOk result (Prints (before (type_of t.now) pointed self.old.flags.0) self.old self.new) }
+        ensures text { OnOk result (Prints (before (type_of t.now) pointed self.old.flags.bits) self.old self.new) }
         ensures lighter { OnOk result (LeavesAtMost (type_weight (type_of t.now)) self.old self.new) }
         ensures kept { Keeps self.old self.new }
     {
@@ -116,8 +117,8 @@ impl<'a, 'b, 't, S: Allocator, A: Allocator> Printer<'a, 'b, 't, S, A> {
         qualifiers: StorageClass,
         inner: &'b Type<'a, 'b>,
     ) -> Result<(), AllocError>
-        ensures text { OnOk result (Prints (before (type_of inner.now) true self.old.flags.0
-            ++ marked word.now qualifiers.0 self.old.flags.0) self.old self.new) }
+        ensures text { OnOk result (Prints (before (type_of inner.now) true self.old.flags.bits
+            ++ marked word.now qualifiers.0 self.old.flags.bits) self.old self.new) }
         ensures lighter { OnOk result (Lightens (2 + type_weight (type_of inner.now)) self.old self.new) }
         ensures kept { Keeps self.old self.new }
     {
@@ -134,9 +135,10 @@ impl<'a, 'b, 't, S: Allocator, A: Allocator> Printer<'a, 'b, 't, S, A> {
         function: &'b Function<'a, 'b>,
         pointed: bool,
     ) -> Result<(), AllocError>
-        ensures text { OnOk result (Prints (before (type_of function.now.returned.now) false self.old.flags.0
-            ++ calling pointed function.now.convention self.old.flags.0) self.old self.new) }
-        ensures lighter { OnOk result (Lightens (2 + type_weight (type_of function.now.returned.now))
+        ensures text { OnOk result (Prints (before (type_of function.now.returned.now) false self.old.flags.bits
+            ++ (spec.returned_end (type_of function.now.returned.now) self.old.flags.bits
+            ++ calling pointed function.now.convention self.old.flags.bits)) self.old self.new) }
+        ensures lighter { OnOk result (Lightens (3 + type_weight (type_of function.now.returned.now))
             self.old self.new) }
         ensures kept { Keeps self.old self.new }
     {
@@ -144,9 +146,11 @@ impl<'a, 'b, 't, S: Allocator, A: Allocator> Printer<'a, 'b, 't, S, A> {
             return Ok(());
         }
         if write_simple(self.out, function.returned, self.flags)? {
+            write_returned_end(self.out, function.returned, self.flags)?;
             return write_calling(self.out, pointed, function.convention, self.flags);
         }
         push(self.stack, Item::Calling(pointed, function.convention))?;
+        push_returned_end(self.stack, function.returned, self.flags)?;
         self.print_inner(function.returned, false)
     }
 
@@ -158,8 +162,8 @@ impl<'a, 'b, 't, S: Allocator, A: Allocator> Printer<'a, 'b, 't, S, A> {
         qualifiers: StorageClass,
     ) -> Result<(), AllocError>
         ensures text { OnOk result
-            (Prints (text (variable_word kind) ∷ (before (type_of inner.now) false self.old.flags.0
-            ++ qualifier_pieces qualifiers.0 self.old.flags.0)) self.old self.new) }
+            (Prints (text (variable_word kind) ∷ (before (type_of inner.now) false self.old.flags.bits
+            ++ qualifier_pieces qualifiers.0 self.old.flags.bits)) self.old self.new) }
         ensures lighter { OnOk result (Lightens (3 + type_weight (type_of inner.now)) self.old self.new) }
         ensures kept { Keeps self.old self.new }
     {
@@ -170,7 +174,7 @@ impl<'a, 'b, 't, S: Allocator, A: Allocator> Printer<'a, 'b, 't, S, A> {
 
     /// Prints what a type has after the name.
     pub fn print_suffix(&mut self, t: &'b Type<'a, 'b>, pointed: bool) -> Result<(), AllocError>
-        ensures text { OnOk result (Prints (after (type_of t.now) pointed self.old.flags.0) self.old self.new) }
+        ensures text { OnOk result (Prints (after (type_of t.now) pointed self.old.flags.bits) self.old self.new) }
         ensures lighter { OnOk result (Lightens (type_weight (type_of t.now)) self.old self.new) }
         ensures kept { Keeps self.old self.new }
     {
@@ -203,8 +207,9 @@ impl<'a, 'b, 't, S: Allocator, A: Allocator> Printer<'a, 'b, 't, S, A> {
     ) -> Result<(), AllocError>
         ensures text { OnOk result
             (Prints (function_end pointed
-            (spec.parameters (types_in function.now.parameters.now) true self.old.flags.0) function.now.qualifiers.0
-            self.old.flags.0 (after (type_of function.now.returned.now) false self.old.flags.0)) self.old self.new) }
+            (spec.parameters (types_in function.now.parameters.now) true self.old.flags.bits) function.now.qualifiers.0
+            self.old.flags.bits (after (type_of function.now.returned.now) false self.old.flags.bits)) self.old
+            self.new) }
         ensures lighter { OnOk result (Lightens (3 + types_weight (types_in function.now.parameters.now)
             + type_weight (type_of function.now.returned.now)) self.old self.new) }
         ensures kept { Keeps self.old self.new }
@@ -224,8 +229,8 @@ impl<'a, 'b, 't, S: Allocator, A: Allocator> Printer<'a, 'b, 't, S, A> {
     fn print_member_pointer_end(&mut self, function: &'b Function<'a, 'b>) -> Result<(), AllocError>
         ensures text { OnOk result
             (Prints (member_pointer_end
-            (spec.parameters (types_in function.now.parameters.now) true self.old.flags.0) function.now.qualifiers.0
-            (after (type_of function.now.returned.now) false self.old.flags.0)) self.old self.new) }
+            (spec.parameters (types_in function.now.parameters.now) true self.old.flags.bits) function.now.qualifiers.0
+            (after (type_of function.now.returned.now) false self.old.flags.bits)) self.old self.new) }
         ensures lighter { OnOk result (Lightens (3 + types_weight (types_in function.now.parameters.now)
             + type_weight (type_of function.now.returned.now)) self.old self.new) }
         ensures kept { Keeps self.old self.new }
@@ -243,7 +248,8 @@ impl<'a, 'b, 't, S: Allocator, A: Allocator> Printer<'a, 'b, 't, S, A> {
         names: &'b [&'b Name<'a, 'b>],
     ) -> Result<(), AllocError>
         ensures text { OnOk result
-            (Prints (spec.table_end table (names_in names.now) (spec.scope_path (names_in names.now) self.old.flags.0))
+            (Prints (spec.table_end table (names_in names.now)
+            (spec.scope_path (names_in names.now) self.old.flags.bits))
             self.old self.new) }
         ensures lighter { OnOk result (Lightens (3 + scope_weight (names_in names.now)) self.old self.new) }
         ensures kept { Keeps self.old self.new }
@@ -261,7 +267,7 @@ impl<'a, 'b, 't, S: Allocator, A: Allocator> Printer<'a, 'b, 't, S, A> {
     fn print_vftable_target(&mut self, names: &'b [&'b Name<'a, 'b>]) -> Result<(), AllocError>
         ensures text { OnOk result
             (Prints (spec.table_end Functions (names_in names.now)
-            (spec.scope_path (names_in names.now) self.old.flags.0)) self.old self.new) }
+            (spec.scope_path (names_in names.now) self.old.flags.bits)) self.old self.new) }
         ensures lighter { OnOk result (Lightens (3 + scope_weight (names_in names.now)) self.old self.new) }
         ensures kept { Keeps self.old self.new }
     {
@@ -283,7 +289,7 @@ impl<'a, 'b, 't, S: Allocator, A: Allocator> Printer<'a, 'b, 't, S, A> {
         first: bool,
         end: ListEnd,
     ) -> Result<(), AllocError>
-        ensures text { OnOk result (Prints (rest_of_parameters types.now first end self.old.flags.0)
+        ensures text { OnOk result (Prints (rest_of_parameters types.now first end self.old.flags.bits)
             self.old self.new) }
         ensures lighter { OnOk result (Lightens (types_weight (types_in types.now)) self.old self.new) }
         ensures kept { Keeps self.old self.new }
@@ -314,7 +320,7 @@ impl<'a, 'b, 't, S: Allocator, A: Allocator> Printer<'a, 'b, 't, S, A> {
         first: bool,
         end: ListEnd,
     ) -> Result<(), AllocError>
-        ensures text { OnOk result (Prints (rest_of_parameters types.now first end self.old.flags.0)
+        ensures text { OnOk result (Prints (rest_of_parameters types.now first end self.old.flags.bits)
             self.old self.new) }
         ensures lighter { OnOk result (Lightens (types_weight (types_in types.now)) self.old self.new) }
         ensures kept { Keeps self.old self.new }
@@ -332,8 +338,8 @@ impl<'a, 'b, 't, S: Allocator, A: Allocator> Printer<'a, 'b, 't, S, A> {
 
     /// Prints a type on both sides of nothing.
     fn print_parameter(&mut self, t: &'b Type<'a, 'b>) -> Result<(), AllocError>
-        ensures text { OnOk result (Prints (before (type_of t.now) false self.old.flags.0
-            ++ after (type_of t.now) false self.old.flags.0) self.old self.new) }
+        ensures text { OnOk result (Prints (before (type_of t.now) false self.old.flags.bits
+            ++ after (type_of t.now) false self.old.flags.bits) self.old self.new) }
         ensures lighter { OnOk result (Lightens (type_weight (type_of t.now) + type_weight (type_of t.now))
             self.old self.new) }
         ensures kept { Keeps self.old self.new }
@@ -353,8 +359,8 @@ impl<'a, 'b, 't, S: Allocator, A: Allocator> Printer<'a, 'b, 't, S, A> {
         qualifiers: StorageClass,
     ) -> Result<(), AllocError>
         ensures text { OnOk result
-            (Prints (text word.now ∷ (symbol_name_of symbol.now no_type self.old.flags.0
-            ++ qualifier_pieces qualifiers.0 self.old.flags.0)) self.old self.new) }
+            (Prints (text word.now ∷ (symbol_name_of symbol.now no_type self.old.flags.bits
+            ++ qualifier_pieces qualifiers.0 self.old.flags.bits)) self.old self.new) }
         ensures lighter { OnOk result (Lightens (3 + symbol_weight_of symbol.now no_type) self.old self.new) }
         ensures kept { Keeps self.old self.new }
     {
@@ -365,13 +371,13 @@ impl<'a, 'b, 't, S: Allocator, A: Allocator> Printer<'a, 'b, 't, S, A> {
 }
 
 /// Writes a type that has nothing in it.
-fn write_plain<A: Allocator>(
+fn write_plain<W: Wording, A: Allocator>(
     out: &mut Text<A>,
     kind: PlainType,
     pointed: bool,
-    flags: DemangleFlags,
+    flags: Style<W>,
 ) -> Result<(), AllocError>
-    ensures { OnOk result (Writes (before (plain kind) pointed flags.0) out.old out.new) }
+    ensures { OnOk result (Writes (before (plain kind) pointed flags.bits) out.old out.new) }
 {
     match kind {
         PlainType::Variadic => write_text(out, b"..."),
@@ -383,14 +389,14 @@ fn write_plain<A: Allocator>(
 }
 
 /// Writes a type that has one number in it.
-pub fn write_numbered<A: Allocator>(
+pub fn write_numbered<W: Wording, A: Allocator>(
     out: &mut Text<A>,
     kind: NumberedType,
     number: i32,
     pointed: bool,
-    flags: DemangleFlags,
+    flags: Style<W>,
 ) -> Result<(), AllocError>
-    ensures { OnOk result (Writes (before (numbered kind number) pointed flags.0) out.old out.new) }
+    ensures { OnOk result (Writes (before (numbered kind number) pointed flags.bits) out.old out.new) }
 {
     match kind {
         NumberedType::Constant => write_number(out, number),
@@ -422,14 +428,14 @@ fn may_have_suffix<'a, 'b>(t: &'b Type<'a, 'b>) -> bool
 }
 
 /// Pushes what a type has after the name, if it, or the type that it points to, may have anything there.
-pub fn push_suffix<'a, 'b, S: Allocator>(
+pub fn push_suffix<'a, 'b, W: Wording, S: Allocator>(
     stack: &mut Vec<Item<'a, 'b>, S>,
     t: &'b Type<'a, 'b>,
     pointed: bool,
-    flags: DemangleFlags,
+    flags: Style<W>,
 ) -> Result<(), AllocError>
     ensures text { OnOk result
-        (Pushes (after (type_of t.now) pointed flags.0) flags.0 stack.old.items stack.new.items) }
+        (Pushes (after (type_of t.now) pointed flags.bits) flags.bits stack.old.items stack.new.items) }
     ensures lighter { OnOk result (AddsAtMost (type_weight (type_of t.now)) stack.old.items stack.new.items) }
 {
     let may_have = match t {
@@ -443,12 +449,12 @@ pub fn push_suffix<'a, 'b, S: Allocator>(
 }
 
 /// Pushes `const`, if a member function that is pointed to has it.
-fn push_const<'a, 'b, S: Allocator>(
+fn push_const<'a, 'b, W: Wording, S: Allocator>(
     stack: &mut Vec<Item<'a, 'b>, S>,
     qualifiers: StorageClass,
-    flags: DemangleFlags,
+    flags: Style<W>,
 ) -> Result<(), AllocError>
-    ensures text { OnOk result (Pushes (function_qualifier 1 (codes "const") qualifiers.0) flags.0
+    ensures text { OnOk result (Pushes (function_qualifier 1 (codes "const") qualifiers.0) flags.bits
         stack.old.items stack.new.items) }
     ensures lighter { OnOk result (AddsAtMost 1 stack.old.items stack.new.items) }
 {
@@ -474,14 +480,67 @@ pub fn is_empty_pack<'a, 'b>(t: &'b Type<'a, 'b>) -> bool
     }
 }
 
+/// Returns whether a type is none.
+pub fn is_none<'a, 'b>(t: &'b Type<'a, 'b>) -> bool
+    ensures { result ≡ spec.is_none (type_of t.now) }
+{
+    match t {
+        Type::Plain(plain) => match *plain {
+            PlainType::None => true,
+            PlainType::EmptyPack => false,
+            PlainType::Rtti => false,
+            PlainType::Variadic => false,
+            PlainType::Nullptr => false,
+        },
+        _ => false,
+    }
+}
+
+/// Returns whether a space stands after what a function returns, as in the second grammar's style.
+fn has_returned_end<'a, 'b, W: Wording>(returned: &'b Type<'a, 'b>, flags: Style<W>) -> bool
+    ensures { cond result (text (codes " ") ∷ []) [] ≡ spec.returned_end (type_of returned.now) flags.bits }
+{
+    flags.is_full() && !is_none(returned)
+}
+
+/// Writes the space after what a function returns, if one stands there.
+fn write_returned_end<'a, 'b, W: Wording, A: Allocator>(
+    out: &mut Text<A>,
+    returned: &'b Type<'a, 'b>,
+    flags: Style<W>,
+) -> Result<(), AllocError>
+    ensures { OnOk result (Writes (spec.returned_end (type_of returned.now) flags.bits) out.old out.new) }
+{
+    if has_returned_end(returned, flags) {
+        write_text(out, b" ")?;
+    }
+    Ok(())
+}
+
+/// Pushes the space after what a function returns, if one stands there.
+fn push_returned_end<'a, 'b, W: Wording, S: Allocator>(
+    stack: &mut Vec<Item<'a, 'b>, S>,
+    returned: &'b Type<'a, 'b>,
+    flags: Style<W>,
+) -> Result<(), AllocError>
+    ensures text { OnOk result (Pushes (spec.returned_end (type_of returned.now) flags.bits) flags.bits
+        stack.old.items stack.new.items) }
+    ensures lighter { OnOk result (AddsAtMost 1 stack.old.items stack.new.items) }
+{
+    if has_returned_end(returned, flags) {
+        push(stack, Item::Text(b" "))?;
+    }
+    Ok(())
+}
+
 /// Pushes qualifiers, unless there are none.
-fn push_qualifiers<'a, 'b, S: Allocator>(
+fn push_qualifiers<'a, 'b, W: Wording, S: Allocator>(
     stack: &mut Vec<Item<'a, 'b>, S>,
     qualifiers: StorageClass,
-    flags: DemangleFlags,
+    flags: Style<W>,
 ) -> Result<(), AllocError>
     ensures text { OnOk result
-        (Pushes (qualifier_pieces qualifiers.0 flags.0) flags.0 stack.old.items stack.new.items) }
+        (Pushes (qualifier_pieces qualifiers.0 flags.bits) flags.bits stack.old.items stack.new.items) }
     ensures lighter { OnOk result (AddsAtMost 1 stack.old.items stack.new.items) }
 {
     if !qualifiers.is_empty() {
@@ -500,12 +559,12 @@ fn write_thread_safe_guard<A: Allocator>(out: &mut Text<A>, number: i32) -> Resu
 }
 
 /// Writes what a thunk into a table of virtual functions has before its name.
-fn write_thunk<A: Allocator>(
+fn write_thunk<W: Wording, A: Allocator>(
     out: &mut Text<A>,
     convention: Convention,
-    flags: DemangleFlags,
+    flags: Style<W>,
 ) -> Result<(), AllocError>
-    ensures { OnOk result (Writes (text (codes "[thunk]: ") ∷ calling false convention flags.0)
+    ensures { OnOk result (Writes (text (codes "[thunk]: ") ∷ calling false convention flags.bits)
         out.old out.new) }
 {
     write_text(out, b"[thunk]: ")?;
@@ -513,12 +572,12 @@ fn write_thunk<A: Allocator>(
 }
 
 /// Writes what a thunk has after its name: the offset in the table, in bytes, and the memory model.
-fn write_thunk_end<A: Allocator>(
+fn write_thunk_end<W: Wording, A: Allocator>(
     out: &mut Text<A>,
     number: i32,
-    flags: DemangleFlags,
+    flags: Style<W>,
 ) -> Result<(), AllocError>
-    ensures { OnOk result (Writes (spec.thunk_end number flags.0) out.old out.new) }
+    ensures { OnOk result (Writes (spec.thunk_end number flags.bits) out.old out.new) }
 {
     write_text(out, b"{")?;
     write_number(out, number)?;
@@ -552,14 +611,15 @@ fn write_length<A: Allocator>(
 }
 
 /// Writes the qualifiers of an array, and the parenthesis before the mark of a pointer to it.
-pub fn write_array_prefix<A: Allocator>(
+pub fn write_array_prefix<W: Wording, A: Allocator>(
     out: &mut Text<A>,
     qualifiers: StorageClass,
     pointed: bool,
-    flags: DemangleFlags,
+    flags: Style<W>,
 ) -> Result<(), AllocError>
-    ensures { OnOk result (Writes (qualifier_pieces qualifiers.0 flags.0 ++ opening pointed) out.old out.new) }
+    ensures { OnOk result (Writes (qualifier_pieces qualifiers.0 flags.bits
+        ++ opening pointed flags.bits) out.old out.new) }
 {
     write_qualifiers(out, qualifiers, flags)?;
-    write_opening(out, pointed)
+    write_opening(out, pointed, flags)
 }

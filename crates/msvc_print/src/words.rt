@@ -3,7 +3,7 @@
 ghost use Rattle.std.specs.Prelude.{◌≡◌, cond};
 ghost use Rattle.msvc_print.specs.Words as spec;
 
-use bitflags::Flags;
+use crate::style::{Style, Wording};
 use msvc_nodes::base_types;
 use msvc_nodes::flags::DemangleFlags;
 use msvc_nodes::kinds::{PointerAffinity, PrimitiveKind, TagKind, VarStorageKind};
@@ -29,8 +29,8 @@ macro_rules! word_in_row {
 
 /// Returns the word of a base type. MS_TYPENAMES chooses those of 64 and 128 bits.
 #[tactic(auto, unfolding(crate::specs::Words::base_word))]
-pub fn base_word<'t>(base: PrimitiveKind, flags: DemangleFlags) -> &'t [u8]
-    ensures { result.now ≡ spec.base_word base flags.0 }
+pub fn base_word<'t, W: Wording>(base: PrimitiveKind, flags: Style<W>) -> &'t [u8]
+    ensures { result.now ≡ spec.base_word base flags.bits }
 {
     let microsoft = flags.contains(DemangleFlags::MS_TYPENAMES);
     base_types!(word_of_base_type (base microsoft))
@@ -44,8 +44,8 @@ fn either<'t>(choice: bool, first: &'t [u8], second: &'t [u8]) -> &'t [u8]
 }
 
 /// Returns the word before a name that stands for a type. NO_CLASS_TYPE drops it.
-pub fn tag_word<'t>(tag: TagKind, flags: DemangleFlags) -> &'t [u8]
-    ensures { result.now ≡ spec.tag_word tag flags.0 }
+pub fn tag_word<'t, W: Wording>(tag: TagKind, flags: Style<W>) -> &'t [u8]
+    ensures { result.now ≡ spec.tag_word tag flags.bits }
 {
     either(
         flags.contains(DemangleFlags::NO_CLASS_TYPE),

@@ -1,4 +1,5 @@
--- The crate's dialect has the laws of a dialect, so what is read of a whole text is the one tree that the grammar derives.
+-- The crate's dialect has the laws of a dialect, so what is read of a whole text is the one tree that the grammar
+-- derives.
 use Rattle.std.proofs.Common.{ℕ, List, Option, Some, None, Result, Err, ◌≡◌}
 use Rattle.std.proofs.Common.{refl, ap, ◌∙◌}
 use Rattle.std.specs.Prelude.{codes, IfErr, IfOk, length}

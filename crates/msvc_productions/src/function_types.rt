@@ -11,8 +11,7 @@ ghost use Rattle.msvc_grammar.specs.Letters.{conventions, thunk};
 ghost use Rattle.msvc_grammar.specs.Reading.{read, read_name};
 ghost use Rattle.msvc_grammar.specs.Productions as production;
 ghost use Rattle.msvc_cursor.specs.Parser.{Consumes, frame_of, MayConsume, ReadsAs, state_of, Stays};
-ghost use Rattle.msvc_cursor.specs.Rows.{EndsTypes, parts_at};
-ghost use Rattle.msvc_cursor.specs.NestedList.{current, enclosing};
+ghost use Rattle.msvc_cursor.specs.Rows.{parts_at};
 
 use crate::parameters::function_parameters;
 use crate::qualified_names::qualified_name;
@@ -21,7 +20,6 @@ use bitflags::Flags;
 use msvc_cursor::budget::NodeBudget;
 use msvc_cursor::failure::{Failed, Message};
 use msvc_cursor::letters::{self, OptionalLetters};
-use msvc_cursor::nested_list::Checkpoint;
 use msvc_cursor::parser::Parser;
 use msvc_grammar::forms::{FunctionKind, MemberPointerForm, ObjectQualifiers, TemplateNames};
 use msvc_nodes::flags::{FuncClass, StorageClass};

@@ -5,7 +5,6 @@ ghost use Rattle.msvc_grammar.specs.Grammar.{hashed_symbol, is_hash};
 ghost use Rattle.msvc_grammar.specs.Letters.{hexadecimal_codes};
 ghost use Rattle.msvc_grammar.specs.Reading.{read};
 ghost use Rattle.msvc_rules.specs.Rules as rules;
-ghost use Rattle.msvc_grammar.specs.Productions as production;
 ghost use Rattle.msvc_cursor.specs.Parser.{Consumes, hash_at, name_length, ReadsAs};
 ghost use Rattle.msvc_cursor.specs.Rows.{typed_symbol_at};
 

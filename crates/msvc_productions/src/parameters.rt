@@ -1,16 +1,11 @@
 //! Parameters, and the table of types that they are added to.
 
 ghost use Rattle.std.specs.Option.{option_map};
-ghost use Rattle.std.specs.Prelude.{◌≡◌, ◌≤◌, ◌<◌, ◌-◌, ◌∷◌, ◌++◌, [], IfErr, IfOk, IfSome, length, map, Some};
+ghost use Rattle.std.specs.Prelude.{◌≡◌, ◌≤◌, ◌<◌, ◌-◌, [], IfOk, IfSome, length, map, Some};
 ghost use Rattle.msvc_nodes.specs.NodeView.{type_at};
-ghost use Rattle.msvc_nodes.specs.Trees.{base};
-ghost use Rattle.msvc_nodes.specs.declared.kinds.PrimitiveKind.TheVariants as base_kind;
-ghost use Rattle.msvc_rules.specs.Readers.{with_value};
 ghost use Rattle.msvc_grammar.specs.Reading.{read_name};
 ghost use Rattle.msvc_grammar.specs.Productions as production;
-ghost use Rattle.msvc_cursor.specs.Parser.{counting_ellipsis, Consumes, ellipsis_types};
-ghost use Rattle.msvc_cursor.specs.Parser.{frame_of, parameters_stop, ReadsAs};
-ghost use Rattle.msvc_cursor.specs.Parser.{state_of};
+ghost use Rattle.msvc_cursor.specs.Parser.{Consumes, parameters_stop, ReadsAs};
 ghost use Rattle.msvc_cursor.specs.Rows.{ListsTypes};
 ghost use Rattle.msvc_cursor.specs.NestedList.{current};
 
@@ -18,12 +13,11 @@ use crate::types::type_;
 use bitflags::Flags;
 use msvc_cursor::back_references::enters_table;
 use msvc_cursor::budget::NodeBudget;
-use msvc_cursor::failure::{Failed, Failure, Message};
+use msvc_cursor::failure::{Failed, Message};
 use msvc_cursor::nested_list::Checkpoint;
 use msvc_cursor::parser::Parser;
 use msvc_grammar::forms::Ellipsis;
 use msvc_nodes::flags::StorageClass;
-use msvc_nodes::kinds::{PlainType, PrimitiveKind};
 use msvc_nodes::nodes::Type;
 use std::alloc::Allocator;
 

@@ -1,9 +1,9 @@
 //! Names, scopes and templates, and the table of names that they are added to.
 
-ghost use Rattle.std.specs.Prelude.{◌≡◌, ◌≤◌, ◌<◌, ◌++◌, codes, IfOk, length, map, Some};
+ghost use Rattle.std.specs.Prelude.{◌≡◌, ◌<◌, ◌++◌, codes, IfOk, length, map, Some};
 ghost use Rattle.std.specs.Prelude.{string_bytes};
-ghost use Rattle.msvc_nodes.specs.NodeView.{name_at, name_of, type_at, typed_symbol_of};
-ghost use Rattle.msvc_nodes.specs.Trees.{discriminator, nested, template, type_trees};
+ghost use Rattle.msvc_nodes.specs.NodeView.{name_at, name_of};
+ghost use Rattle.msvc_nodes.specs.Trees.{discriminator, template};
 ghost use Rattle.msvc_rules.specs.Counts.{name_count};
 ghost use Rattle.msvc_rules.specs.Readers.{and_then, in_node, letter_here, with_value};
 ghost use Rattle.msvc_grammar.specs.Grammar.{new_interface, new_source_name, template_inside, template_kept};
@@ -11,8 +11,8 @@ ghost use Rattle.msvc_grammar.specs.Letters.{hexadecimal_codes};
 ghost use Rattle.msvc_grammar.specs.Reading.{read, read_name};
 ghost use Rattle.msvc_grammar.specs.Productions as production;
 ghost use Rattle.msvc_cursor.specs.Parser.{add_template_name, Consumes, ReadsAs, Stays};
-ghost use Rattle.msvc_cursor.specs.Rows.{EndsNames, EndsTypes, ListsNames, named_at};
-ghost use Rattle.msvc_cursor.specs.NestedList.{current, enclosing};
+ghost use Rattle.msvc_cursor.specs.Rows.{ListsNames, named_at};
+ghost use Rattle.msvc_cursor.specs.NestedList.{current};
 
 use crate::parameters::parameters;
 use crate::special_names::special_name;
@@ -24,7 +24,7 @@ use msvc_cursor::letters;
 use msvc_cursor::nested_list::Checkpoint;
 use msvc_cursor::parser::Parser;
 use msvc_grammar::forms::TemplateNames;
-use msvc_nodes::nodes::{Name, Symbol, Template, TypedSymbol};
+use msvc_nodes::nodes::{Name, Symbol};
 use std::alloc::Allocator;
 
 /// Reads a source name and memorizes it.

@@ -1,16 +1,15 @@
 //! Symbols, and the encodings after their names.
 
 ghost use Rattle.std.specs.Prelude.{◌≡◌, ◌≤◌, codes, IfOk, length, map, None, Some};
-ghost use Rattle.msvc_nodes.specs.NodeView.{name_at, name_of, type_at, type_of, typed_symbol_of};
-ghost use Rattle.msvc_nodes.specs.Trees.{name_trees, no_names, plain, table};
-ghost use Rattle.msvc_nodes.specs.declared.kinds.PlainType.TheVariants as plain_kind;
+ghost use Rattle.msvc_nodes.specs.NodeView.{name_at, type_at, type_of, typed_symbol_of};
+ghost use Rattle.msvc_nodes.specs.Trees.{name_trees, table};
 ghost use Rattle.msvc_rules.specs.Readers.{with_value};
 ghost use Rattle.msvc_rules.specs.Sorts.{table_of, variable_of, virtual_call};
 ghost use Rattle.msvc_grammar.specs.Grammar.{named_symbol, template_symbol};
 ghost use Rattle.msvc_grammar.specs.Reading.{read, read_name};
 ghost use Rattle.msvc_rules.specs.Rules as rules;
 ghost use Rattle.msvc_grammar.specs.Productions as production;
-ghost use Rattle.msvc_cursor.specs.Parser.{Consumes, MayConsume, ReadsAs, Stays};
+ghost use Rattle.msvc_cursor.specs.Parser.{Consumes, MayConsume, ReadsAs};
 ghost use Rattle.msvc_cursor.specs.Rows.{EndsNames, typed_symbol_at};
 ghost use Rattle.msvc_cursor.specs.NestedList.{current, enclosing};
 
@@ -28,7 +27,7 @@ use msvc_cursor::parser::Parser;
 use msvc_grammar::forms::TemplateNames;
 use msvc_nodes::flags::StorageClass;
 use msvc_nodes::kinds::{PlainType, SpecialTableKind, VarStorageKind};
-use msvc_nodes::nodes::{Name, Scope, Symbol, Type, TypedSymbol};
+use msvc_nodes::nodes::{Scope, Type, TypedSymbol};
 use std::alloc::Allocator;
 
 /// Reads `SYMBOL = "?" SYMBOL_BODY`.

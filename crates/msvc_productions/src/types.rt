@@ -1,9 +1,9 @@
 //! Types.
 
 ghost use Rattle.std.specs.Int.{int_wrapping_neg, w32};
-ghost use Rattle.std.specs.Prelude.{codes, map, Some};
-ghost use Rattle.msvc_nodes.specs.NodeView.{name_at, name_of, type_at, type_of};
-ghost use Rattle.msvc_nodes.specs.Trees.{name_trees, numbered, plain, pointing, tagged};
+ghost use Rattle.std.specs.Prelude.{codes, Some};
+ghost use Rattle.msvc_nodes.specs.NodeView.{type_at, type_of};
+ghost use Rattle.msvc_nodes.specs.Trees.{name_trees, numbered, pointing, tagged};
 ghost use Rattle.msvc_nodes.specs.declared.kinds.NumberedType.TheVariants as number_kind;
 ghost use Rattle.msvc_rules.specs.Readers.{and_then, in_node, with_value};
 ghost use Rattle.msvc_grammar.specs.Grammar.{array_class, arrays};
@@ -25,7 +25,7 @@ use msvc_cursor::type_prefixes::type_prefix;
 use msvc_grammar::forms::{MemberPointerForm, ObjectQualifiers, TemplateNames, TypePrefix};
 use msvc_nodes::flags::StorageClass;
 use msvc_nodes::kinds::{NumberedType, PlainType, PointerAffinity, TagKind};
-use msvc_nodes::nodes::{Symbol, Type};
+use msvc_nodes::nodes::Type;
 use std::alloc::Allocator;
 
 /// Reads `TYPE = text of a form, and what the form asks for | ["$"] PLAIN_TYPE`.

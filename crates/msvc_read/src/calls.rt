@@ -1,7 +1,6 @@
 //! The calls that read a symbol: their results own their memory, and their errors have a text.
 
-ghost use Rattle.std.specs.Prelude.{◌≤◌, ℕ, List, map, IfOk, IfErr, None, Some};
-ghost use Rattle.msvc_nodes.specs.NodeView.{typed_symbol_of};
+ghost use Rattle.std.specs.Prelude.{◌≤◌, List, map, IfOk, IfErr, None, Some};
 ghost use Rattle.msvc_nodes.specs.Trees.{SymbolTree};
 ghost use Rattle.msvc_rules.specs.Counts.{node_count};
 ghost use Rattle.msvc_rules.specs.State.{Note};

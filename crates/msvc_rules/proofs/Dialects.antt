@@ -1,5 +1,5 @@
 -- What is proved of a dialect: its grammar passes the checks, and its symbols have what calls promise of them.
-use Rattle.std.specs.Prelude.{ℕ, List, Option, None}
+use Rattle.std.specs.Prelude.{ℕ, List, None}
 use Rattle.msvc_nodes.specs.Trees.{SymbolTree}
 use Rattle.msvc_nodes.specs.declared.error.ErrorRepr.{ErrorRepr}
 use Rattle.msvc_rules.specs.Dialects.{Dialect}

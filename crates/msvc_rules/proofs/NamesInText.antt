@@ -189,7 +189,8 @@ module _ {G : Grammar} (N : Named G) where
   pub derived-parts : (text : List ℕ) (tree : SymbolTree) (rest : List ℕ) (notes : List Note)
       → DerivesIn G text tree rest notes → NamesAreParts text tree
   derived-parts text tree rest notes d =
-      derived_in N (IsPart text) ([], text, refl) (IsTail text) (λ b l low q. (q.0 ++ b ∷ [], q.1 ∙ sym (append_assoc q.0 (b ∷ []) l)))
+      derived_in N (IsPart text) ([], text, refl) (IsTail text)
+      (λ b l low q. (q.0 ++ b ∷ [], q.1 ∙ sym (append_assoc q.0 (b ∷ []) l)))
       (λ v b l low q. (
         (q.0, b ∷ l, q.1),
         (
@@ -220,10 +221,12 @@ around_ascii v b rest low h =
 module _ {G : Grammar} (N : Named G) where
   pub derived-utf8 : (text : List ℕ) (tree : SymbolTree) (rest : List ℕ) (notes : List Note) → IsUtf8 text
       → DerivesIn G text tree rest notes → EachName IsUtf8 tree
-  derived-utf8 text tree rest notes u d = derived_in N IsUtf8 IsUtf8-nil IsUtf8 following_one around_ascii text tree rest notes u d
+  derived-utf8 text tree rest notes u d =
+      derived_in N IsUtf8 IsUtf8-nil IsUtf8 following_one around_ascii text tree rest notes u d
 
 module _ {G : Grammar} (N : Named G) where
   -- no character is cut where the bytes left begin
   pub rest-utf8 : (text : List ℕ) (tree : SymbolTree) (rest : List ℕ) (notes : List Note) → IsUtf8 text
       → DerivesIn G text tree rest notes → IsUtf8 rest
-  rest-utf8 text tree rest notes u d = derived_after N IsUtf8 IsUtf8-nil IsUtf8 following_one around_ascii text tree rest notes u d
+  rest-utf8 text tree rest notes u d =
+      derived_after N IsUtf8 IsUtf8-nil IsUtf8 following_one around_ascii text tree rest notes u d

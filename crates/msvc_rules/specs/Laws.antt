@@ -1,5 +1,5 @@
--- What a grammar that passes the checks promises of every text. `proofs/Laws`, `proofs/Locality` and `proofs/WrittenOut`
--- prove it.
+-- What a grammar that passes the checks promises of every text. `proofs/Laws`, `proofs/Locality` and
+-- `proofs/WrittenOut` prove it.
 use Rattle.std.specs.Prelude.{ℕ, List, [], ◌∷◌, ◌++◌, ◌≡◌}
 use Rattle.msvc_nodes.specs.Trees.{SymbolTree, TypeTree}
 use Rattle.msvc_rules.specs.Reads.{DerivesIn, Reads}

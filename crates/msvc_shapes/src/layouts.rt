@@ -1,4 +1,4 @@
-//! The layouts of shapes: what each row of the table prints, as data.
+//! Holds the layouts of shapes: what each row of the table prints, as data.
 #![tactic(auto, unfolding(crate::specs::Layouts::layout_of, crate::specs::Layouts::slots))]
 
 ghost use Rattle.std.specs.Prelude.{◌≡◌};
@@ -6,7 +6,7 @@ ghost use Rattle.msvc_shapes.specs.Layouts as spec;
 
 use crate::rows::*;
 
-/// The side of a name on which a shape prints slots.
+/// Tells on which side of a name a shape prints slots.
 #[derive(Clone, Copy)]
 pub enum Side {
     /// Before the name, after what the type that the shape is inside of has there.
@@ -15,7 +15,7 @@ pub enum Side {
     Right,
 }
 
-/// A piece of a layout.
+/// Tells what a piece of a layout prints.
 #[derive(Clone, Copy)]
 pub enum Slot<'t> {
     /// Fixed bytes.
@@ -40,15 +40,15 @@ pub enum Slot<'t> {
     Name(usize),
 }
 
-/// The layout of a row.
+/// Holds the layout of a row.
 #[derive(Clone, Copy)]
 struct Layout<'t> {
-    /// Whether type 0 of the shape is printed around it, and then whether the shape stands under that type as the mark of
-    /// a pointer does.
+    /// Tells whether type 0 of the shape is printed around it, and then whether the shape stands under that type as the
+    /// mark of a pointer does.
     around: Option<bool>,
-    /// What the shape prints before the name.
+    /// Holds what the shape prints before the name.
     left: &'t [Slot<'t>],
-    /// What the shape prints after the name.
+    /// Holds what the shape prints after the name.
     right: &'t [Slot<'t>],
 }
 

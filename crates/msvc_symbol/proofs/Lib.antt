@@ -1,2 +1,3 @@
 pub mod Demangled
 pub mod Failed
+pub mod Lawful

@@ -1,3 +1,4 @@
 pub mod Demangled
 pub mod Failures
+pub mod Grammars
 pub mod Steps

@@ -1,30 +1,36 @@
 //! A demangler, which keeps its memory from one symbol to the next.
 
-ghost use Rattle.std.specs.Prelude.{◌≡◌, ℕ, List, IfErr, IfOk, None, Some};
+ghost use Rattle.std.specs.Prelude.{◌≡◌, ℕ, List, [], IfErr, IfOk, None, Some, map};
 ghost use Rattle.msvc_nodes.specs.Trees.{SymbolTree};
 ghost use Rattle.msvc_rules.specs.Counts.{node_count};
-ghost use Rattle.msvc_grammar.specs.Parsed.{GrammarLaws, IsParsed, IsRejected, IsSymbolLength};
+ghost use Rattle.msvc_rules.specs.Parsed.{AreReferencesIn, GrammarLawsIn, IsParsedIn, IsRejectedIn};
+ghost use Rattle.msvc_rules.specs.Parsed.{IsSymbolLengthIn};
 ghost use Rattle.msvc_cursor.specs.Errors.{IsInside};
-ghost use Rattle.msvc_cursor.specs.Failures.{Fails};
+ghost use Rattle.msvc_cursor.specs.Failures.{FailsIn};
 ghost use Rattle.msvc_cursor.specs.Limits.{IsWithin, limit_of_number, limits_of};
-ghost use Rattle.msvc_print.specs.Limited.{empty_within};
-ghost use Rattle.msvc_symbol.specs.Demangled.{HashesAreShown, IsDeclared, IsDeclaredAs, IsDeclaredWithin, IsErrorUnder};
-ghost use Rattle.msvc_symbol.specs.Failures.{IsFailure};
+ghost use Rattle.msvc_cursor.specs.Notes.{note_of};
+ghost use Rattle.msvc_symbol.specs.Demangled.{HashesAreShown, IsDeclaredAsIn, IsDeclaredIn, IsDeclaredWithinIn};
+ghost use Rattle.msvc_symbol.specs.Demangled.{IsErrorUnderIn};
+ghost use Rattle.msvc_symbol.specs.Failures.{IsFailureIn};
+ghost use Rattle.msvc_symbol.specs.Grammars.{dialect_of};
+ghost use Rattle.msvc_symbol.specs.declared.grammar.Grammar.TheVariants.{Crate};
 
 use crate::arena::Arena;
-use crate::steps::declare;
+use crate::grammar::Grammar;
+use crate::steps::{copy_references, declare, measure};
 use alloc_fuse::Fuse;
 use bumpalo::Bump;
+use msvc_cursor::back_references::BackReference;
 use msvc_cursor::failure::Failure;
 use msvc_cursor::limits::Limits;
 use msvc_nodes::error::Error;
 use msvc_nodes::flags::DemangleFlags;
 use msvc_print::Text;
-use msvc_productions::read;
 use std::alloc::{Allocator, Global};
 use std::marker::Model;
 
-/// A demangler that keeps its memory: a symbol that needs no more than those before it makes no request.
+/// A demangler of the symbols of a grammar. It keeps its memory: a symbol that needs no more than those before it makes
+/// no request.
 ///
 /// # Examples
 ///
@@ -32,12 +38,16 @@ use std::marker::Model;
 /// let mut demangler = Demangler::new(alloc);
 /// assert_eq!(rt; demangler.demangle("?x@@3HA", DemangleFlags::llvm())?, "int x");
 /// assert_eq!(rt; demangler.demangle("?f@@YAXXZ", DemangleFlags::NAME_ONLY)?, "f");
+/// let mut full = Demangler::with_grammar(alloc, Grammar::Full);
+/// let declared = full.demangle("?f@@YA?A?<auto>@@H@Z", DemangleFlags::llvm())?;
+/// assert_eq!(rt; declared, "<auto> __cdecl f(int)");
 /// ```
 #[derive(Drop)]
 pub struct Demangler<A: Allocator + Copy = Global>
 where
     Fuse<A>: Allocator,
 {
+    grammar: Grammar,
     arena: Arena<A>,
     /// The declaration of the last symbol.
     text: Text<A>,
@@ -47,19 +57,32 @@ impl<A: Allocator + Copy> Model for Demangler<A>
 where
     Fuse<A>: Allocator,
 {
-    ghost use Rattle.msvc_print.specs.Limited.{LimitedText};
+    ghost use Rattle.msvc_symbol.specs.Grammars.{Kept};
 
-    ghost Value = { LimitedText };
+    ghost Value = { Kept };
 
-    ghost view = { λ d. d.text };
+    ghost view = { λ d. (record {
+      grammar = d.grammar;
+      text = d.text.text;
+    }) };
 }
 
 impl<A: Allocator + Copy> Demangler<A> {
-    /// Makes a demangler. Requests no memory.
+    /// Makes a demangler of the symbols that the crate `msvc-demangler` reads. Requests no memory.
     pub fn new(alloc: A) -> Demangler<A>
-        ensures { result ≡ empty_within usize.MAX }
+        ensures grammar { result.grammar ≡ Crate }
+        ensures text { result.text ≡ Some [] }
+    {
+        Demangler::with_grammar(alloc, Grammar::Crate)
+    }
+
+    /// Makes a demangler of the symbols of a grammar. Requests no memory.
+    pub fn with_grammar(alloc: A, grammar: Grammar) -> Demangler<A>
+        ensures grammar { result.grammar ≡ grammar }
+        ensures text { result.text ≡ Some [] }
     {
         Demangler {
+            grammar,
             arena: Arena::new(alloc),
             text: Text::new(alloc),
         }
@@ -67,17 +90,31 @@ impl<A: Allocator + Copy> Demangler<A> {
 
     /// Makes a demangler of an arena and a text that have all the available memory. Neither is replaced, and no call
     /// reserves more memory than its symbol needs.
-    pub fn over(alloc: A, arena: Bump<Fuse<A>>, text: Text<A>) -> Demangler<A>
-        ensures { result ≡ text }
+    pub fn over(alloc: A, grammar: Grammar, arena: Bump<Fuse<A>>, text: Text<A>) -> Demangler<A>
+        ensures grammar { result.grammar ≡ grammar }
+        ensures text { result.text ≡ text.text }
     {
         Demangler {
+            grammar,
             arena: Arena::over(alloc, arena),
             text,
         }
     }
 
-    /// Reads the symbol that `input` begins with, and prints its declaration as the demangler's text. Returns the bytes
-    /// that the symbol takes.
+    /// Returns the allocator.
+    pub fn alloc(&self) -> A {
+        self.arena.alloc()
+    }
+
+    /// Returns the grammar whose symbols are read.
+    pub fn grammar(&self) -> Grammar
+        ensures { result ≡ self.now.grammar }
+    {
+        self.grammar
+    }
+
+    /// Reads the symbol of a grammar that `input` begins with, and prints its declaration as the demangler's text.
+    /// Returns the bytes that the symbol takes. The grammar may be another than the demangler's.
     ///
     /// # Errors
     ///
@@ -85,16 +122,19 @@ impl<A: Allocator + Copy> Demangler<A> {
     /// fails.
     pub fn declare(
         &mut self,
+        grammar: Grammar,
         input: &str,
         flags: DemangleFlags,
         limits: Limits,
     ) -> Result<usize, Failure>
-        ensures declared { IfOk result (λ length. IsDeclaredAs limits input.now flags.0 length self.new.text) }
-        ensures fails { IfErr result (λ failure. IsFailure limits input.now flags.0 failure) }
+        ensures declared { IfOk result (λ length.
+            IsDeclaredAsIn grammar limits input.now flags.0 length self.new.text) }
+        ensures fails { IfErr result (λ failure. IsFailureIn grammar limits input.now flags.0 failure) }
         ensures inside { IfErr result (λ failure. IsInside input.now failure) }
+        ensures keeps { self.new.grammar ≡ self.old.grammar }
     {
         let arena = self.arena.prepared(input, limits)?;
-        let done = declare(arena, input, flags, limits, &mut self.text);
+        let done = declare(grammar, arena, input, flags, limits, &mut self.text);
         if let Err(Failure::Memory) = done {
             self.arena.drop_next();
         }
@@ -109,45 +149,50 @@ impl<A: Allocator + Copy> Demangler<A> {
         self.text.as_bytes()
     }
 
-    /// Returns the declaration of the symbol that `input` begins with, within limits. It is borrowed until the next
-    /// call.
+    /// Returns the declaration of the symbol of a grammar that `input` begins with, within limits. It is borrowed until
+    /// the next call.
     ///
     /// # Errors
     ///
     /// Fails where [`Demangler::declare`] does.
     pub fn declaration(
         &mut self,
+        grammar: Grammar,
         input: &str,
         flags: DemangleFlags,
         limits: Limits,
     ) -> Result<&str, Failure>
-        ensures declared { IfOk result (λ text. IsDeclaredWithin limits input.now flags.0 text.now) }
-        ensures fails { IfErr result (λ failure. IsFailure limits input.now flags.0 failure) }
+        ensures declared { IfOk result (λ text.
+            IsDeclaredWithinIn grammar limits input.now flags.0 text.now) }
+        ensures fails { IfErr result (λ failure. IsFailureIn grammar limits input.now flags.0 failure) }
         ensures inside { IfErr result (λ failure. IsInside input.now failure) }
     {
-        match self.declare(input, flags, limits) {
+        match self.declare(grammar, input, flags, limits) {
             Ok(_) => Ok(self.text.as_str()),
             Err(failure) => Err(failure),
         }
     }
 
-    /// Returns the length in bytes of the symbol that `input` begins with, within the limit on nodes.
+    /// Returns the length in bytes of the symbol of a grammar that `input` begins with, within the limit on nodes.
     ///
     /// # Errors
     ///
     /// Fails if `input` begins with no symbol, if its tree has more nodes than allowed, or if an allocation fails.
-    pub fn measure(&mut self, input: &str, limits: Limits) -> Result<usize, Failure>
-        ensures parsed { IfOk result (λ _. (tree : SymbolTree) × IsParsed input.now tree
+    pub fn measure(
+        &mut self,
+        grammar: Grammar,
+        input: &str,
+        limits: Limits,
+    ) -> Result<usize, Failure>
+        ensures parsed { IfOk result (λ _. (tree : SymbolTree) × IsParsedIn (dialect_of grammar) input.now tree
             × IsWithin limits.nodes (node_count tree)) }
-        ensures length { IfOk result (λ bytes. IsSymbolLength bytes input.now) }
-        ensures fails { IfErr result (λ failure. Fails limits.nodes input.now failure) }
+        ensures length { IfOk result (λ bytes. IsSymbolLengthIn (dialect_of grammar) bytes input.now) }
+        ensures fails { IfErr result (λ failure. FailsIn (dialect_of grammar) limits.nodes input.now failure) }
         ensures inside { IfErr result (λ failure. IsInside input.now failure) }
+        ensures keeps { self.new.grammar ≡ self.old.grammar }
     {
         let arena = self.arena.prepared(input, limits)?;
-        let measured = match read(arena, input, limits) {
-            Ok(read) => Ok(read.length),
-            Err(failure) => Err(failure),
-        };
+        let measured = measure(grammar, arena, input, limits);
         if let Err(Failure::Memory) = measured {
             self.arena.drop_next();
         }
@@ -156,9 +201,10 @@ impl<A: Allocator + Copy> Demangler<A> {
 
     /// Frees all memory. The next symbol requests it again.
     pub fn clear(&mut self)
-        ensures { self.new ≡ empty_within usize.MAX }
+        ensures text { self.new.text ≡ Some [] }
+        ensures keeps { self.new.grammar ≡ self.old.grammar }
     {
-        *self = Demangler::new(self.arena.alloc());
+        *self = Demangler::with_grammar(self.arena.alloc(), self.grammar);
     }
 
     /// Returns the demangler's arena, which it empties first.
@@ -168,17 +214,20 @@ impl<A: Allocator + Copy> Demangler<A> {
 }
 
 impl Demangler<Global> {
-    /// Returns the declaration of the symbol that `input` begins with, as `demangle` does. It is borrowed
-    /// until the next call.
+    /// Returns the declaration of the symbol that `input` begins with, as `demangle` does. It is borrowed until the next
+    /// call. What is proved of a call names the grammar that the demangler then has, but the prover knows nothing of a
+    /// demangler once a text was borrowed from it: a caller that is to be proved over several calls passes the grammar
+    /// to each, by [`Demangler::declaration`].
     ///
     /// # Errors
     ///
     /// Fails where `demangle` does, with the same error.
     pub fn demangle(&mut self, input: &str, flags: DemangleFlags) -> Result<&str, Error>
-        ensures declared { IfOk result (λ text. (tree : SymbolTree) × IsDeclared input.now tree flags.0 text.now) }
-        ensures rejected { IfErr result (λ e. IsRejected None input.now e) }
-        ensures laws { GrammarLaws input.now }
-        ensures hashes { IfOk result (λ text. HashesAreShown input.now text.now) }
+        ensures declared { IfOk result (λ text. (tree : SymbolTree)
+            × IsDeclaredIn self.old.grammar input.now tree flags.0 text.now) }
+        ensures rejected { IfErr result (λ e. IsRejectedIn (dialect_of self.old.grammar) None input.now e) }
+        ensures laws { GrammarLawsIn (dialect_of self.old.grammar) input.now }
+        ensures hashes { self.old.grammar ≡ Crate → IfOk result (λ text. HashesAreShown input.now text.now) }
     {
         self.demangle_within(input, flags, usize::MAX, usize::MAX)
     }
@@ -197,12 +246,14 @@ impl Demangler<Global> {
         bytes: usize,
     ) -> Result<&str, Error>
         ensures declared { IfOk result (λ text.
-            IsDeclaredWithin (limits_of nodes bytes) input.now flags.0 text.now) }
-        ensures rejected { IfErr result (λ e. IsErrorUnder (limits_of nodes bytes) input.now flags.0 e) }
-        ensures hashes { IfOk result (λ text. HashesAreShown input.now text.now) }
+            IsDeclaredWithinIn self.old.grammar (limits_of nodes bytes) input.now flags.0 text.now) }
+        ensures rejected { IfErr result (λ e.
+            IsErrorUnderIn self.old.grammar (limits_of nodes bytes) input.now flags.0 e) }
+        ensures hashes { self.old.grammar ≡ Crate → IfOk result (λ text. HashesAreShown input.now text.now) }
     {
         let alloc = self.arena.alloc();
-        match self.declaration(input, flags, Limits::new(nodes, bytes)) {
+        let grammar = self.grammar;
+        match self.declaration(grammar, input, flags, Limits::new(nodes, bytes)) {
             Ok(text) => Ok(text),
             Err(failure) => Err(failure.error(alloc, input)),
         }
@@ -214,14 +265,54 @@ impl Demangler<Global> {
     ///
     /// Fails where `symbol_length_within` does, with the same error.
     pub fn symbol_length_within(&mut self, input: &str, nodes: usize) -> Result<usize, Error>
-        ensures parsed { IfOk result (λ _. (tree : SymbolTree) × IsParsed input.now tree
+        ensures parsed { IfOk result (λ _. (tree : SymbolTree)
+            × IsParsedIn (dialect_of self.old.grammar) input.now tree
             × IsWithin (limit_of_number nodes) (node_count tree)) }
-        ensures length { IfOk result (λ bytes. IsSymbolLength bytes input.now) }
-        ensures rejected { IfErr result (λ e. IsRejected (limit_of_number nodes) input.now e) }
+        ensures length { IfOk result (λ bytes. IsSymbolLengthIn (dialect_of self.old.grammar) bytes input.now) }
+        ensures rejected { IfErr result (λ e.
+            IsRejectedIn (dialect_of self.old.grammar) (limit_of_number nodes) input.now e) }
+        ensures keeps { self.new.grammar ≡ self.old.grammar }
     {
-        match self.measure(input, Limits::new(nodes, usize::MAX)) {
+        match self.measure(self.grammar, input, Limits::new(nodes, usize::MAX)) {
             Ok(bytes) => Ok(bytes),
             Err(failure) => Err(failure.error(self.arena.alloc(), input)),
         }
+    }
+
+    /// Returns the digits that were read as whole parameters in the symbol that `input` begins with, as
+    /// `back_references` does.
+    ///
+    /// # Errors
+    ///
+    /// Fails where `back_references` does, with the same error.
+    pub fn back_references(&mut self, input: &str) -> Result<Vec<BackReference>, Error>
+        ensures listed { IfOk result (λ found.
+            AreReferencesIn (dialect_of self.old.grammar) input.now (map note_of found.items)) }
+        ensures rejected { IfErr result (λ e. IsRejectedIn (dialect_of self.old.grammar) None input.now e) }
+        ensures laws { GrammarLawsIn (dialect_of self.old.grammar) input.now }
+        ensures keeps { self.new.grammar ≡ self.old.grammar }
+    {
+        match self.references(input) {
+            Ok(found) => Ok(found),
+            Err(failure) => Err(failure.error(self.arena.alloc(), input)),
+        }
+    }
+
+    /// Returns what [`Demangler::back_references`] does, or why it fails.
+    fn references(&mut self, input: &str) -> Result<Vec<BackReference>, Failure>
+        ensures listed { IfOk result (λ found.
+            AreReferencesIn (dialect_of self.old.grammar) input.now (map note_of found.items)) }
+        ensures fails { IfErr result (λ failure. FailsIn (dialect_of self.old.grammar) None input.now failure) }
+        ensures inside { IfErr result (λ failure. IsInside input.now failure) }
+        ensures keeps { self.new.grammar ≡ self.old.grammar }
+    {
+        let alloc = self.arena.alloc();
+        let grammar = self.grammar;
+        let arena = self.arena.prepared(input, Limits::none())?;
+        let copied = copy_references(grammar, alloc, arena, input);
+        if let Err(Failure::Memory) = copied {
+            self.arena.drop_next();
+        }
+        copied
     }
 }

@@ -3,8 +3,10 @@
 
 mod arena;
 mod demangler;
+mod grammar;
 mod steps;
 
 pub use arena::Arena;
 pub use demangler::Demangler;
-pub use steps::{declare_once, print};
+pub use grammar::Grammar;
+pub use steps::{declare_once, print, read};

@@ -48,7 +48,8 @@ unfolding operator_of
 operator_of-RTTIBaseClassDescriptor i j k l = refl
 
 pub type_of-NonMemberFunction : (c : CallingConv) (p : Params) (w : StorageClass) (b : Box «Type» Global)
-    → type_of (code_type.NonMemberFunction c p w b) ≡ tree.function (convention_of c) (params_of p) w.0 (type_of b.value)
+    → type_of (code_type.NonMemberFunction c p w b)
+    ≡ tree.function (convention_of c) (params_of p) w.0 (type_of b.value)
 unfolding type_of types_of
 type_of-NonMemberFunction c p w b =
     ap (λ x. tree.function (convention_of c) x w.0 (type_of b.value)) (types_of-hidden p)

@@ -1,9 +1,9 @@
 //! Converts values of the enumerations of `msvc_nodes::kinds` to operators, types and conventions of a tree.
 
-ghost use Rattle.std.specs.Prelude.{◌≡◌, IfErr, IfOk};
+ghost use Rattle.std.specs.Prelude.{◌≡◌};
 ghost use Rattle.msvc_nodes.specs.Trees.{base, base_class_descriptor, guard, numbered, operator, plain, pointing};
-ghost use Rattle.msvc_nodes.specs.Trees.{table, tagged};
-ghost use Rattle.msvc_nodes.specs.declared.kinds.CallingConv.{CallingConv};
+ghost use Rattle.msvc_nodes.specs.Trees.{table, tagged, vcall_thunk};
+ghost use Rattle.msvc_tree.specs.Ownable.{IsOwnableConvention};
 ghost use Rattle.msvc_tree.specs.View.{convention_of, name_of, operator_of, scope_of, type_of};
 
 use crate::tree::{CallingConv, NameSequence, Operator, Symbol, Type};
@@ -14,7 +14,6 @@ use msvc_nodes::kinds::{
 };
 use msvc_nodes::nodes::BaseClass;
 use msvc_nodes::{base_types, plain_operators};
-use std::alloc::AllocError;
 
 /// Matches a plain operator with the variant of an owned tree.
 macro_rules! operator_of_kind {
@@ -136,22 +135,26 @@ pub(crate) fn table_type<'a>(
     }
 }
 
+/// Makes a thunk of a virtual call of its offset, in bytes, and its convention.
+pub(crate) fn vcall_thunk_type<'a>(number: i32, convention: Convention) -> Type<'a>
+    requires { IsOwnableConvention convention }
+    ensures { type_of result ≡ vcall_thunk number convention }
+{
+    Type::VCallThunk(number, owned_convention(convention))
+}
+
 /// Returns the convention as owned trees have it.
-///
-/// # Errors
-///
-/// Fails if they don't have it.
-pub(crate) fn owned_convention(convention: Convention) -> Result<CallingConv, AllocError>
-    ensures owned { IfOk result (λ c. convention_of c ≡ convention) }
-    ensures lacking { IfErr result (λ _. (c : CallingConv) → convention_of c ≡ convention → ⊥) }
+pub(crate) fn owned_convention(convention: Convention) -> CallingConv
+    requires { IsOwnableConvention convention }
+    ensures { convention_of result ≡ convention }
 {
     match convention {
-        Convention::Cdecl => Ok(CallingConv::Cdecl),
-        Convention::Pascal => Ok(CallingConv::Pascal),
-        Convention::Thiscall => Ok(CallingConv::Thiscall),
-        Convention::Stdcall => Ok(CallingConv::Stdcall),
-        Convention::Fastcall => Ok(CallingConv::Fastcall),
-        Convention::_Regcall => Ok(CallingConv::_Regcall),
+        Convention::Cdecl => CallingConv::Cdecl,
+        Convention::Pascal => CallingConv::Pascal,
+        Convention::Thiscall => CallingConv::Thiscall,
+        Convention::Stdcall => CallingConv::Stdcall,
+        Convention::Fastcall => CallingConv::Fastcall,
+        Convention::_Regcall => CallingConv::_Regcall,
         Convention::Clrcall
         | Convention::Eabi
         | Convention::Vectorcall
@@ -159,7 +162,7 @@ pub(crate) fn owned_convention(convention: Convention) -> Result<CallingConv, Al
         | Convention::SwiftAsync
         | Convention::PreserveMost
         | Convention::PreserveNone
-        | Convention::Regcall4 => Err(AllocError),
+        | Convention::Regcall4 => unreachable!(),
     }
 }
 

@@ -5,7 +5,8 @@
 ghost use Rattle.std.specs.Prelude.{◌≡◌, IfOk};
 ghost use Rattle.std.specs.Result.{IsOkAnd};
 ghost use Rattle.msvc_nodes.specs.Trees.{array, constant_string, function, member_function, member_pointer, pointing};
-ghost use Rattle.msvc_nodes.specs.Trees.{nested, table, tagged, template, type_descriptor, variable, vcall_thunk};
+ghost use Rattle.msvc_nodes.specs.Trees.{nested, table, tagged, template, type_descriptor, variable};
+ghost use Rattle.msvc_tree.specs.Ownable.{IsOwnableConvention};
 ghost use Rattle.msvc_tree.specs.View.{name_of, params_of, scope_of, tree_of, type_of};
 
 use crate::kinds::{owned_convention, pointing_type, table_type, tagged_type};
@@ -96,12 +97,17 @@ pub(crate) fn function_from<'a>(
     qualifiers: StorageClass,
     returned: Result<Box<Type<'a>>, AllocError>,
 ) -> Result<Type<'a>, AllocError>
+    requires { IsOwnableConvention convention }
     ensures { IfOk result (λ t. IsOkAnd parameters.entry (λ p. IsOkAnd returned.entry (λ b. type_of t
         ≡ function convention (params_of p) qualifiers.0 (type_of b.value)))) }
 {
-    let made = pair_ok(parameters, returned);
-    let (convention, (parameters, returned)) = pair_ok(owned_convention(convention), made)?;
-    Ok(Type::NonMemberFunction(convention, parameters, qualifiers, returned))
+    let (parameters, returned) = pair_ok(parameters, returned)?;
+    Ok(Type::NonMemberFunction(
+        owned_convention(convention),
+        parameters,
+        qualifiers,
+        returned,
+    ))
 }
 
 /// Makes a member function of its parameters and the type that it returns.
@@ -112,12 +118,18 @@ pub(crate) fn member_function_from<'a>(
     qualifiers: StorageClass,
     returned: Result<Box<Type<'a>>, AllocError>,
 ) -> Result<Type<'a>, AllocError>
+    requires { IsOwnableConvention convention }
     ensures { IfOk result (λ t. IsOkAnd parameters.entry (λ p. IsOkAnd returned.entry (λ b. type_of t
         ≡ member_function class.0 convention (params_of p) qualifiers.0 (type_of b.value)))) }
 {
-    let made = pair_ok(parameters, returned);
-    let (convention, (parameters, returned)) = pair_ok(owned_convention(convention), made)?;
-    Ok(Type::MemberFunction(class, convention, parameters, qualifiers, returned))
+    let (parameters, returned) = pair_ok(parameters, returned)?;
+    Ok(Type::MemberFunction(
+        class,
+        owned_convention(convention),
+        parameters,
+        qualifiers,
+        returned,
+    ))
 }
 
 /// Makes a pointer to a member function of its class, its parameters and the type that it returns.
@@ -129,26 +141,20 @@ pub(crate) fn member_pointer_from<'a>(
     qualifiers: StorageClass,
     returned: Result<Box<Type<'a>>, AllocError>,
 ) -> Result<Type<'a>, AllocError>
+    requires { IsOwnableConvention convention }
     ensures { IfOk result (λ t. IsOkAnd pointed.entry (λ s. IsOkAnd parameters.entry (λ p. IsOkAnd returned.entry (λ b.
         type_of t ≡ member_pointer (name_of s.name) (scope_of s.scope) class.0 convention (params_of p) qualifiers.0
         (type_of b.value))))) }
 {
-    let made = pair_ok(pointed, pair_ok(parameters, returned));
-    let (convention, (pointed, (parameters, returned))) = pair_ok(
+    let (pointed, (parameters, returned)) = pair_ok(pointed, pair_ok(parameters, returned))?;
+    Ok(Type::MemberFunctionPointer(
+        pointed,
+        class,
         owned_convention(convention),
-        made,
-    )?;
-    Ok(Type::MemberFunctionPointer(pointed, class, convention, parameters, qualifiers, returned))
-}
-
-/// Makes a thunk of a virtual call of its offset, in bytes, and its convention.
-pub(crate) fn vcall_thunk_from<'a>(
-    number: i32,
-    convention: Convention,
-) -> Result<Type<'a>, AllocError>
-    ensures { IfOk result (λ t. type_of t ≡ vcall_thunk number convention) }
-{
-    Ok(Type::VCallThunk(number, owned_convention(convention)?))
+        parameters,
+        qualifiers,
+        returned,
+    ))
 }
 
 /// Makes a variable of its type.

@@ -6,13 +6,16 @@ ghost use Rattle.std.specs.Prelude.{◌≡◌, IfOk, Some};
 ghost use Rattle.msvc_nodes.specs.NodeView.{name_of as node_name, type_of as node_type, names_in as node_names};
 ghost use Rattle.msvc_nodes.specs.NodeView.{types_in as node_types, typed_symbol_of};
 ghost use Rattle.msvc_nodes.specs.Trees.{anonymous, base_class_descriptor};
+ghost use Rattle.msvc_tree.specs.Ownable.{IsOwnable, IsOwnableName, IsOwnableNames, IsOwnableType, IsOwnableTypes};
 ghost use Rattle.msvc_tree.specs.View.{name_of, type_of, scope_of, params_of, tree_of};
 
-use crate::kinds::{base_type, guard_operator, numbered_type, plain_operator, plain_type};
+use crate::kinds::{
+    base_type, guard_operator, numbered_type, plain_operator, plain_type, vcall_thunk_type,
+};
 use crate::parts::{
     array_from, constant_string_from, function_from, member_function_from, member_pointer_from,
     nested_from, pointing_from, symbol_from, table_from, tagged_from, template_from,
-    type_descriptor_from, typed_symbol_from, variable_from, vcall_thunk_from,
+    type_descriptor_from, typed_symbol_from, variable_from,
 };
 use crate::results::{box_ok, push_ok};
 use crate::tree::{Name, NameSequence, Operator, Params, ParseResult, Symbol, Type};
@@ -21,15 +24,18 @@ use std::alloc::{AllocError, Global};
 
 /// Converts the nodes of a symbol to a tree, which does not borrow from their arena.
 ///
+/// The nodes must have no [`nodes::Shape`], and no convention that [`crate::tree::CallingConv`] lacks, since owned trees
+/// can't hold these. The crate's grammar makes no such nodes.
+///
 /// # Errors
 ///
-/// Fails if an allocation fails, or if a node is a [`nodes::Shape`] or has a convention that
-/// [`crate::tree::CallingConv`] lacks, since owned trees can't hold these. The crate's grammar makes no such nodes.
+/// Fails if an allocation fails.
 #[cycle(to_tree)]
 pub fn nodes_to_tree<'a, 'b>(
     alloc: Global,
     whole: &'b nodes::TypedSymbol<'a, 'b>,
 ) -> Result<ParseResult<'a>, AllocError>
+    requires { IsOwnable (typed_symbol_of whole.now) }
     ensures { IfOk result (λ r. tree_of r ≡ typed_symbol_of whole.now) }
 {
     typed_symbol_from(
@@ -45,6 +51,8 @@ pub(crate) fn symbol_to_tree<'a, 'b>(
     alloc: Global,
     symbol: &'b nodes::Symbol<'a, 'b>,
 ) -> Result<Symbol<'a>, AllocError>
+    requires name { IsOwnableName (node_name symbol.now.name.now) }
+    requires scope { IsOwnableNames (node_names symbol.now.scope.now) }
     ensures name { IfOk result (λ s. name_of s.name ≡ node_name symbol.now.name.now) }
     ensures scope { IfOk result (λ s. scope_of s.scope ≡ node_names symbol.now.scope.now) }
 {
@@ -60,6 +68,7 @@ pub(crate) fn name_to_tree<'a, 'b>(
     alloc: Global,
     name: &'b nodes::Name<'a, 'b>,
 ) -> Result<Name<'a>, AllocError>
+    requires { IsOwnableName (node_name name.now) }
     ensures { IfOk result (λ n. name_of n ≡ node_name name.now) }
 {
     match name {
@@ -74,6 +83,7 @@ fn any_name_to_tree<'a, 'b>(
     alloc: Global,
     name: &'b nodes::Name<'a, 'b>,
 ) -> Result<Name<'a>, AllocError>
+    requires { IsOwnableName (node_name name.now) }
     ensures { IfOk result (λ n. name_of n ≡ node_name name.now) }
 {
     match name {
@@ -94,7 +104,7 @@ fn any_name_to_tree<'a, 'b>(
         ),
         nodes::Name::Discriminator(number) => Ok(Name::Discriminator(*number)),
         nodes::Name::Nested(symbol) => nested_from(box_ok(alloc, nodes_to_tree(alloc, *symbol))),
-        nodes::Name::Shape(_) => Err(AllocError),
+        nodes::Name::Shape(_) => unreachable!(),
     }
 }
 
@@ -104,6 +114,7 @@ pub(crate) fn type_to_tree<'a, 'b>(
     alloc: Global,
     node: &'b nodes::Type<'a, 'b>,
 ) -> Result<Type<'a>, AllocError>
+    requires { IsOwnableType (node_type node.now) }
     ensures { IfOk result (λ t. type_of t ≡ node_type node.now) }
 {
     match node {
@@ -147,8 +158,10 @@ pub(crate) fn type_to_tree<'a, 'b>(
         nodes::Type::Table(table, qualifiers, scope) => {
             table_from(*table, names_to_tree(alloc, scope.names), *qualifiers)
         }
-        nodes::Type::VcallThunk(number, convention) => vcall_thunk_from(*number, *convention),
-        nodes::Type::Shape(_) => Err(AllocError),
+        nodes::Type::VcallThunk(number, convention) => {
+            Ok(vcall_thunk_type(*number, *convention))
+        }
+        nodes::Type::Shape(_) => unreachable!(),
     }
 }
 
@@ -158,6 +171,7 @@ fn boxed_to_tree<'a, 'b>(
     alloc: Global,
     node: &'b nodes::Type<'a, 'b>,
 ) -> Result<Box<Type<'a>>, AllocError>
+    requires { IsOwnableType (node_type node.now) }
     ensures { IfOk result (λ b. type_of b.value ≡ node_type node.now) }
 {
     box_ok(alloc, type_to_tree(alloc, node))
@@ -170,6 +184,7 @@ pub(crate) fn names_to_tree<'a, 'b>(
     alloc: Global,
     names: &'b [&'b nodes::Name<'a, 'b>],
 ) -> Result<NameSequence<'a>, AllocError>
+    requires { IsOwnableNames (node_names names.now) }
     ensures { IfOk result (λ s. scope_of s ≡ node_names names.now) }
 {
     let mut made = Vec::with_capacity(alloc, names.len())?;
@@ -186,6 +201,7 @@ pub(crate) fn types_to_tree<'a, 'b>(
     alloc: Global,
     types: &'b [&'b nodes::Type<'a, 'b>],
 ) -> Result<Params<'a>, AllocError>
+    requires { IsOwnableTypes (node_types types.now) }
     ensures { IfOk result (λ p. params_of p ≡ node_types types.now) }
 {
     let mut made = Vec::with_capacity(alloc, types.len())?;

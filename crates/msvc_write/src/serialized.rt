@@ -1,9 +1,10 @@
 //! The declaration of an owned tree.
 
-ghost use Rattle.std.specs.Prelude.{◌≡◌, IfOk, IfErr, Some, string_bytes};
+ghost use Rattle.std.specs.Prelude.{◌≡◌, ◌<◌, IfOk, IfErr, Some, string_bytes};
 ghost use Rattle.msvc_nodes.specs.declared.error.ErrorRepr.TheVariants.{Memory};
 ghost use Rattle.msvc_tree.specs.View.{tree_of};
 ghost use Rattle.msvc_print.specs.Declaration.{declaration};
+ghost use Rattle.msvc_print.specs.Flags.{full_style};
 ghost use Rattle.msvc_write.specs.Serialized.{IsTextOf};
 
 use msvc_nodes::error::Error;
@@ -20,7 +21,8 @@ fn declared(
     input: &ParseResult<'_>,
     flags: DemangleFlags,
 ) -> Result<Text, AllocError>
-    ensures { IfOk result (λ out. out.text ≡ Some (declaration (tree_of input.now) flags.0)) }
+    ensures text { IfOk result (λ out. out.text ≡ Some (declaration (tree_of input.now) flags.0)) }
+    ensures narrow { IfOk result (λ _. flags.0 < full_style) }
 {
     let arena = arena_for_nodes(alloc)?;
     let symbol = tree_to_nodes(&arena, input)?;

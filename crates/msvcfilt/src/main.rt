@@ -1,7 +1,8 @@
 //! `msvcfilt [OPTIONS] [FILE..]` writes each file, or standard input if there is none, with each symbol in it replaced
 //! by its declaration: `foo!void __cdecl crash(void)+0x12` for `foo!?crash@@YAXXZ+0x12`. With `-n` it prints names
-//! without types. With `-s` the arguments are no files but symbols, or other texts, each filtered as a line. It writes
-//! the text of each line before it waits for the next.
+//! without types. With `-s` the arguments are no files but symbols, or other texts, each filtered as a line. With
+//! `--grammar full` symbols are read as today's compilers write them. It writes the text of each line before it waits
+//! for the next.
 //!
 //! The exit status is 0, or 1 if a file or standard input can't be read, the text can't be written, or an allocation
 //! fails, or 2 if the arguments are wrong. Then standard error has a message, unless the reader of the output pipe has
@@ -12,12 +13,13 @@ mod options;
 mod streams;
 
 use clap::{ArgMatches, Command};
-use msvc_demangler::{DemangleFlags, Fault, Watched, filter_text};
+use msvc_demangler::{DemangleFlags, Demangler, Fault, Watched, filter_text_in};
 use msvc_stdio::{BUFFER_LENGTH, Input, Shared, arguments, ended, failure};
+use options::Settings;
 use std::alloc::Global;
 use std::cell::{Cell, RefCell};
 use std::fs::File;
-use std::io::{BufReader, BufWriter, Error, ErrorKind, Read, Write};
+use std::io::{BufRead, BufReader, BufWriter, Error, ErrorKind, Read, Write};
 use std::process::ExitCode;
 use streams::{Output, Source};
 
@@ -35,7 +37,7 @@ fn main(rt: HostRuntime) -> ExitCode {
 fn perform(rt: &HostRuntime, words: &[String]) -> ExitCode {
     let program = Command::new(rt.alloc(), PROGRAM).version("0.11.0");
     match options::read(rt.alloc(), program, words) {
-        Ok((matches, flags)) => run(rt, &matches, flags),
+        Ok((matches, settings)) => run(rt, &matches, settings),
         Err(error) => show(rt, &error),
     }
 }
@@ -51,13 +53,51 @@ fn show(rt: &HostRuntime, error: &clap::Error) -> ExitCode {
     }
 }
 
+/// How texts are filtered: with which demangler, and under which flags.
+#[derive(Drop)]
+struct Filter {
+    demangler: Demangler,
+    flags: DemangleFlags,
+}
+
+impl Filter {
+    /// Makes a filter with these settings. Requests no memory.
+    fn new(alloc: Global, settings: Settings) -> Filter {
+        Filter {
+            demangler: Demangler::with_grammar(alloc, settings.grammar),
+            flags: settings.flags,
+        }
+    }
+
+    /// Filters a stream that has a buffer to its end.
+    fn text<R: BufRead, W: Write>(
+        &mut self,
+        input: &mut Watched<R>,
+        out: &mut Watched<W>,
+    ) -> Result<(), Fault> {
+        filter_text_in(&mut self.demangler, input, out, self.flags)
+    }
+
+    /// Filters a stream to its end.
+    fn stream<R: Read + Drop>(&mut self, stream: R, output: &RefCell<Output>) -> Result<(), Fault> {
+        let Ok(held) = BufReader::with_capacity(self.demangler.alloc(), BUFFER_LENGTH, stream)
+        else {
+            return Err(Fault::Memory);
+        };
+        let mut input = Watched::new(Input::new(held, output));
+        let done = self.text(&mut input, &mut Watched::new(Shared(output)));
+        ended(input, done)
+    }
+}
+
 /// Filters what the arguments name, and flushes the text, also after a fault. Returns the exit status.
-fn run(rt: &HostRuntime, matches: &ArgMatches<'_>, flags: DemangleFlags) -> ExitCode {
+fn run(rt: &HostRuntime, matches: &ArgMatches<'_>, settings: Settings) -> ExitCode {
     let Ok(held) = BufWriter::with_capacity(rt.alloc(), BUFFER_LENGTH, rt.stdout()) else {
         return failure(rt, PROGRAM, Fault::Memory);
     };
     let output = RefCell::new(Output::new(held));
-    let done = filter_arguments(rt, matches, &output, flags);
+    let mut filter = Filter::new(rt.alloc(), settings);
+    let done = filter_arguments(rt, matches, &output, &mut filter);
     let mut output = output.into_inner();
     let flushed = output.flush().map_err(|_| Fault::Write);
     match flushed.and(done) {
@@ -72,30 +112,29 @@ fn filter_arguments(
     rt: &HostRuntime,
     matches: &ArgMatches<'_>,
     output: &RefCell<Output>,
-    flags: DemangleFlags,
+    filter: &mut Filter,
 ) -> Result<ExitCode, Fault> {
     let arguments = matches
         .get_strs("file")
         .unwrap_or(&[options::STANDARD_INPUT]);
     if matches.get_flag("symbols") {
-        filter_symbols(rt.alloc(), arguments, output, flags)?;
+        filter_symbols(arguments, output, filter)?;
         Ok(ExitCode::SUCCESS)
     } else {
-        filter_files(rt, arguments, output, flags)
+        filter_files(rt, arguments, output, filter)
     }
 }
 
 /// Filters each symbol, or other text, as a line.
 fn filter_symbols(
-    alloc: Global,
     symbols: &[&str],
     output: &RefCell<Output>,
-    flags: DemangleFlags,
+    filter: &mut Filter,
 ) -> Result<(), Fault> {
     let mut out = Watched::new(Shared(output));
     for symbol in symbols {
         let line = symbol.as_bytes().chain(b"\n".as_slice());
-        filter_text(alloc, &mut Watched::new(line), &mut out, flags)?;
+        filter.text(&mut Watched::new(line), &mut out)?;
     }
     Ok(())
 }
@@ -106,11 +145,11 @@ fn filter_files(
     rt: &HostRuntime,
     names: &[&str],
     output: &RefCell<Output>,
-    flags: DemangleFlags,
+    filter: &mut Filter,
 ) -> Result<ExitCode, Fault> {
     let mut status = ExitCode::SUCCESS;
     for name in names {
-        if !filter_file(rt, *name, output, flags)? {
+        if !filter_file(rt, *name, output, filter)? {
             status = ExitCode::FAILURE;
         }
     }
@@ -123,14 +162,14 @@ fn filter_file(
     rt: &HostRuntime,
     name: &str,
     output: &RefCell<Output>,
-    flags: DemangleFlags,
+    filter: &mut Filter,
 ) -> Result<bool, Fault> {
     let reason = Cell::new(None);
     let done = if name == options::STANDARD_INPUT {
-        filter(rt.alloc(), rt.stdin(), output, flags)
+        filter.stream(rt.stdin(), output)
     } else {
         match File::open(rt, name) {
-            Ok(file) => filter(rt.alloc(), Source::new(file, &reason), output, flags),
+            Ok(file) => filter.stream(Source::new(file, &reason), output),
             Err(error) => {
                 report_open(rt, name, error);
                 return Ok(false);
@@ -145,21 +184,6 @@ fn filter_file(
         }
         Err(fault) => Err(fault),
     }
-}
-
-/// Filters a stream to its end.
-fn filter<R: Read + Drop>(
-    alloc: Global,
-    stream: R,
-    output: &RefCell<Output>,
-    flags: DemangleFlags,
-) -> Result<(), Fault> {
-    let Ok(held) = BufReader::with_capacity(alloc, BUFFER_LENGTH, stream) else {
-        return Err(Fault::Memory);
-    };
-    let mut input = Watched::new(Input::new(held, output));
-    let done = filter_text(alloc, &mut input, &mut Watched::new(Shared(output)), flags);
-    ended(input, done)
 }
 
 /// Reports that a file can't be opened. If there is none, and its name may be a symbol, says which option takes those.

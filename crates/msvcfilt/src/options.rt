@@ -2,7 +2,7 @@
 
 use clap::error::ErrorKind;
 use clap::{Arg, ArgAction, ArgMatches, Command, Error};
-use msvc_demangler::{DemangleFlags, Flags};
+use msvc_demangler::{DemangleFlags, Flags, Grammar};
 use std::alloc::{AllocError, Global};
 
 /// The output of `--help`: at most 24 lines of 80 columns.
@@ -25,8 +25,8 @@ Usage: msvcfilt [OPTIONS] [FILE]..., or msvcfilt [OPTIONS] -s SYMBOL...
                            Set by default; --flags can clear them
   --flags WORD             Start from these flags, not from 0xE00400: a number,
                            decimal or, after 0x, hexadecimal
-  -h, --help               Print this help
-  -V, --version            Print the version
+  --grammar NAME           crate (default), or full: what compilers write today
+  -h, --help               Print this help; -V, --version prints the version
 
 Example: echo 'at ?f@@YAXXZ+0x5' | msvcfilt
          at void __cdecl f(void)+0x5
@@ -52,7 +52,14 @@ const FLAG_OPTIONS: [(&str, DemangleFlags); 12] = [
     ("space-before-pointer", DemangleFlags::SPACE_BEFORE_POINTER),
 ];
 
-/// Reads the words of the program's command line into its arguments and the flags.
+/// What the options set: how symbols are read and printed.
+#[derive(Clone, Copy)]
+pub(crate) struct Settings {
+    pub(crate) flags: DemangleFlags,
+    pub(crate) grammar: Grammar,
+}
+
+/// Reads the words of the program's command line into its arguments and settings.
 ///
 /// # Errors
 ///
@@ -61,20 +68,19 @@ pub(crate) fn read<'a>(
     alloc: Global,
     program: Command<'a>,
     words: &'a [String],
-) -> Result<(ArgMatches<'a>, DemangleFlags), Error> {
+) -> Result<(ArgMatches<'a>, Settings), Error> {
     let mut command = with_options(alloc, program)?;
     let matches = command.try_get_matches_from_mut(words)?;
     if matches.get_flag("symbols") && !matches.contains_id("file") {
         let message = "'--symbols' requires a SYMBOL";
         return Err(command.error(ErrorKind::MissingRequiredArgument, message)?);
     }
-    match flags(&matches) {
-        Some(flags) => Ok((matches, flags)),
-        None => {
-            let message = "the value of '--flags <WORD>' is no number of 32 bits";
-            Err(command.error(ErrorKind::ValueValidation, message)?)
-        }
-    }
+    let message = match (flags(&matches), grammar(&matches)) {
+        (Some(flags), Some(grammar)) => return Ok((matches, Settings { flags, grammar })),
+        (None, _) => "the value of '--flags <WORD>' is no number of 32 bits",
+        (_, None) => "the value of '--grammar <NAME>' is neither 'crate' nor 'full'",
+    };
+    Err(command.error(ErrorKind::ValueValidation, message)?)
 }
 
 /// Declares the options and arguments of the program.
@@ -87,12 +93,16 @@ fn with_options<'a>(alloc: Global, program: Command<'a>) -> Result<Command<'a>, 
         .long("symbols")
         .action(ArgAction::SetTrue);
     let word = Arg::new(alloc, "flags").long("flags").value_name("WORD");
+    let grammar = Arg::new(alloc, "grammar")
+        .long("grammar")
+        .value_name("NAME");
     let mut command = program
         .override_help(HELP)
         .args_override_self(true)
         .arg(file)?
         .arg(symbols)?
-        .arg(word)?;
+        .arg(word)?
+        .arg(grammar)?;
     for (name, _) in FLAG_OPTIONS {
         let mut option = Arg::new(alloc, name).long(name).action(ArgAction::SetTrue);
         if name == "name-only" {
@@ -115,6 +125,15 @@ fn flags(matches: &ArgMatches<'_>) -> Option<DemangleFlags> {
         }
     }
     Some(flags)
+}
+
+/// Returns the grammar that `--grammar` names, or none if its value is no name of a grammar.
+fn grammar(matches: &ArgMatches<'_>) -> Option<Grammar> {
+    match matches.get_str("grammar") {
+        None | Some("crate") => Some(Grammar::Crate),
+        Some("full") => Some(Grammar::Full),
+        Some(_) => None,
+    }
 }
 
 /// Reads a number of 32 bits: a decimal one, or a hexadecimal one after `0x`.

@@ -7,7 +7,7 @@ use Rattle.msvc_facts.proofs.Letters.{tables}
 use Rattle.msvc_facts.proofs.Runs.{faults, line_runs}
 use Rattle.msvc_facts.proofs.Texts.{answers, arguments, lines, words}
 use Rattle.msvc_facts.proofs.Trees.{counts, refusals, trees}
-use Rattle.msvc_facts.proofs.ShapeTexts.{shape-texts}
+use Rattle.msvc_facts.proofs.FullTexts.{full-texts}
 use Rattle.msvc_facts.proofs.facts.Goals as goal
 
 pub returns-clause-tables : goal.returns-clause-tables
@@ -49,8 +49,8 @@ returns-clause-template_arguments c = template_arguments
 pub returns-clause-flags : goal.returns-clause-flags
 returns-clause-flags c = flags
 
-pub returns-clause-shapes : goal.returns-clause-shapes
-returns-clause-shapes c = shape-texts
+pub returns-clause-full_texts : goal.returns-clause-full_texts
+returns-clause-full_texts c = full-texts
 
 pub returns-clause-errors : goal.returns-clause-errors
 returns-clause-errors c = errors

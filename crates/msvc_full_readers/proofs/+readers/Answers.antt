@@ -11,8 +11,8 @@ use Rattle.msvc_rules.specs.Reads.{emptied, put_back}
 use Rattle.msvc_rules.specs.Rules.{after}
 use Rattle.msvc_rules.specs.State.{State}
 use Rattle.msvc_full_grammar.specs.Grammar.{template_inside}
-use Rattle.msvc_full_grammar.specs.Productions.{argument, arguments, nested_name, other_encoding, parameter, parameters, scope}
-use Rattle.msvc_full_grammar.specs.Productions.{template_name}
+use Rattle.msvc_full_grammar.specs.Productions.{argument, arguments, nested_name, other_encoding, parameter, parameters}
+use Rattle.msvc_full_grammar.specs.Productions.{scope, template_name}
 use Rattle.msvc_full_grammar.specs.Reading.{read, read_name}
 use Rattle.msvc_full_grammar.proofs.Laws.{type_made}
 use Rattle.msvc_cursor.proofs.Nodes.{frame_names, frame_types, map_last}

@@ -173,7 +173,8 @@ decreases-names::scope-names g l = length l.parser.rest.now
 -- the parameters so far, before what is read of the rest, are what is read of all; those that others gather stay
 abbrev pub invariant-parameters::parameters-parameters : goal.invariant-parameters::parameters-parameters
 invariant-parameters::parameters-parameters g l =
-    (with_front (map type_at (current l.parser.listed_types)) (read_name parameters l.parser.rest.now (state_of l.parser))
+    (with_front (map type_at (current l.parser.listed_types))
+    (read_name parameters l.parser.rest.now (state_of l.parser))
     ≡ read_name parameters l.fn.parser.rest.now (state_of l.fn.parser))
     × (length l.parser.rest.now ≤ length l.fn.parser.rest.now)
     × (l.checkpoint.from ≡ length (enclosing l.fn.parser.listed_types))
@@ -189,7 +190,8 @@ decreases-parameters::parameters-parameters g l = length l.parser.rest.now
 -- and the arguments
 abbrev pub invariant-arguments::arguments-arguments : goal.invariant-arguments::arguments-arguments
 invariant-arguments::arguments-arguments g l =
-    (with_front (map type_at (current l.parser.listed_types)) (read_name arguments l.parser.rest.now (state_of l.parser))
+    (with_front (map type_at (current l.parser.listed_types))
+    (read_name arguments l.parser.rest.now (state_of l.parser))
     ≡ read_name arguments l.fn.parser.rest.now (state_of l.fn.parser))
     × (length l.parser.rest.now ≤ length l.fn.parser.rest.now)
     × (l.checkpoint.from ≡ length (enclosing l.fn.parser.listed_types))

@@ -8,7 +8,7 @@ use Rattle.msvc_print.proofs.function_types.write_access_words.Goals as goal
 
 pub returns : goal.returns
 returns g c =
-    let is : has c.args.flags.0 no_access_specifiers ≡ false = search rules in
+    let is : has c.args.flags.bits no_access_specifiers ≡ false = search rules in
     on_ok_weaker c.write_member_word-3.result
     (λ last. settled_two _ _ _ _ _ c.in_ok-write_member_word.ensures
     (settled_two _ _ _ _ _ c.in_ok-write_member_word-2.ensures last)

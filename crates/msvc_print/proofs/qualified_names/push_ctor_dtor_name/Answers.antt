@@ -9,7 +9,7 @@ use Rattle.msvc_print.proofs.qualified_names.push_ctor_dtor_name.Goals as goal
 pub returns-in-empty-clause-text : goal.returns-in-empty-clause-text
 unfolding scope_pieces
 returns-in-empty-clause-text g c = on_ok_weaker c.push.result (λ last out. pushed_one _ _ _ out _ last
-    ∙ same_pieces _ out _ _ _ (sym (ap (λ ns. class_name ns (cond c.args.destructor tilde []) c.args.flags.0)
+    ∙ same_pieces _ out _ _ _ (sym (ap (λ ns. class_name ns (cond c.args.destructor tilde []) c.args.flags.bits)
     (names_in-none _ c.in-empty.len_below))))
     c.push.ensures
 
@@ -23,8 +23,8 @@ unfolding scope_pieces
 returns-in_ok-push-in-len1-up-2-clause-text g c = λ out.
     pushed_two _ _ _ _ _ out _ c.in_ok-push-in-len1-up.ensures c.in_ok-push-in-len1-up-2.ensures
     ∙ same_pieces _ out _ _ _
-    (sym (ap (λ d. class_name (names_in c.args.names.now) (cond d tilde []) c.args.flags.0) c.if-destructor.true
-    ∙ ap (λ ns. class_name ns tilde c.args.flags.0) (names_in-first _ _ c.in-len1-up.len_at_least)))
+    (sym (ap (λ d. class_name (names_in c.args.names.now) (cond d tilde []) c.args.flags.bits) c.if-destructor.true
+    ∙ ap (λ ns. class_name ns tilde c.args.flags.bits) (names_in-first _ _ c.in-len1-up.len_at_least)))
 
 pub returns-in_ok-push-in-len1-up-2-clause-lighter : goal.returns-in_ok-push-in-len1-up-2-clause-lighter
 returns-in_ok-push-in-len1-up-2-clause-lighter g c = omega (
@@ -37,8 +37,8 @@ pub returns-else-destructor-clause-text : goal.returns-else-destructor-clause-te
 unfolding scope_pieces
 returns-else-destructor-clause-text g c = λ out. pushed_one _ _ _ out _ c.in_ok-push-in-len1-up.ensures
     ∙ same_pieces _ out _ _ _
-    (sym (ap (λ d. class_name (names_in c.args.names.now) (cond d tilde []) c.args.flags.0) c.if-destructor.false
-    ∙ ap (λ ns. class_name ns [] c.args.flags.0) (names_in-first _ _ c.in-len1-up.len_at_least)))
+    (sym (ap (λ d. class_name (names_in c.args.names.now) (cond d tilde []) c.args.flags.bits) c.if-destructor.false
+    ∙ ap (λ ns. class_name ns [] c.args.flags.bits) (names_in-first _ _ c.in-len1-up.len_at_least)))
 
 pub returns-else-destructor-clause-lighter : goal.returns-else-destructor-clause-lighter
 returns-else-destructor-clause-lighter g c =

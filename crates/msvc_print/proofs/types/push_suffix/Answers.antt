@@ -14,7 +14,7 @@ returns-in_ok-push-clause-lighter g c = omega (arith, work_one _ _ _ c.in_ok-pus
 pub returns-else-may_have-clause-text : goal.returns-else-may_have-clause-text
 unfolding after type_of
 returns-else-may_have-clause-text g c =
-    let flags = c.args.flags.0 in
+    let flags = c.args.flags.bits in
     let none : after (type_of c.args.t.now) c.args.pointed flags ≡ [] = elim c.match-t.branch [
       | in-Pointing w ↦ ap (λ t. after (type_of t) c.args.pointed flags) w.in-Pointing.is
           ∙ w.may_have_suffix-may_have.ensures (sym w.may_have-is ∙ c.if-may_have.false) true flags

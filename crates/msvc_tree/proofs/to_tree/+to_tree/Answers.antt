@@ -1,10 +1,12 @@
 use Rattle.std.proofs.Common.{◌≡◌, ◌<◌, ◌+◌, [], ◌∷◌, ◌++◌, suc, rules, slice_index_or, sym, ap, ◌∙◌, map, arith}
+use Rattle.std.proofs.Common.{subst}
 use Rattle.std.proofs.lemmas.List.{map_more, take_all}
 use Rattle.std.specs.Borrow.{Bor}
 use Rattle.msvc_nodes.specs.NodeView.{name_at, type_at, names_in as node_names, types_in as node_types}
 use Rattle.msvc_nodes.specs.NodeView.{name_of as node_name, type_of as node_type}
 use Rattle.msvc_nodes.proofs.TreeSizes.{name_size, names_size, type_size, types_size}
 use Rattle.msvc_nodes.specs.Trees.{member_pointer, table, tagged}
+use Rattle.msvc_tree.specs.Ownable.{IsOwnableType}
 use Rattle.msvc_tree.specs.View.{name_of, type_of, scope_of, params_of}
 use Rattle.msvc_nodes.specs.declared.kinds.PlainType.TheVariants as plain_kind
 use Rattle.msvc_nodes.specs.declared.nodes.Name as node_code
@@ -14,6 +16,7 @@ use Rattle.msvc_nodes.specs.declared.nodes.Type.{«Type»}
 use Rattle.msvc_tree.proofs.Kept.{pushed-seen}
 use Rattle.msvc_nodes.proofs.NodeLists.{node_names-size, node_types-size}
 use Rattle.msvc_tree.proofs.NodeLists.{names-from_map, types-from_map}
+use Rattle.msvc_tree.proofs.Ownable.{names-ownable_at, types-ownable_at}
 use Rattle.msvc_nodes.proofs.NodeViews.{type_of-MemberPointer, type_of-Table, type_of-Tagged}
 use Rattle.msvc_tree.proofs.Seen.{both, seen-of, seen-of-three}
 use Rattle.msvc_tree.proofs.to_tree.+to_tree.Goals as goal
@@ -29,8 +32,10 @@ pub names_to_tree-name_to_tree-requires : goal.names_to_tree-name_to_tree-requir
 names_to_tree-name_to_tree-requires t c =
     let small : name_size (name_at (slice_index_or c.args.names.now c.loop-name.name-index no_name))
     < names_size (node_names c.args.names.now) =
-    node_names-size c.args.names.now no_name c.loop-name.name-index (omega arith) in
-    omega (arith, c.decreases)
+    node_names-size c.args.names.now no_name c.loop-name.name-index (omega arith) in (
+      omega (arith, c.decreases),
+      names-ownable_at c.args.names.now no_name c.loop-name.name-index (omega arith) c.requires,
+    )
 
 pub names_to_tree-loop-name-preserved : goal.names_to_tree-loop-name-preserved
 names_to_tree-loop-name-preserved t c =
@@ -46,8 +51,10 @@ pub types_to_tree-type_to_tree-requires : goal.types_to_tree-type_to_tree-requir
 types_to_tree-type_to_tree-requires t c =
     let small : type_size (type_at (slice_index_or c.args.types.now c.loop-item.item-index no_type))
     < types_size (node_types c.args.types.now) =
-    node_types-size c.args.types.now no_type c.loop-item.item-index (omega arith) in
-    omega (arith, c.decreases)
+    node_types-size c.args.types.now no_type c.loop-item.item-index (omega arith) in (
+      omega (arith, c.decreases),
+      types-ownable_at c.args.types.now no_type c.loop-item.item-index (omega arith) c.requires,
+    )
 
 pub types_to_tree-loop-item-preserved : goal.types_to_tree-loop-item-preserved
 types_to_tree-loop-item-preserved t c =
@@ -72,26 +79,35 @@ types_to_tree-returns t c =
 pub type_to_tree-symbol_to_tree-requires : goal.type_to_tree-symbol_to_tree-requires
 type_to_tree-symbol_to_tree-requires t c =
     let w = c.in-Tagged in
+    let s = w.symbol.now in
+    let seen : node_type c.args.node.now ≡ tagged w.tag (node_name s.name.now) (node_names s.scope.now) w.qualifiers.0 =
+    ap node_type w.is ∙ type_of-Tagged w.tag w.qualifiers w.symbol in
     let size : type_size (node_type c.args.node.now)
-    ≡ suc (name_size (node_name w.symbol.now.name.now) + names_size (node_names w.symbol.now.scope.now)) =
-    ap type_size (ap node_type w.is ∙ type_of-Tagged w.tag w.qualifiers w.symbol) in
-    omega (arith, c.decreases)
+    ≡ suc (name_size (node_name s.name.now) + names_size (node_names s.scope.now)) = ap type_size seen in
+    (omega (arith, c.decreases), subst IsOwnableType seen c.requires)
 
 pub type_to_tree-types_to_tree-requires-in-MemberPointer : goal.type_to_tree-types_to_tree-requires-in-MemberPointer
 type_to_tree-types_to_tree-requires-in-MemberPointer t c =
     let w = c.in-MemberPointer in
+    let s = w.symbol.now in
+    let f = w.function.now in
+    let seen : node_type c.args.node.now
+    ≡ member_pointer (node_name s.name.now) (node_names s.scope.now) f.class.0 f.convention (node_types f.parameters.now)
+    f.qualifiers.0 (node_type f.returned.now) =
+    ap node_type w.is ∙ type_of-MemberPointer w.symbol w.function in
     let size : type_size (node_type c.args.node.now)
-    ≡ suc (name_size (node_name w.symbol.now.name.now) + names_size (node_names w.symbol.now.scope.now)
-    + types_size (node_types w.function.now.parameters.now) + type_size (node_type w.function.now.returned.now)) =
-    ap type_size (ap node_type w.is ∙ type_of-MemberPointer w.symbol w.function) in
-    omega (arith, c.decreases)
+    ≡ suc (name_size (node_name s.name.now) + names_size (node_names s.scope.now)
+    + types_size (node_types f.parameters.now) + type_size (node_type f.returned.now)) = ap type_size seen in
+    (omega (arith, c.decreases), (subst IsOwnableType seen c.requires).3)
 
 pub type_to_tree-names_to_tree-requires : goal.type_to_tree-names_to_tree-requires
 type_to_tree-names_to_tree-requires t c =
     let w = c.in-Table in
+    let seen : node_type c.args.node.now ≡ table w.table (node_names w.scope.now.names.now) w.qualifiers.0 =
+    ap node_type w.is ∙ type_of-Table w.table w.qualifiers w.scope in
     let size : type_size (node_type c.args.node.now) ≡ suc (names_size (node_names w.scope.now.names.now)) =
-    ap type_size (ap node_type w.is ∙ type_of-Table w.table w.qualifiers w.scope) in
-    omega (arith, c.decreases)
+    ap type_size seen in
+    (omega (arith, c.decreases), subst IsOwnableType seen c.requires)
 
 pub type_to_tree-returns-in-Tagged : goal.type_to_tree-returns-in-Tagged
 type_to_tree-returns-in-Tagged t c =

@@ -16,7 +16,8 @@ pub returns-in-MemberFunction : goal.returns-in-MemberFunction
 returns-in-MemberFunction c =
     let w = c.in-MemberFunction in
     rw c.node_convention-in-MemberFunction.ensures
-    (ap (λ t. member_function w.class.0 (convention_of w.convention) (params_of w.parameters) w.qualifiers.0 (type_of t))
+    (ap (λ t. member_function w.class.0 (convention_of w.convention) (params_of w.parameters) w.qualifiers.0
+    (type_of t))
     c.deref-in-MemberFunction.ensures
     ∙ sym (ap type_of w.is ∙ type_of-MemberFunction w.class w.convention w.parameters w.qualifiers w.returned))
 

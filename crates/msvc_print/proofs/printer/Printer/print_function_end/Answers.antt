@@ -9,5 +9,5 @@ returns-clause-text g c =
     on_ok_weaker c.print_parameters.result (λ last. last ∙ c.in_ok-push_suffix.ensures.text _
     ∙ ap (finished_after c.args.self.now)
     (settled-function_end _ _ _ c.args.function.now.parameters.now c.args.pointed c.args.function.now.qualifiers
-    c.args.self.now.flags.0 _ c.in_ok-write_closing.ensures c.in_ok-write_text.ensures))
+    c.args.self.now.flags.bits _ c.in_ok-write_closing.ensures c.in_ok-write_text.ensures))
     c.print_parameters.ensures.text

@@ -10,7 +10,7 @@ pub returns-in_ok-print_tagged-in-Tagged-clause-text : goal.returns-in_ok-print_
 unfolding before
 returns-in_ok-print_tagged-in-Tagged-clause-text g c = λ is pointed.
     let w = c.in-Tagged in
-    subst (λ t. Prints (before t pointed c.args.self.now.flags.0) c.args.self.now c.print_tagged.new.self)
+    subst (λ t. Prints (before t pointed c.args.self.now.flags.bits) c.args.self.now c.print_tagged.new.self)
     (sym (ap type_of w.is ∙ type_of-Tagged w.tag w.qualifiers w.symbol))
     (rw (sym c.tag_word.ensures) c.in_ok-print_tagged-in-Tagged.ensures.text)
 

@@ -13,7 +13,7 @@ pub returns-then-not-is_whole-clause-text : goal.returns-then-not-is_whole-claus
 returns-then-not-is_whole-clause-text g c =
     let left_out : is_some c.write_simple_types.new.out.text ≡ false = search rules in
     ap (finished_after c.args.self.now) (add_all-not_whole _ _ left_out
-    ∙ written-rest c.args.types.now c.in_ok-at.at _ c.args.end c.args.self.now.flags.0 _ _ c.in_ok-at.ensures.text)
+    ∙ written-rest c.args.types.now c.in_ok-at.at _ c.args.end c.args.self.now.flags.bits _ _ c.in_ok-at.ensures.text)
 
 pub returns-then-not-is_whole-clause-lighter : goal.returns-then-not-is_whole-clause-lighter
 returns-then-not-is_whole-clause-lighter g c = omega (arith, types_weight-positive c.args.types.now)
@@ -23,7 +23,7 @@ returns-in-empty-clause-text g c =
     on_ok_weaker c.write_list_end.result
     (λ last. ap (finished_after c.args.self.now) (last
     ∙ rest-written _ _ _ _ c.in-empty.len_below
-    ∙ written-rest c.args.types.now c.in_ok-at.at _ c.args.end c.args.self.now.flags.0 _ _ c.in_ok-at.ensures.text))
+    ∙ written-rest c.args.types.now c.in_ok-at.at _ c.args.end c.args.self.now.flags.bits _ _ c.in_ok-at.ensures.text))
     c.write_list_end.ensures
 
 pub returns-in-empty-clause-lighter : goal.returns-in-empty-clause-lighter
@@ -34,8 +34,8 @@ pub returns-in_ok-push-in-len1-up-clause-text : goal.returns-in_ok-push-in-len1-
 returns-in_ok-push-in-len1-up-clause-text g c =
     on_ok_weaker c.print_parameter.result (λ last. last ∙ pushed_one _ _ _ _ _ c.in_ok-push-in-len1-up.ensures
     ∙ ap (finished_after c.args.self.now)
-    (rest-begun _ _ c.args.end c.args.self.now.flags.0 _ c.in-len1-up.len_at_least
-    ∙ written-rest c.args.types.now c.in_ok-at.at _ c.args.end c.args.self.now.flags.0 _ _ c.in_ok-at.ensures.text))
+    (rest-begun _ _ c.args.end c.args.self.now.flags.bits _ c.in-len1-up.len_at_least
+    ∙ written-rest c.args.types.now c.in_ok-at.at _ c.args.end c.args.self.now.flags.bits _ _ c.in_ok-at.ensures.text))
     c.print_parameter.ensures.text
 
 pub returns-in_ok-push-in-len1-up-clause-lighter : goal.returns-in_ok-push-in-len1-up-clause-lighter

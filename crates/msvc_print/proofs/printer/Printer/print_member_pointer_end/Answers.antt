@@ -10,5 +10,5 @@ returns-clause-text g c =
     (λ last. last ∙ c.in_ok-push_suffix.ensures.text _ ∙ c.in_ok-push_const.ensures.text _
     ∙ ap (finished_after c.args.self.now)
     (settled-member_pointer_end _ _ c.args.function.now.parameters.now c.args.function.now.qualifiers.0
-    c.args.self.now.flags.0 _ c.in_ok-write_text.ensures))
+    c.args.self.now.flags.bits _ c.in_ok-write_text.ensures))
     c.print_parameters.ensures.text

@@ -14,7 +14,7 @@ unfolding name_pieces slots_from
 returns-in-Shape-clause-text g c =
     let w = c.in-Shape in
     subst (λ n. OnOk c.print_slots.result
-    (Prints (name_pieces n c.args.of_symbol c.args.self.now.flags.0) c.args.self.now c.print_slots.new.self))
+    (Prints (name_pieces n c.args.of_symbol c.args.self.now.flags.bits) c.args.self.now c.print_slots.new.self))
     (sym (ap name_of w.is ∙ name_of-Shape w.shape)) c.print_slots.ensures.text
 
 pub returns-in-Shape-clause-lighter : goal.returns-in-Shape-clause-lighter

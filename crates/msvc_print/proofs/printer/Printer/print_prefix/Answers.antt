@@ -12,7 +12,7 @@ unfolding before
 returns-in-Tagged-clause-text g c =
     let w = c.in-Tagged in
     subst (λ t. OnOk c.print_tagged.result
-    (Prints (before t c.args.pointed c.args.self.now.flags.0) c.args.self.now c.print_tagged.new.self))
+    (Prints (before t c.args.pointed c.args.self.now.flags.bits) c.args.self.now c.print_tagged.new.self))
     (sym (ap type_of w.is ∙ type_of-Tagged w.tag w.qualifiers w.symbol))
     (rw (sym c.tag_word.ensures) c.print_tagged.ensures.text)
 

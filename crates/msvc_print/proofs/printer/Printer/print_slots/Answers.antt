@@ -32,7 +32,7 @@ pub returns-in-Some-clause-text : goal.returns-in-Some-clause-text
 unfolding slots_from
 returns-in-Some-clause-text g c =
     let place = c.in-Some.place in
-    let flags = c.slots.self.flags.0 in
+    let flags = c.slots.self.flags.bits in
     let names = names_in c.args.shape.now.names.now in
     on_ok_weaker c.push_name_at.result
     (λ last. last _ ∙ pushed_one _ _ _ _ _ c.in_ok-push-in-Some.ensures

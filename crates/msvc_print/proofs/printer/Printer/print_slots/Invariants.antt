@@ -7,9 +7,9 @@ use Rattle.msvc_print.proofs.printer.Printer.print_slots.Given as goal
 -- the slots that are left, written after the text, give the text with all slots
 pub record Holds (g : goal.Over) (l : goal.Live-slots g) : Type 0 where
   pub text : finished_after l.self
-      (add_all l.self.out.now (rest_of_slots l.shape l.side l.pointed l.at l.self.flags.0))
+      (add_all l.self.out.now (rest_of_slots l.shape l.side l.pointed l.at l.self.flags.bits))
       ≡ finished_after l.fn.self
-      (add_all l.fn.self.out.now (rest_of_slots l.shape l.side l.pointed l.fn.at l.fn.self.flags.0))
+      (add_all l.fn.self.out.now (rest_of_slots l.shape l.side l.pointed l.fn.at l.fn.self.flags.bits))
   pub lighter : rest_weight l.shape l.side l.at ≤ rest_weight l.shape l.side l.fn.at
   pub same : l.self.stack.now ≡ l.fn.self.stack.now
   pub kept : Keeps l.fn.self l.self

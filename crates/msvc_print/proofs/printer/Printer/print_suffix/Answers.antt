@@ -18,9 +18,9 @@ returns-in_ok-write_length-in-Array-clause-text g c =
     let out = c.args.self.now.out.now in
     on_ok_weaker c.push_suffix-in-Array.result
     (λ last. last _ ∙ ap (finished_after c.args.self.now)
-    (settled-array out _ c.args.pointed _ w.length (type_of w.inner.now) w.field-1.0 c.args.self.now.flags.0
+    (settled-array out _ c.args.pointed _ w.length (type_of w.inner.now) w.field-1.0 c.args.self.now.flags.bits
     c.in_ok-write_length-in-Array.ensures (search rules)
-    ∙ sym (ap (λ t. add_all out (after (type_of t) c.args.pointed c.args.self.now.flags.0)) w.is)))
+    ∙ sym (ap (λ t. add_all out (after (type_of t) c.args.pointed c.args.self.now.flags.bits)) w.is)))
     c.push_suffix-in-Array.ensures.text
 
 pub returns-in-MemberPointer-clause-text : goal.returns-in-MemberPointer-clause-text
@@ -28,7 +28,7 @@ unfolding after
 returns-in-MemberPointer-clause-text g c =
     let w = c.in-MemberPointer in
     on_ok_weaker c.print_member_pointer_end.result
-    (λ last. last ∙ same_pieces _ _ _ _ _ (sym (ap (λ t. after t c.args.pointed c.args.self.now.flags.0)
+    (λ last. last ∙ same_pieces _ _ _ _ _ (sym (ap (λ t. after t c.args.pointed c.args.self.now.flags.bits)
     (ap type_of w.is ∙ type_of-MemberPointer w.field-0 w.function))))
     c.print_member_pointer_end.ensures.text
 
@@ -45,7 +45,7 @@ unfolding after
 returns-in-Table-clause-text g c =
     let w = c.in-Table in
     subst (λ t. OnOk c.print_table_end.result
-    (Prints (after t c.args.pointed c.args.self.now.flags.0) c.args.self.now c.print_table_end.new.self))
+    (Prints (after t c.args.pointed c.args.self.now.flags.bits) c.args.self.now c.print_table_end.new.self))
     (sym (ap type_of w.is ∙ type_of-Table w.table w.field-1 w.scope)) c.print_table_end.ensures.text
 
 pub returns-in-Table-clause-lighter : goal.returns-in-Table-clause-lighter

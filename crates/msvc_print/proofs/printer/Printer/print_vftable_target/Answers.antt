@@ -15,12 +15,12 @@ pub returns-in-empty-clause-text : goal.returns-in-empty-clause-text
 unfolding table_end
 returns-in-empty-clause-text g c =
     printed_none _ _ _ _
-    (ap (λ ns. table_end Functions ns (scope_path (names_in c.args.names.now) c.args.self.now.flags.0))
+    (ap (λ ns. table_end Functions ns (scope_path (names_in c.args.names.now) c.args.self.now.flags.bits))
     (names_in-none _ c.in-empty.len_below))
 
 pub returns-in_ok-push-in-len1-up-clause-text : goal.returns-in_ok-push-in-len1-up-clause-text
 returns-in_ok-push-in-len1-up-clause-text g c =
-    let path = scope_path (names_in c.args.names.now) c.args.self.now.flags.0 in
+    let path = scope_path (names_in c.args.names.now) c.args.self.now.flags.bits in
     on_ok_weaker c.print_path.result (λ last. last ∙ pushed_one _ _ _ _ _ c.in_ok-push-in-len1-up.ensures
     ∙ ap (finished_after c.args.self.now)
     (sym (add_all-append c.write_text.new.out path (text (codes "'}") ∷ []))

@@ -25,5 +25,5 @@ returns-in_default-clause-text g c =
 pub returns-clause-text : goal.returns-clause-text
 returns-clause-text g c =
     let left_out : is_some c.items.self.out.now.text ≡ false = search rules in
-    finished-not_whole c.items.self.stack.now.items c.items.self.out.now c.items.self.flags.0 left_out
+    finished-not_whole c.items.self.stack.now.items c.items.self.out.now c.items.self.flags.bits left_out
     ∙ c.items.invariant.text

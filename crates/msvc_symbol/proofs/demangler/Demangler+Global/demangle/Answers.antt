@@ -1,5 +1,5 @@
-use Rattle.msvc_productions.proofs.WholeTexts.{laws}
+use Rattle.msvc_symbol.proofs.Lawful.{laws}
 use Rattle.msvc_symbol.proofs.demangler.Demangler+Global.demangle.Goals as goal
 
 pub returns-clause-laws : goal.returns-clause-laws
-returns-clause-laws c = laws c.args.input.now
+returns-clause-laws c = laws c.args.self.now.grammar c.args.input.now

@@ -1,6 +1,6 @@
 use Rattle.std.proofs.Common.{rules}
 use Rattle.msvc_print.proofs.PrinterLoop.{printed-within, printed_typed_symbol}
-use Rattle.msvc_print.proofs.printer.print_within.Goals as goal
+use Rattle.msvc_print.proofs.printer.print_styled.Goals as goal
 
 -- what the loop prints is the declaration, if it is within the limit
 pub returns-clause-printed : goal.returns-clause-printed

@@ -1,12 +1,15 @@
 //! Compares the demangler with rows. Each line of standard input is one: flags in hexadecimal, a symbol, and `ok` with
-//! the text or `err` with the offset and the message, separated by tabs. Prints each row that differs; the last line
-//! has the counts. A line that begins with `#` and a space is a heading for the rows below it.
+//! the text or `err` with the offset and the message, separated by tabs. A line that begins with `#` and a space is a
+//! heading for the rows below it.
+#![tactic(auto)]
 
-use msvc_demangler::{DemangleFlags, Flags, demangle};
+use msvc_demangler::{DemangleFlags, Demangler, Error, Flags, Grammar, demangle};
 use std::alloc::{AllocError, Global};
 use std::io;
 
-pub fn compare(rt: &HostRuntime) -> io::Result<()> {
+/// Prints each row of standard input that differs from what the demangler returns in a grammar. The last line has the
+/// counts.
+pub fn compare(rt: &HostRuntime, grammar: Grammar) -> io::Result<()> {
     let mut agree = 0u64;
     let mut differ = 0u64;
     for line in rt.lines(rt.alloc()) {
@@ -14,7 +17,7 @@ pub fn compare(rt: &HostRuntime) -> io::Result<()> {
         if line.starts_with("# ") {
             continue;
         }
-        if agrees(rt.alloc(), line.as_str())? {
+        if agrees(rt.alloc(), grammar, line.as_str())? {
             agree = agree.saturating_add(1);
         } else {
             differ = differ.saturating_add(1);
@@ -25,7 +28,7 @@ pub fn compare(rt: &HostRuntime) -> io::Result<()> {
 }
 
 /// Returns whether the demangler returns the result of the row.
-fn agrees(alloc: Global, row: &str) -> Result<bool, AllocError> {
+fn agrees(alloc: Global, grammar: Grammar, row: &str) -> Result<bool, AllocError> {
     let mut fields = row.splitn(5, '\t');
     let flags = fields.next().unwrap_or("");
     let symbol = fields.next().unwrap_or("");
@@ -36,7 +39,7 @@ fn agrees(alloc: Global, row: &str) -> Result<bool, AllocError> {
         return Ok(false);
     };
     let flags = DemangleFlags::from_bits_retain(bits);
-    match demangle(alloc, symbol, flags) {
+    match declared(alloc, grammar, symbol, flags) {
         Ok(text) => Ok(kind == "ok" && text.as_str() == first),
         Err(refusal) => {
             let shown = format!(in alloc; "{refusal}")?;
@@ -44,4 +47,19 @@ fn agrees(alloc: Global, row: &str) -> Result<bool, AllocError> {
             Ok(kind == "err" && shown.as_str().starts_with(expected.as_str()))
         }
     }
+}
+
+/// Returns the declaration of the symbol that `input` begins with, in a grammar.
+fn declared(
+    alloc: Global,
+    grammar: Grammar,
+    input: &str,
+    flags: DemangleFlags,
+) -> Result<String, Error> {
+    if grammar == Grammar::Crate {
+        return demangle(alloc, input, flags);
+    }
+    let mut demangler = Demangler::with_grammar(alloc, grammar);
+    let text = demangler.demangle(input, flags)?;
+    Ok(String::from_str(alloc, text)?)
 }

@@ -1,5 +1,6 @@
 use Rattle.std.proofs.Common.{◌≡◌, ◌+◌, ◌-◌, ◌++◌, ◌∷◌, [], ◌∙◌, append_assoc, arith, ap, drop, length, length-drop}
 use Rattle.std.proofs.Common.{List, map, refl, subst, take}
+use Rattle.msvc_symbol.specs.Grammars.{under}
 use Rattle.msvc_filter.specs.SliceWriters.{IsSliceWriter}
 use Rattle.msvc_filter.specs.Filtered.{AreParts, Part, declared, kept}
 use Rattle.msvc_filter.specs.WordStates.{ArePartsUpTo}
@@ -8,7 +9,7 @@ use Rattle.msvc_filter.proofs.Replaced.{Keeps-fresh, fresh, parts-only}
 use Rattle.msvc_filter.proofs.Starts.{parts-kept}
 use Rattle.msvc_filter.proofs.ScanParts.{parts-all, parts-further}
 use Rattle.msvc_streams.proofs.CallSequence.{to_end}
-use Rattle.msvc_filter.proofs.filter.filter_slice_in.Goals as goal
+use Rattle.msvc_filter.proofs.filter.filter_slice_as.Goals as goal
 
 pub symbols-init : goal.symbols-init
 symbols-init g c = (
@@ -16,7 +17,8 @@ symbols-init g c = (
   (
     [],
     SliceWriter-start c.args.out.now _ refl refl refl,
-    λ more rest decided h. parts-kept c.args.flags.0 (fresh 10) (Keeps-fresh 10) (h 10 [] c.new-scan.ensures),
+    λ more rest decided h. parts-kept (under c.args.grammar c.args.flags.0) (fresh 10) (Keeps-fresh 10)
+        (h 10 [] c.new-scan.ensures),
   ),
 )
 
@@ -45,7 +47,8 @@ symbols-preserved-in-Some g c =
       (
         parts ++ (map kept stay ++ declared found.text ∷ []),
         subst (λ ps. IsSliceWriter given ps c.in_ok-writer-in-Some-2.writer c.write_declaration.new.out) same on,
-        parts-further c.args.flags.0 (fresh 10) c.symbols.scan c.next_symbol.new.scan text (length text) at
+        parts-further (under c.args.grammar c.args.flags.0) (fresh 10) c.symbols.scan c.next_symbol.new.scan text
+            (length text) at
             (before + c.in-Some.found.bytes) parts (map kept stay ++ declared found.text ∷ []) so.1.2 so.0 (omega arith)
             found.parts,
       ),
@@ -65,9 +68,11 @@ symbols-preserved g c =
       (
         parts ++ map kept stay,
         c.in_ok-writer-in-None.ensures given parts so.1.1,
-        subst (λ n. ArePartsUpTo c.args.flags.0 (fresh 10) text (length text) (parts ++ map kept stay) n
+        subst (λ n. ArePartsUpTo (under c.args.grammar c.args.flags.0) (fresh 10) text (length text) (parts
+            ++ map kept stay) n
             c.next_symbol.new.scan) end
-            (parts-further c.args.flags.0 (fresh 10) c.symbols.scan c.next_symbol.new.scan text (length text) at
+            (parts-further (under c.args.grammar c.args.flags.0) (fresh 10) c.symbols.scan c.next_symbol.new.scan text
+            (length text) at
             (length text - at) parts (map kept stay) so.1.2 so.0 (omega arith) none),
       ),
     )
@@ -76,10 +81,11 @@ pub returns : goal.returns
 returns g c =
     let text = c.args.text.now in
     let so = c.symbols.invariant in
-    let all = parts-all c.args.flags.0 (fresh 10) c.symbols.scan text (length text) c.symbols.at so.1.0 so.1.2
+    let all = parts-all (under c.args.grammar c.args.flags.0) (fresh 10) c.symbols.scan text (length text)
+    c.symbols.at so.1.0 so.1.2
     c.symbols-test.false in
     let end = SliceWriter-end c.args.out.now so.1.0 c.symbols.writer c.symbols.out so.1.1 in
     let are = all 10 [] (Keeps-fresh 10) in
-    let only : (others : List Part) → AreParts c.args.flags.0 text others → others ≡ so.1.0 =
-    λ others more. parts-only c.args.flags.0 10 [] text so.1.0 others are more in
+    let only : (others : List Part) → AreParts (under c.args.grammar c.args.flags.0) text others → others ≡ so.1.0 =
+    λ others more. parts-only (under c.args.grammar c.args.flags.0) 10 [] text so.1.0 others are more in
     record { text = (so.1.0, (are, only), so.1.1.length_is, end.0, end.1) }

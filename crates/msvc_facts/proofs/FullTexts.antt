@@ -1,0 +1,77 @@
+-- The declarations in Full's style, computed.
+use Rattle.std.specs.Prelude.{⊤}
+use Rattle.std.proofs.Common.{refl}
+use Rattle.std.specs.Fmt.{digits}
+use Rattle.msvc_print.specs.Declaration.{arguments, conversion, declaration, full_conversion, grown, is_empty_pack}
+use Rattle.msvc_print.specs.Declaration.{is_none, name_pieces, parameters, quoted_unless, returned_end, scope_pieces}
+use Rattle.msvc_print.specs.Declaration.{table_end}
+use Rattle.msvc_print.specs.Functions.{access_words, calling, convention_pieces, each_function_qualifier, extern_words}
+use Rattle.msvc_print.specs.Functions.{full_calling, full_function_qualifiers, full_reference_words, full_this_words}
+use Rattle.msvc_print.specs.Functions.{full_wide_word, function_qualifiers, kind_words, member_start, member_words}
+use Rattle.msvc_print.specs.Functions.{separator, wide_qualifier}
+use Rattle.msvc_print.specs.Operators.{base_class_pieces, full_operator_word, guard_number, guard_pieces, name_kind}
+use Rattle.msvc_print.specs.Operators.{operator_pieces, operator_word, scoped, template_kind}
+use Rattle.msvc_print.specs.Pieces.{settle_all}
+use Rattle.msvc_print.specs.Sides.{kept_left, kept_right}
+use Rattle.msvc_print.specs.Words.{angle_end, base_word, closing, full_marked, full_qualifiers, mark_qualifiers}
+use Rattle.msvc_print.specs.Words.{marked, opening, qualifiers}
+use Rattle.msvc_print.specs.Declaration.{each_name, grown_around}
+use Rattle.msvc_print.specs.Shapes.{laid, slot_pieces}
+use Rattle.msvc_shapes.specs.Layouts.{layout_of, slots}
+use Rattle.msvc_facts.specs.FullTexts.{AreFullTexts}
+
+unfoldable full_printing : ⊤
+unfolding access_words angle_end arguments base_class_pieces base_word calling closing conversion convention_pieces declaration digits each_function_qualifier extern_words full_calling full_conversion full_function_qualifiers full_marked full_operator_word full_qualifiers full_reference_words full_this_words full_wide_word function_qualifiers grown guard_number guard_pieces is_empty_pack is_none kept_left kept_right kind_words mark_qualifiers marked member_start member_words name_kind name_pieces opening operator_pieces operator_word parameters qualifiers quoted_unless returned_end scope_pieces scoped separator settle_all table_end template_kind wide_qualifier each_name grown_around laid layout_of
+    slot_pieces slots
+full_printing = tt
+
+pub full-texts : AreFullTexts
+unfolding full_printing
+full-texts =
+    record {
+      pointer_to_pointer = refl;
+      spaced_pointers = refl;
+      hugged_pointers = refl;
+      restrict_apart = refl;
+      restrict = refl;
+      unaligned = refl;
+      pointer_to_swift = refl;
+      swift = refl;
+      no_convention = refl;
+      pointer_without_convention = refl;
+      noexcept_stays = refl;
+      const_before_reference = refl;
+      unaligned_last = refl;
+      wide = refl;
+      pointer_to_noexcept = refl;
+      extern_c_function = refl;
+      function_argument = refl;
+      argument_without_convention = refl;
+      qualified_function_argument = refl;
+      templates_close_alone = refl;
+      variable_qualifiers = refl;
+      digit_before_space = refl;
+      const_pointer = refl;
+      constructor_template = refl;
+      destructor_without_class = refl;
+      conversion_template = refl;
+      conversion_operator = refl;
+      conversion_to_nothing = refl;
+      member_operator = refl;
+      free_operator = refl;
+      co_await = refl;
+      base_table = refl;
+      returned_pointers = refl;
+      no_words = refl;
+      member_pointer = refl;
+      array_levels = refl;
+      pointer_to_array = refl;
+      number = refl;
+      minus_nothing = refl;
+      placeholder = refl;
+      null_pointer = refl;
+      extern_c = refl;
+      extern_c_dropped = refl;
+      frame = refl;
+      operators_of_shapes = refl;
+    }

@@ -1,0 +1,117 @@
+-- Declarations in Full's style, of trees that both grammars have and of shapes.
+use Rattle.std.specs.Prelude.{ℕ, List, [], ◌∷◌, ◌+◌, ◌≡◌, true, false, codes}
+use Prim.Native.String.{String}
+use Rattle.msvc_nodes.specs.Trees.{NameTree, NameTrees, TypeTree, TypeTrees, spelled, operator, template, nested, names}
+use Rattle.msvc_nodes.specs.Trees.{no_names, types, no_types, base, tagged, pointing, function, member_function, variable}
+use Rattle.msvc_nodes.specs.Trees.{plain, shape, shaped}
+use Rattle.msvc_nodes.specs.declared.kinds.PlainType.TheVariants as plain_kind
+use Rattle.msvc_nodes.specs.declared.kinds.PrimitiveKind.TheVariants.{Int, Void, Char}
+use Rattle.msvc_nodes.specs.declared.kinds.Convention.TheVariants.{Cdecl, Thiscall, Swift}
+use Rattle.msvc_nodes.specs.declared.kinds.PointerAffinity.TheVariants.{Pointer}
+use Rattle.msvc_nodes.specs.declared.kinds.TagKind.TheVariants.{Alias, Struct}
+use Rattle.msvc_nodes.specs.declared.kinds.VarStorageKind.TheVariants.{Global}
+use Rattle.msvc_nodes.specs.declared.kinds.Spelling.TheVariants.{Source}
+use Rattle.msvc_nodes.specs.declared.kinds.PlainOperator.TheVariants as op
+use Rattle.msvc_nodes.specs.declared.nodes.Number.{Number}
+use Rattle.msvc_shapes.specs.Rows as rows
+use Rattle.msvc_print.specs.Declaration.{declaration}
+use Rattle.msvc_print.specs.Flags.{full_style}
+
+-- the declaration of a symbol of this name, scope and type in Full's style, under these flags, is this text
+abbrev pub IsFullText : ℕ → NameTree → NameTrees → TypeTree → String → Type 0
+IsFullText flags n scope t text =
+    declaration (record { name = n; scope = scope; symbol_type = t }) (flags + full_style) ≡ codes text
+
+-- a source name
+abbrev pub source : String → NameTree
+source text = spelled Source (codes text)
+
+-- `int`
+abbrev pub int : TypeTree
+int = base Int 0
+
+-- the parameters of a function that is given nothing
+abbrev pub void : TypeTrees
+void = types (base Void 0) no_types
+
+-- a pointer with qualifiers
+abbrev pub pointer : TypeTree → ℕ → TypeTree
+pointer t q = pointing Pointer t q
+
+-- a function that returns nothing
+abbrev pub function_of : TypeTrees → TypeTree
+function_of ts = function Cdecl ts 0 (base Void 0)
+
+-- `int *`
+abbrev pub int_pointer : TypeTree
+int_pointer = pointer int 0
+
+-- a pointer to a function that returns `int *`
+abbrev pub pointer_to_function : TypeTrees → TypeTree
+pointer_to_function ts = pointer (function Cdecl ts 0 int_pointer) 0
+
+-- a number with and without a minus
+abbrev pub plus : ℕ → Number
+plus n = record { is_negative = false; value = n }
+
+abbrev pub minus : ℕ → Number
+minus n = record { is_negative = true; value = n }
+
+-- the class C as a symbol without a type
+abbrev pub class_c : NameTree
+class_c = nested (source "C") no_names (plain plain_kind.None)
+
+-- an array of `int` with these lengths
+abbrev pub levels : List Number → TypeTree
+levels lengths = shape rows.arrays 0 lengths [] no_names (types int no_types)
+
+-- A with one argument, in place of a type
+abbrev pub alias_of : TypeTree → TypeTree
+alias_of t = tagged Alias (template (source "A") (types t no_types)) no_names 0
+
+pub record AreFullTexts : Type 0 where
+  pub pointer_to_pointer : IsFullText 0xe00400 (source "f") no_names (function_of (types (pointer (pointer (base Char 1) 0) 0) no_types)) "void __cdecl f(char const **)"
+  pub spaced_pointers : IsFullText 0x800000 (source "f") no_names (function_of (types (pointer (pointer (base Char 1) 0) 0) no_types)) "void __cdecl f(char const * *)"
+  pub hugged_pointers : IsFullText 0x400000 (source "f") no_names (function_of (types (pointer (pointer (base Char 1) 0) 0) no_types)) "void __cdecl f(char const**)"
+  pub restrict_apart : IsFullText 0x0 (source "f") no_names (function_of (types (pointer (base Int 1) 97) no_types)) "void __cdecl f(int const * const __restrict)"
+  pub restrict : IsFullText 0xe00400 (source "f") no_names (function_of (types (pointer (base Int 1) 97) no_types)) "void __cdecl f(int const *const __restrict)"
+  pub unaligned : IsFullText 0xe00400 (source "f") no_names (function_of (types (pointer (pointer int 16) 16) no_types)) "void __cdecl f(int __unaligned *__unaligned *)"
+  pub pointer_to_swift : IsFullText 0xe00400 (source "p") no_names (variable (pointer (function Swift void 0 (base Void 0)) 0) Global 0) "void (__attribute__((__swiftcall__))  *p)(void)"
+  pub swift : IsFullText 0xe00400 (source "f") no_names (function Swift void 0 (base Void 0)) "void __attribute__((__swiftcall__)) f(void)"
+  pub no_convention : IsFullText 0x2 (source "f") no_names (function Swift void 0 (base Void 0)) "void f(void)"
+  pub pointer_without_convention : IsFullText 0x2 (source "p") no_names (variable (pointer (function Swift void 0 (base Void 0)) 0) Global 0) "void (*p)(void)"
+  pub noexcept_stays : IsFullText 0x60 (source "f") (names (source "C") no_names) (member_function 1 Cdecl void 705 int) "public: int __cdecl C::f(void) noexcept"
+  pub const_before_reference : IsFullText 0xe00400 (source "f") (names (source "C") no_names) (member_function 1 Cdecl void 193 int) "public: int __cdecl C::f(void) const &"
+  pub unaligned_last : IsFullText 0xe00400 (source "f") (names (source "C") no_names) (member_function 1 Thiscall void 18 (base Void 0)) "public: void __thiscall C::f(void) volatile __unaligned"
+  pub wide : IsFullText 0x1e00400 (source "f") (names (source "C") no_names) (member_function 1 Cdecl void 97 (base Void 0)) "public: void __cdecl C::f(void) const __ptr64 __restrict"
+  pub pointer_to_noexcept : IsFullText 0xe00400 (source "f") no_names (function_of (types (pointer (function Cdecl void 512 int) 0) no_types)) "void __cdecl f(int (__cdecl *)(void) noexcept)"
+  pub extern_c_function : IsFullText 0xe00400 (source "f") no_names (member_function 264 Cdecl void 0 (base Void 0)) "extern \"C\" void __cdecl f(void)"
+  pub function_argument : IsFullText 0xe00400 (source "x") no_names (variable (tagged Struct (template (source "S") (types (function Cdecl void 0 int) no_types)) no_names 0) Global 0) "struct S<int __cdecl(void)> x"
+  pub argument_without_convention : IsFullText 0x2 (source "x") no_names (variable (tagged Struct (template (source "S") (types (function Cdecl void 0 int) no_types)) no_names 0) Global 0) "struct S<int (void)> x"
+  pub qualified_function_argument : IsFullText 0xe00400 (source "x") no_names (variable (tagged Struct (template (source "S") (types (function Cdecl void 193 int) no_types)) no_names 0) Global 0) "struct S<int __cdecl(void) const &> x"
+  pub templates_close_alone : IsFullText 0x0 (source "x") no_names (variable (tagged Struct (template (source "A") (types (tagged Struct (template (source "B") (types int no_types)) no_names 0) no_types)) no_names 0) Global 0) "struct A<struct B<int>> x"
+  pub variable_qualifiers : IsFullText 0xe00400 (source "x") no_names (variable (tagged Struct (source "A") no_names 0) Global 3) "struct A const volatile x"
+  pub digit_before_space : IsFullText 0xe00400 (source "x") no_names (variable (tagged Struct (source "A1") no_names 0) Global 0) "struct A1 x"
+  pub const_pointer : IsFullText 0xe00400 (source "x") no_names (variable (pointer (base Int 1) 1) Global 0) "int const *const x"
+  pub constructor_template : IsFullText 0xe00400 (template (operator op.Ctor) (types int no_types)) (names (source "S") no_names) (member_function 1 Cdecl void 64 (plain plain_kind.None)) "public: __cdecl S::S<int>(void)"
+  pub destructor_without_class : IsFullText 0xe00400 (template (operator op.Dtor) (types int no_types)) no_names (member_function 1 Cdecl void 64 (plain plain_kind.None)) "public: __cdecl [invalid]<int>(void)"
+  pub conversion_template : IsFullText 0xe00400 (template (operator op.Conversion) (types int no_types)) (names (source "S") no_names) (member_function 1 Cdecl void 64 int) "public: int __cdecl S::operator<int> int(void)"
+  pub conversion_operator : IsFullText 0xe00400 (operator op.Conversion) (names (source "S") no_names) (member_function 1 Cdecl void 64 int) "public: int __cdecl S::operator int(void)"
+  pub conversion_to_nothing : IsFullText 0xe00400 (operator op.Conversion) (names (source "S") no_names) (member_function 1 Cdecl void 64 (plain plain_kind.None)) "public: __cdecl S::operatorcast(void)"
+  pub member_operator : IsFullText 0xe00400 (operator op.EqualEqual) (names (source "S") no_names) (member_function 1 Cdecl void 64 int) "public: int __cdecl S::operator==(void)"
+  pub free_operator : IsFullText 0xe00400 (operator op.EqualEqual) no_names (function Cdecl void 0 int) "int __cdecl operator==(void)"
+  pub co_await : IsFullText 0xe00400 (operator op.CoroutineAwait) no_names (function Cdecl void 0 int) "int __cdecl operator co_await(void)"
+  pub base_table : IsFullText 0xe00400 (operator op.VBTable) (names (source "S") no_names) (plain plain_kind.None) "S::`vbtable'"
+  pub returned_pointers : IsFullText 0xe00400 (source "h3") no_names (function Cdecl (types (pointer_to_function (types int_pointer (types int_pointer no_types))) (types (pointer_to_function (types int_pointer (types int_pointer no_types))) (types int_pointer no_types))) 0 (pointer_to_function (types int_pointer (types int_pointer no_types)))) "int * (__cdecl * __cdecl h3(int * (__cdecl *)(int *, int *), int * (__cdecl *)(int *, int *), int *))(int *, int *)"
+  pub no_words : IsFullText 0x82 (operator op.Ctor) (names (source "klass") no_names) (member_function 1 Cdecl void 0 (plain plain_kind.None)) "klass::klass(void)"
+  pub member_pointer : IsFullText 0x600000 (source "x") no_names (variable (shape rows.member_pointer 0 [] [] (names class_c no_names) (types int no_types)) Global 0) "int C::*x"
+  pub array_levels : IsFullText 0x600000 (source "x") no_names (variable (levels (plus 3 ∷ plus 0 ∷ [])) Global 0) "int x[3][]"
+  pub pointer_to_array : IsFullText 0x600000 (source "x") no_names (variable (pointer (levels (plus 3 ∷ plus 6 ∷ [])) 0) Global 0) "int (*x)[3][6]"
+  pub number : IsFullText 0 (source "x") no_names (alias_of (shape rows.integer 0 (plus 5 ∷ []) [] no_names no_types)) "A<5> x"
+  pub minus_nothing : IsFullText 0 (source "x") no_names (alias_of (shape rows.integer 0 (minus 0 ∷ []) [] no_names no_types)) "A<-0> x"
+  pub placeholder : IsFullText 0 (source "x") no_names (alias_of (shape rows.custom 1 [] [] (names (source "B") no_names) no_types)) "A<B const> x"
+  pub null_pointer : IsFullText 0 (source "x") no_names (alias_of (shape rows.nullptr 0 [] [] no_names no_types)) "A<std::nullptr_t> x"
+  pub extern_c : IsFullText 0 (source "f") no_names (shape rows.extern_c 0 [] [] no_names no_types) "extern \"C\" f"
+  pub extern_c_dropped : IsFullText 0x200 (source "f") no_names (shape rows.extern_c 0 [] [] no_names no_types) "f"
+  pub frame : IsFullText 0 (source "x") (names (shaped rows.frame 0 (plus 2 ∷ []) [] (names (nested (source "f") no_names (function Cdecl void 0 int)) no_names) no_types) no_names) (variable int Global 0) "int `int __cdecl f(void)'::`2'::x"
+  pub operators_of_shapes : IsFullText 0 (source "x") (names (shaped rows.spaceship 0 [] [] no_names no_types) no_names) (tagged Alias (shaped rows.literal_operator 0 [] [] (names (source "_a") no_names) no_types) no_names 0) "operator \"\"_a operator<=>::x"

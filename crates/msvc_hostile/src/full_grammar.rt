@@ -1,0 +1,113 @@
+//! The grammar Full as tables of rows, from which `written` generates texts.
+//!
+//! A text is read as it was generated: a table whose name begins with `certain` has no row that begins with `?`, and a
+//! type is plain, a pointer, or a pointer to a member, since other bytes follow the type of a variable of each.
+
+/// The tables of Full.
+pub const TABLES: &str = "
+# Symbols. Only a whole text can end after a scope. The name of a template is memorized if a variable follows.
+text = ? symbol | ? symbol_at_the_end
+symbol = named scope encoding | ?$ template scope function_or_c | ?$ template scope variable_kind name_done variable
+symbol_at_the_end = named scope | ?$ template scope
+named = known_name | ? operator
+encoding = 9 | variable_kind variable | function
+function_or_c = 9 | function
+
+# Variables.
+variable_kind = 0 | 1 | 2 | 3 | 4
+variable = plain qualifier | pointer marks qualifier | member_pointer marks qualifier repeated_class
+repeated_class = repeated_name repeated_scope
+repeated_scope = @ | repeated_name repeated_scope
+repeated_name = known_name | ?A@ | ?A0x key @ name_done | ?A0x key capital key @
+
+# Functions.
+function = Y function_type | free_class function_type | member_class own_qualifiers function_type
+free_class = C | D | K | L | S | T | Z
+member_class = A | B | E | F | I | J | M | N | Q | R | U | V
+function_type = convention returned parameters throws
+convention = A | B | C | D | E | F | G | H | I | J | M | N | O | P | Q | S | U | V | W | w | x
+returned = certain_type | @ | ? qualifier type
+throws = Z | _E
+own_qualifiers = marks own_reference qualifier
+own_reference = | G | H
+marks = mark_e mark_i mark_f
+mark_e = | E
+mark_i = | I
+mark_f = | F
+qualifier = qualifier_of_data | qualifier_of_members
+qualifier_of_data = A | B | C | D
+qualifier_of_members = Q | R | S | T
+
+# Parameters. Void begins no list.
+parameters = X | parameters_end | known_parameter more_parameters | ten_pointers more_parameters
+more_parameters = parameters_end | parameter more_parameters | parameter parameter more_parameters
+parameters_end = @ | Z
+parameter = known_parameter | X
+known_parameter = new_parameter | 0 | 1 | 2 | 3 | 4 | 5 | 6 | 7 | 8 | 9
+new_parameter = letter | long_type type_done
+ten_pointers = pointer_to C type_done pointer_to D type_done pointer_to E type_done pointer_to F type_done \
+    pointer_to G type_done pointer_to H type_done pointer_to I type_done pointer_to J type_done \
+    pointer_to K type_done pointer_to M type_done known_parameter
+pointer_to = pointer_letter qualifier_of_data | A qualifier
+
+# Types.
+type = letter | X | long_type
+certain_type = letter | X | certain_long
+long_type = certain_long | custom
+certain_long = certain_plain_long | pointer | member_pointer
+plain = letter | X | certain_plain_long | custom
+certain_plain_long = _ extended | tag type_symbol | Y lengths element | $$A6 function_type \
+    | $$A8@@ own_qualifiers function_type | $$T | $$B plain | $$C qualifier plain
+letter = C | D | E | F | G | H | I | J | K | M | N | O
+extended = N | W | Q | S | U | J | K | L | M
+tag = T | U | V | W4
+custom = ? type_name @
+lengths = 0 count | B@ count | 1 count count | C@ count count | 2 count count count
+element = type | $$C qualifier type
+
+# Pointers. Only pointers by these letters point to members.
+pointer = pointer_letter marks qualifier_of_data type | reference marks qualifier type \
+    | pointer_letter 6 function_type | reference 6 function_type | $$B pointer | $$C qualifier pointer
+pointer_letter = P | Q | R | S
+reference = A | $$Q
+member_pointer = pointer_letter marks qualifier_of_members type_symbol type \
+    | pointer_letter 8 type_symbol own_qualifiers function_type | $$B member_pointer | $$C qualifier member_pointer
+
+# Names.
+type_symbol = type_name scope
+type_name = known_name | ?$ template name_done
+scope = @ | nested_name @ | nested_name scope | ten_names known_name scope
+nested_name = type_name | ?A@ | ?A0x key @ name_done | ?A0x key capital key @ | ? frame_count ?? symbol
+key = | hexadecimal | hexadecimal hexadecimal hexadecimal
+hexadecimal = 0 | 1 | 2 | 3 | 4 | 5 | 6 | 7 | 8 | 9 | a | b | c | d | e | f
+capital = A | B | C | D | E | F
+ten_names = a@ name_done b@ name_done c@ name_done d@ name_done e@ name_done f@ name_done g@ name_done \
+    h@ name_done i@ name_done j@ name_done
+known_name = new_name | 0 | 1 | 2 | 3 | 4 | 5 | 6 | 7 | 8 | 9
+new_name = start rest @ name_done
+start = a | b | z | A | Z | _ | $ | < | \u{E9}
+rest = | a | z | 0 | ? | $ | _ | > | O | \u{20AC}
+
+# Operators.
+operator = operator_letter | _ letter_after_one | __K literal rest @ name_done | __L | __M
+operator_letter = 0 | 1 | 2 | 3 | 4 | 5 | 6 | 7 | 8 | 9 | A | B | C | D | E | F | G | H | I | J | K | L | M | N \
+    | O | P | Q | R | S | T | U | V | W | X | Y | Z
+letter_after_one = 0 | 1 | 2 | 3 | 4 | 5 | 6 | 7 | 8 | 9 | U | V
+literal = start | 7
+
+# Templates.
+template = template_begins template_name arguments template_ends
+template_name = named | ?$ template
+arguments = @ | argument arguments | argument argument arguments
+argument = type | $S | $$V | $$$V | $$Z | $$Y type_symbol | $0 number
+
+# Numbers. They stay below 2^31, also with letters before the last sixteen, which don't count.
+number = count | ? count
+count = digit | @ | half @ | half half half @ | at_most_eight @ | half AAAAAAAA at_most_eight @
+frame_count = digit | @ | later_half @ | later_half half half @ | later_half AAAAAAAA at_most_eight @
+at_most_eight = low_half half half half half half half half
+digit = 0 | 1 | 2 | 3 | 4 | 5 | 6 | 7 | 8 | 9
+half = A | B | C | D | E | F | G | H | I | J | K | L | M | N | O | P
+later_half = B | C | D | E | F | G | H | I | J | K | L | M | N | O | P
+low_half = A | B | C | D | E | F | G | H
+";
