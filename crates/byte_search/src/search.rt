@@ -12,6 +12,7 @@ const BLOCK: usize = 16;
 
 /// Returns the index of the first `byte`. Tests bytes one by one if they are few, else the first 16 at once, and calls
 /// `memchr` only for those after them.
+#[inline(always)]
 pub fn find_byte(byte: u8, bytes: &[u8]) -> Option<usize>
     ensures first { IsFirstByte (λ b. b == byte) bytes.now result }
     ensures inside { IfSome result (λ n. n < length bytes.now) }

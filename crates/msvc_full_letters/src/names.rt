@@ -16,6 +16,7 @@ use std::alloc::Allocator;
 /// Reads `SOURCE_NAME = byte {byte} "@"`: the bytes up to the next `@`, of which the first is no `?`. Fails where the
 /// name begins.
 #[tactic(auto, using(crate::proofs::NameSteps::source_name_step), unfolding(crate::specs::Names::source_name_at))]
+#[inline(always)]
 pub fn source_name<'a, 'b, L: NodeBudget, A: Allocator>(
     parser: &mut Parser<'a, 'b, L, A>,
 ) -> Result<&'a [u8], Failed>

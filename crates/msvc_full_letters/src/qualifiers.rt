@@ -1,7 +1,8 @@
 //! Qualifiers and conventions.
 #![tactic(auto, using(msvc_cursor::proofs::Choices::letter_step, crate::proofs::QualifierSteps::steps))]
 
-ghost use Rattle.std.specs.Prelude.{◌≡◌, ◌≤◌, length, Some};
+ghost use Rattle.std.specs.Option.{option_map};
+ghost use Rattle.std.specs.Prelude.{◌≡◌, ◌≤◌, ◌<◌, IfSome, length, MatchOption, None, Some};
 ghost use Rattle.msvc_rules.specs.Readers.{letter_here};
 ghost use Rattle.msvc_full_grammar.specs.Grammar.{own_of_class};
 ghost use Rattle.msvc_full_grammar.specs.Letters.{conventions, qualifiers};
@@ -20,32 +21,100 @@ use msvc_nodes::flags::{FuncClass, StorageClass};
 use msvc_nodes::kinds::Convention;
 use std::alloc::Allocator;
 
+/// Reads the letter of `const` and `volatile`, if it is next.
+#[inline(always)]
+pub fn qualifier_here<'a, 'b, L: NodeBudget, A: Allocator>(
+    parser: &mut Parser<'a, 'b, L, A>,
+) -> Option<StorageClass>
+    ensures value { option_map (λ (q : StorageClass). (q.0, parser.new.rest.now, state_of parser.new)) result
+        ≡ letter_here qualifiers parser.old.rest.now (state_of parser.old) }
+    ensures shorter { IfSome result (λ q. length parser.new.rest.now < length parser.old.rest.now) }
+    ensures still { MatchOption result (parser.new.rest.now ≡ parser.old.rest.now) (λ q. Unit {0}) }
+    ensures state { state_of parser.new ≡ state_of parser.old }
+    ensures kept { frame_of parser.new ≡ frame_of parser.old }
+{
+    if let [first, rest @ ..] = parser.rest {
+        if let Some(qualifier) = qualifier_of(*first) {
+            parser.rest = rest;
+            return Some(qualifier);
+        }
+    }
+    None
+}
+
+/// Records that no letter of `const` and `volatile` is next: that the text ends, or after any other byte.
+#[cold]
+#[inline(never)]
+fn no_qualifier<'a, 'b, L: NodeBudget, A: Allocator>(
+    parser: &mut Parser<'a, 'b, L, A>,
+) -> Result<StorageClass, Failed>
+    ensures value { ReadsAs (λ (q : StorageClass). q.0) parser.old parser.new result (λ left s. None) }
+    ensures consumes { Consumes parser.old parser.new result }
+{
+    parser.byte()?;
+    Err(parser.reject(Message::UnknownStorageClass))
+}
+
 /// Reads the letter of `const` and `volatile`. Fails after any other byte.
+#[inline(always)]
 pub fn qualifier<'a, 'b, L: NodeBudget, A: Allocator>(
     parser: &mut Parser<'a, 'b, L, A>,
 ) -> Result<StorageClass, Failed>
     ensures value { ReadsAs (λ (q : StorageClass). q.0) parser.old parser.new result (letter_here qualifiers) }
     ensures consumes { Consumes parser.old parser.new result }
 {
-    let letter = parser.byte()?;
-    match qualifier_of(letter) {
-        Some(qualifier) => Ok(qualifier),
-        None => Err(parser.reject(Message::UnknownStorageClass)),
+    if let Some(qualifier) = qualifier_here(parser) {
+        return Ok(qualifier);
     }
+    no_qualifier(parser)
+}
+
+/// Reads the letter of a calling convention, if it is next.
+#[inline(always)]
+fn convention_here<'a, 'b, L: NodeBudget, A: Allocator>(
+    parser: &mut Parser<'a, 'b, L, A>,
+) -> Option<Convention>
+    ensures value { option_map (λ c. (c, parser.new.rest.now, state_of parser.new)) result
+        ≡ letter_here conventions parser.old.rest.now (state_of parser.old) }
+    ensures shorter { IfSome result (λ c. length parser.new.rest.now < length parser.old.rest.now) }
+    ensures still { MatchOption result (parser.new.rest.now ≡ parser.old.rest.now) (λ c. Unit {0}) }
+    ensures state { state_of parser.new ≡ state_of parser.old }
+    ensures kept { frame_of parser.new ≡ frame_of parser.old }
+{
+    if let [first, rest @ ..] = parser.rest {
+        if let Some(convention) = letters::convention(*first) {
+            parser.rest = rest;
+            return Some(convention);
+        }
+    }
+    None
+}
+
+/// Records that no letter of a calling convention is next: that the text ends, or after any other byte.
+#[cold]
+#[inline(never)]
+fn no_convention<'a, 'b, L: NodeBudget, A: Allocator>(
+    parser: &mut Parser<'a, 'b, L, A>,
+) -> Result<Convention, Failed>
+    ensures value { ReadsAs (λ c. c) parser.old parser.new result (λ left s. None) }
+    ensures consumes { Consumes parser.old parser.new result }
+{
+    parser.byte()?;
+    Err(parser.reject(Message::UnknownCallingConv))
 }
 
 /// Reads the letter of a calling convention. Fails after any other byte.
+#[inline(always)]
 pub fn convention<'a, 'b, L: NodeBudget, A: Allocator>(
     parser: &mut Parser<'a, 'b, L, A>,
 ) -> Result<Convention, Failed>
     ensures value { ReadsAs (λ c. c) parser.old parser.new result (letter_here conventions) }
     ensures consumes { Consumes parser.old parser.new result }
 {
-    let letter = parser.byte()?;
-    match letters::convention(letter) {
-        Some(convention) => Ok(convention),
-        None => Err(parser.reject(Message::UnknownCallingConv)),
+    if let Some(convention) = convention_here(parser) {
+        return Ok(convention);
     }
+    no_convention(parser)
 }
 
 /// Reads `MARKS = ["E"] ["I"] ["F"]`.

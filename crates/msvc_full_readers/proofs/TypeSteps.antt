@@ -8,15 +8,15 @@ use Rattle.msvc_nodes.specs.declared.kinds.PointerAffinity.TheVariants as mark_k
 use Rattle.msvc_nodes.specs.declared.kinds.TagKind.{TagKind}
 use Rattle.msvc_nodes.specs.declared.kinds.TagKind.TheVariants as tag_kind
 use Rattle.msvc_nodes.specs.declared.nodes.Number.{Number}
-use Rattle.msvc_rules.specs.Readers.{and_then, in_node, letter_here, read_by}
+use Rattle.msvc_rules.specs.Readers.{Found, and_then, in_node, letter_here, read_by}
 use Rattle.msvc_rules.specs.Rules.{Rule, after, call, give, letter, letter_or, literal, literal_or, ◌>>=◌}
 use Rattle.msvc_rules.specs.Sorts.{bits, list, type_tree}
 use Rattle.msvc_rules.specs.State.{State}
 use Rattle.msvc_grammar.specs.Reading.{read as crate_read}
 use Rattle.msvc_full_grammar.specs.Forms.{arrayed, function_with, named, pointer_with, qualified, reference_by}
-use Rattle.msvc_full_grammar.specs.Forms.{the_same, type_by_row}
+use Rattle.msvc_full_grammar.specs.Forms.{TypeForm, the_same, type_by_row}
 use Rattle.msvc_full_grammar.specs.Grammar.{grammar}
-use Rattle.msvc_full_grammar.specs.Letters.{member_qualifiers, qualifiers}
+use Rattle.msvc_full_grammar.specs.Letters.{base_types, member_qualifiers, qualifiers, type_texts}
 use Rattle.msvc_full_grammar.specs.Productions.{Production, argument, argument_after, arguments, arrays, class_symbol}
 use Rattle.msvc_full_grammar.specs.Productions.{dimensions, function_type, lengths, marks, number, pointer, reference}
 use Rattle.msvc_full_grammar.specs.Productions.{type_, type_after, type_name, type_row, type_symbol}
@@ -28,10 +28,12 @@ use Rattle.msvc_full_grammar.specs.declared.forms.OwnQualifiers.TheVariants as o
 use Rattle.msvc_full_grammar.specs.declared.forms.TypeRow.{TypeRow}
 use Rattle.msvc_full_grammar.specs.declared.forms.TypeRow.TheVariants.{Custom, ExternC, Integer, Nullptr}
 use Rattle.msvc_full_grammar.proofs.Laws.{read_name-is}
-use Rattle.msvc_cursor.proofs.Choices.{choose, chosen}
+use Rattle.msvc_cursor.specs.Parser.{text_at}
+use Rattle.msvc_cursor.proofs.Choices.{by_text, choose, chosen}
 use Rattle.msvc_cursor.proofs.RowSteps.{front_none, row_by, row_ends, row_more, row_rejected, with_front}
 use Rattle.msvc_full_letters.proofs.Choices.{letter_or-is, literal_or-is}
-use Rattle.msvc_full_readers.specs.Readings.{arrays_of, elements, member_pointer, pointed_function, pointed_member}
+use Rattle.msvc_full_letters.proofs.TextSteps.{base_by, type_step}
+use Rattle.msvc_full_readers.specs.Readings.{array_lengths, arrays_of, elements, member_pointer, pointed_function, pointed_member}
 use Rattle.msvc_full_readers.specs.Readings.{pointed_member_function, pointed_type, tagged_type}
 
 -- what follows the text of a type
@@ -75,6 +77,36 @@ pub type_by_row_step : (q : ℕ) (r : TypeRow) (left : List ℕ) (s : State)
     → read_name (type_after q (type_by_row r)) left s ≡ read_name (type_row q r) left s
 unfolding grammar read read_by
 type_by_row_step q r left s = read_name-is (type_after q (type_by_row r)) left s
+
+-- by the text that is next
+
+pub type_by : (q : ℕ) (f : TypeForm) (left rest : List ℕ) (s : State) → text_at type_texts left ≡ Some (f, rest)
+    → read_name (type_ q) left s ≡ read_name (type_after q f) rest s
+type_by q f left rest s e =
+    type_step q left s
+    ∙ ap (λ o. by_text o (λ g r. read_name (type_after q g) r s) (base_by base_types q left s)) e
+
+pub type_by_letter : (q : ℕ) (left : List ℕ) (s : State) → text_at type_texts left ≡ None
+    → read_name (type_ q) left s ≡ base_by base_types q left s
+type_by_letter q left s e =
+    type_step q left s
+    ∙ ap (λ o. by_text o (λ g r. read_name (type_after q g) r s) (base_by base_types q left s)) e
+
+-- a mark changes the qualifiers of the type behind it alone
+
+pub same_more : (q : ℕ) (left rest : List ℕ) (s : State) → text_at type_texts left ≡ Some (the_same, rest)
+    → read_name (type_ q) left s ≡ read_name (type_ q) rest s
+same_more q left rest s e = type_by q the_same left rest s e ∙ the_same_step q rest s
+
+abbrev after_qualifier : ℕ → Found ℕ → Found TypeTree
+after_qualifier q o = and_then o (λ more l t. read_name (type_ (bit_or q more)) l t)
+
+pub qualified_more : (q more : ℕ) (left rest l : List ℕ) (s t : State)
+    → text_at type_texts left ≡ Some (qualified, rest)
+    → letter_here qualifiers rest s ≡ Some (more, l, t)
+    → read_name (type_ q) left s ≡ read_name (type_ (bit_or q more)) l t
+qualified_more q more left rest l s t e read =
+    type_by q qualified left rest s e ∙ qualified_step q rest s ∙ ap (after_qualifier q) read
 
 pub tagged_type_step : (tag : TagKind) (q : ℕ) (left : List ℕ) (s : State) → read (tagged_type tag q) left s
     ≡ in_node left s (λ j a. and_then (read_name type_symbol j a)
@@ -182,11 +214,23 @@ pointed_member_step r q left s = refl
 
 -- arrays
 
+pub array_lengths_step : (left : List ℕ) (s : State) → read array_lengths left s
+    ≡ and_then (read_name dimensions left s) (λ n l t. read_name (lengths n) l t)
+unfolding read read_by
+array_lengths_step left s = refl
+
 pub arrays_step : (q : ℕ) (left : List ℕ) (s : State) → read_name (arrays q) left s
-    ≡ in_node left s (λ j a. and_then (read_name dimensions j a) (λ n l t. and_then (read_name (lengths n) l t)
-    (λ zs k u. read (elements zs q) k u)))
+    ≡ in_node left s (λ j a. and_then (read array_lengths j a) (λ zs l t. read (elements zs q) l t))
 unfolding grammar read read_by
-arrays_step q left s = read_name-is (arrays q) left s
+arrays_step q left s =
+    read_name-is (arrays q) left s
+    ∙ λ i. in_node left s (λ j a. together (read_name dimensions j a) i)
+  where
+    together : (o : Found ℕ)
+        → and_then o (λ n l t. and_then (read_name (lengths n) l t) (λ zs k u. read (elements zs q) k u))
+        ≡ and_then (and_then o (λ n l t. read_name (lengths n) l t)) (λ zs l t. read (elements zs q) l t)
+    together None = refl
+    together (Some n) = refl
 
 pub elements_step : (zs : List Number) (q : ℕ) (left : List ℕ) (s : State) → read (elements zs q) left s
     ≡ chosen (after (codes "$$C") left)
@@ -282,6 +326,7 @@ pub ruleset steps = (
   pointed_type_step,
   pointed_member_function_step,
   pointed_member_step,
+  array_lengths_step,
   arrays_step,
   elements_step,
   empty_pack_step,

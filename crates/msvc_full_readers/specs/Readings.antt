@@ -14,11 +14,15 @@ use Rattle.msvc_nodes.specs.declared.kinds.TagKind.{TagKind}
 use Rattle.msvc_rules.specs.Rules.{Rule, call, give, letter, literal, literal_or, node, some_of, ◌>>=◌, ◌>>◌, ◌or◌}
 use Rattle.msvc_rules.specs.Sorts.{bits, both, list, name_tree, symbol_tree, type_tree}
 use Rattle.msvc_rules.specs.Sorts as sort
+use Rattle.msvc_rules.specs.Readers.{Found}
 use Rattle.msvc_rules.specs.State.{State, remember_name}
+use Rattle.msvc_full_grammar.specs.Forms.{TypeForm}
 use Rattle.msvc_full_grammar.specs.declared.forms.OwnQualifiers.TheVariants.{Absent as absent, Present as present}
-use Rattle.msvc_full_grammar.specs.Letters.{at_sign, capitals, noexcept, qualifiers}
-use Rattle.msvc_full_grammar.specs.Productions.{Production, anonymous_digits, class_symbol, function_type}
-use Rattle.msvc_full_grammar.specs.Productions.{named_symbol, scope, symbol_name, template_symbol, type_, type_symbol}
+use Rattle.msvc_full_grammar.specs.Letters.{at_sign, base_types, capitals, noexcept, qualifiers}
+use Rattle.msvc_full_grammar.specs.Productions.{Production, anonymous_digits, class_symbol, dimensions}
+use Rattle.msvc_full_grammar.specs.Productions.{function_type, lengths, named_symbol, scope, symbol_name, template_symbol, type_, type_after, type_symbol}
+use Rattle.msvc_full_grammar.specs.Reading.{read_name}
+use Rattle.msvc_full_letters.proofs.TextSteps.{base_by}
 use Rattle.msvc_full_grammar.specs.Rows.{arrays_row, member_pointer_row}
 use Rattle.msvc_grammar.specs.declared.forms.Ellipsis.{Ellipsis}
 use Rattle.msvc_grammar.specs.declared.forms.Ellipsis.TheVariants as ellipsis
@@ -41,6 +45,11 @@ name_in_scope = do
   n ← call symbol_name
   ns ← call scope
   give (n, ns)
+
+-- the type behind marks: by its text, or a base type by its letter
+abbrev pub type_from : Option TypeForm → ℕ → List ℕ → State → Found TypeTree
+type_from None q = base_by base_types q
+type_from (Some f) q = read_name (type_after q f)
 
 -- a type known by a name
 abbrev pub tagged_type : TagKind → ℕ → Rule Production type_tree
@@ -78,6 +87,12 @@ pointed_member s q = do
   c ← call class_symbol
   t ← call (type_ s)
   give (member_pointer c t q)
+
+-- the lengths of arrays, as many as the number before them says
+abbrev pub array_lengths : Rule Production (list sort.number)
+array_lengths = do
+  n ← call dimensions
+  call (lengths n)
 
 -- arrays of these lengths and of this type
 abbrev pub arrays_of : List Number → TypeTree → ℕ → TypeTree

@@ -25,6 +25,7 @@ use std::alloc::Allocator;
 
 /// Reads `FUNCTION_TYPE = SIGNATURE`.
 #[cycle(readers)]
+#[inline(never)]
 pub fn function_type<'a, 'b, L: NodeBudget, A: Allocator>(
     parser: &mut Parser<'a, 'b, L, A>,
     own: OwnQualifiers,

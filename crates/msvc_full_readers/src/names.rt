@@ -253,6 +253,7 @@ fn template<'a, 'b, L: NodeBudget, A: Allocator>(
 /// Reads `SCOPE = {NESTED_NAME} "@"`, the innermost name first. The names are on a new part of the parser's list, and
 /// the result ends that part.
 #[cycle(readers)]
+#[inline(always)]
 pub fn scope<'a, 'b, L: NodeBudget, A: Allocator>(
     parser: &mut Parser<'a, 'b, L, A>,
 ) -> Result<Checkpoint, Failed>

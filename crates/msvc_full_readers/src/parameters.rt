@@ -24,6 +24,7 @@ use std::alloc::Allocator;
 
 /// Reads `FUNCTION_PARAMETERS = "X" | PARAMETERS`: an `X` means one `void`.
 #[cycle(readers)]
+#[inline(never)]
 pub fn function_parameters<'a, 'b, L: NodeBudget, A: Allocator>(
     parser: &mut Parser<'a, 'b, L, A>,
 ) -> Result<Checkpoint, Failed>

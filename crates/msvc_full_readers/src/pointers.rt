@@ -26,6 +26,7 @@ use std::alloc::Allocator;
 /// Reads `POINTER = "6" FUNCTION_TYPE | "8" CLASS_SYMBOL FUNCTION_TYPE | MARKS member qualifier CLASS_SYMBOL TYPE |
 /// MARKS qualifier TYPE`.
 #[cycle(readers)]
+#[inline(never)]
 pub fn pointer<'a, 'b, L: NodeBudget, A: Allocator>(
     parser: &mut Parser<'a, 'b, L, A>,
     qualifiers: StorageClass,
@@ -49,6 +50,7 @@ pub fn pointer<'a, 'b, L: NodeBudget, A: Allocator>(
 
 /// Reads `REFERENCE = "6" FUNCTION_TYPE | MARKS qualifier TYPE`.
 #[cycle(readers)]
+#[inline(never)]
 pub fn reference<'a, 'b, L: NodeBudget, A: Allocator>(
     parser: &mut Parser<'a, 'b, L, A>,
     affinity: PointerAffinity,
@@ -68,6 +70,7 @@ pub fn reference<'a, 'b, L: NodeBudget, A: Allocator>(
 
 /// Reads the function that a pointer or a reference refers to.
 #[cycle(readers)]
+#[inline(never)]
 fn pointed_function<'a, 'b, L: NodeBudget, A: Allocator>(
     parser: &mut Parser<'a, 'b, L, A>,
     affinity: PointerAffinity,
@@ -82,6 +85,7 @@ fn pointed_function<'a, 'b, L: NodeBudget, A: Allocator>(
 
 /// Reads what any other pointer or reference refers to, with its qualifier.
 #[cycle(readers)]
+#[inline(never)]
 fn pointed_type<'a, 'b, L: NodeBudget, A: Allocator>(
     parser: &mut Parser<'a, 'b, L, A>,
     affinity: PointerAffinity,
@@ -97,6 +101,7 @@ fn pointed_type<'a, 'b, L: NodeBudget, A: Allocator>(
 
 /// Reads the class and the type of a member function that a pointer refers to.
 #[cycle(readers)]
+#[inline(never)]
 fn pointed_member_function<'a, 'b, L: NodeBudget, A: Allocator>(
     parser: &mut Parser<'a, 'b, L, A>,
     qualifiers: StorageClass,
@@ -112,6 +117,7 @@ fn pointed_member_function<'a, 'b, L: NodeBudget, A: Allocator>(
 /// Reads the class and the type of any other member that a pointer refers to. The type has the qualifiers
 /// `of_member`.
 #[cycle(readers)]
+#[inline(never)]
 fn pointed_member<'a, 'b, L: NodeBudget, A: Allocator>(
     parser: &mut Parser<'a, 'b, L, A>,
     of_member: StorageClass,

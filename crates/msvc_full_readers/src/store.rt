@@ -66,6 +66,7 @@ pub fn put_empty_type<'a, 'b, L: NodeBudget, A: Allocator>(
 }
 
 /// Stores a type of a row that has qualifiers, if any, and a number.
+#[inline(always)]
 pub fn put_number_type<'a, 'b, L: NodeBudget, A: Allocator>(
     parser: &mut Parser<'a, 'b, L, A>,
     row: u8,

@@ -48,6 +48,7 @@ pub fn whole_text<'a, 'b, L: NodeBudget, A: Allocator>(
 }
 
 /// Returns whether a label of exception handling is next, after its `?`.
+#[inline(always)]
 fn is_label(left: &[u8]) -> bool
     ensures { result ≡ some_of (begins left.now) label_endings }
 {

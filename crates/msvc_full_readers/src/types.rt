@@ -1,13 +1,15 @@
 //! Types.
 
+ghost use Rattle.std.specs.Option.{option_map};
+ghost use Rattle.std.specs.Prelude.{◌≡◌, ◌<◌, ◌≤◌, IfSome, length};
 ghost use Rattle.msvc_nodes.specs.NodeView.{type_at};
 ghost use Rattle.msvc_full_grammar.specs.Forms.{qualified};
 ghost use Rattle.msvc_full_grammar.specs.Productions as production;
 ghost use Rattle.msvc_full_grammar.specs.Reading.{read, read_name};
 ghost use Rattle.msvc_full_grammar.specs.declared.forms.TypeRow.TheVariants as rows_of;
 ghost use Rattle.msvc_full_letters.specs.Views.{type_form_of};
-ghost use Rattle.msvc_cursor.specs.Parser.{Consumes, MayConsume, ReadsAs};
-ghost use Rattle.msvc_full_readers.specs.Readings.{elements, tagged_type};
+ghost use Rattle.msvc_cursor.specs.Parser.{Consumes, MayConsume, ReadsAs, frame_of, state_of};
+ghost use Rattle.msvc_full_readers.specs.Readings.{array_lengths, elements, tagged_type, type_from};
 
 use crate::base_types::{base_type, extended_type};
 use crate::functions::function_type;
@@ -22,7 +24,7 @@ use msvc_full_grammar::forms::TypeRow;
 use msvc_full_letters::arrays::{dimensions, lengths};
 use msvc_full_letters::forms::TypeForm;
 use msvc_full_letters::numbers::number;
-use msvc_full_letters::qualifiers::qualifier;
+use msvc_full_letters::qualifiers::{qualifier, qualifier_here};
 use msvc_full_letters::texts::type_form;
 use msvc_nodes::flags::StorageClass;
 use msvc_nodes::kinds::TagKind;
@@ -30,7 +32,8 @@ use msvc_nodes::nodes::{Number, Type};
 use msvc_shapes::rows;
 use std::alloc::Allocator;
 
-/// Reads `TYPE = text of types TYPE_AFTER | base letter`.
+/// Reads `TYPE = text of types TYPE_AFTER | base letter`. Each case ends in a call, and none in a failure that is made
+/// here, so that this frame is gone while parts are read.
 #[cycle(readers)]
 pub fn type_<'a, 'b, L: NodeBudget, A: Allocator>(
     parser: &mut Parser<'a, 'b, L, A>,
@@ -39,16 +42,49 @@ pub fn type_<'a, 'b, L: NodeBudget, A: Allocator>(
     ensures value { ReadsAs type_at parser.old parser.new result (read_name (production.type_ qualifiers.0)) }
     ensures consumes { Consumes parser.old parser.new result }
 {
-    if let Some((form, rest)) = type_form(parser.rest) {
-        parser.rest = rest;
-        return type_after(parser, form, qualifiers);
+    let (form, all) = type_start(parser, qualifiers);
+    match form {
+        Some(form) => type_after(parser, form, all),
+        None => base_type(parser, all),
     }
-    base_type(parser, qualifiers)
 }
 
-/// Reads what follows the text of a type. Each case ends in a call, so that this frame is gone while parts are read.
+/// Reads the marks before a type, `{"$$B" | "$$C" qualifier}`, and the text of the type, if it has one. Returns the form
+/// of that text, and the qualifiers of the marks beside those given. Marks make no node, so a loop reads them, which takes
+/// no stack. Where no qualifier follows a `$$C`, its form is returned.
+#[inline(always)]
+fn type_start<'a, 'b, L: NodeBudget, A: Allocator>(
+    parser: &mut Parser<'a, 'b, L, A>,
+    qualifiers: StorageClass,
+) -> (Option<TypeForm>, StorageClass)
+    ensures value { read_name (production.type_ qualifiers.0) parser.old.rest.now (state_of parser.old)
+        ≡ type_from (option_map type_form_of result.0) result.1.0 parser.new.rest.now (state_of parser.new) }
+    ensures shorter { length parser.new.rest.now ≤ length parser.old.rest.now }
+    ensures text { IfSome result.0 (λ _. length parser.new.rest.now < length parser.old.rest.now) }
+    ensures kept { frame_of parser.new ≡ frame_of parser.old }
+{
+    let mut all = qualifiers;
+    'marks: loop {
+        let Some((form, rest)) = type_form(parser.rest) else {
+            return (None, all);
+        };
+        parser.rest = rest;
+        match form {
+            TypeForm::Same => {}
+            TypeForm::Qualified => {
+                let Some(more) = qualifier_here(parser) else {
+                    return (Some(form), all);
+                };
+                all = all.union(more);
+            }
+            _ => return (Some(form), all),
+        }
+    }
+}
+
+/// Reads what follows the text of a type.
 #[cycle(readers)]
-#[inline(never)]
+#[inline(always)]
 fn type_after<'a, 'b, L: NodeBudget, A: Allocator>(
     parser: &mut Parser<'a, 'b, L, A>,
     form: TypeForm,
@@ -71,6 +107,21 @@ fn type_after<'a, 'b, L: NodeBudget, A: Allocator>(
     }
 }
 
+/// Reads `qualifier TYPE`: a type with more qualifiers.
+#[cycle(readers)]
+#[inline(never)]
+fn qualified_type<'a, 'b, L: NodeBudget, A: Allocator>(
+    parser: &mut Parser<'a, 'b, L, A>,
+    qualifiers: StorageClass,
+) -> Result<&'b Type<'a, 'b>, Failed>
+    ensures value { ReadsAs type_at parser.old parser.new result
+        (read_name (production.type_after qualifiers.0 qualified)) }
+    ensures consumes { Consumes parser.old parser.new result }
+{
+    let more = qualifier(parser)?;
+    type_(parser, qualifiers.union(more))
+}
+
 /// Reads `TYPE_SYMBOL`: a class, a struct, a union, an enumeration or an alias by its name.
 #[cycle(readers)]
 pub fn tagged_type<'a, 'b, L: NodeBudget, A: Allocator>(
@@ -84,20 +135,6 @@ pub fn tagged_type<'a, 'b, L: NodeBudget, A: Allocator>(
     parser.count_node()?;
     let symbol = type_symbol(parser)?;
     parser.put_tagged(tag, symbol, qualifiers)
-}
-
-/// Reads `qualifier TYPE`: a type with more qualifiers.
-#[cycle(readers)]
-fn qualified_type<'a, 'b, L: NodeBudget, A: Allocator>(
-    parser: &mut Parser<'a, 'b, L, A>,
-    qualifiers: StorageClass,
-) -> Result<&'b Type<'a, 'b>, Failed>
-    ensures value { ReadsAs type_at parser.old parser.new result
-        (read_name (production.type_after qualifiers.0 qualified)) }
-    ensures consumes { Consumes parser.old parser.new result }
-{
-    let more = qualifier(parser)?;
-    type_(parser, qualifiers.union(more))
 }
 
 /// Reads `TYPE_ROW = fields of the row`.
@@ -119,7 +156,6 @@ pub fn type_row<'a, 'b, L: NodeBudget, A: Allocator>(
 }
 
 /// Reads a number as an argument of a template.
-#[inline(never)]
 fn integer<'a, 'b, L: NodeBudget, A: Allocator>(
     parser: &mut Parser<'a, 'b, L, A>,
     qualifiers: StorageClass,
@@ -188,13 +224,26 @@ fn arrays<'a, 'b, L: NodeBudget, A: Allocator>(
     ensures consumes { Consumes parser.old parser.new result }
 {
     parser.count_node()?;
-    let levels = dimensions(parser)?;
-    let lengths = lengths(parser, levels)?;
+    let lengths = array_lengths(parser)?;
     elements(parser, lengths, qualifiers)
+}
+
+/// Reads `DIMENSIONS LENGTHS`: the lengths of arrays, the outermost first. It is a call, so that its frame is gone while
+/// the elements are read.
+#[inline(never)]
+fn array_lengths<'a, 'b, L: NodeBudget, A: Allocator>(
+    parser: &mut Parser<'a, 'b, L, A>,
+) -> Result<&'b [Number], Failed>
+    ensures value { ReadsAs (λ zs. zs.now) parser.old parser.new result (read array_lengths) }
+    ensures consumes { Consumes parser.old parser.new result }
+{
+    let levels = dimensions(parser)?;
+    lengths(parser, levels)
 }
 
 /// Reads `ELEMENTS = ["$$C" qualifier] TYPE`: what stands after the lengths of arrays.
 #[cycle(readers)]
+#[inline(always)]
 fn elements<'a, 'b, L: NodeBudget, A: Allocator>(
     parser: &mut Parser<'a, 'b, L, A>,
     lengths: &'b [Number],

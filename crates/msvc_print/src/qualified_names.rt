@@ -95,6 +95,7 @@ fn write_if_spelled<'a, 'b, A: Allocator>(
 
 /// Writes the outermost names of a scope, as long as they are spelled, each with `::` after it. Returns how many names
 /// are left.
+#[inline(always)]
 fn write_spelled_names<'a, 'b, A: Allocator>(
     out: &mut Text<A>,
     names: &'b [&'b Name<'a, 'b>],

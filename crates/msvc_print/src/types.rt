@@ -352,6 +352,7 @@ impl<'a, 'b, 't, W: Wording, S: Allocator, A: Allocator> Printer<'a, 'b, 't, W, 
     }
 
     /// Prints a word, a name in its scope, and qualifiers.
+    #[inline(always)]
     fn print_tagged(
         &mut self,
         word: &[u8],
