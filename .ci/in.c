@@ -28,9 +28,10 @@ struct msvc_demangler_result msvc_demangler_demangle(const char *symbol, size_t 
     return msvc_demangler_demangle_in(symbol, length, flags, max_nodes, max_bytes, workspace(), work_size, out, size);
 }
 
-struct msvc_demangler_result msvc_demangler_prefix(const char *symbol, size_t length, size_t max_nodes)
+struct msvc_demangler_result msvc_demangler_prefix(const char *symbol, size_t length, uint32_t flags,
+                                                   size_t max_nodes)
 {
-    return msvc_demangler_prefix_in(symbol, length, max_nodes, workspace(), work_size);
+    return msvc_demangler_prefix_in(symbol, length, flags, max_nodes, workspace(), work_size);
 }
 
 struct msvc_demangler_result msvc_demangler_filter(const char *text, size_t length, uint32_t flags, char *out,

@@ -1,6 +1,10 @@
-/* Calls what msvc_demangler_in.h has beside the calls of msvc_demangler.h, on each line of standard input. Prints what
-   undname -v writes to its standard error for these lines: each one's tree or error. Ends with status 1 if a result is
-   wrong by itself or beside those of the other calls. */
+/* Calls what msvc_demangler_in.h has beside the calls of msvc_demangler.h, on each line of standard input:
+
+       trees [FLAGS] < symbols
+
+   FLAGS, a hexadecimal number, has the flag of a grammar, 0 without it. Prints what undname -v writes to its standard
+   error for these lines in the crate's grammar: each one's tree or error. Ends with status 1 if a result is wrong by
+   itself or beside those of the other calls. */
 
 #include <msvc_demangler_in.h>
 #include <stdio.h>
@@ -13,6 +17,7 @@ static char line[most_line];
 static char written_out[2 * most_line];
 static char text[most_text], other[most_text];
 static struct msvc_demangler_reference list[most_references], fewer[most_references];
+static uint32_t grammar;
 static unsigned long wrong;
 
 static void check(int is, const char *what)
@@ -30,19 +35,19 @@ static int same(struct msvc_demangler_result one, struct msvc_demangler_result t
 
 static struct msvc_demangler_result tree(size_t length, size_t bytes, char *out, size_t size)
 {
-    return msvc_demangler_tree_in(line, length, SIZE_MAX, work, bytes, out, size);
+    return msvc_demangler_tree_in(line, length, grammar, SIZE_MAX, work, bytes, out, size);
 }
 
 static struct msvc_demangler_result references(size_t length, size_t bytes, struct msvc_demangler_reference *out,
                                                size_t count)
 {
-    return msvc_demangler_references_in(line, length, SIZE_MAX, work, bytes, out, count);
+    return msvc_demangler_references_in(line, length, grammar, SIZE_MAX, work, bytes, out, count);
 }
 
 static struct msvc_demangler_result demangled(const char *symbol, size_t length, char *out)
 {
-    return msvc_demangler_demangle_in(symbol, length, MSVC_DEMANGLER_LLVM, SIZE_MAX, SIZE_MAX, work, work_size, out,
-                                      most_text);
+    return msvc_demangler_demangle_in(symbol, length, MSVC_DEMANGLER_LLVM | grammar, SIZE_MAX, SIZE_MAX, work,
+                                      work_size, out, most_text);
 }
 
 /* Small buffers: the beginning of the text, a NUL, and no byte after that. */
@@ -67,7 +72,7 @@ static void check_buffers(size_t length, struct msvc_demangler_result whole)
 static void check_references(size_t length, size_t count)
 {
     struct msvc_demangler_result all = demangled(line, length, text);
-    size_t end = msvc_demangler_prefix_in(line, length, SIZE_MAX, work, work_size).length;
+    size_t end = msvc_demangler_prefix_in(line, length, grammar, SIZE_MAX, work, work_size).length;
     for (size_t i = 0; i < count; i++) {
         size_t at = list[i].at, start = list[i].start, part = list[i].end - list[i].start;
         struct msvc_demangler_result result;
@@ -81,7 +86,7 @@ static void check_references(size_t length, size_t count)
         memcpy(written_out + at + part, line + at + 1, length - at - 1);
         result = demangled(written_out, length + part - 1, other);
         check(same(result, all) && strcmp(text, other) == 0, "another declaration with a digit written out");
-        result = msvc_demangler_prefix_in(written_out, length + part - 1, SIZE_MAX, work, work_size);
+        result = msvc_demangler_prefix_in(written_out, length + part - 1, grammar, SIZE_MAX, work, work_size);
         check(result.length == end + part - 1, "another length with a digit written out");
     }
 }
@@ -140,8 +145,9 @@ static void look(size_t length, size_t step)
     }
 }
 
-int main(void)
+int main(int count, char **words)
 {
+    grammar = count > 1 ? (uint32_t)strtoul(words[1], NULL, 16) : 0;
     for (unsigned long lines = 0; fgets(line, sizeof line, stdin) != NULL; lines++) {
         size_t length = strcspn(line, "\n");
         line[length] = '\0';

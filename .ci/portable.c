@@ -44,7 +44,7 @@ static void try_row(const char *symbol, size_t length, uint32_t flags)
     for (size_t n = 0; n < sizeof limits / sizeof limits[0]; n++) {
         print("nodes", msvc_demangler_demangle(symbol, length, flags, limits[n], most, out, most));
         print("bytes", msvc_demangler_demangle(symbol, length, flags, nodes, limits[n], out, most));
-        print("prefix", msvc_demangler_prefix(symbol, length, limits[n]));
+        print("prefix", msvc_demangler_prefix(symbol, length, flags, limits[n]));
     }
 }
 
@@ -114,7 +114,7 @@ static void try_held(void)
         see(result.status == MSVC_DEMANGLER_OK && strcmp(out, "int x") == 0, "demangle_with");
         result = msvc_demangler_filter_with(&right, "a ?y@@3HA", 9, MSVC_DEMANGLER_LLVM, out, most);
         see(result.status == MSVC_DEMANGLER_OK && strcmp(out, "a int y") == 0, "filter_with");
-        see(msvc_demangler_prefix_with(&left, "?x@@3HA b", 9, 10).length == 7, "prefix_with");
+        see(msvc_demangler_prefix_with(&left, "?x@@3HA b", 9, 0, 10).length == 7, "prefix_with");
         see(left.machine != NULL && right.machine != NULL && left.machine != right.machine, "two machines");
         msvc_demangler_free(&left);
         see(left.machine == NULL, "a machine that is freed");
@@ -125,7 +125,7 @@ static void try_held(void)
     large = pointers(MSVC_DEMANGLER_MOST_NODES);
     result = msvc_demangler_demangle_with(&left, large, strlen(large), 0, any, any, out, most);
     see(result.status == MSVC_DEMANGLER_TOO_MANY_NODES, "more nodes than the file accepts");
-    result = msvc_demangler_prefix_with(&left, large, strlen(large), any);
+    result = msvc_demangler_prefix_with(&left, large, strlen(large), 0, any);
     see(result.status == MSVC_DEMANGLER_TOO_MANY_NODES, "more nodes than the file measures");
     free(large);
     large = pointers(4900); /* "void __cdecl f(int *,int *)" */
@@ -138,7 +138,7 @@ static void try_held(void)
     msvc_demangler_free(&left);
     msvc_demangler_free(NULL);
     msvc_demangler_free(NULL);
-    see(msvc_demangler_prefix("?x@@3HA", 7, 10).length == 7, "a call after the pool is freed");
+    see(msvc_demangler_prefix("?x@@3HA", 7, 0, 10).length == 7, "a call after the pool is freed");
     msvc_demangler_free(NULL);
     printf("held machines, %d wrong results\n", wrong);
 }

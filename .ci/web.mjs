@@ -1,6 +1,6 @@
 // Calls the ES module over rows, and compares it with the output of the native programs.
 //
-//     node .ci/web.mjs FOLDER rows < ROWS             rows of crates/msvc_bench/stdin
+//     node .ci/web.mjs FOLDER rows < ROWS             rows that tools/rows prints
 //     node .ci/web.mjs FOLDER prefix < ROWS           rows of crates/msvc_bench/prefix.tsv
 //     node .ci/web.mjs FOLDER lines TEXT ERRORS < IN  symbols, and undname's output for them
 //     node .ci/web.mjs FOLDER trees ERRORS < IN       symbols, and the standard error of undname -v for them
@@ -223,6 +223,19 @@ const commands = {
     for (const limit of [-1, NaN]) assert.throws(() => demangle('?x@@3HA', 0, { maxNodes: limit }), RangeError);
     assert.equal(symbolLength('?äö😀@@3HA and more'), 10);
     assert.equal(symbolLength(Buffer.from('?äö😀@@3HA and more')), 14);
+
+    const full = '?f@@YA?A?<auto>@@H@Z';
+    for (const flags of [Flags.LLVM + Flags.FULL, Flags.LLVM | Flags.FULL]) {
+      assert.equal(demangle(full, flags), '<auto> __cdecl f(int)');
+      assert.equal(filter(`in ${full}`, flags), 'in <auto> __cdecl f(int)');
+      assert.equal(symbolLength(`${full} and more`, { flags }), full.length);
+      assert.equal(outcome(tree, full, { flags, maxNodes: 1 }).code, 'TOO_MANY_NODES');
+      assert.ok(tree(full, { flags }).startsWith('f: '));
+      assert.deepEqual(references('?f@@YA?A?<auto>@@PAH0@Z', { flags }), [{ at: 20, start: 17, end: 20 }]);
+    }
+    for (const call of [demangle, references, symbolLength, tree]) {
+      assert.ok(outcome(call, full) instanceof DemangleError);
+    }
 
     assert.equal(tree('?x@ns@@3HA and more'), 'ns::x: Var(Global Int)');
     rejected(() => tree('?äx@@3L'), 'INVALID', 7);

@@ -59,7 +59,8 @@
 
 /**
  * @name Flags
- * Change how a declaration is printed. They combine with |; 0 is none. docs/flags.md describes each.
+ * Change how a declaration is printed, but for the last, which chooses the grammar. They combine with |; 0 is none.
+ * docs/flags.md describes each.
  * @{
  */
 #define MSVC_DEMANGLER_NO_MS_KEYWORDS 0x2u         /**< drops __cdecl and the like */
@@ -78,6 +79,7 @@
 #define MSVC_DEMANGLER_SPACE_BEFORE_POINTER 0x800000u /**< prints int *const x in place of int * const x */
 #define MSVC_DEMANGLER_WITH_PTR64 0x1000000u       /**< prints __ptr64 */
 #define MSVC_DEMANGLER_LLVM 0xE00400u              /**< four of these: spelling near llvm-undname's */
+#define MSVC_DEMANGLER_FULL 0x80000000u            /**< reads Full, the grammar of today's compilers */
 /** @} */
 
 /**
@@ -154,7 +156,7 @@ MSVC_DEMANGLER_ASSERT(offsetof(struct msvc_demangler_result, length) == 16);
  * @param symbol     the input, which begins with the symbol. All of it must be UTF-8; bytes after a complete symbol are
  *                   ignored.
  * @param length     the length of the input
- * @param flags      flags for printing
+ * @param flags      flags for printing and reading
  * @param max_nodes  the limit on the tree of the symbol: each name and each type in it is a node, at every depth
  * @param max_bytes  the limit on the length of the declaration
  * @param out        the buffer
@@ -195,6 +197,7 @@ struct msvc_demangler_result msvc_demangler_demangle(const char *symbol, size_t 
  *
  * @param symbol     the input, as of msvc_demangler_demangle
  * @param length     the length of the input
+ * @param flags      MSVC_DEMANGLER_FULL or 0; flags for printing change nothing
  * @param max_nodes  the limit on the tree of the symbol
  * @return the number of bytes as the length, which is 0 if the status is not OK. Statuses and offsets are those of
  *         msvc_demangler_demangle, without TOO_LONG.
@@ -202,14 +205,14 @@ struct msvc_demangler_result msvc_demangler_demangle(const char *symbol, size_t 
  * @code
  * const char symbol[] = "?x@@3HA and more";
  * struct msvc_demangler_result result =
- *     msvc_demangler_prefix(symbol, strlen(symbol), MSVC_DEMANGLER_DEFAULT_NODES);
+ *     msvc_demangler_prefix(symbol, strlen(symbol), 0, MSVC_DEMANGLER_DEFAULT_NODES);
  * printf("%zu bytes\n", result.length);
  * @endcode
  *
  * Prints "7 bytes".
  */
 MSVC_DEMANGLER_API
-struct msvc_demangler_result msvc_demangler_prefix(const char *symbol, size_t length,
+struct msvc_demangler_result msvc_demangler_prefix(const char *symbol, size_t length, uint32_t flags,
                                                    size_t max_nodes) MSVC_DEMANGLER_NOEXCEPT;
 
 /**
@@ -220,7 +223,7 @@ struct msvc_demangler_result msvc_demangler_prefix(const char *symbol, size_t le
  *
  * @param text    the input: any bytes, which need not be UTF-8
  * @param length  the length of the input
- * @param flags   flags for printing
+ * @param flags   flags for printing and reading
  * @param out     the buffer; a cut never splits a character of a declaration
  * @param size    the size of the buffer
  * @return OK or OUT_OF_MEMORY, with the offset 0. If memory runs out, the text is "out of memory", and the bytes of the
@@ -262,7 +265,7 @@ size_t msvc_demangler_version(char *out, size_t size) MSVC_DEMANGLER_NOEXCEPT;
  * Demangles a symbol that ends in NUL, as msvc_demangler_demangle does, with the default limits.
  *
  * @param symbol  the symbol
- * @param flags   flags for printing
+ * @param flags   flags for printing and reading
  * @param out     the buffer
  * @param size    the size of the buffer
  * @return the result of msvc_demangler_demangle
@@ -290,7 +293,7 @@ static inline size_t msvc_demangler_usual_size(size_t length) MSVC_DEMANGLER_NOE
  *
  * @param symbol     the input, as of msvc_demangler_demangle
  * @param length     the length of the input
- * @param flags      flags for printing
+ * @param flags      flags for printing and reading
  * @param max_nodes  the limit on the tree of the symbol
  * @param max_bytes  the limit on the length of the declaration
  * @param result     receives the result, unless it is null
@@ -354,7 +357,7 @@ namespace msvc_demangler {
  *
  * @param symbol     the input, as of msvc_demangler_demangle
  * @param result     receives the result
- * @param flags      flags for printing
+ * @param flags      flags for printing and reading
  * @param max_nodes  the limit on the tree of the symbol
  * @param max_bytes  the limit on the length of the declaration
  * @return the text
@@ -383,7 +386,7 @@ inline std::string demangle(std::string_view symbol, msvc_demangler_result &resu
  * Returns the declaration of a symbol, if there is one.
  *
  * @param symbol     the input, as of msvc_demangler_demangle
- * @param flags      flags for printing
+ * @param flags      flags for printing and reading
  * @param max_nodes  the limit on the tree of the symbol
  * @param max_bytes  the limit on the length of the declaration
  * @return the declaration, or nothing if the status is not OK
@@ -405,7 +408,7 @@ inline std::optional<std::string> demangle(std::string_view symbol, std::uint32_
  * Returns a text with each symbol in it replaced by its declaration, as msvc_demangler_filter writes it.
  *
  * @param text   the input, of any bytes
- * @param flags  flags for printing
+ * @param flags  flags for printing and reading
  * @return the filtered text
  * @throws std::bad_alloc if memory runs out
  */

@@ -35,7 +35,7 @@
  *
  * A workspace of MSVC_DEMANGLER_DEFAULT_WORKSPACE bytes suffices for each symbol within the default limits, and one of
  * MSVC_DEMANGLER_SMALL_WORKSPACE bytes for each symbol within the small ones. 12,288 bytes suffice for each of 676 real
- * names.
+ * names. With MSVC_DEMANGLER_FULL each length of an array takes 34 bytes more, since it is no node.
  */
 #ifndef MSVC_DEMANGLER_IN_H
 #define MSVC_DEMANGLER_IN_H
@@ -59,9 +59,9 @@
  * @{
  */
 /** Bytes for the small limits. */
-#define MSVC_DEMANGLER_SMALL_WORKSPACE ((size_t)98304)
+#define MSVC_DEMANGLER_SMALL_WORKSPACE ((size_t)221184)
 /** Bytes for the default limits. */
-#define MSVC_DEMANGLER_DEFAULT_WORKSPACE ((size_t)1228800)
+#define MSVC_DEMANGLER_DEFAULT_WORKSPACE ((size_t)2457600)
 /** @} */
 
 /**
@@ -107,7 +107,7 @@ extern "C" {
  *
  * @param symbol     the input, as of msvc_demangler_demangle
  * @param length     the length of the input
- * @param flags      flags for printing
+ * @param flags      flags for printing and reading
  * @param max_nodes  the limit on the tree of the symbol
  * @param max_bytes  the limit on the length of the declaration
  * @param arena      the part for the nodes
@@ -126,18 +126,20 @@ struct msvc_demangler_result msvc_demangler_demangle_in_parts(const char *symbol
  *
  * @param symbol     the input, as of msvc_demangler_demangle
  * @param length     the length of the input
+ * @param flags      MSVC_DEMANGLER_FULL or 0
  * @param max_nodes  the limit on the tree of the symbol
  * @param arena      the part for the nodes
  * @return the result of msvc_demangler_prefix
  */
-struct msvc_demangler_result msvc_demangler_prefix_in_parts(const char *symbol, size_t length, size_t max_nodes,
+struct msvc_demangler_result msvc_demangler_prefix_in_parts(const char *symbol, size_t length, uint32_t flags,
+                                                            size_t max_nodes,
                                                             struct msvc_demangler_part *arena) MSVC_DEMANGLER_NOEXCEPT;
 /**
  * Filters a text, as msvc_demangler_filter does, in parts of a workspace.
  *
  * @param input   the input
  * @param length  the length of the input
- * @param flags   flags for printing
+ * @param flags   flags for printing and reading
  * @param arena   the part for the nodes of a symbol
  * @param text    the part for the declaration of a symbol
  * @param out     the buffer
@@ -149,12 +151,12 @@ struct msvc_demangler_result msvc_demangler_filter_in_parts(const char *input, s
                                                             struct msvc_demangler_part *text, char *out,
                                                             size_t size) MSVC_DEMANGLER_NOEXCEPT;
 /** Writes the tree of a symbol, as msvc_demangler_tree_in does, in a part for its nodes and its text. */
-struct msvc_demangler_result msvc_demangler_tree_in_parts(const char *symbol, size_t length, size_t max_nodes,
-                                                          struct msvc_demangler_part *arena, char *out,
-                                                          size_t size) MSVC_DEMANGLER_NOEXCEPT;
+struct msvc_demangler_result msvc_demangler_tree_in_parts(const char *symbol, size_t length, uint32_t flags,
+                                                          size_t max_nodes, struct msvc_demangler_part *arena,
+                                                          char *out, size_t size) MSVC_DEMANGLER_NOEXCEPT;
 /** Lists the back references of a symbol, as msvc_demangler_references_in does, in a part for its nodes. */
-struct msvc_demangler_result msvc_demangler_references_in_parts(const char *symbol, size_t length, size_t max_nodes,
-                                                                struct msvc_demangler_part *arena,
+struct msvc_demangler_result msvc_demangler_references_in_parts(const char *symbol, size_t length, uint32_t flags,
+                                                                size_t max_nodes, struct msvc_demangler_part *arena,
                                                                 struct msvc_demangler_reference *out,
                                                                 size_t count) MSVC_DEMANGLER_NOEXCEPT;
 /** @} */
@@ -202,7 +204,7 @@ static inline struct msvc_demangler_part msvc_demangler_cut(struct msvc_demangle
  *
  * @param symbol     the input, as of msvc_demangler_demangle
  * @param length     the length of the input
- * @param flags      flags for printing
+ * @param flags      flags for printing and reading
  * @param max_nodes  the limit on the tree of the symbol
  * @param max_bytes  the limit on the length of the declaration
  * @param work       the workspace
@@ -226,17 +228,18 @@ static inline struct msvc_demangler_result msvc_demangler_demangle_in(const char
  *
  * @param symbol     the input, as of msvc_demangler_demangle
  * @param length     the length of the input
+ * @param flags      MSVC_DEMANGLER_FULL or 0
  * @param max_nodes  the limit on the tree of the symbol
  * @param work       the workspace
  * @param work_size  the size of the workspace
  * @return the result of msvc_demangler_prefix
  */
-static inline struct msvc_demangler_result msvc_demangler_prefix_in(const char *symbol, size_t length, size_t max_nodes,
-                                                                    void *work,
+static inline struct msvc_demangler_result msvc_demangler_prefix_in(const char *symbol, size_t length, uint32_t flags,
+                                                                    size_t max_nodes, void *work,
                                                                     size_t work_size) MSVC_DEMANGLER_NOEXCEPT
 {
     struct msvc_demangler_part arena = msvc_demangler_aligned(work, work_size);
-    return msvc_demangler_prefix_in_parts(symbol, length, max_nodes, &arena);
+    return msvc_demangler_prefix_in_parts(symbol, length, flags, max_nodes, &arena);
 }
 
 /**
@@ -244,7 +247,7 @@ static inline struct msvc_demangler_result msvc_demangler_prefix_in(const char *
  *
  * @param text       the input
  * @param length     the length of the input
- * @param flags      flags for printing
+ * @param flags      flags for printing and reading
  * @param work       the workspace
  * @param work_size  the size of the workspace
  * @param out        the buffer
@@ -267,12 +270,12 @@ static inline struct msvc_demangler_result msvc_demangler_filter_in(const char *
  * msvc_demangler_demangle without a limit on bytes. The text is made in the workspace, so a tree with long names may
  * need a larger one than the sizes above.
  */
-static inline struct msvc_demangler_result msvc_demangler_tree_in(const char *symbol, size_t length, size_t max_nodes,
-                                                                  void *work, size_t work_size, char *out,
-                                                                  size_t size) MSVC_DEMANGLER_NOEXCEPT
+static inline struct msvc_demangler_result msvc_demangler_tree_in(const char *symbol, size_t length, uint32_t flags,
+                                                                  size_t max_nodes, void *work, size_t work_size,
+                                                                  char *out, size_t size) MSVC_DEMANGLER_NOEXCEPT
 {
     struct msvc_demangler_part arena = msvc_demangler_aligned(work, work_size);
-    return msvc_demangler_tree_in_parts(symbol, length, max_nodes, &arena, out, size);
+    return msvc_demangler_tree_in_parts(symbol, length, flags, max_nodes, &arena, out, size);
 }
 
 /**
@@ -282,13 +285,13 @@ static inline struct msvc_demangler_result msvc_demangler_tree_in(const char *sy
  * unspecified.
  */
 static inline struct msvc_demangler_result msvc_demangler_references_in(const char *symbol, size_t length,
-                                                                        size_t max_nodes, void *work,
-                                                                        size_t work_size,
+                                                                        uint32_t flags, size_t max_nodes,
+                                                                        void *work, size_t work_size,
                                                                         struct msvc_demangler_reference *out,
                                                                         size_t count) MSVC_DEMANGLER_NOEXCEPT
 {
     struct msvc_demangler_part arena = msvc_demangler_aligned(work, work_size);
-    return msvc_demangler_references_in_parts(symbol, length, max_nodes, &arena, out, count);
+    return msvc_demangler_references_in_parts(symbol, length, flags, max_nodes, &arena, out, count);
 }
 
 #ifdef __cplusplus

@@ -66,17 +66,20 @@ static void see(const struct buffer *buffer, size_t size)
     expect(size == 0 || memchr(bytes, 0, size) != NULL);
 }
 
+/* The flags of the calls: with each input both grammars are tried. */
+static uint32_t flags;
+
 typedef struct msvc_demangler_result call(const char *input, size_t length, char *out, size_t size);
 
 static struct msvc_demangler_result demangle(const char *input, size_t length, char *out, size_t size)
 {
-    return msvc_demangler_demangle(input, length, MSVC_DEMANGLER_LLVM, MSVC_DEMANGLER_DEFAULT_NODES,
-                                   MSVC_DEMANGLER_DEFAULT_BYTES, out, size);
+    return msvc_demangler_demangle(input, length, flags, MSVC_DEMANGLER_DEFAULT_NODES, MSVC_DEMANGLER_DEFAULT_BYTES,
+                                   out, size);
 }
 
 static struct msvc_demangler_result filter(const char *input, size_t length, char *out, size_t size)
 {
-    return msvc_demangler_filter(input, length, MSVC_DEMANGLER_LLVM, out, size);
+    return msvc_demangler_filter(input, length, flags, out, size);
 }
 
 /* Makes a call with a large and with a small buffer. */
@@ -99,6 +102,15 @@ static void try_call(call *called, const char *input, size_t length)
     }
 }
 
+/* Makes all calls over an input, in the grammar of the flags. */
+static void try_input(const char *input, size_t length)
+{
+    try_call(demangle, input, length);
+    try_call(filter, input, length);
+    struct msvc_demangler_result read = msvc_demangler_prefix(input, length, flags, MSVC_DEMANGLER_DEFAULT_NODES);
+    expect(read.status != MSVC_DEMANGLER_OK || read.length <= length);
+}
+
 int main(void)
 {
     __AFL_INIT();
@@ -108,10 +120,10 @@ int main(void)
         char *input = malloc(length);
         expect(input != NULL);
         memcpy(input, bytes, length);
-        try_call(demangle, input, length);
-        try_call(filter, input, length);
-        struct msvc_demangler_result read = msvc_demangler_prefix(input, length, MSVC_DEMANGLER_DEFAULT_NODES);
-        expect(read.status != MSVC_DEMANGLER_OK || read.length <= length);
+        flags = MSVC_DEMANGLER_LLVM;
+        try_input(input, length);
+        flags |= MSVC_DEMANGLER_FULL;
+        try_input(input, length);
         free(input);
     }
     return 0;

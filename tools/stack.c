@@ -1,10 +1,11 @@
 /* Calls the C library on a thread with a stack of KILOBYTES KB, for tools/stack, tools/measure/limits and .ci/c:
 
-       stack demangle KILOBYTES NODES < symbol
-       stack prefix KILOBYTES NODES < symbol
+       stack demangle KILOBYTES NODES [FLAGS] < symbol
+       stack prefix KILOBYTES NODES [FLAGS] < symbol
 
-   The symbol is the first line of standard input. Prints the status and, for msvc_demangler_demangle, the text.
-   If the stack doesn't suffice for the call, a signal ends the program. */
+   The symbol is the first line of standard input. FLAGS, a hexadecimal number, are flags beside those of LLVM. Prints
+   the status and, for msvc_demangler_demangle, the text. If the stack doesn't suffice for the call, a signal ends the
+   program. */
 
 #define _POSIX_C_SOURCE 200809L
 #include <msvc_demangler.h>
@@ -15,6 +16,7 @@ struct work {
     char *symbol;
     size_t length;
     size_t nodes;
+    uint32_t flags;
     struct msvc_demangler_result result;
     char text[256];
 };
@@ -22,7 +24,7 @@ struct work {
 static void *demangle(void *argument)
 {
     struct work *work = argument;
-    work->result = msvc_demangler_demangle(work->symbol, work->length, MSVC_DEMANGLER_LLVM, work->nodes,
+    work->result = msvc_demangler_demangle(work->symbol, work->length, work->flags, work->nodes,
                                            MSVC_DEMANGLER_DEFAULT_BYTES, work->text, sizeof work->text);
     return NULL;
 }
@@ -30,7 +32,7 @@ static void *demangle(void *argument)
 static void *prefix(void *argument)
 {
     struct work *work = argument;
-    work->result = msvc_demangler_prefix(work->symbol, work->length, work->nodes);
+    work->result = msvc_demangler_prefix(work->symbol, work->length, work->flags, work->nodes);
     return NULL;
 }
 
@@ -42,8 +44,8 @@ static int fail(const char *what)
 
 int main(int count, char **words)
 {
-    if (count != 4) {
-        return fail("wants demangle or prefix, KILOBYTES and NODES");
+    if (count != 4 && count != 5) {
+        return fail("wants demangle or prefix, KILOBYTES, NODES and perhaps FLAGS");
     }
     static struct work work;
     size_t capacity = 0;
@@ -53,6 +55,7 @@ int main(int count, char **words)
     }
     work.length = (size_t)length - (work.symbol[length - 1] == '\n');
     work.nodes = strtoul(words[3], NULL, 10);
+    work.flags = MSVC_DEMANGLER_LLVM | (count == 5 ? (uint32_t)strtoul(words[4], NULL, 16) : 0);
 
     pthread_attr_t attributes;
     pthread_t thread;

@@ -1,10 +1,11 @@
 /* Finds the workspace that the calls without malloc need under two limits, for tools/workspace and .ci/in:
 
-       workspace NODES BYTES < kinds
+       workspace NODES BYTES FLAGS < kinds
 
-   Each line of standard input is a kind of symbol: five texts, parted by tabs. A symbol of it is the first text, the
-   second one so many times, the third, the fourth as many times, and the fifth. Symbols of a few and of many levels are
-   tried, up to twice as many as nodes are allowed, and a million levels. Prints the bytes that suffice for all. */
+   FLAGS, a hexadecimal number, are flags beside those of LLVM. Each line of standard input is a kind of symbol: five
+   texts, parted by tabs. A symbol of it is the first text, the second one so many times, the third, the fourth as many
+   times, and the fifth. Symbols of a few and of many levels are tried, up to twice as many as nodes are allowed, and a
+   million levels. Prints the bytes that suffice for all. */
 
 #define _POSIX_C_SOURCE 200809L
 #include <msvc_demangler_in.h>
@@ -15,6 +16,7 @@ enum { most = 1 << 26, step = 64, parts = 5, rejected_levels = 1000000 };
 
 static size_t nodes;
 static size_t bytes;
+static uint32_t flags;
 static size_t needed = step;
 static char *work;
 static char *symbol;
@@ -48,10 +50,9 @@ static void make(char *const *kind, size_t levels)
 static uint32_t status_in(size_t size)
 {
     char text[64];
-    uint32_t measured = msvc_demangler_prefix_in(symbol, length, nodes, work, size).status;
+    uint32_t measured = msvc_demangler_prefix_in(symbol, length, flags, nodes, work, size).status;
     uint32_t found =
-        msvc_demangler_demangle_in(symbol, length, MSVC_DEMANGLER_LLVM, nodes, bytes, work, size, text, sizeof text)
-            .status;
+        msvc_demangler_demangle_in(symbol, length, flags, nodes, bytes, work, size, text, sizeof text).status;
     return measured == MSVC_DEMANGLER_OUT_OF_MEMORY ? measured : found;
 }
 
@@ -106,12 +107,13 @@ static void try_kind(char *const *kind)
 
 int main(int count, char **words)
 {
-    if (count != 3) {
-        fputs("workspace: wants NODES and BYTES\n", stderr);
+    if (count != 4) {
+        fputs("workspace: wants NODES, BYTES and FLAGS\n", stderr);
         return 1;
     }
     nodes = strtoul(words[1], NULL, 10);
     bytes = strtoul(words[2], NULL, 10);
+    flags = MSVC_DEMANGLER_LLVM | (uint32_t)strtoul(words[3], NULL, 16);
     work = malloc(most);
     char *line = NULL;
     size_t capacity = 0;

@@ -3,7 +3,7 @@
 /** The version of the library. */
 export declare const version: string;
 
-/** How a declaration is printed. Flags are combined with |. */
+/** How a declaration is printed and, for the last, how a symbol is read. Flags are combined with |. */
 export declare const Flags: {
   /** No `__cdecl` and the like. */
   readonly NO_MS_KEYWORDS: 0x2;
@@ -36,6 +36,8 @@ export declare const Flags: {
   readonly WITH_PTR64: 0x1000000;
   /** As llvm-undname prints: four of them. */
   readonly LLVM: 0xE00400;
+  /** Reads the symbols of today's compilers. */
+  readonly FULL: 0x80000000;
 };
 
 /** An error of a call, with its message. */
@@ -52,6 +54,12 @@ export interface Limits {
   maxNodes?: number;
   /** Limit on the bytes of the declaration in UTF-8. The default is 65,536. */
   maxBytes?: number;
+}
+
+/** How a symbol is read. */
+export interface Reading extends Pick<Limits, 'maxNodes'> {
+  /** Flags.FULL, or 0, the default. Flags for printing change nothing. */
+  flags?: number;
 }
 
 /** Bytes, as a call takes them. */
@@ -81,7 +89,7 @@ export declare function filter(text: string | Bytes, flags?: number): string | U
  * @throws {DemangleError} if it begins with none
  * @throws {RangeError} if memory or the stack runs out
  */
-export declare function symbolLength(symbol: string | Bytes, limits?: Pick<Limits, 'maxNodes'>): number;
+export declare function symbolLength(symbol: string | Bytes, reading?: Reading): number;
 
 /**
  * Returns the tree of the symbol that the text begins with, on one line, for a person to read. Its form may change.
@@ -89,7 +97,7 @@ export declare function symbolLength(symbol: string | Bytes, limits?: Pick<Limit
  * @throws {DemangleError} if it begins with none
  * @throws {RangeError} if memory or the stack runs out
  */
-export declare function tree(symbol: string | Bytes, limits?: Pick<Limits, 'maxNodes'>): string;
+export declare function tree(symbol: string | Bytes, reading?: Reading): string;
 
 /** A digit that stands for a parameter before it. All are offsets, in code units of a string, or in bytes. */
 export interface Reference {
@@ -108,4 +116,4 @@ export interface Reference {
  * @throws {DemangleError} if it begins with none
  * @throws {RangeError} if memory or the stack runs out
  */
-export declare function references(symbol: string | Bytes, limits?: Pick<Limits, 'maxNodes'>): Reference[];
+export declare function references(symbol: string | Bytes, reading?: Reading): Reference[];

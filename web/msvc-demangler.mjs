@@ -12,7 +12,7 @@
 /** The version of the library. */
 export const version = '@VERSION@';
 
-/** How a declaration is printed. Flags are combined with |. */
+/** How a declaration is printed and, for the last, how a symbol is read. Flags are combined with |. */
 export const Flags = Object.freeze({
   NO_MS_KEYWORDS: 0x2,
   NO_FUNCTION_RETURNS: 0x4,
@@ -30,6 +30,7 @@ export const Flags = Object.freeze({
   SPACE_BEFORE_POINTER: 0x800000,
   WITH_PTR64: 0x1000000,
   LLVM: 0xE00400,
+  FULL: 0x80000000,
 });
 
 /** An error of a call: its message, its kind `code`, and its place `offset`. */
@@ -207,25 +208,25 @@ function succeed(found, symbol, input) {
 }
 
 /**
- * Returns how much of the text the symbol takes that it begins with, in code units of a string, or in bytes. Throws as
- * demangle does.
+ * Returns how much of the text the symbol takes that it begins with, in code units of a string, or in bytes. Of the
+ * flags FULL alone matters, here and in the two calls below. Throws as demangle does.
  */
-export function symbolLength(symbol, { maxNodes = DEFAULT_NODES } = {}) {
+export function symbolLength(symbol, { flags = 0, maxNodes = DEFAULT_NODES } = {}) {
   const input = bytesOf(symbol);
   const nodes = limit(maxNodes);
   const found = completed((result, from, length, arena) => {
-    library.msvc_demangler_prefix_in_parts(result, from, length, nodes, arena);
+    library.msvc_demangler_prefix_in_parts(result, from, length, flags, nodes, arena);
   }, input, 0);
   succeed(found, symbol, input);
   return place(symbol, input, found.length);
 }
 
 /** Returns the tree of the symbol that the text begins with, for a person to read. Throws as demangle does. */
-export function tree(symbol, { maxNodes = DEFAULT_NODES } = {}) {
+export function tree(symbol, { flags = 0, maxNodes = DEFAULT_NODES } = {}) {
   const input = bytesOf(symbol);
   const nodes = limit(maxNodes);
   const found = completed((result, from, length, arena, text, out, size) => {
-    library.msvc_demangler_tree_in_parts(result, from, length, nodes, arena, out, size);
+    library.msvc_demangler_tree_in_parts(result, from, length, flags, nodes, arena, out, size);
   }, input, DEFAULT_BYTES + 16);
   const text = decoder.decode(found.written);
   if (found.code !== 'OK') throw new DemangleError(text, found.code, place(symbol, input, found.offset));
@@ -236,11 +237,11 @@ export function tree(symbol, { maxNodes = DEFAULT_NODES } = {}) {
  * Returns the digits of the symbol that stand for parameters before them, in their order: where each digit is, and
  * where what it stands for starts and ends, in code units of a string, or in bytes. Throws as demangle does.
  */
-export function references(symbol, { maxNodes = DEFAULT_NODES } = {}) {
+export function references(symbol, { flags = 0, maxNodes = DEFAULT_NODES } = {}) {
   const input = bytesOf(symbol);
   const nodes = limit(maxNodes);
   const found = completed((result, from, length, arena, text, out, places) => {
-    library.msvc_demangler_references_in_parts(result, from, length, nodes, arena, out, places);
+    library.msvc_demangler_references_in_parts(result, from, length, flags, nodes, arena, out, places);
   }, input, 64 * REFERENCE, REFERENCE);
   succeed(found, symbol, input);
   const numbers = new DataView(found.written.slice().buffer);

@@ -5,6 +5,7 @@
 #include <stdio.h>
 
 #define LLVM MSVC_DEMANGLER_LLVM
+#define FULL (MSVC_DEMANGLER_LLVM | MSVC_DEMANGLER_FULL)
 #define ANY MSVC_DEMANGLER_UNLIMITED
 
 #define NO_QUESTION_MARK "does not start with b'?' (offset: 0, remaining: \"\")"
@@ -25,6 +26,10 @@ static const struct row {
     {"?x@ns@@3HA", 10, LLVM, ANY, ANY, MSVC_DEMANGLER_OK, 0, "int ns::x", 10},
     {"?x@ns@@3HA", 10, MSVC_DEMANGLER_NAME_ONLY, ANY, ANY, MSVC_DEMANGLER_OK, 0, "ns::x", 10},
     {"?x@@3HA and more", 16, LLVM, ANY, ANY, MSVC_DEMANGLER_OK, 0, "int x", 7},
+    /* A symbol of Full alone, and one that the grammars print and read differently. */
+    {"?f@@YA?A?<auto>@@H@Z b", 22, FULL, ANY, ANY, MSVC_DEMANGLER_OK, 0, "<auto> __cdecl f(int)", 20},
+    {"?f@@9", 5, FULL, ANY, ANY, MSVC_DEMANGLER_OK, 0, "extern \"C\" f", 5},
+    {"?f@@9", 5, LLVM, ANY, ANY, MSVC_DEMANGLER_OK, 0, "f", 5},
     {"?x@@3HA@@3HA", 7, LLVM, ANY, ANY, MSVC_DEMANGLER_OK, 0, "int x", 7},
     {"?x@@3HA\0", 8, LLVM, ANY, ANY, MSVC_DEMANGLER_OK, 0, "int x", 7},
     {"?x@@3L", 6, LLVM, ANY, ANY, MSVC_DEMANGLER_INVALID, 6, "unknown primitive type (offset: 6, remaining: \"\")", 0},
@@ -90,7 +95,7 @@ static void try_row(const struct row *row, size_t n)
     see(is_result(row, result) && strcmp(allocated, row->text) == 0, "an allocated text", n);
     free(allocated);
 
-    see(is_prefix(row, msvc_demangler_prefix(row->symbol, row->length, row->max_nodes)), "the prefix", n);
+    see(is_prefix(row, msvc_demangler_prefix(row->symbol, row->length, row->flags, row->max_nodes)), "the prefix", n);
 }
 
 /* A text and its filtered form. It may be truncated at any of the first bytes, which are kept ones, and after them only

@@ -69,7 +69,7 @@ static bool wants_memory(enum kind kind, const char *symbol)
         return result.status == MSVC_DEMANGLER_OUT_OF_MEMORY && result.offset == 0 && result.length == 13 &&
                strcmp(text, "out of memory") == 0;
     default:
-        result = msvc_demangler_prefix(symbol, strlen(symbol), MSVC_DEMANGLER_DEFAULT_NODES);
+        result = msvc_demangler_prefix(symbol, strlen(symbol), 0, MSVC_DEMANGLER_DEFAULT_NODES);
         return result.status == MSVC_DEMANGLER_OUT_OF_MEMORY && result.offset == 0 && result.length == 0;
     }
 }
@@ -149,7 +149,7 @@ int main(void)
         wrong++;
     }
     wrong += fail_large(2000, &tried);  /* a tree of 4,000 nodes */
-    wrong += fail_large(9500, &tried);  /* a declaration of 64 KB */
+    wrong += fail_large(7400, &tried);  /* a declaration of some 50 KB */
     printf("%ld allocation failures, %ld wrong results\n", tried, wrong);
     return wrong != 0;
 }

@@ -12,11 +12,11 @@ static bool agrees(const char *text, size_t length, const char *wanted)
     size_t bytes;
     size_t nodes;
     if (sscanf(wanted, "%zu\t%zu", &bytes, &nodes) != 2) {
-        struct msvc_demangler_result result = msvc_demangler_prefix(text, length, MSVC_DEMANGLER_UNLIMITED);
+        struct msvc_demangler_result result = msvc_demangler_prefix(text, length, 0, MSVC_DEMANGLER_UNLIMITED);
         return result.status == MSVC_DEMANGLER_INVALID && result.offset <= length && result.length == 0;
     }
-    struct msvc_demangler_result enough = msvc_demangler_prefix(text, length, nodes);
-    struct msvc_demangler_result few = msvc_demangler_prefix(text, length, nodes - 1);
+    struct msvc_demangler_result enough = msvc_demangler_prefix(text, length, 0, nodes);
+    struct msvc_demangler_result few = msvc_demangler_prefix(text, length, 0, nodes - 1);
     return enough.status == MSVC_DEMANGLER_OK && enough.offset == 0 && enough.length == bytes &&
            few.status == MSVC_DEMANGLER_TOO_MANY_NODES && few.offset <= length && few.length == 0;
 }

@@ -9,6 +9,9 @@
 #include <stdio.h>
 #include <sys/mman.h>
 
+#define LLVM MSVC_DEMANGLER_LLVM
+#define FULL (MSVC_DEMANGLER_LLVM | MSVC_DEMANGLER_FULL)
+
 enum { most = 65536, before = 64, page = 65536, full = 512 };
 
 enum kind { demangle, prefix, filter };
@@ -18,6 +21,7 @@ static const char *const kind_names[] = {"demangle", "prefix", "filter"};
 /* A call and its result. */
 static const struct row {
     enum kind kind;
+    uint32_t flags;
     enum msvc_demangler_status status;
     size_t offset;
     const char *input;
@@ -25,21 +29,26 @@ static const struct row {
     size_t size;   /* of the buffer */
     size_t length; /* of a symbol that is measured */
 } rows[] = {
-    {demangle, MSVC_DEMANGLER_OK, 0, "?x@ns@@3HA", "int ns::x", full, 0},
-    {demangle, MSVC_DEMANGLER_OK, 0, "?f@@YAXV?$A@PAH0@@PAD0@Z",
+    {demangle, LLVM, MSVC_DEMANGLER_OK, 0, "?x@ns@@3HA", "int ns::x", full, 0},
+    {demangle, LLVM, MSVC_DEMANGLER_OK, 0, "?f@@YAXV?$A@PAH0@@PAD0@Z",
      "void __cdecl f(class A<int *, int *>, char *, class A<int *, int *>)", full, 0},
-    {demangle, MSVC_DEMANGLER_OK, 0,
+    {demangle, LLVM, MSVC_DEMANGLER_OK, 0,
      "?wait_for@_Condition_variable@details@Concurrency@@QEAA_NAEAVcritical_section@3@I@Z",
      "public: bool __cdecl Concurrency::details::_Condition_variable::wait_for(class Concurrency::critical_section &, "
      "unsigned int)", full, 0},
-    {demangle, MSVC_DEMANGLER_OK, 0, "?x@ns@@3HA", "int ns", 7, 9},
-    {demangle, MSVC_DEMANGLER_INVALID, 6, "?x@@3L", "unknown primitive type (offset: 6, remaining: \"\")", full, 0},
-    {demangle, MSVC_DEMANGLER_INVALID, 0, "main", "does not start with b'?' (offset: 0, remaining: \"main\")", full, 0},
-    {demangle, MSVC_DEMANGLER_INVALID, 0, "", "does not start with b'?' (offset: 0, remaining: \"\")", full, 0},
-    {prefix, MSVC_DEMANGLER_OK, 0, "?x@@3HA and more", NULL, 0, 7},
-    {prefix, MSVC_DEMANGLER_INVALID, 6, "?x@@3L", NULL, 0, 0},
-    {filter, MSVC_DEMANGLER_OK, 0, "in ?x@ns@@3HA and ?y@@3HA", "in int ns::x and int y", full, 0},
-    {filter, MSVC_DEMANGLER_OK, 0, "no symbol", "no symbol", full, 0},
+    {demangle, LLVM, MSVC_DEMANGLER_OK, 0, "?x@ns@@3HA", "int ns", 7, 9},
+    {demangle, LLVM, MSVC_DEMANGLER_INVALID, 6, "?x@@3L", "unknown primitive type (offset: 6, remaining: \"\")", full,
+     0},
+    {demangle, LLVM, MSVC_DEMANGLER_INVALID, 0, "main", "does not start with b'?' (offset: 0, remaining: \"main\")", full,
+     0},
+    {demangle, LLVM, MSVC_DEMANGLER_INVALID, 0, "", "does not start with b'?' (offset: 0, remaining: \"\")", full, 0},
+    {prefix, LLVM, MSVC_DEMANGLER_OK, 0, "?x@@3HA and more", NULL, 0, 7},
+    {prefix, LLVM, MSVC_DEMANGLER_INVALID, 6, "?x@@3L", NULL, 0, 0},
+    {filter, LLVM, MSVC_DEMANGLER_OK, 0, "in ?x@ns@@3HA and ?y@@3HA", "in int ns::x and int y", full, 0},
+    {filter, LLVM, MSVC_DEMANGLER_OK, 0, "no symbol", "no symbol", full, 0},
+    {demangle, FULL, MSVC_DEMANGLER_OK, 0, "?f@@YA?A?<auto>@@H@Z", "<auto> __cdecl f(int)", full, 0},
+    {prefix, FULL, MSVC_DEMANGLER_OK, 0, "?f@@YA?A?<auto>@@H@Z b", NULL, 0, 20},
+    {filter, FULL, MSVC_DEMANGLER_OK, 0, "in ?f@@9", "in extern \"C\" f", full, 0},
 };
 
 /* The call of a row in a workspace. */
@@ -48,12 +57,12 @@ static struct msvc_demangler_result call(const struct row *row, char *work, size
     size_t length = strlen(row->input);
     switch (row->kind) {
     case demangle:
-        return msvc_demangler_demangle_in(row->input, length, MSVC_DEMANGLER_LLVM, MSVC_DEMANGLER_SMALL_NODES,
+        return msvc_demangler_demangle_in(row->input, length, row->flags, MSVC_DEMANGLER_SMALL_NODES,
                                           MSVC_DEMANGLER_SMALL_BYTES, work, work_size, out, row->size);
     case prefix:
-        return msvc_demangler_prefix_in(row->input, length, MSVC_DEMANGLER_SMALL_NODES, work, work_size);
+        return msvc_demangler_prefix_in(row->input, length, row->flags, MSVC_DEMANGLER_SMALL_NODES, work, work_size);
     default:
-        return msvc_demangler_filter_in(row->input, length, MSVC_DEMANGLER_LLVM, work, work_size, out, row->size);
+        return msvc_demangler_filter_in(row->input, length, row->flags, work, work_size, out, row->size);
     }
 }
 

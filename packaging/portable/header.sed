@@ -10,8 +10,8 @@
 /^ \* Within soname 0 no symbol/c\
  * docs/portable.md has more.
 /^ \* Suit symbols that are not trusted\. A call with so many nodes/,/^ \* smaller stack needs/c\
- * Suit symbols that are not trusted. A call with so many nodes takes at most 3,000,000 bytes of stack, if the compiler\
- * optimises the file. A thread with a smaller stack needs a lower limit: 300 bytes of stack a node, and 16,000 more.
+ * Suit symbols that are not trusted. A call with so many nodes takes at most 4,800,000 bytes of stack, if the compiler\
+ * optimises the file. A thread with a smaller stack needs a lower limit: 480 bytes of stack a node, and 16,000 more.
 /^#define MSVC_DEMANGLER_DEFAULT_BYTES/a\
 \
 /**\
@@ -19,7 +19,7 @@
  * with a lower number.\
  */\
 #ifndef MSVC_DEMANGLER_MOST_NODES\
-#define MSVC_DEMANGLER_MOST_NODES ((size_t)20000)\
+#define MSVC_DEMANGLER_MOST_NODES ((size_t)15000)\
 #endif
 /^ \* Turns off a limit, max_nodes or max_bytes\./,/^ \* have a declaration that takes all memory\.$/c\
  * Turns off a limit, max_bytes, or sets max_nodes to MSVC_DEMANGLER_MOST_NODES. The former is unsafe for symbols that\
@@ -67,7 +67,7 @@ struct msvc_demangler_instance {\
  * @param instance   the instance, or null\
  * @param symbol     the input, as of msvc_demangler_demangle\
  * @param length     the length of the input\
- * @param flags      flags for printing\
+ * @param flags      flags for printing and reading\
  * @param max_nodes  the limit on the tree of the symbol\
  * @param max_bytes  the limit on the length of the declaration\
  * @param out        the buffer\
@@ -86,12 +86,14 @@ struct msvc_demangler_result msvc_demangler_demangle_with(struct msvc_demangler_
  * @param instance   the instance, or null\
  * @param symbol     the input, as of msvc_demangler_demangle\
  * @param length     the length of the input\
+ * @param flags      MSVC_DEMANGLER_FULL or 0\
  * @param max_nodes  the limit on the tree of the symbol\
  * @return the result of msvc_demangler_prefix\
  */\
 MSVC_DEMANGLER_API\
 struct msvc_demangler_result msvc_demangler_prefix_with(struct msvc_demangler_instance *instance, const char *symbol,\
-                                                        size_t length, size_t max_nodes) MSVC_DEMANGLER_NOEXCEPT;\
+                                                        size_t length, uint32_t flags,\
+                                                        size_t max_nodes) MSVC_DEMANGLER_NOEXCEPT;\
 \
 /**\
  * Does what msvc_demangler_filter does, with an instance.\
@@ -99,7 +101,7 @@ struct msvc_demangler_result msvc_demangler_prefix_with(struct msvc_demangler_in
  * @param instance  the instance, or null\
  * @param text      the input: any bytes, which need not be UTF-8\
  * @param length    the length of the input\
- * @param flags     flags for printing\
+ * @param flags     flags for printing and reading\
  * @param out       the buffer\
  * @param size      the size of the buffer\
  * @return the result of msvc_demangler_filter\

@@ -11,7 +11,8 @@ enum {
     no_character = 0xff      /* a byte that is in no character and is no NUL */
 };
 
-/* Bytes of the workspaces that are tried. The first one suffices for each symbol within the default limits. */
+/* Bytes of the workspaces that are tried. The first one suffices for each symbol of the crate's grammar within the
+   default limits. */
 static const u64 first_workspace = 1228800;
 static const u64 last_workspace = (u64)1 << 30;
 
@@ -119,8 +120,8 @@ NO_INLINE static void run(Z_module_instance_t *machine, const struct call *call,
                                              places->out_size);
         break;
     case measures:
-        w2c_msvc_demangler_prefix_in_parts(machine, places->result, places->input, call->length, call->max_nodes,
-                                           arena);
+        w2c_msvc_demangler_prefix_in_parts(machine, places->result, places->input, call->length, call->flags,
+                                           call->max_nodes, arena);
         break;
     case filters:
         w2c_msvc_demangler_filter_in_parts(machine, places->result, places->input, call->length, call->flags, arena,
@@ -297,9 +298,10 @@ struct msvc_demangler_result msvc_demangler_demangle_with(struct msvc_demangler_
 }
 
 struct msvc_demangler_result msvc_demangler_prefix_with(struct msvc_demangler_instance *instance, const char *symbol,
-                                                        size_t length, size_t max_nodes) MSVC_DEMANGLER_NOEXCEPT
+                                                        size_t length, uint32_t flags,
+                                                        size_t max_nodes) MSVC_DEMANGLER_NOEXCEPT
 {
-    struct call call = {measures, symbol, length, 0, 0, 0, NULL, 0};
+    struct call call = {measures, symbol, length, flags, 0, 0, NULL, 0};
     call.max_nodes = smaller(max_nodes, MSVC_DEMANGLER_MOST_NODES);
     return called(instance, &call);
 }
@@ -331,10 +333,10 @@ struct msvc_demangler_result msvc_demangler_demangle(const char *symbol, size_t 
     return msvc_demangler_demangle_with(NULL, symbol, length, flags, max_nodes, max_bytes, out, size);
 }
 
-struct msvc_demangler_result msvc_demangler_prefix(const char *symbol, size_t length,
+struct msvc_demangler_result msvc_demangler_prefix(const char *symbol, size_t length, uint32_t flags,
                                                    size_t max_nodes) MSVC_DEMANGLER_NOEXCEPT
 {
-    return msvc_demangler_prefix_with(NULL, symbol, length, max_nodes);
+    return msvc_demangler_prefix_with(NULL, symbol, length, flags, max_nodes);
 }
 
 struct msvc_demangler_result msvc_demangler_filter(const char *text, size_t length, uint32_t flags, char *out,

@@ -9,7 +9,7 @@ const others: Bytes[] = [new ArrayBuffer(0), new SharedArrayBuffer(0), new DataV
 const each: Uint8Array[] = others.map((other) => filter(other));
 const either: (text: string | Uint8Array) => string | Uint8Array = (text) => filter(text);
 demangle(others[0]) + either(each[0]);
-const length: number = symbolLength(bytes, { maxNodes: 100 }) + filtered.length;
+const length: number = symbolLength(bytes, { flags: Flags.FULL, maxNodes: 100 }) + filtered.length;
 const listed: Reference[] = references(tree('?x@@3HA', { maxNodes: 100 }), { maxNodes: 100 });
 const places: number = listed[0].at + listed[0].start + listed[0].end;
 // @ts-expect-error: a text is a string or bytes

@@ -81,9 +81,9 @@ def filtered_text() -> Tuple[bytes, bytes]:
 
 
 def rows() -> List[Tuple[int, str, str]]:
-    """Returns the documented rows that have a declaration: flags, symbol and declaration."""
+    """Returns the rows of the crate's grammar that have a declaration: flags, symbol and declaration."""
     lines = [line.split("\t") for line in (TOP / "crates/msvc_bench/stdin").read_text("utf-8").split("\n")]
-    return [(int(line[0], 16), line[1], line[3]) for line in lines if line[2:3] == ["ok"]]
+    return [(int(line[0], 16) & ~int(Flags.FULL), line[1], line[3]) for line in lines if line[2:3] == ["ok"]]
 
 
 def defined(pattern: str) -> Dict[str, int]:
@@ -168,6 +168,16 @@ class Module(unittest.TestCase):
             for arguments in ({"flags": wrong}, {"max_nodes": wrong}, {"max_bytes": wrong}):
                 with self.assertRaisesRegex(TypeError, "as an integer$"):
                     calls[0]("?x@@3HA", **arguments)
+
+    def test_grammars(self) -> None:
+        symbol, wanted, full = "?f@@YA?A?<auto>@@H@Z", "<auto> __cdecl f(int)", Flags.LLVM | Flags.FULL
+        self.assertEqual(msvc_demangler.demangle(symbol, full), wanted)
+        self.assertEqual(msvc_demangler.filter(f"in {symbol}", full), f"in {wanted}")
+        self.assertEqual(msvc_demangler.symbol_length(f"{symbol} and more", flags=Flags.FULL), len(symbol))
+        with self.assertRaises(DemangleError):
+            msvc_demangler.demangle(symbol)
+        with self.assertRaises(DemangleError):
+            msvc_demangler.symbol_length(symbol)
 
     def test_limits(self) -> None:
         for symbol in (DEEP, ENDLESS):

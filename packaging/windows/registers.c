@@ -105,7 +105,7 @@ static void all_calls(const char *symbol, size_t length, uint32_t status, const 
     keeps("demangle", (void *)msvc_demangler_demangle,
           (uint64_t[WORDS]){at, in, length, flags, nodes, bytes, to, sizeof out});
     expect("demangle", result.status == status && strcmp(out, wanted) == 0 && result.length == strlen(wanted));
-    keeps("prefix", (void *)msvc_demangler_prefix, (uint64_t[WORDS]){at, in, length, nodes});
+    keeps("prefix", (void *)msvc_demangler_prefix, (uint64_t[WORDS]){at, in, length, flags, nodes});
     expect("prefix", result.status == status && result.length == (status == MSVC_DEMANGLER_OK ? length : 0));
     keeps("filter", (void *)msvc_demangler_filter, (uint64_t[WORDS]){at, in, length, flags, to, sizeof out});
     expect("filter", result.status == MSVC_DEMANGLER_OK);

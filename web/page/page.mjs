@@ -30,6 +30,9 @@ const FLAGS = {
     [0x800000, 'SPACE_BEFORE_POINTER', 'Space only after a word', 'int const *const x, not int const * const x'],
     [0x1000000, 'WITH_PTR64', 'Width of this', '__ptr64 after the parameters of a member function'],
   ],
+  'Read': [
+    [0x80000000, 'FULL', 'Today’s compilers', 'lambdas and auto, but no tables, thunks and strings yet'],
+  ],
 };
 
 const EXAMPLES = {
@@ -108,11 +111,12 @@ function makeFlags() {
   }
 }
 
-const flags = () => boxes.reduce((word, box) => (box.checked ? word | Number(box.value) : word), 0);
+// Bits of a number have a sign, which >>> takes off.
+const flags = () => boxes.reduce((word, box) => (box.checked ? word | Number(box.value) : word), 0) >>> 0;
 const hexadecimal = (word) => `0x${word.toString(16).toUpperCase()}`;
 
 function setFlags(word) {
-  for (const box of boxes) box.checked = (word & Number(box.value)) === Number(box.value);
+  for (const box of boxes) box.checked = ((word & Number(box.value)) >>> 0) === Number(box.value);
   $('word').textContent = hexadecimal(flags());
 }
 

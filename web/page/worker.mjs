@@ -31,7 +31,7 @@ function read(line, at, flags) {
   const candidate = matched(CANDIDATE, line, at);
   try {
     const declaration = demangle(candidate, flags);
-    return { length: symbolLength(candidate), declaration };
+    return { length: symbolLength(candidate, { flags }), declaration };
   } catch (error) {
     return { error };
   }
@@ -111,11 +111,14 @@ function attempt(make, nothing) {
 /** Returns as much of a tree as is shown. */
 const beginning = (text) => (text.length > MOST_OF_A_TREE ? `${text.slice(0, MOST_OF_A_TREE)}…` : text);
 
-/** Returns the declaration of a parameter that stands in a symbol, or '' if a digit in it may refer to others. */
-function parameter(text) {
+/**
+ * Returns the declaration of a parameter that stands in a symbol of a grammar, or '' if a digit in it may refer to
+ * others.
+ */
+function parameter(text, grammar) {
   const [before, after] = ['void __cdecl f(', ')'];
   const whole = `?f@@YAX${text}@Z`;
-  const { length, declaration = '' } = /[0-9]/.test(text) ? {} : read(whole, 0, Flags.LLVM);
+  const { length, declaration = '' } = /[0-9]/.test(text) ? {} : read(whole, 0, Flags.LLVM | grammar);
   if (length !== whole.length || !declaration.startsWith(before)) return '';
   return declaration.slice(before.length, -after.length);
 }
@@ -124,13 +127,13 @@ function explain({ id, symbol, flags }) {
   const found = read(symbol, 0, flags);
   const name = read(symbol, 0, flags | Flags.NAME_ONLY);
   const declarations = new Map();
-  const list = attempt(() => references(symbol), []).map((reference) => {
+  const list = attempt(() => references(symbol, { flags }), []).map((reference) => {
     const text = symbol.slice(reference.start, reference.end);
-    if (!declarations.has(text)) declarations.set(text, parameter(text));
+    if (!declarations.has(text)) declarations.set(text, parameter(text, flags & Flags.FULL));
     return { ...reference, declaration: declarations.get(text) };
   });
   postMessage({ kind: 'symbol', id, symbol, name: name.declaration ?? '', length: found.length ?? 0, references: list,
-    tree: attempt(() => beginning(tree(symbol)), '') });
+    tree: attempt(() => beginning(tree(symbol, { flags })), '') });
 }
 
 /** Shows the first lines of the file. */

@@ -7,7 +7,9 @@ use Rattle.std.proofs.lemmas.Bool.{eqb-true, leb-true}
 use Rattle.std.proofs.lemmas.Str.{utf8_valid_len_le}
 use Rattle.std.specs.Prelude.{◌==◌, if◌then◌else◌, nat_le}
 use Rattle.std.specs.Str.Lossy.{utf8_valid_len}
-use Rattle.msvc_demangler.specs.Filtered.{AreOnlyParts, Part, declared, fitting, kept, text_of_parts}
+use Rattle.msvc_demangler.specs.Filtered.{AreOnlyPartsIn, Part, declared, fitting, kept, text_of_parts}
+use Rattle.msvc_demangler.specs.GrammarNames.{Grammar}
+use Rattle.msvc_demangler.specs.Grammars.{under}
 use Rattle.msvc_demangler.specs.SymbolBounds.{utf8_front}
 use Rattle.msvc_c_calls.proofs.Cuts.{one_more, set-copied}
 use Rattle.msvc_c_calls.specs.Buffers.{ArePartsWritten, IsWritten}
@@ -88,13 +90,15 @@ kept-length front old room same =
     ∙ sym (length-append (take room old) (drop room old))
     ∙ ap length (take-append-drop room old)
 
-pub filtered-into : (flags bits : ℕ) (text old new : List ℕ) (parts : List Part) (count : ℕ) → bits ≡ flags
-    → AreOnlyParts bits text parts → count ≡ length (text_of_parts parts) → ArePartsWritten parts old new
-    → IsFilteredInto flags text old new 0 count
-filtered-into flags bits text old new parts count same are is written =
-    let Are : ℕ → Type 0 = λ n. AreOnlyParts n text parts in
-    let Into : ℕ → Type 0 = λ n. IsFilteredInto flags text old new 0 n in
-    subst Into (sym is) (filtered (subst Are same are) written)
+-- a call that reads in a grammar, and prints under flags, as a caller chose
+pub filtered-into : (g h : Grammar) (flags bits : ℕ) (text old new : List ℕ) (parts : List Part) (count : ℕ) → h ≡ g
+    → bits ≡ flags → AreOnlyPartsIn (under h bits) text parts → count ≡ length (text_of_parts parts)
+    → ArePartsWritten parts old new → IsFilteredInto g flags text old new 0 count
+filtered-into g h flags bits text old new parts count chosen same are is written =
+    let Read : Grammar → Type 0 = λ k. AreOnlyPartsIn (under k bits) text parts in
+    let Are : ℕ → Type 0 = λ n. AreOnlyPartsIn (under g n) text parts in
+    let Into : ℕ → Type 0 = λ n. IsFilteredInto g flags text old new 0 n in
+    subst Into (sym is) (filtered (subst Are same (subst Read chosen are)) written)
 
 -- the same where parts were written into all of a buffer but its last byte, and a NUL after them
 pub into-buffer : (parts : List Part) (old front : List ℕ) (room written : ℕ) → room ≡ length old - 1
@@ -122,55 +126,61 @@ not_zero n true e = let no : suc n ≡ 0 = eqb-true (suc n) 0 e in absurd (omega
 not_zero n false e = refl
 
 -- what the filter wrote into all of a buffer but its last byte, and a NUL after that
-pub ended : (flags bits : ℕ) (text old front : List ℕ) (parts : List Part) (room written count : ℕ) → bits ≡ flags
-    → AreOnlyParts bits text parts → count ≡ length (text_of_parts parts) → room ≡ length old - 1
+pub ended : (g h : Grammar) (flags bits : ℕ) (text old front : List ℕ) (parts : List Part) (room written count : ℕ)
+    → h ≡ g → bits ≡ flags
+    → AreOnlyPartsIn (under h bits) text parts → count ≡ length (text_of_parts parts) → room ≡ length old - 1
     → length front ≡ length (take room old)
     → written ≡ length (fitting (length (take room old)) parts)
     → front ≡ fitting (length (take room old)) parts
     ++ drop (length (fitting (length (take room old)) parts)) (take room old)
-    → IsFilteredInto flags text old (set (front ++ drop room old) written 0) 0 count
-ended flags bits text [] front parts room written count same are is last held written_is front_is =
+    → IsFilteredInto g flags text old (set (front ++ drop room old) written 0) 0 count
+ended g h flags bits text [] front parts room written count chosen same are is last held written_is front_is =
     let front_none : front ≡ [] = is_empty front (held ∙ ap (λ r. length (take {A = ℕ} r [])) last) in
     let none : front ++ drop room [] ≡ [] =
     ap (λ xs. xs ++ drop room []) front_none ∙ ap (λ r. drop {A = ℕ} r []) last in
-    filtered-into flags bits text [] _ parts count same are is (ap (λ xs. set xs written 0) none)
-ended flags bits text (first ∷ old) front parts room written count same are is last held written_is front_is =
+    filtered-into g h flags bits text [] _ parts count chosen same are is (ap (λ xs. set xs written 0) none)
+ended g h flags bits text (first ∷ old) front parts room written count chosen same are is last held written_is
+    front_is =
     let some : (length (front ++ drop room (first ∷ old)) == 0) ≡ false =
     ap (λ n. n == 0) (kept-length front (first ∷ old) room held)
     ∙ not_zero (length old) (suc (length old) == 0) refl in
-    filtered-into flags bits text (first ∷ old) _ parts count same are is
+    filtered-into g h flags bits text (first ∷ old) _ parts count chosen same are is
     (into-buffer parts (first ∷ old) front room written last held some written_is front_is)
 
-moved : (flags : ℕ) (text old new made : List ℕ) (status is total count : ℕ) → status ≡ is → total ≡ count → new ≡ made
-    → IsFilteredInto flags text old made is count → IsFilteredInto flags text old new status total
-moved flags text old new made status is total count s t n into =
-    let Status : ℕ → Type 0 = λ k. IsFilteredInto flags text old new k total in
-    let Total : ℕ → Type 0 = λ k. IsFilteredInto flags text old new is k in
-    let New : List ℕ → Type 0 = λ xs. IsFilteredInto flags text old xs is count in
+moved : (g : Grammar) (flags : ℕ) (text old new made : List ℕ) (status is total count : ℕ) → status ≡ is
+    → total ≡ count → new ≡ made
+    → IsFilteredInto g flags text old made is count → IsFilteredInto g flags text old new status total
+moved g flags text old new made status is total count s t n into =
+    let Status : ℕ → Type 0 = λ k. IsFilteredInto g flags text old new k total in
+    let Total : ℕ → Type 0 = λ k. IsFilteredInto g flags text old new is k in
+    let New : List ℕ → Type 0 = λ xs. IsFilteredInto g flags text old xs is count in
     subst Status (sym s) (subst Total (sym t) (subst New (sym n) into))
 
 -- what it returns and writes if memory runs out
-pub filter_lost : (flags : ℕ) (text old others new : List ℕ) (status total : ℕ) → length others ≡ length old
-    → status ≡ 3 → total ≡ length out_of_memory_text → IsWritten out_of_memory_text others new
-    → IsFilteredInto flags text old new status total
-filter_lost flags text old others new status total held s t written =
-    moved flags text old new new status 3 total _ s t refl (not_filtered others held written)
+pub filter_lost : (g : Grammar) (flags : ℕ) (text old others new : List ℕ) (status total : ℕ)
+    → length others ≡ length old → status ≡ 3 → total ≡ length out_of_memory_text
+    → IsWritten out_of_memory_text others new → IsFilteredInto g flags text old new status total
+filter_lost g flags text old others new status total held s t written =
+    moved g flags text old new new status 3 total _ s t refl (not_filtered others held written)
 
 -- what a call of the filter from C returns and writes, from what the library did and how that was ended
-pub filtered_call : {A E : Type 0} (count written : A → ℕ) (r : Result A E) (flags bits : ℕ)
-    (text old front new : List ℕ) (room status total : ℕ) → bits ≡ flags → room ≡ length old - 1
+pub filtered_call : {A E : Type 0} (count written : A → ℕ) (r : Result A E) (g h : Grammar) (flags bits : ℕ)
+    (text old front new : List ℕ) (room status total : ℕ) → h ≡ g → bits ≡ flags → room ≡ length old - 1
     → length front ≡ length (take room old)
-    → IfOk r (λ f. (parts : List Part) × AreOnlyParts bits text parts × (count f ≡ length (text_of_parts parts))
+    → IfOk r (λ f. (parts : List Part) × AreOnlyPartsIn (under h bits) text parts
+    × (count f ≡ length (text_of_parts parts))
     × (written f ≡ length (fitting (length (take room old)) parts))
     × (front ≡ fitting (length (take room old)) parts
     ++ drop (length (fitting (length (take room old)) parts)) (take room old)))
     → IfOk r (λ f. (status ≡ 0) × (total ≡ count f) × (new ≡ set (front ++ drop room old) (written f) 0))
     → IfErr r (λ _. (status ≡ 3) × (total ≡ length out_of_memory_text)
     × IsWritten out_of_memory_text (front ++ drop room old) new)
-    → IsFilteredInto flags text old new status total
-filtered_call count written (Ok a) flags bits text old front new room status total same last held f after failed =
-    moved flags text old new _ status 0 total (count a) after.0 after.1 after.2
-    (ended flags bits text old front f.0 room (written a) (count a) same f.1 f.2 last held f.3 f.4)
-filtered_call count written (Err e) flags bits text old front new room status total same last held f after failed =
-    filter_lost flags text old (front ++ drop room old) new status total (kept-length front old room held) failed.0
+    → IsFilteredInto g flags text old new status total
+filtered_call count written (Ok a) g h flags bits text old front new room status total chosen same last held f after
+    failed =
+    moved g flags text old new _ status 0 total (count a) after.0 after.1 after.2
+    (ended g h flags bits text old front f.0 room (written a) (count a) chosen same f.1 f.2 last held f.3 f.4)
+filtered_call count written (Err e) g h flags bits text old front new room status total chosen same last held f after
+    failed =
+    filter_lost g flags text old (front ++ drop room old) new status total (kept-length front old room held) failed.0
     failed.1 failed.2

@@ -6,10 +6,10 @@ use Rattle.std.specs.Str.{IsUtf8}
 use Rattle.msvc_demangler.specs.CallLimits.{Limits}
 use Rattle.msvc_demangler.specs.Errors as errors
 use Rattle.msvc_demangler.specs.Errors.{message_limit}
+use Rattle.msvc_demangler.specs.GrammarNames.{Grammar}
 use Rattle.msvc_demangler.specs.Limit.{Limit}
 use Rattle.msvc_demangler.specs.Limit.TheVariants.{Bytes, Nodes}
-use Rattle.msvc_demangler.specs.Rejections.{IsNoSymbol}
-use Rattle.msvc_c_calls.specs.Calls.{IsNotRead, IsRejection, invalid, too_many_nodes}
+use Rattle.msvc_c_calls.specs.Calls.{IsNone, IsNotRead, IsRejection, invalid, too_many_nodes}
 use Rattle.msvc_c_calls.specs.Reasons.{IsStatusOf}
 
 -- the message about the limit on nodes is one text
@@ -30,15 +30,16 @@ set-nodes : (nodes : Option ℕ) → (nodes ≡ None → Some Nodes ≡ None) �
 set-nodes None set = let no : Some Nodes ≡ None = set refl in absurd (cc)
 set-nodes (Some most) set = refl
 
-pub rejected : (limits : Limits) (symbol : List ℕ) (status offset : ℕ) (message text : List ℕ) (limit : Option Limit)
-    → IsUtf8 symbol → IsNoSymbol limits.nodes symbol → IsRejection symbol message offset text
+pub rejected : (g : Grammar) (limits : Limits) (symbol : List ℕ) (status offset : ℕ) (message text : List ℕ)
+    (limit : Option Limit)
+    → IsUtf8 symbol → IsNone g limits.nodes symbol → IsRejection symbol message offset text
     → message_limit message ≡ limit → limit ≢ Some Bytes → (limits.nodes ≡ None → limit ≡ None)
-    → IsStatusOf limit status → IsNotRead limits symbol status offset text
-rejected limits symbol status offset message text None u none rejection about other set is =
-    subst (λ n. IsNotRead limits symbol n offset text) (sym is) (invalid u none about rejection)
-rejected limits symbol status offset message text (Some Nodes) u none rejection about other set is =
+    → IsStatusOf limit status → IsNotRead g limits symbol status offset text
+rejected g limits symbol status offset message text None u none rejection about other set is =
+    subst (λ n. IsNotRead g limits symbol n offset text) (sym is) (invalid u none about rejection)
+rejected g limits symbol status offset message text (Some Nodes) u none rejection about other set is =
     let Of : List ℕ → Type 0 = λ m. IsRejection symbol m offset text in
-    subst (λ n. IsNotRead limits symbol n offset text) (sym is)
+    subst (λ n. IsNotRead g limits symbol n offset text) (sym is)
     (too_many_nodes u none (set-nodes limits.nodes set) (subst Of (nodes-message message about) rejection))
-rejected limits symbol status offset message text (Some Bytes) u none rejection about other set is =
+rejected g limits symbol status offset message text (Some Bytes) u none rejection about other set is =
     absurd (other refl)

@@ -1,18 +1,34 @@
 -- What the calls from C return and write, in terms of bytes and numbers.
-use Rattle.std.specs.Prelude.{ℕ, List, ◌≡◌, ◌≤◌, Option, None, IfSome, codes, is_some, length, true}
+use Rattle.std.specs.Prelude.{ℕ, List, ◌≡◌, ◌≤◌, Option, None, IfSome, codes, if◌then◌else◌, is_some, length, nat_lt}
+use Rattle.std.specs.Prelude.{true}
 use Rattle.std.specs.Str.{IsAscii, IsUtf8, IsValidUpTo}
 use Rattle.msvc_demangler.specs.Counts.{node_count}
-use Rattle.msvc_demangler.specs.Demangled.{IsDeclaredWithin}
+use Rattle.msvc_demangler.specs.Demangled.{IsDeclaredWithinIn}
 use Rattle.msvc_demangler.specs.Errors as errors
 use Rattle.msvc_demangler.specs.Errors.{context_of, context_text_of, message_limit, rejection_text}
 use Rattle.msvc_demangler.specs.CallLimits.{Limits}
-use Rattle.msvc_demangler.specs.Failures.{IsLonger}
-use Rattle.msvc_demangler.specs.Filtered.{AreOnlyParts, Part, text_of_parts}
+use Rattle.msvc_demangler.specs.Failures.{IsLongerIn}
+use Rattle.msvc_demangler.specs.Filtered.{AreOnlyPartsIn, Part, text_of_parts}
+use Rattle.msvc_demangler.specs.GrammarNames.{Grammar}
+use Rattle.msvc_demangler.specs.GrammarNames.TheVariants.{Crate, Full}
+use Rattle.msvc_demangler.specs.Grammars.{dialect_of, under}
 use Rattle.msvc_demangler.specs.Limits.{IsWithin}
-use Rattle.msvc_demangler.specs.Parsed.{IsParsed, IsSymbolLength}
-use Rattle.msvc_demangler.specs.Rejections.{IsNoSymbol, begins_with}
+use Rattle.msvc_demangler.specs.ParsedIn.{IsParsedIn, IsSymbolLengthIn}
+use Rattle.msvc_demangler.specs.RejectionsIn.{IsNoSymbolIn, begins_with}
 use Rattle.msvc_demangler.specs.Trees.{SymbolTree}
 use Rattle.msvc_c_calls.specs.Buffers.{ArePartsWritten, IsWritten}
+
+-- the flag FULL, the highest bit of a word of flags
+abbrev pub full_flag : ℕ
+full_flag = 0x80000000
+
+-- the grammar that a word of flags chooses: Full if it has the flag, else the crate's
+abbrev pub grammar_of : ℕ → Grammar
+grammar_of flags = if nat_lt flags full_flag then Crate else Full
+
+-- no beginning of the text is a symbol of the grammar whose tree is within the limit on nodes
+abbrev pub IsNone : Grammar → (nodes : Option ℕ) → List ℕ → Type 0
+IsNone g nodes text = IsNoSymbolIn (dialect_of g).grammar nodes text
 
 -- the text with the status NOT_UTF8
 abbrev pub not_utf8_text : List ℕ
@@ -38,55 +54,58 @@ pub record IsRejection (symbol message : List ℕ) (offset : ℕ) (text : List �
   pub shows : IsAscii symbol → context ≡ context_of symbol offset
   pub says : Says message context offset text
 
--- The status, the offset and the text for a symbol that is not read.
-pub data IsNotRead (limits : Limits) (symbol : List ℕ) : (status offset : ℕ) (text : List ℕ) → Type 0 where
+-- The status, the offset and the text for a symbol that is not read in a grammar.
+pub data IsNotRead (g : Grammar) (limits : Limits) (symbol : List ℕ) : (status offset : ℕ) (text : List ℕ)
+    → Type 0 where
   -- INVALID: the message is about no limit
-  invalid : {offset : ℕ} {message text : List ℕ} → IsUtf8 symbol → IsNoSymbol limits.nodes symbol
+  invalid : {offset : ℕ} {message text : List ℕ} → IsUtf8 symbol → IsNone g limits.nodes symbol
       → message_limit message ≡ None
       → IsRejection symbol message offset text
-      → IsNotRead limits symbol 1 offset text
+      → IsNotRead g limits symbol 1 offset text
   -- NOT_UTF8: the symbol is UTF-8 up to the offset
   not_utf8 : {offset : ℕ} → ¬ (IsUtf8 symbol) → IsValidUpTo symbol offset
-      → IsNotRead limits symbol 2 offset not_utf8_text
+      → IsNotRead g limits symbol 2 offset not_utf8_text
   -- OUT_OF_MEMORY
-  out_of_memory : IsUtf8 symbol → IsNotRead limits symbol 3 0 out_of_memory_text
+  out_of_memory : IsUtf8 symbol → IsNotRead g limits symbol 3 0 out_of_memory_text
   -- TOO_MANY_NODES: nodes are limited, and the message is about the limit on nodes
-  too_many_nodes : {offset : ℕ} {text : List ℕ} → IsUtf8 symbol → IsNoSymbol limits.nodes symbol
+  too_many_nodes : {offset : ℕ} {text : List ℕ} → IsUtf8 symbol → IsNone g limits.nodes symbol
       → is_some limits.nodes ≡ true
       → IsRejection symbol errors.too_many_nodes offset text
-      → IsNotRead limits symbol 4 offset text
+      → IsNotRead g limits symbol 4 offset text
 
 -- What a call that demangles a symbol returns: the status, the offset, and the symbol's declaration or the text that
 -- states why it has none.
-pub data IsFound (limits : Limits) (symbol : List ℕ) (flags : ℕ) : (status offset : ℕ) (text : List ℕ) → Type 0 where
+pub data IsFound (g : Grammar) (limits : Limits) (symbol : List ℕ) (flags : ℕ) : (status offset : ℕ) (text : List ℕ)
+    → Type 0 where
   -- OK
-  declared : {text : List ℕ} → IsUtf8 symbol → IsDeclaredWithin limits symbol flags text
-      → IsFound limits symbol flags 0 0 text
-  not_read : {status offset : ℕ} {text : List ℕ} → IsNotRead limits symbol status offset text
-      → IsFound limits symbol flags status offset text
+  declared : {text : List ℕ} → IsUtf8 symbol → IsDeclaredWithinIn g limits symbol flags text
+      → IsFound g limits symbol flags 0 0 text
+  not_read : {status offset : ℕ} {text : List ℕ} → IsNotRead g limits symbol status offset text
+      → IsFound g limits symbol flags status offset text
   -- TOO_LONG: the symbol ends at the offset, and the text shows what follows the symbol
-  too_long : {offset : ℕ} {text : List ℕ} → IsUtf8 symbol → IsLonger limits symbol flags offset
+  too_long : {offset : ℕ} {text : List ℕ} → IsUtf8 symbol → IsLongerIn g limits symbol flags offset
       → Says errors.too_long (context_text_of symbol offset) offset text
-      → IsFound limits symbol flags 5 offset text
+      → IsFound g limits symbol flags 5 offset text
 
 -- the symbol takes `bytes` bytes of the text, and its tree is within the limit on nodes
-abbrev pub IsLength : Option ℕ → List ℕ → ℕ → Type 0
-IsLength nodes symbol bytes =
-    (tree : SymbolTree) × IsParsed symbol tree × IsWithin nodes (node_count tree) × IsSymbolLength bytes symbol
+abbrev pub IsLength : Grammar → Option ℕ → List ℕ → ℕ → Type 0
+IsLength g nodes symbol bytes = (tree : SymbolTree) × IsParsedIn (dialect_of g) symbol tree
+    × IsWithin nodes (node_count tree) × IsSymbolLengthIn (dialect_of g) bytes symbol
 
 -- What a call that measures a symbol returns: the status, the offset, and the number of bytes that the symbol takes.
-pub data IsMeasured (limits : Limits) (symbol : List ℕ) : (status offset bytes : ℕ) → Type 0 where
+pub data IsMeasured (g : Grammar) (limits : Limits) (symbol : List ℕ) : (status offset bytes : ℕ) → Type 0 where
   -- OK
-  measured : {bytes : ℕ} → IsUtf8 symbol → IsLength limits.nodes symbol bytes → IsMeasured limits symbol 0 0 bytes
+  measured : {bytes : ℕ} → IsUtf8 symbol → IsLength g limits.nodes symbol bytes
+      → IsMeasured g limits symbol 0 0 bytes
   -- the statuses and offsets of `IsNotRead`, without its text
-  not_measured : {status offset : ℕ} {text : List ℕ} → IsNotRead limits symbol status offset text
-      → IsMeasured limits symbol status offset 0
+  not_measured : {status offset : ℕ} {text : List ℕ} → IsNotRead g limits symbol status offset text
+      → IsMeasured g limits symbol status offset 0
 
 -- What a call that filters a text returns and writes: the status, the length, and the buffer `new` in place of `old`.
-pub data IsFilteredInto (flags : ℕ) (text old new : List ℕ) : (status length : ℕ) → Type 0 where
+pub data IsFilteredInto (g : Grammar) (flags : ℕ) (text old new : List ℕ) : (status length : ℕ) → Type 0 where
   -- OK
-  filtered : {parts : List Part} → AreOnlyParts flags text parts → ArePartsWritten parts old new
-      → IsFilteredInto flags text old new 0 (length (text_of_parts parts))
+  filtered : {parts : List Part} → AreOnlyPartsIn (under g flags) text parts → ArePartsWritten parts old new
+      → IsFilteredInto g flags text old new 0 (length (text_of_parts parts))
   -- OUT_OF_MEMORY: the bytes after the NUL may be any
   not_filtered : (others : List ℕ) → length others ≡ length old → IsWritten out_of_memory_text others new
-      → IsFilteredInto flags text old new 3 (length out_of_memory_text)
+      → IsFilteredInto g flags text old new 3 (length out_of_memory_text)

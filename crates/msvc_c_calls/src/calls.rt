@@ -2,21 +2,34 @@
 
 ghost use Rattle.std.specs.Prelude.{◌≡◌, ◌≢◌, ℕ, IfNone, IfSome, List, length};
 ghost use Rattle.msvc_cursor.specs.declared.failure.Failure.TheVariants as why;
-ghost use Rattle.msvc_demangler.specs.Failures.{Fails, IsFailureText, IsInside};
+ghost use Rattle.msvc_demangler.specs.Failures.{FailsIn, IsFailureText, IsInside};
 ghost use Rattle.msvc_demangler.specs.Failures.{limit_of_failure, offset_of_failure};
 ghost use Rattle.msvc_demangler.specs.CallLimits as spec;
+ghost use Rattle.msvc_demangler.specs.GrammarNames as names;
+ghost use Rattle.msvc_demangler.specs.Grammars.{dialect_of};
 ghost use Rattle.msvc_c_calls.specs.Buffers.{IsWritten};
 ghost use Rattle.msvc_c_calls.specs.Calls.{IsFilteredInto, IsFound, IsMeasured, IsNotRead};
-ghost use Rattle.msvc_c_calls.specs.Calls.{not_utf8_text, out_of_memory_text};
+ghost use Rattle.msvc_c_calls.specs.Calls.{grammar_of, not_utf8_text, out_of_memory_text};
 ghost use Rattle.msvc_c_calls.specs.Reasons.{IsReason, IsStatusOf};
 
 use crate::{
-    CallResult, NOT_UTF8, NOT_UTF8_TEXT, OK, OUT_OF_MEMORY, OUT_OF_MEMORY_TEXT, end_filtered,
+    CallResult, FULL, NOT_UTF8, NOT_UTF8_TEXT, OK, OUT_OF_MEMORY, OUT_OF_MEMORY_TEXT, end_filtered,
     status_of, write,
 };
 use bumpalo::Bump;
-use msvc_demangler::{DemangleFlags, Demangler, Failure, Grammar, Limits, filter_slice_as};
+use msvc_demangler::{DemangleFlags, Demangler, Failure, Flags, Grammar, Limits, filter_slice_as};
 use std::alloc::Allocator;
+
+/// Returns the grammar that a word of flags chooses: Full with the flag FULL, else the crate's.
+pub fn grammar_of(flags: u32) -> Grammar
+    ensures { result ≡ grammar_of flags }
+{
+    if flags < FULL {
+        Grammar::Crate
+    } else {
+        Grammar::Full
+    }
+}
 
 /// Writes that memory ran out, and returns that.
 pub fn out_of_memory(out: &mut [u8]) -> CallResult
@@ -57,14 +70,16 @@ pub fn unmeasured(status: u32, offset: usize) -> CallResult
 pub fn declare<A: Allocator + Copy>(
     demangler: &mut Demangler<A>,
     symbol: &str,
-    flags: DemangleFlags,
+    flags: u32,
     limits: Limits,
     out: &mut [u8],
 ) -> CallResult
-    ensures { (shown : List ℕ) × IsFound limits symbol.now flags.0 result.status result.offset shown
+    ensures { (shown : List ℕ)
+        × IsFound (grammar_of flags) limits symbol.now flags result.status result.offset shown
         × (result.length ≡ length shown) × IsWritten shown out.old out.new }
 {
-    let failure = match demangler.declaration(Grammar::Crate, symbol, flags, limits) {
+    let style = DemangleFlags::from_bits_retain(flags);
+    let failure = match demangler.declaration(grammar_of(flags), symbol, style, limits) {
         Ok(declaration) => {
             return CallResult {
                 status: OK,
@@ -81,11 +96,12 @@ pub fn declare<A: Allocator + Copy>(
 pub fn measure<A: Allocator + Copy>(
     demangler: &mut Demangler<A>,
     symbol: &str,
+    flags: u32,
     limits: Limits,
 ) -> CallResult
-    ensures { IsMeasured limits symbol.now result.status result.offset result.length }
+    ensures { IsMeasured (grammar_of flags) limits symbol.now result.status result.offset result.length }
 {
-    match demangler.measure(Grammar::Crate, symbol, limits) {
+    match demangler.measure(grammar_of(flags), symbol, limits) {
         Ok(length) => CallResult {
             status: OK,
             offset: 0,
@@ -99,21 +115,23 @@ pub fn measure<A: Allocator + Copy>(
 pub fn filter<A: Allocator + Copy>(
     demangler: &mut Demangler<A>,
     input: &[u8],
-    flags: DemangleFlags,
+    flags: u32,
     out: &mut [u8],
 ) -> CallResult
-    ensures filtered { IsFilteredInto flags.0 input.now out.old out.new result.status result.length }
+    ensures filtered { IsFilteredInto (grammar_of flags) flags input.now out.old out.new
+        result.status result.length }
     ensures offset { result.offset ≡ 0 }
 {
+    let style = DemangleFlags::from_bits_retain(flags);
     let room = out.len().saturating_sub(1);
-    let found = filter_slice_as(demangler, Grammar::Crate, input, flags, &mut out[..room]);
+    let found = filter_slice_as(demangler, grammar_of(flags), input, style, &mut out[..room]);
     end_filtered(found, out)
 }
 
 /// Returns why a symbol is not read.
 pub fn unread(failure: Failure, symbol: &str) -> CallResult
-    ensures { (limits : spec.Limits) → Fails limits.nodes symbol.now failure → (text : List ℕ)
-        × IsNotRead limits symbol.now result.status result.offset text × (result.length ≡ 0) }
+    ensures { (g : names.Grammar) (limits : spec.Limits) → FailsIn (dialect_of g) limits.nodes symbol.now failure
+        → (text : List ℕ) × IsNotRead g limits symbol.now result.status result.offset text × (result.length ≡ 0) }
 {
     match rejection(failure, symbol) {
         Some((status, offset)) => unmeasured(status, offset),

@@ -10,7 +10,7 @@ ghost use Rattle.msvc_c_calls.specs.Reasons.{IsStatusOf};
 mod calls;
 
 pub use calls::{
-    declare, filter, measure, not_utf8, out_of_memory, unmeasured, unread, write_reason,
+    declare, filter, grammar_of, measure, not_utf8, out_of_memory, unmeasured, unread, write_reason,
 };
 use msvc_demangler::{Filtered, Limit};
 use std::alloc::AllocError;
@@ -32,6 +32,9 @@ const TOO_MANY_NODES: u32 = 4;
 
 /// The status of a symbol whose declaration has more bytes than allowed.
 const TOO_LONG: u32 = 5;
+
+/// The flag of the grammar Full: the highest bit of a word of flags, which no flag of printing has.
+const FULL: u32 = 0x8000_0000;
 
 /// The text of a symbol that is not UTF-8.
 const NOT_UTF8_TEXT: &str = "not UTF-8";

@@ -28,9 +28,11 @@ pub use Rattle.msvc_print.specs.Declaration
 pub use Rattle.msvc_print.specs.Laws as PrintLaws
 pub use Rattle.msvc_rules.specs.Counts
 pub use Rattle.msvc_rules.specs.Laws
+pub use Rattle.msvc_rules.specs.Parsed as ParsedIn
 pub use Rattle.msvc_rules.specs.Parts
 pub use Rattle.msvc_rules.specs.Prefix
 pub use Rattle.msvc_rules.specs.Reads
+pub use Rattle.msvc_rules.specs.Rejections as RejectionsIn
 pub use Rattle.msvc_rules.specs.State
 pub use Rattle.msvc_rules.specs.Written
 pub use Rattle.msvc_streams.specs.Faults

@@ -5,11 +5,11 @@
 ghost use Rattle.std.specs.Prelude.{◌≡◌, ℕ, List, length};
 ghost use Rattle.msvc_demangler.specs.Limits.{limits_of};
 ghost use Rattle.msvc_c_calls.specs.Buffers.{IsWritten};
-ghost use Rattle.msvc_c_calls.specs.Calls.{IsFilteredInto, IsFound, IsMeasured};
+ghost use Rattle.msvc_c_calls.specs.Calls.{IsFilteredInto, IsFound, IsMeasured, grammar_of};
 ghost use Rattle.msvc_demangler_c.specs.Version.{version};
 
 use msvc_c_calls::{CallResult, NOT_UTF8, declare, filter, measure, not_utf8, unmeasured, write};
-use msvc_demangler::{DemangleFlags, Demangler, Flags, Limits};
+use msvc_demangler::{Demangler, Limits};
 use std::alloc::Global;
 use std::str::from_utf8;
 
@@ -29,12 +29,12 @@ pub extern "C" fn msvc_demangler_demangle(
     out: &mut [u8],
 ) -> CallResult
     ensures { (text : List ℕ)
-        × IsFound (limits_of max_nodes max_bytes) symbol.now flags result.status result.offset text
+        × IsFound (grammar_of flags) (limits_of max_nodes max_bytes) symbol.now flags
+        result.status result.offset text
         × (result.length ≡ length text) × IsWritten text out.old out.new }
 {
     match from_utf8(symbol) {
         Ok(symbol) => {
-            let flags = DemangleFlags::from_bits_retain(flags);
             let limits = Limits::new(max_nodes, max_bytes);
             declare(&mut Demangler::new(alloc), symbol, flags, limits, out)
         }
@@ -42,19 +42,22 @@ pub extern "C" fn msvc_demangler_demangle(
     }
 }
 
-/// Returns the length in bytes of the symbol that a longer text begins with, with the same limit on nodes.
+/// Returns the length in bytes of the symbol that a longer text begins with, with the same limit on nodes. Of the flags
+/// only that of the grammar matters.
 #[unsafe(no_mangle)]
 pub extern "C" fn msvc_demangler_prefix(
     alloc: Global,
     symbol: &[u8],
+    flags: u32,
     max_nodes: usize,
 ) -> CallResult
-    ensures { IsMeasured (limits_of max_nodes usize.MAX) symbol.now result.status result.offset result.length }
+    ensures { IsMeasured (grammar_of flags) (limits_of max_nodes usize.MAX) symbol.now
+        result.status result.offset result.length }
 {
     match from_utf8(symbol) {
         Ok(symbol) => {
             let limits = Limits::new(max_nodes, usize::MAX);
-            measure(&mut Demangler::new(alloc), symbol, limits)
+            measure(&mut Demangler::new(alloc), symbol, flags, limits)
         }
         Err(fault) => unmeasured(NOT_UTF8, fault.valid_up_to()),
     }
@@ -69,10 +72,10 @@ pub extern "C" fn msvc_demangler_filter(
     flags: u32,
     out: &mut [u8],
 ) -> CallResult
-    ensures filtered { IsFilteredInto flags text.now out.old out.new result.status result.length }
+    ensures filtered { IsFilteredInto (grammar_of flags) flags text.now out.old out.new
+        result.status result.length }
     ensures offset { result.offset ≡ 0 }
 {
-    let flags = DemangleFlags::from_bits_retain(flags);
     filter(&mut Demangler::new(alloc), text, flags, out)
 }
 

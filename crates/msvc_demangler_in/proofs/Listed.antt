@@ -6,8 +6,10 @@ use Rattle.msvc_cursor.specs.Notes.{note_of}
 use Rattle.msvc_cursor.specs.declared.back_references.BackReference.{BackReference}
 use Rattle.msvc_demangler.specs.CallLimits.{Limits}
 use Rattle.msvc_demangler.specs.Counts.{node_count}
+use Rattle.msvc_demangler.specs.GrammarNames.{Grammar}
+use Rattle.msvc_demangler.specs.Grammars.{dialect_of}
 use Rattle.msvc_demangler.specs.Limits.{IsWithin}
-use Rattle.msvc_demangler.specs.Parsed.{AreReferences, IsParsed}
+use Rattle.msvc_demangler.specs.ParsedIn.{AreReferencesIn, IsParsedIn}
 use Rattle.msvc_demangler.specs.State.{Note}
 use Rattle.msvc_demangler.specs.Trees.{SymbolTree}
 use Rattle.msvc_c_calls.specs.Buffers.{IsWritten}
@@ -20,35 +22,36 @@ use Rattle.msvc_demangler_in.specs.declared.references.Reference.{Reference}
 
 -- The tree
 
-pub tree_shown : (limits : Limits) (symbol : List ℕ) (tree : SymbolTree) (status offset : ℕ) (text : List ℕ)
-    → IsUtf8 symbol → IsParsed symbol tree → IsWithin limits.nodes (node_count tree) → IsTreeText status offset text
-    → IsShown limits symbol status offset text
-tree_shown limits symbol tree status offset text u parsed within (made is at) =
-    let Status : ℕ → Type 0 = λ n. IsShown limits symbol n offset text in
-    let At : ℕ → Type 0 = λ n. IsShown limits symbol 0 n text in
+pub tree_shown : (g : Grammar) (limits : Limits) (symbol : List ℕ) (tree : SymbolTree) (status offset : ℕ)
+    (text : List ℕ) → IsUtf8 symbol → IsParsedIn (dialect_of g) symbol tree → IsWithin limits.nodes (node_count tree)
+    → IsTreeText status offset text
+    → IsShown g limits symbol status offset text
+tree_shown g limits symbol tree status offset text u parsed within (made is at) =
+    let Status : ℕ → Type 0 = λ n. IsShown g limits symbol n offset text in
+    let At : ℕ → Type 0 = λ n. IsShown g limits symbol 0 n text in
     subst Status (sym is) (subst At (sym at) (shown u parsed within))
-tree_shown limits symbol tree status offset text u parsed within (unmade is at same) =
-    not_shown (no_memory limits symbol status offset text u is at same)
+tree_shown g limits symbol tree status offset text u parsed within (unmade is at same) =
+    not_shown (no_memory g limits symbol status offset text u is at same)
 
 -- what is written of a symbol for which memory ran out
-pub lost_tree : (limits : Limits) (symbol : List ℕ) (status offset count : ℕ) (old new : List ℕ) → IsUtf8 symbol
-    → (status ≡ 3) × (offset ≡ 0) × (count ≡ length out_of_memory_text) → IsWritten out_of_memory_text old new
-    → (text : List ℕ) × IsShown limits symbol status offset text × (count ≡ length text) × IsWritten text old new
-lost_tree limits symbol status offset count old new u is written = (
+pub lost_tree : (g : Grammar) (limits : Limits) (symbol : List ℕ) (status offset count : ℕ) (old new : List ℕ)
+    → IsUtf8 symbol → (status ≡ 3) × (offset ≡ 0) × (count ≡ length out_of_memory_text) → IsWritten out_of_memory_text old new
+    → (text : List ℕ) × IsShown g limits symbol status offset text × (count ≡ length text) × IsWritten text old new
+lost_tree g limits symbol status offset count old new u is written = (
   out_of_memory_text,
-  not_shown (no_memory limits symbol status offset out_of_memory_text u is.0 is.1 refl),
+  not_shown (no_memory g limits symbol status offset out_of_memory_text u is.0 is.1 refl),
   is.2,
   written,
 )
 
 -- what is written of a symbol that is not UTF-8
-pub not_valid_tree : (limits : Limits) (symbol : List ℕ) (status offset count at : ℕ) (old new : List ℕ)
+pub not_valid_tree : (g : Grammar) (limits : Limits) (symbol : List ℕ) (status offset count at : ℕ) (old new : List ℕ)
     → ¬ (IsUtf8 symbol) → IsValidUpTo symbol at → (status ≡ 2) × (offset ≡ at) × (count ≡ length not_utf8_text)
     → IsWritten not_utf8_text old new
-    → (text : List ℕ) × IsShown limits symbol status offset text × (count ≡ length text) × IsWritten text old new
-not_valid_tree limits symbol status offset count at old new not valid is written =
-    let Status : ℕ → Type 0 = λ n. IsShown limits symbol n offset not_utf8_text in
-    let At : ℕ → Type 0 = λ n. IsShown limits symbol 2 n not_utf8_text in
+    → (text : List ℕ) × IsShown g limits symbol status offset text × (count ≡ length text) × IsWritten text old new
+not_valid_tree g limits symbol status offset count at old new not valid is written =
+    let Status : ℕ → Type 0 = λ n. IsShown g limits symbol n offset not_utf8_text in
+    let At : ℕ → Type 0 = λ n. IsShown g limits symbol 2 n not_utf8_text in
     (not_utf8_text, subst Status (sym is.0) (subst At (sym is.1) (not_shown (not_utf8 not valid))), is.2, written)
 
 -- The list
@@ -94,28 +97,28 @@ all_written (n ∷ notes) (o ∷ old) (suc count) a b c =
     (all_written notes old count (omega (arith, a)) (omega (arith, b))
     (λ h. let more : length (o ∷ old) ≤ suc count = c (omega (arith, h)) in omega (arith, more)))
 
-pub list_found : (limits : Limits) (symbol : List ℕ) (old new : List Reference) (notes : List Note)
-    (status offset count : ℕ) → IsUtf8 symbol → (are : AreReferences symbol notes)
+pub list_found : (g : Grammar) (limits : Limits) (symbol : List ℕ) (old new : List Reference) (notes : List Note)
+    (status offset count : ℕ) → IsUtf8 symbol → (are : AreReferencesIn (dialect_of g) symbol notes)
     → IsWithin limits.nodes (node_count are.tree) → AreListed notes old new → status ≡ 0 → offset ≡ 0
-    → count ≡ length notes → IsListed limits symbol old new status offset count
-list_found limits symbol old new notes status offset count u are within written is at all =
-    let Status : ℕ → Type 0 = λ n. IsListed limits symbol old new n offset count in
-    let At : ℕ → Type 0 = λ n. IsListed limits symbol old new 0 n count in
-    let Count : ℕ → Type 0 = λ n. IsListed limits symbol old new 0 0 n in
+    → count ≡ length notes → IsListed g limits symbol old new status offset count
+list_found g limits symbol old new notes status offset count u are within written is at all =
+    let Status : ℕ → Type 0 = λ n. IsListed g limits symbol old new n offset count in
+    let At : ℕ → Type 0 = λ n. IsListed g limits symbol old new 0 n count in
+    let Count : ℕ → Type 0 = λ n. IsListed g limits symbol old new 0 0 n in
     subst Status (sym is) (subst At (sym at) (subst Count (sym all) (listed u are within written)))
 
 -- no list, for a symbol that is not read
-pub unlisted : (limits : Limits) (symbol : List ℕ) (old new : List Reference) (status offset count : ℕ)
-    → (text : List ℕ) × IsNotRead limits symbol status offset text × (count ≡ 0) → (status ≢ 3 → new ≡ old)
-    → IsListed limits symbol old new status offset count
-unlisted limits symbol old new status offset count not same =
-    let Count : ℕ → Type 0 = λ n. IsListed limits symbol old new status offset n in
+pub unlisted : (g : Grammar) (limits : Limits) (symbol : List ℕ) (old new : List Reference) (status offset count : ℕ)
+    → (text : List ℕ) × IsNotRead g limits symbol status offset text × (count ≡ 0) → (status ≢ 3 → new ≡ old)
+    → IsListed g limits symbol old new status offset count
+unlisted g limits symbol old new status offset count not same =
+    let Count : ℕ → Type 0 = λ n. IsListed g limits symbol old new status offset n in
     subst Count (sym not.2) (not_listed not.1 same)
 
 -- and if memory ran out
-pub lost_list : (limits : Limits) (symbol : List ℕ) (old new : List Reference) (status offset count : ℕ)
-    → IsUtf8 symbol → (status ≡ 3) × (offset ≡ 0) × (count ≡ 0) → IsListed limits symbol old new status offset count
-lost_list limits symbol old new status offset count u is =
-    unlisted limits symbol old new status offset count
-    (out_of_memory_text, no_memory limits symbol status offset out_of_memory_text u is.0 is.1 refl, is.2)
+pub lost_list : (g : Grammar) (limits : Limits) (symbol : List ℕ) (old new : List Reference) (status offset count : ℕ)
+    → IsUtf8 symbol → (status ≡ 3) × (offset ≡ 0) × (count ≡ 0) → IsListed g limits symbol old new status offset count
+lost_list g limits symbol old new status offset count u is =
+    unlisted g limits symbol old new status offset count
+    (out_of_memory_text, no_memory g limits symbol status offset out_of_memory_text u is.0 is.1 refl, is.2)
     (λ no. absurd (no is.0))

@@ -2,7 +2,7 @@
 
 ghost use Rattle.std.specs.Prelude.{◌≡◌, ℕ, List, length};
 ghost use Rattle.msvc_c_calls.specs.Buffers.{IsWritten};
-ghost use Rattle.msvc_c_calls.specs.Calls.{IsFilteredInto, IsFound, IsMeasured};
+ghost use Rattle.msvc_c_calls.specs.Calls.{IsFilteredInto, IsFound, IsMeasured, grammar_of};
 ghost use Rattle.msvc_demangler_in.specs.Shown.{IsListed, IsShown};
 ghost use Rattle.msvc_demangler_in.specs.TreeTexts.{IsTreeText};
 
@@ -10,11 +10,13 @@ use crate::memory::{demangler_in, demangler_without_text};
 use crate::references::{Reference, write_references};
 use bumpalo::Bump;
 use lent_memory::Lent;
-use msvc_c_calls::{self as calls, CallResult, OK, OUT_OF_MEMORY, out_of_memory, unmeasured};
+use msvc_c_calls::{
+    self as calls, CallResult, OK, OUT_OF_MEMORY, grammar_of, out_of_memory, unmeasured,
+};
 use msvc_debug::write_tree;
-use msvc_demangler::{DemangleFlags, Limits};
+use msvc_demangler::Limits;
 use msvc_nodes::nodes::TypedSymbol;
-use msvc_productions::read;
+use msvc_symbol::read;
 use std::alloc::Allocator;
 
 /// Writes the declaration of a symbol, or why it has none, into `out`.
@@ -22,11 +24,12 @@ pub(crate) fn declare(
     arena: &Lent,
     text: &Lent,
     symbol: &str,
-    flags: DemangleFlags,
+    flags: u32,
     limits: Limits,
     out: &mut [u8],
 ) -> CallResult
-    ensures { (shown : List ℕ) × IsFound limits symbol.now flags.0 result.status result.offset shown
+    ensures { (shown : List ℕ)
+        × IsFound (grammar_of flags) limits symbol.now flags result.status result.offset shown
         × (result.length ≡ length shown) × IsWritten shown out.old out.new }
 {
     match demangler_in(arena, text) {
@@ -36,15 +39,22 @@ pub(crate) fn declare(
 }
 
 /// Writes the tree of a symbol, or why it has none, into `out`.
-pub(crate) fn show(memory: &Lent, symbol: &str, limits: Limits, out: &mut [u8]) -> CallResult
-    ensures { (shown : List ℕ) × IsShown limits symbol.now result.status result.offset shown
+pub(crate) fn show(
+    memory: &Lent,
+    symbol: &str,
+    flags: u32,
+    limits: Limits,
+    out: &mut [u8],
+) -> CallResult
+    ensures { (shown : List ℕ)
+        × IsShown (grammar_of flags) limits symbol.now result.status result.offset shown
         × (result.length ≡ length shown) × IsWritten shown out.old out.new }
 {
     let Some(mut demangler) = demangler_without_text(memory) else {
         return out_of_memory(out);
     };
     let arena = demangler.arena();
-    let failure = match read(arena, symbol, limits) {
+    let failure = match read(grammar_of(flags), arena, symbol, limits) {
         Ok(read) => return write_tree_of(arena, &read.symbol, out),
         Err(failure) => failure,
     };
@@ -72,13 +82,19 @@ fn write_tree_of<'a, 'b, A: Allocator>(
 }
 
 /// Lists the back references of a symbol, and writes those for which `out` has places.
-pub(crate) fn list(memory: &Lent, symbol: &str, limits: Limits, out: &mut [Reference]) -> CallResult
-    ensures { IsListed limits symbol.now out.old out.new result.status result.offset result.length }
+pub(crate) fn list(
+    memory: &Lent,
+    symbol: &str,
+    flags: u32,
+    limits: Limits,
+    out: &mut [Reference],
+) -> CallResult
+    ensures { IsListed (grammar_of flags) limits symbol.now out.old out.new result.status result.offset result.length }
 {
     let Some(mut demangler) = demangler_without_text(memory) else {
         return unmeasured(OUT_OF_MEMORY, 0);
     };
-    match read(demangler.arena(), symbol, limits) {
+    match read(grammar_of(flags), demangler.arena(), symbol, limits) {
         Ok(read) => CallResult {
             status: OK,
             offset: 0,
@@ -89,11 +105,11 @@ pub(crate) fn list(memory: &Lent, symbol: &str, limits: Limits, out: &mut [Refer
 }
 
 /// Measures how many bytes a symbol takes.
-pub(crate) fn measure(memory: &Lent, symbol: &str, limits: Limits) -> CallResult
-    ensures { IsMeasured limits symbol.now result.status result.offset result.length }
+pub(crate) fn measure(memory: &Lent, symbol: &str, flags: u32, limits: Limits) -> CallResult
+    ensures { IsMeasured (grammar_of flags) limits symbol.now result.status result.offset result.length }
 {
     match demangler_without_text(memory) {
-        Some(mut demangler) => calls::measure(&mut demangler, symbol, limits),
+        Some(mut demangler) => calls::measure(&mut demangler, symbol, flags, limits),
         None => unmeasured(OUT_OF_MEMORY, 0),
     }
 }
@@ -103,10 +119,11 @@ pub(crate) fn filter(
     arena: &Lent,
     text: &Lent,
     input: &[u8],
-    flags: DemangleFlags,
+    flags: u32,
     out: &mut [u8],
 ) -> CallResult
-    ensures filtered { IsFilteredInto flags.0 input.now out.old out.new result.status result.length }
+    ensures filtered { IsFilteredInto (grammar_of flags) flags input.now out.old out.new
+        result.status result.length }
     ensures offset { result.offset ≡ 0 }
 {
     match demangler_in(arena, text) {

@@ -4,7 +4,7 @@
 
 ghost use Rattle.std.specs.Prelude.{◌≡◌, ℕ, List, length};
 ghost use Rattle.msvc_demangler.specs.Limits.{limits_of};
-ghost use Rattle.msvc_c_calls.specs.Calls.{IsFilteredInto, IsFound, IsMeasured};
+ghost use Rattle.msvc_c_calls.specs.Calls.{IsFilteredInto, IsFound, IsMeasured, grammar_of};
 ghost use Rattle.msvc_demangler_in.specs.Shown.{IsListed, IsShown};
 ghost use Rattle.msvc_demangler_in.specs.Workspaces.{IsBack, IsWrittenUnless};
 
@@ -16,7 +16,7 @@ use calls::{declare, filter, list, measure, show};
 use lent_memory::Workspace;
 use memory::{give_back, lend};
 use msvc_c_calls::{CallResult, NOT_UTF8, OUT_OF_MEMORY, not_utf8, out_of_memory, unmeasured};
-use msvc_demangler::{DemangleFlags, Flags, Limits};
+use msvc_demangler::Limits;
 use references::Reference;
 use std::str::from_utf8;
 
@@ -32,14 +32,14 @@ pub extern "C" fn msvc_demangler_demangle_in_parts(
     out: &mut [u8],
 ) -> CallResult
     ensures found { (shown : List ℕ)
-        × IsFound (limits_of max_nodes max_bytes) symbol.now flags result.status result.offset shown
+        × IsFound (grammar_of flags) (limits_of max_nodes max_bytes) symbol.now flags
+        result.status result.offset shown
         × (result.length ≡ length shown) × IsWrittenUnless result.status shown out.old out.new }
     ensures arena { IsBack result.status arena.old.ptr arena.old.size arena.new.ptr arena.new.size }
     ensures text { IsBack result.status text.old.ptr text.old.size text.new.ptr text.new.size }
 {
     match from_utf8(symbol) {
         Ok(symbol) => {
-            let flags = DemangleFlags::from_bits_retain(flags);
             let limits = Limits::new(max_nodes, max_bytes);
             demangle_in(symbol, flags, limits, arena, text, out)
         }
@@ -51,15 +51,16 @@ pub extern "C" fn msvc_demangler_demangle_in_parts(
 #[unsafe(no_mangle)]
 pub extern "C" fn msvc_demangler_prefix_in_parts(
     symbol: &[u8],
+    flags: u32,
     max_nodes: usize,
     arena: &mut Workspace,
 ) -> CallResult
-    ensures measured { IsMeasured (limits_of max_nodes usize.MAX) symbol.now
+    ensures measured { IsMeasured (grammar_of flags) (limits_of max_nodes usize.MAX) symbol.now
         result.status result.offset result.length }
     ensures arena { IsBack result.status arena.old.ptr arena.old.size arena.new.ptr arena.new.size }
 {
     match from_utf8(symbol) {
-        Ok(symbol) => measure_in(symbol, Limits::new(max_nodes, usize::MAX), arena),
+        Ok(symbol) => measure_in(symbol, flags, Limits::new(max_nodes, usize::MAX), arena),
         Err(fault) => unmeasured(NOT_UTF8, fault.valid_up_to()),
     }
 }
@@ -73,12 +74,12 @@ pub extern "C" fn msvc_demangler_filter_in_parts(
     text: &mut Workspace,
     out: &mut [u8],
 ) -> CallResult
-    ensures filtered { IsFilteredInto flags input.now out.old out.new result.status result.length }
+    ensures filtered { IsFilteredInto (grammar_of flags) flags input.now out.old out.new
+        result.status result.length }
     ensures offset { result.offset ≡ 0 }
     ensures arena { IsBack result.status arena.old.ptr arena.old.size arena.new.ptr arena.new.size }
     ensures text { IsBack result.status text.old.ptr text.old.size text.new.ptr text.new.size }
 {
-    let flags = DemangleFlags::from_bits_retain(flags);
     let arena_memory = lend(arena);
     let text_memory = lend(text);
     let found = filter(&arena_memory, &text_memory, input, flags, out);
@@ -95,17 +96,25 @@ pub extern "C" fn msvc_demangler_filter_in_parts(
 #[unsafe(no_mangle)]
 pub extern "C" fn msvc_demangler_tree_in_parts(
     symbol: &[u8],
+    flags: u32,
     max_nodes: usize,
     arena: &mut Workspace,
     out: &mut [u8],
 ) -> CallResult
     ensures shown { (shown : List ℕ)
-        × IsShown (limits_of max_nodes usize.MAX) symbol.now result.status result.offset shown
+        × IsShown (grammar_of flags) (limits_of max_nodes usize.MAX) symbol.now
+        result.status result.offset shown
         × (result.length ≡ length shown) × IsWrittenUnless result.status shown out.old out.new }
     ensures arena { IsBack result.status arena.old.ptr arena.old.size arena.new.ptr arena.new.size }
 {
     match from_utf8(symbol) {
-        Ok(symbol) => show_in(symbol, Limits::new(max_nodes, usize::MAX), arena, out),
+        Ok(symbol) => show_in(
+            symbol,
+            flags,
+            Limits::new(max_nodes, usize::MAX),
+            arena,
+            out,
+        ),
         Err(fault) => not_utf8(fault.valid_up_to(), out),
     }
 }
@@ -114,16 +123,23 @@ pub extern "C" fn msvc_demangler_tree_in_parts(
 #[unsafe(no_mangle)]
 pub extern "C" fn msvc_demangler_references_in_parts(
     symbol: &[u8],
+    flags: u32,
     max_nodes: usize,
     arena: &mut Workspace,
     out: &mut [Reference],
 ) -> CallResult
-    ensures listed { IsListed (limits_of max_nodes usize.MAX) symbol.now out.old out.new
+    ensures listed { IsListed (grammar_of flags) (limits_of max_nodes usize.MAX) symbol.now out.old out.new
         result.status result.offset result.length }
     ensures arena { IsBack result.status arena.old.ptr arena.old.size arena.new.ptr arena.new.size }
 {
     match from_utf8(symbol) {
-        Ok(symbol) => list_in(symbol, Limits::new(max_nodes, usize::MAX), arena, out),
+        Ok(symbol) => list_in(
+            symbol,
+            flags,
+            Limits::new(max_nodes, usize::MAX),
+            arena,
+            out,
+        ),
         Err(fault) => unmeasured(NOT_UTF8, fault.valid_up_to()),
     }
 }
@@ -131,14 +147,14 @@ pub extern "C" fn msvc_demangler_references_in_parts(
 /// Writes the declaration of a symbol that is UTF-8, or why it has none.
 fn demangle_in(
     symbol: &str,
-    flags: DemangleFlags,
+    flags: u32,
     limits: Limits,
     arena: &mut Workspace,
     text: &mut Workspace,
     out: &mut [u8],
 ) -> CallResult
     ensures found { (shown : List ℕ)
-        × IsFound limits symbol.now flags.0 result.status result.offset shown
+        × IsFound (grammar_of flags) limits symbol.now flags result.status result.offset shown
         × (result.length ≡ length shown) × IsWrittenUnless result.status shown out.old out.new }
     ensures arena { IsBack result.status arena.old.ptr arena.old.size arena.new.ptr arena.new.size }
     ensures text { IsBack result.status text.old.ptr text.old.size text.new.ptr text.new.size }
@@ -156,13 +172,13 @@ fn demangle_in(
 }
 
 /// Measures how many bytes a symbol takes that is UTF-8.
-fn measure_in(symbol: &str, limits: Limits, arena: &mut Workspace) -> CallResult
-    ensures measured { IsMeasured limits symbol.now
+fn measure_in(symbol: &str, flags: u32, limits: Limits, arena: &mut Workspace) -> CallResult
+    ensures measured { IsMeasured (grammar_of flags) limits symbol.now
         result.status result.offset result.length }
     ensures arena { IsBack result.status arena.old.ptr arena.old.size arena.new.ptr arena.new.size }
 {
     let memory = lend(arena);
-    let found = measure(&memory, symbol, limits);
+    let found = measure(&memory, symbol, flags, limits);
     if give_back(memory, arena) {
         found
     } else {
@@ -171,26 +187,38 @@ fn measure_in(symbol: &str, limits: Limits, arena: &mut Workspace) -> CallResult
 }
 
 /// Writes the tree of a symbol that is UTF-8, or why it has none.
-fn show_in(symbol: &str, limits: Limits, arena: &mut Workspace, out: &mut [u8]) -> CallResult
+fn show_in(
+    symbol: &str,
+    flags: u32,
+    limits: Limits,
+    arena: &mut Workspace,
+    out: &mut [u8],
+) -> CallResult
     ensures shown { (shown : List ℕ)
-        × IsShown limits symbol.now result.status result.offset shown
+        × IsShown (grammar_of flags) limits symbol.now result.status result.offset shown
         × (result.length ≡ length shown) × IsWrittenUnless result.status shown out.old out.new }
     ensures arena { IsBack result.status arena.old.ptr arena.old.size arena.new.ptr arena.new.size }
 {
     let memory = lend(arena);
-    let found = show(&memory, symbol, limits, out);
+    let found = show(&memory, symbol, flags, limits, out);
     let has_arena = give_back(memory, arena);
     if has_arena { found } else { out_of_memory(out) }
 }
 
 /// Lists the back references of a symbol that is UTF-8.
-fn list_in(symbol: &str, limits: Limits, arena: &mut Workspace, out: &mut [Reference]) -> CallResult
-    ensures listed { IsListed limits symbol.now out.old out.new
+fn list_in(
+    symbol: &str,
+    flags: u32,
+    limits: Limits,
+    arena: &mut Workspace,
+    out: &mut [Reference],
+) -> CallResult
+    ensures listed { IsListed (grammar_of flags) limits symbol.now out.old out.new
         result.status result.offset result.length }
     ensures arena { IsBack result.status arena.old.ptr arena.old.size arena.new.ptr arena.new.size }
 {
     let memory = lend(arena);
-    let found = list(&memory, symbol, limits, out);
+    let found = list(&memory, symbol, flags, limits, out);
     let has_arena = give_back(memory, arena);
     if has_arena {
         found

@@ -1,6 +1,7 @@
 pub mod Answering
 pub mod BackReferences
 pub mod Buffers
+pub mod CallFlags
 pub mod Declarations
 pub mod Errors
 pub mod Filtered

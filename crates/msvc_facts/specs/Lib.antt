@@ -1,5 +1,6 @@
 pub mod BackReferences
 pub mod Buffers
+pub mod CallFlags
 pub mod Declarations
 pub mod Errors
 pub mod Filtered

@@ -6,6 +6,7 @@
 
 ghost use Rattle.msvc_facts.specs.BackReferences.{AreNameReferences, AreTypeReferences, AreWrittenOut};
 ghost use Rattle.msvc_facts.specs.Buffers.{AreBuffers};
+ghost use Rattle.msvc_facts.specs.CallFlags.{AreCallFlags};
 ghost use Rattle.msvc_facts.specs.Declarations.{
   AreDeclarations,
   AreFlags,
@@ -50,4 +51,5 @@ pub fn facts()
     ensures faults { AreFaults }
     ensures line_runs { AreLineRuns }
     ensures buffers { AreBuffers }
+    ensures call_flags { AreCallFlags }
 {}

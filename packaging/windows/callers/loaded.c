@@ -36,8 +36,8 @@ HANDS_ON(result, msvc_demangler_demangle,
          (const char *symbol, size_t length, uint32_t flags, size_t max_nodes, size_t max_bytes, char *out,
           size_t size),
          (symbol, length, flags, max_nodes, max_bytes, out, size))
-HANDS_ON(result, msvc_demangler_prefix, (const char *symbol, size_t length, size_t max_nodes),
-         (symbol, length, max_nodes))
+HANDS_ON(result, msvc_demangler_prefix, (const char *symbol, size_t length, uint32_t flags, size_t max_nodes),
+         (symbol, length, flags, max_nodes))
 HANDS_ON(result, msvc_demangler_filter, (const char *text, size_t length, uint32_t flags, char *out, size_t size),
          (text, length, flags, out, size))
 HANDS_ON(size_t, msvc_demangler_version, (char *out, size_t size), (out, size))

@@ -22,7 +22,7 @@ static DWORD WINAPI call(void *argument)
     work->demangled = msvc_demangler_demangle(work->symbol, work->length, MSVC_DEMANGLER_LLVM,
                                               MSVC_DEMANGLER_DEFAULT_NODES, MSVC_DEMANGLER_DEFAULT_BYTES, NULL, 0)
                           .status;
-    work->measured = msvc_demangler_prefix(work->symbol, work->length, MSVC_DEMANGLER_DEFAULT_NODES).status;
+    work->measured = msvc_demangler_prefix(work->symbol, work->length, 0, MSVC_DEMANGLER_DEFAULT_NODES).status;
     return 0;
 }
 

@@ -7,6 +7,6 @@ pub returns-in-Err-clause-found : goal.returns-in-Err-clause-found
 returns-in-Err-clause-found c =
     let cases = c.in-Err.ensures.cases in
     let UpTo : ℕ → Type 0 = λ n. IsValidUpTo c.args.symbol.now n in
-    let shown = not_valid _ c.args.symbol.now c.args.flags _ _ _ c.valid_up_to.result c.args.out.now c.not_utf8.new.out
-    cases.0 (subst UpTo (sym c.valid_up_to.ensures) cases.1) c.not_utf8.ensures.result c.not_utf8.ensures.written in
+    let shown = not_valid _ _ c.args.symbol.now c.args.flags _ _ _ c.valid_up_to.result c.args.out.now
+    c.not_utf8.new.out cases.0 (subst UpTo (sym c.valid_up_to.ensures) cases.1) c.not_utf8.ensures.result c.not_utf8.ensures.written in
     (shown.0, shown.1, shown.2, (c.args.out.now, refl, shown.3, λ no. refl))

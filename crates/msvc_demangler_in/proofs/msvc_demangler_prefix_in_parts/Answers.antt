@@ -8,5 +8,5 @@ pub returns-in-Err-clause-measured : goal.returns-in-Err-clause-measured
 returns-in-Err-clause-measured c =
     let cases = c.in-Err.ensures.cases in
     let UpTo : ℕ → Type 0 = λ n. IsValidUpTo c.args.symbol.now n in
-    as_measured _ c.args.symbol.now _ _ _ 2 c.valid_up_to.result c.unmeasured.ensures
+    as_measured _ _ c.args.symbol.now _ _ _ 2 c.valid_up_to.result c.unmeasured.ensures
     (not_measured (not_utf8 cases.0 (subst UpTo (sym c.valid_up_to.ensures) cases.1)))

@@ -1,5 +1,6 @@
 use Rattle.msvc_facts.proofs.BackReferences.{name_references, type_references, written_out}
 use Rattle.msvc_facts.proofs.Buffers.{buffers}
+use Rattle.msvc_facts.proofs.CallFlags.{call_flags}
 use Rattle.msvc_facts.proofs.Declarations.{declarations, flags, names, spaces, template_arguments, types}
 use Rattle.msvc_facts.proofs.Errors.{errors}
 use Rattle.msvc_facts.proofs.Filtered.{candidates, filtered, fitted}
@@ -84,3 +85,6 @@ returns-clause-line_runs c = line_runs
 
 pub returns-clause-buffers : goal.returns-clause-buffers
 returns-clause-buffers c = buffers
+
+pub returns-clause-call_flags : goal.returns-clause-call_flags
+returns-clause-call_flags c = call_flags

@@ -72,6 +72,18 @@ flags! {
 }
 
 impl DemangleFlags {
+    /// Reads the symbols of today's compilers, of which the crate reads a part. This is a bit of the library alone: it
+    /// is in no set of named bits, and `all`, `from_bits` and `from_bits_truncate` don't know it.
+    ///
+    /// ```
+    /// use msvc_demangler::{demangle, DemangleFlags};
+    ///
+    /// let flags = DemangleFlags::llvm() | DemangleFlags::FULL;
+    /// assert_eq!(demangle("?f@@YA?A?<auto>@@H@Z", flags)?, "<auto> __cdecl f(int)");
+    /// # Ok::<(), msvc_demangler::Error>(())
+    /// ```
+    pub const FULL: DemangleFlags = DemangleFlags(0x80000000);
+
     /// Returns the flags whose spelling is near that of `llvm-undname`: `MS_TYPENAMES`, `SPACE_AFTER_COMMA`,
     /// `HUG_TYPE` and `SPACE_BEFORE_POINTER`.
     pub const fn llvm() -> DemangleFlags {

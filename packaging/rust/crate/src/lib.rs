@@ -81,12 +81,30 @@ pub fn demangle_within(input: impl AsRef<[u8]>, flags: DemangleFlags, nodes: usi
 /// # Ok::<(), msvc_demangler::Error>(())
 /// ```
 pub fn symbol_length(input: &str) -> Result<usize> {
-    let result = library::prefix(input.as_bytes(), DEFAULT_NODE_LIMIT);
+    symbol_length_within(input, DemangleFlags::COMPLETE, DEFAULT_NODE_LIMIT)
+}
+
+/// Does what [`symbol_length`] does, under another limit, and for bytes too. Of the flags [`DemangleFlags::FULL`] alone
+/// matters.
+///
+/// # Errors
+///
+/// Fails as [`demangle_within`] does.
+///
+/// ```
+/// use msvc_demangler::{symbol_length_within, DemangleFlags};
+///
+/// assert_eq!(symbol_length_within("?f@@YA?A?<auto>@@H@Z and more", DemangleFlags::FULL, 100)?, 20);
+/// # Ok::<(), msvc_demangler::Error>(())
+/// ```
+pub fn symbol_length_within(input: impl AsRef<[u8]>, flags: DemangleFlags, nodes: usize) -> Result<usize> {
+    let input = input.as_ref();
+    let result = library::prefix(input, flags.bits(), nodes);
     if result.status == library::OK {
         return Ok(result.length);
     }
     // This call has no message. Demangling fails at the same place, and has one.
-    demangle(input, DemangleFlags::COMPLETE).map(|_| result.length)
+    demangle_within(input, flags, nodes, DEFAULT_BYTE_LIMIT).map(|_| result.length)
 }
 
 /// Returns `text` with each symbol inside it replaced by its declaration. All other bytes stay, and so does a symbol

@@ -25,7 +25,7 @@ extern "C" {
         size: usize,
     ) -> CallResult;
 
-    fn msvc_demangler_prefix(symbol: *const u8, length: usize, max_nodes: usize) -> CallResult;
+    fn msvc_demangler_prefix(symbol: *const u8, length: usize, flags: u32, max_nodes: usize) -> CallResult;
 
     fn msvc_demangler_filter(text: *const u8, length: usize, flags: u32, out: *mut u8, size: usize) -> CallResult;
 }
@@ -38,9 +38,9 @@ pub fn demangle(symbol: &[u8], flags: u32, max_nodes: usize, max_bytes: usize, o
 }
 
 /// Measures a symbol.
-pub fn prefix(symbol: &[u8], max_nodes: usize) -> CallResult {
+pub fn prefix(symbol: &[u8], flags: u32, max_nodes: usize) -> CallResult {
     // SAFETY: the pointer is that of a slice of this length.
-    unsafe { msvc_demangler_prefix(symbol.as_ptr(), symbol.len(), max_nodes) }
+    unsafe { msvc_demangler_prefix(symbol.as_ptr(), symbol.len(), flags, max_nodes) }
 }
 
 /// Filters a text into `out`.

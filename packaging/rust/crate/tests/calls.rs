@@ -1,6 +1,6 @@
 //! Calls the library through the crate. Expected texts are those of the header and of the table of flags.
 
-use msvc_demangler::{demangle, demangle_within, filter, symbol_length, DemangleFlags, Limit};
+use msvc_demangler::{demangle, demangle_within, filter, symbol_length, symbol_length_within, DemangleFlags, Limit};
 
 const LLVM: DemangleFlags = DemangleFlags::llvm();
 
@@ -60,6 +60,17 @@ fn a_symbol_is_measured() {
 }
 
 #[test]
+fn both_grammars_are_read() {
+    let (symbol, full) = ("?f@@YA?A?<auto>@@H@Z", LLVM | DemangleFlags::FULL);
+    assert_eq!(demangle(symbol, full).as_deref(), Ok("<auto> __cdecl f(int)"));
+    assert_eq!(symbol_length_within(symbol, full, 100), Ok(20));
+    assert_eq!(filter(symbol.as_bytes(), full), b"<auto> __cdecl f(int)");
+    let error = demangle(symbol, LLVM).unwrap_err();
+    assert_eq!(symbol_length_within(symbol, LLVM, 100), Err(error));
+    assert_eq!(symbol_length_within(symbol, full, 1).unwrap_err().limit(), Some(Limit::Nodes));
+}
+
+#[test]
 fn a_text_is_filtered() {
     assert_eq!(filter(b"\0\xff ?x@ns@@3HA\0", LLVM), b"\0\xff int ns::x\0");
     assert_eq!(filter(b"", LLVM), b"");
@@ -105,4 +116,6 @@ fn bits_without_a_name_are_known() {
     assert_eq!(DemangleFlags::from_bits(0x1000), Some(DemangleFlags::NAME_ONLY));
     assert_eq!(DemangleFlags::from_bits_truncate(0x1001), DemangleFlags::NAME_ONLY);
     assert_eq!(DemangleFlags::from_bits_retain(1).bits(), 1);
+    assert_eq!(DemangleFlags::from_bits(DemangleFlags::FULL.bits()), None);
+    assert!(!DemangleFlags::all().intersects(DemangleFlags::FULL));
 }

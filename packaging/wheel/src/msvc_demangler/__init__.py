@@ -36,7 +36,7 @@ _Buffer = ctypes.c_char * _BUFFER_SIZE  # made once, since it takes longer than 
 
 
 class Flags(enum.IntFlag):
-    """How a declaration is printed. Flags are combined with |."""
+    """How a declaration is printed and, for the last, how a symbol is read. Flags are combined with |."""
 
     NO_MS_KEYWORDS = 0x2  # no __cdecl and the like
     NO_FUNCTION_RETURNS = 0x4  # of functions the name and the parameters alone
@@ -54,6 +54,7 @@ class Flags(enum.IntFlag):
     SPACE_BEFORE_POINTER = 0x800000
     WITH_PTR64 = 0x1000000  # __ptr64
     LLVM = 0xE00400  # four of these: spelling near llvm-undname's
+    FULL = 0x80000000  # reads the symbols of today's compilers
 
 
 class Status(enum.IntEnum):
@@ -102,7 +103,7 @@ def _call(name: str, result: Any, *arguments: Any) -> Any:
 _library = _load()
 _input, _output = (ctypes.c_char_p, ctypes.c_size_t), (ctypes.c_char_p, ctypes.c_size_t)
 _demangle = _call("demangle", _Result, *_input, ctypes.c_uint32, ctypes.c_size_t, ctypes.c_size_t, *_output)
-_prefix = _call("prefix", _Result, *_input, ctypes.c_size_t)
+_prefix = _call("prefix", _Result, *_input, ctypes.c_uint32, ctypes.c_size_t)
 _filter = _call("filter", _Result, *_input, ctypes.c_uint32, *_output)
 _version = _call("version", ctypes.c_size_t, *_output)
 
@@ -146,8 +147,8 @@ def demangle(symbol: str | _Bytes, flags: int = Flags.LLVM, *, max_nodes: int = 
     """Returns the declaration of the symbol that the text begins with.
 
     max_nodes limits its tree, in which each name and each type is a node, and max_bytes the declaration in UTF-8. The
-    default limits suit symbols that are not trusted; a call with them takes at most 1,000,000 bytes of stack. Raises
-    DemangleError if there is no declaration, and MemoryError.
+    default limits suit symbols that are not trusted; a call with them takes at most 1,000,000 bytes of stack, with
+    FULL 2,500,000. Raises DemangleError if there is no declaration, and MemoryError.
     """
     given = _bytes(symbol)
     size = min(4 * len(given) + 128, DEFAULT_BYTES)
@@ -195,13 +196,14 @@ def filter_stream(reader: _Stream, writer: _Stream, flags: int = Flags.LLVM) -> 
     writer.flush()
 
 
-def symbol_length(text: str | _Bytes, *, max_nodes: int = DEFAULT_NODES) -> int:
+def symbol_length(text: str | _Bytes, *, flags: int = 0, max_nodes: int = DEFAULT_NODES) -> int:
     """Returns how long the symbol is that the text begins with: in characters of a str, else in bytes.
 
-    Raises DemangleError if it begins with none, or with one of more than max_nodes nodes, and MemoryError.
+    Of the flags FULL alone matters. Raises DemangleError if it begins with none, or with one of more than max_nodes
+    nodes, and MemoryError.
     """
     given = _bytes(text)
-    result = _prefix(given, len(given), _limit(max_nodes))
+    result = _prefix(given, len(given), operator.index(flags), _limit(max_nodes))
     _check(result, b"no symbol within the limit (offset: %d)" % result.offset)
     return len(given[:result.length].decode()) if isinstance(text, str) else int(result.length)
 
