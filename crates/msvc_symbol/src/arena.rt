@@ -1,7 +1,10 @@
 //! An arena that is kept from one symbol to the next.
 
+ghost use Rattle.std.specs.Prelude.{◌≡◌};
+
 use alloc_fuse::Fuse;
 use bumpalo::Bump;
+use msvc_cursor::failure::Failure;
 use msvc_cursor::limits::Limits;
 use msvc_nodes::sizes::arena_to_print;
 use std::alloc::{AllocError, Allocator, Global};
@@ -69,9 +72,20 @@ impl<A: Allocator + Copy> Arena<A> {
         Ok(self.emptied())
     }
 
+    /// Returns the result of a symbol. If memory ran out, the next symbol uses a new arena.
+    #[inline(always)]
+    pub(crate) fn end<T>(&mut self, done: Result<T, Failure>) -> Result<T, Failure>
+        ensures { result ≡ done }
+    {
+        if let Err(Failure::Memory) = done {
+            self.drop_next();
+        }
+        done
+    }
+
     /// Makes the next symbol use a new arena, unless this one is fixed: an arena that has failed once fails for good.
     #[cold]
-    pub(crate) fn drop_next(&mut self) {
+    fn drop_next(&mut self) {
         if self.began != FIXED {
             self.began = 0;
         }

@@ -135,10 +135,7 @@ impl<A: Allocator + Copy> Demangler<A> {
     {
         let arena = self.arena.prepared(input, limits)?;
         let done = declare(grammar, arena, input, flags, limits, &mut self.text);
-        if let Err(Failure::Memory) = done {
-            self.arena.drop_next();
-        }
-        done
+        self.arena.end(done)
     }
 
     /// Returns the demangler's text: the declaration of the last symbol, in bytes, which are unspecified if that had
@@ -193,10 +190,7 @@ impl<A: Allocator + Copy> Demangler<A> {
     {
         let arena = self.arena.prepared(input, limits)?;
         let measured = measure(grammar, arena, input, limits);
-        if let Err(Failure::Memory) = measured {
-            self.arena.drop_next();
-        }
-        measured
+        self.arena.end(measured)
     }
 
     /// Frees all memory. The next symbol requests it again.
@@ -310,9 +304,6 @@ impl Demangler<Global> {
         let grammar = self.grammar;
         let arena = self.arena.prepared(input, Limits::none())?;
         let copied = copy_references(grammar, alloc, arena, input);
-        if let Err(Failure::Memory) = copied {
-            self.arena.drop_next();
-        }
-        copied
+        self.arena.end(copied)
     }
 }
