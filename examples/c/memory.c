@@ -149,7 +149,7 @@ int main(void)
         wrong++;
     }
     wrong += fail_large(2000, &tried);  /* a tree of 4,000 nodes */
-    wrong += fail_large(7400, &tried);  /* a declaration of some 50 KB */
+    wrong += fail_large(9500, &tried);  /* a declaration of 64 KB */
     printf("%ld allocation failures, %ld wrong results\n", tried, wrong);
     return wrong != 0;
 }

@@ -147,8 +147,8 @@ def demangle(symbol: str | _Bytes, flags: int = Flags.LLVM, *, max_nodes: int = 
     """Returns the declaration of the symbol that the text begins with.
 
     max_nodes limits its tree, in which each name and each type is a node, and max_bytes the declaration in UTF-8. The
-    default limits suit symbols that are not trusted; a call with them takes at most 1,000,000 bytes of stack, with
-    FULL 2,500,000. Raises DemangleError if there is no declaration, and MemoryError.
+    default limits suit symbols that are not trusted; a call with them takes at most 1,000,000 bytes of stack. Raises
+    DemangleError if there is no declaration, and MemoryError.
     """
     given = _bytes(symbol)
     size = min(4 * len(given) + 128, DEFAULT_BYTES)
