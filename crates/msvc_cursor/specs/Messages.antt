@@ -42,6 +42,13 @@ message_words (messages.UnknownCharacter byte) =
 message_words messages.HashLength = codes "expected MD5 mangled name of length 32"
 message_words messages.UnknownOperatorName = codes "unknown operator name"
 message_words messages.UnknownRttiOperatorName = codes "unknown RTTI Operator name"
+message_words messages.UnknownTemplateValue = codes "unknown template value"
+message_words messages.UnknownManagedPointer = codes "unknown managed pointer"
+message_words messages.VariableExpected = codes "variable expected"
+message_words messages.ZeroExpected = codes "0 expected"
+message_words messages.StringStartExpected = codes "@_ expected"
+message_words messages.InitializerEndExpected = codes "@@ expected"
+message_words messages.DescriptorEndExpected = codes "@8 expected"
 message_words messages.TooManyNodes = too_many_nodes
 
 -- the limit that a message is about

@@ -47,6 +47,16 @@ pub enum Message {
     HashLength,
     UnknownOperatorName,
     UnknownRttiOperatorName,
+    UnknownTemplateValue,
+    UnknownManagedPointer,
+    VariableExpected,
+    ZeroExpected,
+    /// `@_` is missing before a string.
+    StringStartExpected,
+    /// `@@` is missing after the variable of an initializer.
+    InitializerEndExpected,
+    /// `@8` is missing after the type of a descriptor.
+    DescriptorEndExpected,
     /// The limit on nodes is reached.
     TooManyNodes,
 }
@@ -122,6 +132,13 @@ impl Message {
             Message::HashLength => "expected MD5 mangled name of length 32",
             Message::UnknownOperatorName => "unknown operator name",
             Message::UnknownRttiOperatorName => "unknown RTTI Operator name",
+            Message::UnknownTemplateValue => "unknown template value",
+            Message::UnknownManagedPointer => "unknown managed pointer",
+            Message::VariableExpected => "variable expected",
+            Message::ZeroExpected => "0 expected",
+            Message::StringStartExpected => "@_ expected",
+            Message::InitializerEndExpected => "@@ expected",
+            Message::DescriptorEndExpected => "@8 expected",
             Message::TooManyNodes => TOO_MANY_NODES,
             Message::InvalidBackReference(index) => {
                 return Ok(MessageText::Made(format!(in alloc; "invalid backreference: {index}")?));
