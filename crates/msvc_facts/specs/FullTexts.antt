@@ -69,6 +69,10 @@ levels lengths = shape rows.arrays 0 lengths [] no_names (types int no_types)
 abbrev pub alias_of : TypeTree → TypeTree
 alias_of t = tagged Alias (template (source "A") (types t no_types)) no_names 0
 
+-- a member function of this class that returns `int`, in a shape of a row with these numbers
+abbrev pub around_function : ℕ → ℕ → List Number → TypeTree
+around_function row class zs = shape row 0 zs [] no_names (types (member_function class Cdecl void 0 int) no_types)
+
 pub record AreFullTexts : Type 0 where
   pub pointer_to_pointer : IsFullText 0xe00400 (source "f") no_names (function_of (types (pointer (pointer (base Char 1) 0) 0) no_types)) "void __cdecl f(char const **)"
   pub spaced_pointers : IsFullText 0x800000 (source "f") no_names (function_of (types (pointer (pointer (base Char 1) 0) 0) no_types)) "void __cdecl f(char const * *)"
@@ -115,3 +119,17 @@ pub record AreFullTexts : Type 0 where
   pub extern_c_dropped : IsFullText 0x200 (source "f") no_names (shape rows.extern_c 0 [] [] no_names no_types) "f"
   pub frame : IsFullText 0 (source "x") (names (shaped rows.frame 0 (plus 2 ∷ []) [] (names (nested (source "f") no_names (function Cdecl void 0 int)) no_names) no_types) no_names) (variable int Global 0) "int `int __cdecl f(void)'::`2'::x"
   pub operators_of_shapes : IsFullText 0 (source "x") (names (shaped rows.spaceship 0 [] [] no_names no_types) no_names) (tagged Alias (shaped rows.literal_operator 0 [] [] (names (source "_a") no_names) no_types) no_names 0) "operator \"\"_a operator<=>::x"
+  pub adjustor : IsFullText 0xe00400 (source "f") (names (source "C") no_names) (around_function rows.adjustor 161 (plus 4 ∷ [])) "[thunk]: public: virtual int __cdecl C::f`adjustor{4}'(void)"
+  pub vtordispex : IsFullText 0 (source "f") no_names (around_function rows.vtordispex 128 (plus 8 ∷ minus 4 ∷ plus 8 ∷ plus 0 ∷ [])) "[thunk]: int __cdecl f`vtordispex{8,-4,8,0}'(void)"
+  pub table_of_none : IsFullText 0xe00400 (operator op.VFTable) (names (source "A") no_names) (shape rows.tables 3 [] [] no_names no_types) "const volatile A::`vftable'"
+  pub table_of_two : IsFullText 0xe00400 (operator op.VFTable) (names (source "A") no_names) (shape rows.tables 1 [] [] (names class_c (names class_c no_names)) no_types) "const A::`vftable'{for `C's `C'}"
+  pub address : IsFullText 0 (source "x") no_names (alias_of (shape rows.address 0 [] [] (names (nested (source "y") no_names (variable int Global 0)) no_names) no_types)) "A<&int y> x"
+  pub object : IsFullText 0 (source "x") no_names (alias_of (shape rows.object 0 [] [] (names class_c no_names) no_types)) "A<C> x"
+  pub offsets : IsFullText 0xe00400 (source "x") no_names (alias_of (shape rows.offsets 0 (plus 0 ∷ minus 1 ∷ []) [] no_names no_types)) "A<{0, -1}> x"
+  pub symbol_offsets : IsFullText 0 (source "x") no_names (alias_of (shape rows.symbol_offsets 0 (plus 0 ∷ plus 4 ∷ []) [] (names class_c no_names) no_types)) "A<{C,0,4}> x"
+  pub typed_value : IsFullText 0 (source "x") no_names (alias_of (shape rows.typed 0 [] [] no_names (types (shape rows.integer 0 (plus 5 ∷ []) [] no_names no_types) (types int no_types)))) "A<5> x"
+  pub type_descriptor : IsFullText 0xe00400 (shaped rows.type_descriptor 0 [] [] no_names no_types) no_names (variable (pointer int 0) Global 0) "int *`RTTI Type Descriptor'"
+  pub locator_hash : IsFullText 0 (shaped rows.md5_locator 0 [] (codes "ab") no_names no_types) no_names (plain plain_kind.None) "??@ab@??_R4@"
+  pub guard : IsFullText 0 (shaped rows.static_guard 0 (plus 2 ∷ []) [] no_names no_types) (names (source "f") no_names) (plain plain_kind.None) "f::`local static guard'{2}"
+  pub first_guard : IsFullText 0 (shaped rows.thread_guard 0 (plus 0 ∷ []) [] no_names no_types) (names (source "f") no_names) (plain plain_kind.None) "f::`local static thread guard'"
+  pub string : IsFullText 0 (shaped rows.string_literal 0 (plus 3 ∷ plus 104 ∷ plus 105 ∷ plus 0 ∷ []) [] no_names no_types) no_names (plain plain_kind.None) "\"hi\""

@@ -40,7 +40,7 @@ use Rattle.msvc_nodes.specs.declared.kinds.PlainOperator.{PlainOperator}
 use Rattle.msvc_print.specs.Operators.{base_class_pieces, name_kind, operator_pieces, unqualified_name, scoped}
 use Rattle.msvc_print.specs.Operators.{template_kind}
 use Rattle.msvc_print.specs.Pieces.{Piece, resolve, settle_all, space, text}
-use Rattle.msvc_print.specs.Shapes.{Parts, laid, parts, slot_pieces}
+use Rattle.msvc_print.specs.Shapes.{Parts, each_number, laid, number_pieces, parts, slot_pieces}
 use Rattle.msvc_print.specs.Sides.{Sides, alone, around, between, kept, kept_left, kept_right}
 use Rattle.msvc_print.specs.Words.{base_word, base_words, chosen_word, closing, kind_word, mark_space, mark_word}
 use Rattle.msvc_print.specs.Words.{marked, name_space, opening, qualifier, qualifier_space, qualifiers, tag_word}
@@ -335,6 +335,12 @@ around_kept-same s s' x x' a b hs hx e = same-append _ _ _ _
     (same-append _ _ _ _ hx (kept_right-same s.right s'.right a b (ap (λ z. z.right) hs) e))
 
 -- shapes
+each_number-same : (ns : List Number) (first : Bool) (a b : ℕ) → Same a b →
+    each_number ns first a ≡ each_number ns first b
+each_number-same [] first a b e = refl
+each_number-same (n ∷ ns) first a b e = same-append _ _ _ _ (separator-same first a b e)
+    (ap (λ x. number_pieces n ++ x) (each_number-same ns false a b e))
+
 slot_pieces-same : (s : Slot) (pointed : Bool) (p : Parts) (a b : ℕ) → Same a b →
     slot_pieces s pointed p a ≡ slot_pieces s pointed p b
 unfolding slot_pieces
@@ -344,6 +350,8 @@ slot_pieces-same slot.qualifiers pointed p a b e = qualifiers-same p.set a b e
 slot_pieces-same slot.pointer_qualifiers pointed p a b e =
     ap (λ s. mark_qualifiers s p.set) (full_space-same a b e)
 slot_pieces-same slot.opening pointed p a b e = opening-same pointed a b e
+slot_pieces-same slot.numbers pointed p a b e = each_number-same p.numbers true a b e
+slot_pieces-same slot.comma pointed p a b e = separator-same false a b e
 slot_pieces-same _ pointed p a b e = refl
 
 laid-flags : (ss : List Slot) (pointed : Bool) (p : Parts) (a b : ℕ) → Same a b →
@@ -357,9 +365,10 @@ laid-same : (ss : List Slot) (pointed : Bool) (p p' : Parts) (a b : ℕ) → p �
     laid ss pointed p a ≡ laid ss pointed p' b
 laid-same ss pointed p p' a b h e = ap (λ z. laid ss pointed z a) h ∙ laid-flags ss pointed p' a b e
 
-parts-same : (set : ℕ) (zs : List Number) (ns ns' os os' : List (List Piece)) → ns ≡ ns' → os ≡ os' →
-    parts set zs ns os ≡ parts set zs ns' os'
-parts-same set zs ns ns' os os' h h' = ap (λ z. parts set zs z os) h ∙ ap (λ z. parts set zs ns' z) h'
+parts-same : (set : ℕ) (zs : List Number) (bytes : List ℕ) (ns ns' os os' : List (List Piece)) → ns ≡ ns' →
+    os ≡ os' → parts set zs bytes ns os ≡ parts set zs bytes ns' os'
+parts-same set zs bytes ns ns' os os' h h' =
+    ap (λ z. parts set zs bytes z os) h ∙ ap (λ z. parts set zs bytes ns' z) h'
 
 same-cons : (x x' : List Piece) (xs xs' : List (List Piece)) → x ≡ x' → xs ≡ xs' →
     Path (List (List Piece)) (x ∷ xs) (x' ∷ xs')
@@ -390,7 +399,7 @@ mutual
       (grown-same t false alone alone a b refl e)
   name_pieces-same (base_class_descriptor k l m n) of_symbol a b e = base_class-same k l m n a b e
   name_pieces-same (shaped row set zs bytes ns ts) of_symbol a b e = laid-same (slots row side.Left) false _ _ a b
-      (parts-same set zs _ _ _ _ (each_name-same ns true a b e) (each_name-same ns false a b e)) e
+      (parts-same set zs bytes _ _ _ _ (each_name-same ns true a b e) (each_name-same ns false a b e)) e
 
   each_name-same : (ns : NameTrees) (of_symbol : Bool) (a b : ℕ) → Same a b →
       each_name ns of_symbol a ≡ each_name ns of_symbol b
@@ -469,7 +478,7 @@ mutual
   grown-same (plain plain_kind.Nullptr) pointed s s' a b h e =
       ap (λ x. between (text (codes "std::nullptr_t") ∷ []) x []) h
   grown-same (shape row set zs bytes ns ts) pointed s s' a b h e =
-      let p = parts-same set zs _ _ _ _ (each_name-same ns true a b e) (each_name-same ns false a b e) in
+      let p = parts-same set zs bytes _ _ _ _ (each_name-same ns true a b e) (each_name-same ns false a b e) in
       grown_around-same ts (layout_of row).around _ _ a b (between-same _ _ s s' _ _
       (laid-same (slots row side.Left) pointed _ _ a b p e) h (laid-same (slots row side.Right) pointed _ _ a b p e)) e
   grown-same _ pointed s s' a b h e = h

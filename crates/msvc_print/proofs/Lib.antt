@@ -3,6 +3,8 @@ pub mod Copies
 pub mod Halves
 pub mod Stack
 pub mod ShapePieces
+pub mod StringBytes
+pub mod StringExamples
 pub mod Dropped
 pub mod SimpleTypes
 pub mod Longer

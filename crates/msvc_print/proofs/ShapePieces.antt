@@ -1,9 +1,10 @@
 -- The pieces and weights of shapes, by places: of numbers, of names, of slots, and of the type around a shape.
 use Rattle.std.proofs.Common.{◌≡◌, ℕ, zero, suc, ◌+◌, ◌<◌, ◌≤◌, List, [], ◌∷◌, ◌++◌, Bool, true, false, length}
-use Rattle.std.proofs.Common.{get_or, drop, refl, ap, sym, ◌∙◌, arith, cond}
+use Rattle.std.proofs.Common.{codes, get_or, drop, refl, ap, sym, ◌∙◌, ◌-◌, ◌==◌, arith}
 use Rattle.std.specs.Borrow.{Bor}
 use Rattle.std.specs.Prelude.{Some, None}
-use Rattle.std.proofs.lemmas.List.{append-nil}
+use Rattle.std.proofs.lemmas.Bool.{ne_eqb}
+use Rattle.std.proofs.lemmas.List.{append-nil, append_assoc, drop_all}
 use Rattle.msvc_nodes.specs.NodeView.{name_of, names_in, type_of, types_in}
 use Rattle.msvc_nodes.specs.Trees.{NameTrees, shape}
 use Rattle.msvc_nodes.specs.declared.nodes.Name.{Name}
@@ -12,19 +13,27 @@ use Rattle.msvc_nodes.specs.declared.nodes.Type.{«Type»}
 use Rattle.msvc_print.proofs.Settling.{add_all-append, add_all-none}
 use Rattle.msvc_print.proofs.Stack.{work_one}
 use Rattle.msvc_print.specs.Declaration.{each_name, name_pieces}
+use Rattle.msvc_print.specs.Functions.{separator}
 use Rattle.msvc_print.specs.Halves.{after, before, pieces_around, shape_parts}
 use Rattle.msvc_print.specs.Limited.{LimitedText, add_all}
-use Rattle.msvc_print.specs.Pieces.{Piece}
-use Rattle.msvc_print.specs.Shapes.{Parts, each_level, laid, level_pieces, number_at, number_pieces, pieces_at}
-use Rattle.msvc_print.specs.Shapes.{slot_pieces, slots_weight}
+use Rattle.msvc_print.specs.Pieces.{Piece, text}
+use Rattle.msvc_print.specs.ShapeNodes.{name_slot_pieces, slot_of}
+use Rattle.msvc_print.specs.Shapes.{Parts, each_level, each_number, index_at, index_pieces, laid, level_pieces}
+use Rattle.msvc_print.specs.Shapes.{number_at, number_pieces, pieces_at, slot_pieces, slots_weight, target_pieces}
+use Rattle.msvc_print.specs.Shapes.{target_start}
 use Rattle.msvc_print.specs.Weights.{name_weight, scope_weight, type_weight, types_weight}
 use Rattle.msvc_print.specs.Work.{AddsAtMost, AddsLess, work}
 use Rattle.msvc_print.specs.declared.item.Item.{Item}
 use Rattle.msvc_print.specs.declared.item.Item.TheVariants as item
+use Rattle.msvc_print.specs.declared.shapes.NameSlot.{NameSlot}
+use Rattle.msvc_print.specs.declared.shapes.NameSlot.TheVariants as name_slot
 use Rattle.msvc_shapes.specs.Layouts.{Slot, layout_of, slot_seen, slots, slots_seen}
-use Rattle.msvc_shapes.specs.Layouts as slot
 use Rattle.msvc_shapes.specs.declared.layouts.Side.TheVariants as side
 use Rattle.msvc_shapes.specs.declared.layouts.Slot.{Slot as SlotCode}
+
+-- a place behind the first
+not-first : (i : ℕ) → 0 < i → (i == 0) ≡ false
+not-first i h = ne_eqb i 0 (λ e. omega (arith, h, e))
 
 -- numbers
 pub number_at-some : (ns : List Number) (d : Number) (i : ℕ) → i < length ns →
@@ -37,6 +46,49 @@ pub number_at-none : (ns : List Number) (i : ℕ) → length ns ≤ i → number
 number_at-none [] i h = refl
 number_at-none (n ∷ ns) zero h = absurd (omega arith)
 number_at-none (n ∷ ns) (suc i) h = number_at-none ns i (omega arith)
+
+pub index_at-some : (ns : List Number) (d : Number) (i : ℕ) → i < length ns →
+    index_at ns i ≡ index_pieces (get_or ns i d)
+index_at-some [] d i h = absurd (omega arith)
+index_at-some (n ∷ ns) d zero h = refl
+index_at-some (n ∷ ns) d (suc i) h = index_at-some ns d i (omega arith)
+
+pub index_at-none : (ns : List Number) (i : ℕ) → length ns ≤ i → index_at ns i ≡ []
+index_at-none [] i h = refl
+index_at-none (n ∷ ns) zero h = absurd (omega arith)
+index_at-none (n ∷ ns) (suc i) h = index_at-none ns i (omega arith)
+
+each_number-some : (ns : List Number) (d : Number) (i : ℕ) (first : Bool) (flags : ℕ) → i < length ns →
+    each_number (drop i ns) first flags
+    ≡ separator first flags ++ (number_pieces (get_or ns i d) ++ each_number (drop (suc i) ns) false flags)
+each_number-some [] d i first flags h = absurd (omega arith)
+each_number-some (n ∷ ns) d zero first flags h = refl
+each_number-some (n ∷ ns) d (suc i) first flags h = each_number-some ns d i first flags (omega arith)
+
+pub each_number-none : (ns : List Number) (i : ℕ) (first : Bool) (flags : ℕ) → length ns ≤ i →
+    each_number (drop i ns) first flags ≡ []
+each_number-none [] zero first flags h = refl
+each_number-none [] (suc i) first flags h = refl
+each_number-none (n ∷ ns) zero first flags h = absurd (omega arith)
+each_number-none (n ∷ ns) (suc i) first flags h = each_number-none ns i first flags (omega arith)
+
+-- a number is written after its comma, and the others are left
+pub written-number : (ns : List Number) (d : Number) (i : ℕ) (first : Bool) (flags : ℕ) (out out' out'' : LimitedText) →
+    i < length ns → out' ≡ add_all out (separator first flags) →
+    out'' ≡ add_all out' (number_pieces (get_or ns i d)) →
+    add_all out'' (each_number (drop (i + 1) ns) (i + 1 == 0) flags)
+    ≡ add_all out (each_number (drop i ns) first flags)
+written-number ns d i first flags out out' out'' h e e' =
+    let next : i + 1 ≡ suc i = omega arith in
+    let later : List Piece = each_number (drop (suc i) ns) false flags in
+    let number : List Piece = number_pieces (get_or ns i d) in
+    ap (λ k. add_all out'' (each_number (drop k ns) (k == 0) flags)) next
+    ∙ ap (λ b. add_all out'' (each_number (drop (suc i) ns) b flags)) (not-first (suc i) (omega arith))
+    ∙ ap (λ o. add_all o later) e'
+    ∙ sym (add_all-append out' number later)
+    ∙ ap (λ o. add_all o (number ++ later)) e
+    ∙ sym (add_all-append out (separator first flags) (number ++ later))
+    ∙ ap (add_all out) (sym (each_number-some ns d i first flags h))
 
 each_level-some : (ns : List Number) (d : Number) (i : ℕ) → i < length ns →
     each_level (drop i ns) ≡ level_pieces (get_or ns i d) ++ each_level (drop (suc i) ns)
@@ -134,22 +186,27 @@ laid-step xs ss d i pointed p flags out out' e h e' =
     ∙ sym (add_all-append out (slot_pieces (slot_seen (get_or xs i d)) pointed p flags) later)
     ∙ ap (add_all out) (sym (laid-some xs ss d i pointed p flags e h))
 
--- the name of a slot stands at a place of one of two lists
-named_slot : (p : Parts) (of_symbol pointed : Bool) (at flags : ℕ) →
-    slot_pieces (cond of_symbol (slot.symbol at) (slot.name at)) pointed p flags
-    ≡ pieces_at (cond of_symbol p.symbols p.names) at
+-- the names of a slot
+name_slot-pieces : (s : NameSlot) (pointed : Bool) (set : ℕ) (zs : List Number) (bytes : List ℕ) (ns : NameTrees)
+    (flags : ℕ) →
+    slot_pieces (slot_of s) pointed (shape_parts set zs bytes ns flags) flags ≡ name_slot_pieces s ns flags
 unfolding slot_pieces
-named_slot p true pointed at flags = refl
-named_slot p false pointed at flags = refl
+name_slot-pieces (name_slot.Symbol i) pointed set zs bytes ns flags = refl
+name_slot-pieces (name_slot.Name i) pointed set zs bytes ns flags = refl
+name_slot-pieces name_slot.Targets pointed set zs bytes ns flags = refl
 
--- a name of a slot is pushed above the other slots
-pub laid-name : (xs : List SlotCode) (ss : List Slot) (d : SlotCode) (i at : ℕ) (of_symbol pointed : Bool) (p : Parts)
-    (flags : ℕ) (out : LimitedText) → slots_seen xs ≡ ss → i < length xs →
-    slot_seen (get_or xs i d) ≡ cond of_symbol (slot.symbol at) (slot.name at) →
-    add_all (add_all out (pieces_at (cond of_symbol p.symbols p.names) at)) (laid (drop (i + 1) ss) pointed p flags)
-    ≡ add_all out (laid (drop i ss) pointed p flags)
-laid-name xs ss d i at of_symbol pointed p flags out e h is = laid-step xs ss d i pointed p flags out _ e h
-    (ap (add_all out) (sym (ap (λ s. slot_pieces s pointed p flags) is ∙ named_slot p of_symbol pointed at flags)))
+-- the names of a slot are pushed above the other slots
+pub laid-names : (xs : List SlotCode) (ss : List Slot) (d : SlotCode) (i : ℕ) (s : NameSlot) (pointed : Bool) (set : ℕ)
+    (zs : List Number) (bytes : List ℕ) (ns : NameTrees) (flags : ℕ) (out : LimitedText) → slots_seen xs ≡ ss →
+    i < length xs → slot_seen (get_or xs i d) ≡ slot_of s →
+    add_all (add_all out (name_slot_pieces s ns flags))
+    (laid (drop (i + 1) ss) pointed (shape_parts set zs bytes ns flags) flags)
+    ≡ add_all out (laid (drop i ss) pointed (shape_parts set zs bytes ns flags) flags)
+laid-names xs ss d i s pointed set zs bytes ns flags out e h is =
+    let p : Parts = shape_parts set zs bytes ns flags in
+    laid-step xs ss d i pointed p flags out _ e h
+    (ap (add_all out) (sym (ap (λ s. slot_pieces s pointed p flags) is
+    ∙ name_slot-pieces s pointed set zs bytes ns flags)))
 
 pub slots_weight-positive : (ss : List Slot) (names : ℕ) → 0 < slots_weight ss names
 unfolding slots_weight
@@ -171,39 +228,104 @@ slots_weight-step xs ss i names e h =
     ∙ ap (λ z. 1 + names + slots_weight (drop (suc i) z) names) e
     ∙ ap (λ k. 1 + names + slots_weight (drop k ss) names) next
 
--- the names of a shape, as those of symbols or as in a scope
-pub chosen_names : (ns : NameTrees) (of_symbol : Bool) (flags : ℕ) →
-    cond of_symbol (each_name ns true flags) (each_name ns false flags) ≡ each_name ns of_symbol flags
-chosen_names ns true flags = refl
-chosen_names ns false flags = refl
+-- the classes that a table is for
+pub targets-none : (ns : List (Bor Name)) (flags : ℕ) → length ns ≤ 0 →
+    target_pieces (each_name (names_in ns) false flags) true ≡ []
+unfolding each_name
+targets-none [] flags h = refl
+targets-none (n ∷ ns) flags h = absurd (omega arith)
+
+-- those from a place on
+abbrev pub targets_from : List (Bor Name) → ℕ → ℕ → List Piece
+targets_from ns i flags = target_pieces (each_name (names_in (drop i ns)) false flags) (i == 0)
+
+pub targets-end : (ns : List (Bor Name)) (i flags : ℕ) → length ns ≤ i → 0 < i →
+    targets_from ns i flags ≡ text (codes "}") ∷ []
+unfolding each_name
+targets-end ns i flags h h' =
+    ap (λ first. target_pieces (each_name (names_in (drop i ns)) false flags) first) (not-first i h')
+    ∙ ap (λ xs. target_pieces (each_name (names_in xs) false flags) false) (drop_all i ns h)
+
+names-some : (ns : List (Bor Name)) (d : Bor Name) (i : ℕ) → i < length ns →
+    drop i ns ≡ get_or ns i d ∷ drop (suc i) ns
+names-some [] d i h = absurd (omega arith)
+names-some (n ∷ ns) d zero h = refl
+names-some (n ∷ ns) d (suc i) h = names-some ns d i (omega arith)
+
+-- the one at a place, and those behind the place
+targets-next : (ns : List (Bor Name)) (d : Bor Name) (i flags : ℕ) → i < length ns →
+    targets_from ns i flags ≡ target_start (i == 0)
+    ++ (name_pieces (name_of (get_or ns i d).now) false flags ++ targets_from ns (suc i) flags)
+unfolding each_name
+targets-next ns d i flags h =
+    let name : List Piece = name_pieces (name_of (get_or ns i d).now) false flags in
+    ap (λ xs. target_pieces (each_name (names_in xs) false flags) (i == 0)) (names-some ns d i h)
+    ∙ ap (λ first. target_start (i == 0) ++ (name ++ target_pieces (each_name (names_in (drop (suc i) ns)) false flags)
+    first)) (sym (not-first (suc i) (omega arith)))
+
+-- the one before a place is pushed above those from the place on
+pub pushed-target : (ns : List (Bor Name)) (d : Bor Name) (i flags : ℕ) (out : LimitedText) → 0 < i → i ≤ length ns →
+    add_all (add_all out (target_start (i - 1 == 0) ++ name_pieces (name_of (get_or ns (i - 1) d).now) false flags))
+    (targets_from ns i flags) ≡ add_all out (targets_from ns (i - 1) flags)
+pushed-target ns d i flags out h h' =
+    let same : i ≡ suc (i - 1) = omega arith in
+    let start : List Piece = target_start (i - 1 == 0) in
+    let name : List Piece = name_pieces (name_of (get_or ns (i - 1) d).now) false flags in
+    ap (λ k. add_all (add_all out (start ++ name)) (targets_from ns k flags)) same
+    ∙ sym (add_all-append out (start ++ name) (targets_from ns (suc (i - 1)) flags))
+    ∙ ap (add_all out) (append_assoc start name (targets_from ns (suc (i - 1)) flags)
+    ∙ sym (targets-next ns d (i - 1) flags (omega arith)))
+
+names-next : (ns : List (Bor Name)) (d : Bor Name) (i : ℕ) → i < length ns →
+    scope_weight (names_in (drop i ns))
+    ≡ 3 + name_weight (name_of (get_or ns i d).now) + scope_weight (names_in (drop (suc i) ns))
+unfolding scope_weight
+names-next ns d i h = ap (λ xs. scope_weight (names_in xs)) (names-some ns d i h)
+
+names-weight : (ns : List (Bor Name)) (d : Bor Name) (i : ℕ) → 0 < i → i ≤ length ns →
+    scope_weight (names_in (drop (i - 1) ns))
+    ≡ 3 + name_weight (name_of (get_or ns (i - 1) d).now) + scope_weight (names_in (drop i ns))
+names-weight ns d i h h' =
+    let same : suc (i - 1) ≡ i = omega arith in
+    names-next ns d (i - 1) (omega arith)
+    ∙ ap (λ k. 3 + name_weight (name_of (get_or ns (i - 1) d).now) + scope_weight (names_in (drop k ns))) same
+
+pub target-work : (ns : List (Bor Name)) (d : Bor Name) (i : ℕ) (s s' : List Item) → 0 < i → i ≤ length ns →
+    AddsAtMost (1 + name_weight (name_of (get_or ns (i - 1) d).now)) s s' →
+    work s' + scope_weight (names_in (drop i ns)) ≤ scope_weight (names_in (drop (i - 1) ns)) + work s
+target-work ns d i s s' h h' e = omega (arith, names-weight ns d i h h', e)
+
+pub names-weight-none : (ns : List (Bor Name)) (i : ℕ) → length ns ≤ i → scope_weight (names_in (drop i ns)) ≡ 1
+unfolding scope_weight
+names-weight-none ns i h = ap (λ xs. scope_weight (names_in xs)) (drop_all i ns h)
 
 -- a shape with no type around it
 pub before-alone : (row set : ℕ) (zs : List Number) (bytes : List ℕ) (ns : NameTrees) (ts : List (Bor «Type»))
     (pointed : Bool) (flags : ℕ) → (layout_of row).around ≡ None →
     before (shape row set zs bytes ns (types_in ts)) pointed flags
-    ≡ laid (slots row side.Left) pointed (shape_parts set zs ns flags) flags
+    ≡ laid (slots row side.Left) pointed (shape_parts set zs bytes ns flags) flags
 unfolding before
 before-alone row set zs bytes ns [] pointed flags e = refl
 before-alone row set zs bytes ns (t ∷ ts) pointed flags e =
     ap (λ w. pieces_around w (λ p. before (type_of t.now) p flags)
-    ++ laid (slots row side.Left) pointed (shape_parts set zs ns flags) flags) e
+    ++ laid (slots row side.Left) pointed (shape_parts set zs bytes ns flags) flags) e
 
 pub after-alone : (row set : ℕ) (zs : List Number) (bytes : List ℕ) (ns : NameTrees) (ts : List (Bor «Type»))
     (pointed : Bool) (flags : ℕ) → (layout_of row).around ≡ None →
     after (shape row set zs bytes ns (types_in ts)) pointed flags
-    ≡ laid (slots row side.Right) pointed (shape_parts set zs ns flags) flags
+    ≡ laid (slots row side.Right) pointed (shape_parts set zs bytes ns flags) flags
 unfolding after
 after-alone row set zs bytes ns [] pointed flags e = refl
 after-alone row set zs bytes ns (t ∷ ts) pointed flags e =
-    ap (λ w. laid (slots row side.Right) pointed (shape_parts set zs ns flags) flags
+    ap (λ w. laid (slots row side.Right) pointed (shape_parts set zs bytes ns flags) flags
     ++ pieces_around w (λ p. after (type_of t.now) p flags)) e
-    ∙ append-nil (laid (slots row side.Right) pointed (shape_parts set zs ns flags) flags)
+    ∙ append-nil (laid (slots row side.Right) pointed (shape_parts set zs bytes ns flags) flags)
 
 -- a shape without types
 pub before-empty : (row set : ℕ) (zs : List Number) (bytes : List ℕ) (ns : NameTrees) (ts : List (Bor «Type»))
     (pointed : Bool) (flags : ℕ) → length ts < 1 →
     before (shape row set zs bytes ns (types_in ts)) pointed flags
-    ≡ laid (slots row side.Left) pointed (shape_parts set zs ns flags) flags
+    ≡ laid (slots row side.Left) pointed (shape_parts set zs bytes ns flags) flags
 unfolding before
 before-empty row set zs bytes ns [] pointed flags h = refl
 before-empty row set zs bytes ns (t ∷ ts) pointed flags h = absurd (omega arith)
@@ -211,7 +333,7 @@ before-empty row set zs bytes ns (t ∷ ts) pointed flags h = absurd (omega arit
 pub after-empty : (row set : ℕ) (zs : List Number) (bytes : List ℕ) (ns : NameTrees) (ts : List (Bor «Type»))
     (pointed : Bool) (flags : ℕ) → length ts < 1 →
     after (shape row set zs bytes ns (types_in ts)) pointed flags
-    ≡ laid (slots row side.Right) pointed (shape_parts set zs ns flags) flags
+    ≡ laid (slots row side.Right) pointed (shape_parts set zs bytes ns flags) flags
 unfolding after
 after-empty row set zs bytes ns [] pointed flags h = refl
 after-empty row set zs bytes ns (t ∷ ts) pointed flags h = absurd (omega arith)
@@ -221,22 +343,22 @@ pub before-around : (row set : ℕ) (zs : List Number) (bytes : List ℕ) (ns : 
     (d : Bor «Type») (is_mark pointed : Bool) (flags : ℕ) → 1 ≤ length ts → (layout_of row).around ≡ Some is_mark →
     before (shape row set zs bytes ns (types_in ts)) pointed flags
     ≡ before (type_of (get_or ts 0 d).now) is_mark flags
-    ++ laid (slots row side.Left) pointed (shape_parts set zs ns flags) flags
+    ++ laid (slots row side.Left) pointed (shape_parts set zs bytes ns flags) flags
 unfolding before
 before-around row set zs bytes ns [] d is_mark pointed flags h e = absurd (omega arith)
 before-around row set zs bytes ns (t ∷ ts) d is_mark pointed flags h e =
     ap (λ w. pieces_around w (λ p. before (type_of t.now) p flags)
-    ++ laid (slots row side.Left) pointed (shape_parts set zs ns flags) flags) e
+    ++ laid (slots row side.Left) pointed (shape_parts set zs bytes ns flags) flags) e
 
 pub after-around : (row set : ℕ) (zs : List Number) (bytes : List ℕ) (ns : NameTrees) (ts : List (Bor «Type»))
     (d : Bor «Type») (is_mark pointed : Bool) (flags : ℕ) → 1 ≤ length ts → (layout_of row).around ≡ Some is_mark →
     after (shape row set zs bytes ns (types_in ts)) pointed flags
-    ≡ laid (slots row side.Right) pointed (shape_parts set zs ns flags) flags
+    ≡ laid (slots row side.Right) pointed (shape_parts set zs bytes ns flags) flags
     ++ after (type_of (get_or ts 0 d).now) is_mark flags
 unfolding after
 after-around row set zs bytes ns [] d is_mark pointed flags h e = absurd (omega arith)
 after-around row set zs bytes ns (t ∷ ts) d is_mark pointed flags h e =
-    ap (λ w. laid (slots row side.Right) pointed (shape_parts set zs ns flags) flags
+    ap (λ w. laid (slots row side.Right) pointed (shape_parts set zs bytes ns flags) flags
     ++ pieces_around w (λ p. after (type_of t.now) p flags)) e
 
 -- work on the first type is less than work on the list

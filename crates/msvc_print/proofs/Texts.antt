@@ -1,5 +1,6 @@
 -- The declaration of a tree whose names are UTF-8 is UTF-8, under any flags.
 use Rattle.std.proofs.Common.{ℕ, zero, suc, ◌+◌, ◌<◌, ◌/◌, ◌%◌, ℤ, pos, negsuc, List, [], ◌∷◌, ◌++◌, Bool, true}
+use Rattle.std.proofs.Common.{◌≡◌, ◌&&◌, leb, ltb, ltb-true, true≢false, sym}
 use Rattle.std.proofs.Common.{false, cond, ◌==◌, Option, Some, None, unwrap_or, refl, arith, codes}
 use Rattle.std.proofs.lemmas.Str.{IsUtf8-append, IsUtf8-from_ascii, IsUtf8-nil}
 use Rattle.std.proofs.lemmas.Str.Ascii.{IsAscii-cons, IsAscii-nil}
@@ -50,15 +51,20 @@ use Rattle.msvc_print.specs.Functions.{kind_words, member_start, member_words, f
 use Rattle.msvc_print.specs.Functions.{parameter_list, separator, wide_qualifier}
 use Rattle.msvc_print.specs.Pieces.{Piece, blank, text, space, settle, settle_all}
 use Rattle.msvc_print.specs.Pieces.{is_written_after, last_byte}
-use Rattle.msvc_print.specs.Shapes.{Parts, each_level, laid, level_pieces, number_at, number_pieces, parts, pieces_at}
-use Rattle.msvc_print.specs.Shapes.{slot_pieces}
+use Rattle.msvc_print.specs.Shapes.{Parts, each_level, each_number, index_at, index_pieces, laid, level_pieces}
+use Rattle.msvc_print.specs.Shapes.{number_at, number_pieces, parts, pieces_at, slot_pieces, target_pieces}
+use Rattle.msvc_print.specs.Strings.{bytes_of, character, character_at, characters, escape, escape_in, escaped, escapes}
+use Rattle.msvc_print.specs.Strings.{hex, hex_byte, hex_digit, hex_from, is_printable, literal, literal_pieces}
+use Rattle.msvc_print.specs.Strings.{plain_character, quoted as string, size, start, width}
 use Rattle.msvc_print.specs.Sides.{Sides, alone, around, between, kept, kept_left, kept_right}
 use Rattle.msvc_print.specs.Words.{angle_end, full_mark_space, full_marked, full_qualifiers, full_space}
 use Rattle.msvc_print.specs.Words.{mark_qualifiers}
 use Rattle.msvc_print.specs.Words.{base_word, base_words, chosen_word, closing, kind_word, mark_space, mark_word}
-use Rattle.msvc_print.specs.Words.{marked, name_space, opening, qualifiers, tag_word, variable_word}
+use Rattle.msvc_print.specs.Words.{marked, name_space, opening, qualifiers, table_qualifiers, tag_word, variable_word}
 use Rattle.msvc_print.specs.declared.spaces.Space.{Space}
 use Rattle.msvc_print.specs.declared.spaces.Space.TheVariants.{AfterPointer}
+use Rattle.msvc_print.specs.declared.strings.Width.{Width}
+use Rattle.msvc_print.specs.declared.strings.Width.TheVariants.{Wide, One, Two, Four}
 use Rattle.msvc_shapes.proofs.PlainWords.{EachWord, WordOfSlot, slots-ascii}
 use Rattle.msvc_shapes.specs.Layouts.{Slot, layout_of, slots}
 use Rattle.msvc_shapes.specs.Layouts as slot
@@ -121,6 +127,10 @@ digit_choice-ascii false d h = omega arith
 
 digit-ascii : (n : ℕ) → digit_glyph false (n % 10) < 128
 digit-ascii n = digit_choice-ascii _ (n % 10) (omega arith)
+
+hex_choice-ascii : (b : Bool) (d : ℕ) → d < 16 → cond b (48 + d) (55 + d) < 128
+hex_choice-ascii true d h = omega arith
+hex_choice-ascii false d h = omega arith
 
 IsAscii-choice : (b : Bool) (xs ys : List ℕ) → IsAscii xs → IsAscii ys → IsAscii (cond b xs ys)
 IsAscii-choice true xs ys h h' = h
@@ -207,6 +217,12 @@ qualifiers-texts set flags = AreTexts-choice (has flags full_style) _ _ (full_qu
     (AreTexts-append _ _
     (AreTexts-spaced _ _ (codes "const") (codes "const", (refl, refl)))
     (AreTexts-spaced _ _ (codes "volatile") (codes "volatile", (refl, refl))))
+
+table_qualifiers-texts : (set : ℕ) → AreTexts (table_qualifiers set)
+unfolding table_qualifiers lib.Utf8.encode
+table_qualifiers-texts set = AreTexts-append _ _ (AreTexts-word _ (codes "const") (codes "const", (refl, refl)))
+    (AreTexts-word _ _ (IsUtf8-choice _ (codes " volatile") (codes "volatile") (codes " volatile", (refl, refl))
+    (codes "volatile", (refl, refl))))
 
 mark_space-texts : (flags : ℕ) → AreTexts (mark_space flags)
 mark_space-texts flags = AreTexts-choice _ _ _
@@ -582,6 +598,131 @@ each_level-texts : (ns : List Number) → AreTexts (each_level ns)
 each_level-texts [] = AreTexts-none
 each_level-texts (n ∷ ns) = AreTexts-append _ _ (level_pieces-texts n) (each_level-texts ns)
 
+each_number-texts : (ns : List Number) (first : Bool) (flags : ℕ) → AreTexts (each_number ns first flags)
+each_number-texts [] first flags = AreTexts-none
+each_number-texts (n ∷ ns) first flags = AreTexts-append _ _ (separator-texts first flags)
+    (AreTexts-append _ _ (number_pieces-texts n) (each_number-texts ns false flags))
+
+index_pieces-texts : (n : Number) → AreTexts (index_pieces n)
+unfolding lib.Utf8.encode
+index_pieces-texts n = AreTexts-unless (n.value == 0) _ (AreTexts-text (codes "{") _ (codes "{", (refl, refl))
+    (AreTexts-append _ _ (number_pieces-texts n) (AreTexts-text (codes "}") [] (codes "}", (refl, refl)) AreTexts-none)))
+
+index_at-texts : (ns : List Number) (i : ℕ) → AreTexts (index_at ns i)
+index_at-texts [] i = AreTexts-none
+index_at-texts (n ∷ ns) zero = index_pieces-texts n
+index_at-texts (n ∷ ns) (suc i) = index_at-texts ns i
+
+-- strings
+hex_digit-ascii : (d : ℕ) → d < 16 → hex_digit d < 128
+hex_digit-ascii d h = hex_choice-ascii _ d h
+
+hex_byte-texts : (b : ℕ) → b < 256 → AreTexts (hex_byte b)
+hex_byte-texts b h = AreTexts-text _ [] (IsUtf8-from_ascii _
+    (IsAscii-cons (hex_digit (b / 16)) (hex_digit (b % 16) ∷ []) (hex_digit-ascii (b / 16) (omega arith))
+    (IsAscii-cons (hex_digit (b % 16)) [] (hex_digit-ascii (b % 16) (omega arith)) IsAscii-nil))) AreTexts-none
+
+hex_from-texts : (unit c : ℕ) → AreTexts (hex_from unit c)
+hex_from-texts unit c = AreTexts-choice _ _ _ (hex_byte-texts (c / unit % 256) (omega arith)) AreTexts-none
+
+hex-texts : (c : ℕ) → AreTexts (hex c)
+unfolding hex
+hex-texts c = AreTexts-append _ _ (hex_from-texts 16777216 c) (AreTexts-append _ _ (hex_from-texts 65536 c)
+    (AreTexts-append _ _ (hex_from-texts 256 c) (hex_byte-texts (c % 256) (omega arith))))
+
+AreTexts-if : (b : Bool) (xs ys : List Piece) → (b ≡ true → AreTexts xs) → AreTexts ys → AreTexts (cond b xs ys)
+AreTexts-if true xs ys h h' = h refl
+AreTexts-if false xs ys h h' = h'
+
+below : (a : Bool) (c : ℕ) → (a && ltb c 127) ≡ true → c < 127
+below true c e = ltb-true c 127 e
+below false c e = absurd (true≢false (sym e))
+
+printable-texts : (c : ℕ) → is_printable c ≡ true → AreTexts (text (c ∷ []) ∷ [])
+printable-texts c e = AreTexts-text (c ∷ []) [] (IsUtf8-from_ascii (c ∷ [])
+    (IsAscii-cons c [] (omega (arith, below (leb 32 c) c e)) IsAscii-nil)) AreTexts-none
+
+plain_character-texts : (c : ℕ) → AreTexts (plain_character c)
+unfolding lib.Utf8.encode
+plain_character-texts c = AreTexts-if (is_printable c) _ _ (printable-texts c)
+    (AreTexts-text (codes "\\x") _ (codes "\\x", (refl, refl)) (hex-texts c))
+
+-- the byte behind a backslash
+abbrev IsLetter : Option ℕ → Type 0
+IsLetter (Some letter) = letter < 128
+IsLetter None = Unit {0}
+
+IsLetter-choice : (b : Bool) (letter : ℕ) (x : Option ℕ) → letter < 128 → IsLetter x → IsLetter (cond b (Some letter) x)
+IsLetter-choice true letter x h h' = h
+IsLetter-choice false letter x h h' = h'
+
+abbrev AreLetters : List (ℕ × ℕ) → Type 0
+AreLetters [] = Unit {0}
+AreLetters (x ∷ xs) = (x.1 < 128) × AreLetters xs
+
+escape_in-letter : (xs : List (ℕ × ℕ)) (c : ℕ) → AreLetters xs → IsLetter (escape_in xs c)
+escape_in-letter [] c h = tt
+escape_in-letter (x ∷ xs) c h = IsLetter-choice (x.0 == c) x.1 (escape_in xs c) h.0 (escape_in-letter xs c h.1)
+
+escapes-letters : AreLetters escapes
+escapes-letters = (
+  omega arith,
+  (
+    omega arith,
+    (
+      omega arith,
+      (
+        omega arith,
+        (
+          omega arith,
+          (
+            omega arith,
+            (
+              omega arith,
+              (omega arith, (omega arith, (omega arith, (omega arith, tt)))),
+            ),
+          ),
+        ),
+      ),
+    ),
+  ),
+)
+
+escape-letter : (c : ℕ) → IsLetter (escape c)
+unfolding escape
+escape-letter c = escape_in-letter escapes c escapes-letters
+
+escaped-texts : (x : Option ℕ) (c : ℕ) → IsLetter x → AreTexts (escaped x c)
+escaped-texts (Some letter) c h = AreTexts-text _ [] (IsUtf8-from_ascii _
+    (IsAscii-cons 92 (letter ∷ []) (omega arith) (IsAscii-cons letter [] h IsAscii-nil))) AreTexts-none
+escaped-texts None c h = plain_character-texts c
+
+character-texts : (c : ℕ) → AreTexts (character c)
+unfolding character
+character-texts c = escaped-texts (escape c) c (escape-letter c)
+
+characters-texts : (w : Width) (bytes : List ℕ) (i count : ℕ) → AreTexts (characters w bytes i count)
+characters-texts w bytes i zero = AreTexts-none
+characters-texts w bytes i (suc count) = AreTexts-append _ _ (character-texts (character_at w bytes i))
+    (characters-texts w bytes (i + size w) count)
+
+start-utf8 : (w : Width) → IsUtf8 (start w)
+unfolding lib.Utf8.encode
+start-utf8 Wide = (start Wide, (refl, refl))
+start-utf8 One = (start One, (refl, refl))
+start-utf8 Two = (start Two, (refl, refl))
+start-utf8 Four = (start Four, (refl, refl))
+
+string-texts : (w : Width) (cut : Bool) (bytes : List ℕ) → AreTexts (string w cut bytes)
+unfolding lib.Utf8.encode
+string-texts w cut bytes = AreTexts-text (start w) _ (start-utf8 w) (AreTexts-append _ _ (characters-texts w bytes 0 _)
+    (AreTexts-text (codes "\"") _ (codes "\"", (refl, refl)) (AreTexts-word cut (codes "...") (codes "...", (refl, refl)))))
+
+literal_pieces-texts : (is_wide : Bool) (ns : List Number) → AreTexts (literal_pieces is_wide ns)
+unfolding literal
+literal_pieces-texts is_wide [] = AreTexts-none
+literal_pieces-texts is_wide (n ∷ ns) = string-texts (width is_wide n.value (bytes_of ns)) _ (bytes_of ns)
+
 -- names of shapes
 abbrev EachAreTexts : List (List Piece) → Type 0
 EachAreTexts [] = Unit {0}
@@ -592,33 +733,49 @@ pieces_at-texts [] i h = AreTexts-none
 pieces_at-texts (x ∷ xs) zero h = h.0
 pieces_at-texts (x ∷ xs) (suc i) h = pieces_at-texts xs i h.1
 
+target_pieces-texts : (xs : List (List Piece)) (first : Bool) → EachAreTexts xs → AreTexts (target_pieces xs first)
+unfolding lib.Utf8.encode
+target_pieces-texts [] first h =
+    AreTexts-unless first _ (AreTexts-text (codes "}") [] (codes "}", (refl, refl)) AreTexts-none)
+target_pieces-texts (x ∷ xs) first h = AreTexts-text _ _ (IsUtf8-choice first (codes "{for ") (codes "s ")
+    (codes "{for ", (refl, refl)) (codes "s ", (refl, refl)))
+    (AreTexts-append _ _ h.0 (target_pieces-texts xs false h.1))
+
 -- slots
-slot-texts : (s : Slot) (pointed : Bool) (p : Parts) (flags : ℕ) → WordOfSlot IsAscii s → EachAreTexts p.symbols →
-    EachAreTexts p.names → AreTexts (slot_pieces s pointed p flags)
+slot-texts : (s : Slot) (pointed : Bool) (p : Parts) (flags : ℕ) → WordOfSlot IsAscii s → IsUtf8 p.bytes →
+    EachAreTexts p.symbols → EachAreTexts p.names → AreTexts (slot_pieces s pointed p flags)
 unfolding slot_pieces
-slot-texts (slot.word w) pointed p flags h hs hn = AreTexts-text w [] (IsUtf8-from_ascii w h) AreTexts-none
-slot-texts (slot.kind_word w) pointed p flags h hs hn =
+slot-texts (slot.word w) pointed p flags h hb hs hn = AreTexts-text w [] (IsUtf8-from_ascii w h) AreTexts-none
+slot-texts (slot.kind_word w) pointed p flags h hb hs hn =
     AreTexts-unless _ _ (AreTexts-text w [] (IsUtf8-from_ascii w h) AreTexts-none)
-slot-texts (slot.number i) pointed p flags h hs hn = number_at-texts p.numbers i
-slot-texts slot.lengths pointed p flags h hs hn = each_level-texts p.numbers
-slot-texts slot.qualifiers pointed p flags h hs hn = qualifiers-texts p.set flags
-slot-texts slot.pointer_qualifiers pointed p flags h hs hn = mark_qualifiers-texts (full_space flags) p.set
-slot-texts slot.opening pointed p flags h hs hn = opening-texts pointed flags
-slot-texts slot.closing pointed p flags h hs hn = closing-texts pointed
-slot-texts (slot.symbol i) pointed p flags h hs hn = pieces_at-texts p.symbols i hs
-slot-texts (slot.name i) pointed p flags h hs hn = pieces_at-texts p.names i hn
+slot-texts (slot.number i) pointed p flags h hb hs hn = number_at-texts p.numbers i
+slot-texts slot.lengths pointed p flags h hb hs hn = each_level-texts p.numbers
+slot-texts slot.qualifiers pointed p flags h hb hs hn = qualifiers-texts p.set flags
+slot-texts slot.pointer_qualifiers pointed p flags h hb hs hn = mark_qualifiers-texts (full_space flags) p.set
+slot-texts slot.opening pointed p flags h hb hs hn = opening-texts pointed flags
+slot-texts slot.closing pointed p flags h hb hs hn = closing-texts pointed
+slot-texts (slot.symbol i) pointed p flags h hb hs hn = pieces_at-texts p.symbols i hs
+slot-texts (slot.name i) pointed p flags h hb hs hn = pieces_at-texts p.names i hn
+slot-texts slot.numbers pointed p flags h hb hs hn = each_number-texts p.numbers true flags
+slot-texts slot.comma pointed p flags h hb hs hn = separator-texts false flags
+slot-texts (slot.index i) pointed p flags h hb hs hn = index_at-texts p.numbers i
+slot-texts slot.bytes pointed p flags h hb hs hn = AreTexts-text p.bytes [] hb AreTexts-none
+slot-texts slot.table_qualifiers pointed p flags h hb hs hn = table_qualifiers-texts p.set
+slot-texts slot.targets pointed p flags h hb hs hn = target_pieces-texts p.names true hn
+slot-texts (slot.literal is_wide) pointed p flags h hb hs hn = literal_pieces-texts is_wide p.numbers
 
-laid-texts : (ss : List Slot) (pointed : Bool) (p : Parts) (flags : ℕ) → EachWord IsAscii ss → EachAreTexts p.symbols →
-    EachAreTexts p.names → AreTexts (laid ss pointed p flags)
+laid-texts : (ss : List Slot) (pointed : Bool) (p : Parts) (flags : ℕ) → EachWord IsAscii ss → IsUtf8 p.bytes →
+    EachAreTexts p.symbols → EachAreTexts p.names → AreTexts (laid ss pointed p flags)
 unfolding laid
-laid-texts [] pointed p flags h hs hn = AreTexts-none
-laid-texts (s ∷ ss) pointed p flags h hs hn =
-    AreTexts-append _ _ (slot-texts s pointed p flags h.0 hs hn) (laid-texts ss pointed p flags h.1 hs hn)
+laid-texts [] pointed p flags h hb hs hn = AreTexts-none
+laid-texts (s ∷ ss) pointed p flags h hb hs hn =
+    AreTexts-append _ _ (slot-texts s pointed p flags h.0 hb hs hn) (laid-texts ss pointed p flags h.1 hb hs hn)
 
-slots-texts : (row : ℕ) (s : Side) (pointed : Bool) (set : ℕ) (zs : List Number) (ns os : List (List Piece))
-    (flags : ℕ) → EachAreTexts ns → EachAreTexts os → AreTexts (laid (slots row s) pointed (parts set zs ns os) flags)
-slots-texts row s pointed set zs ns os flags hs hn =
-    laid-texts (slots row s) pointed (parts set zs ns os) flags (slots-ascii row s) hs hn
+slots-texts : (row : ℕ) (s : Side) (pointed : Bool) (set : ℕ) (zs : List Number) (bytes : List ℕ)
+    (ns os : List (List Piece)) (flags : ℕ) → IsUtf8 bytes → EachAreTexts ns → EachAreTexts os →
+    AreTexts (laid (slots row s) pointed (parts set zs bytes ns os) flags)
+slots-texts row s pointed set zs bytes ns os flags hb hs hn =
+    laid-texts (slots row s) pointed (parts set zs bytes ns os) flags (slots-ascii row s) hb hs hn
 
 -- names, scopes, types and their lists
 mutual
@@ -646,7 +803,8 @@ mutual
       AreTexts-space _ _ (AreTexts-append _ _ whole.left (AreTexts-text (codes "::`RTTI Type Descriptor'") []
       (codes "::`RTTI Type Descriptor'", (refl, refl)) AreTexts-none))
   name_pieces-texts (base_class_descriptor a b c d) of_symbol flags h = base_class_pieces-texts a b c d flags
-  name_pieces-texts (shaped row set zs bytes ns ts) of_symbol flags h = slots-texts row side.Left false set zs _ _ flags
+  name_pieces-texts (shaped row set zs bytes ns ts) of_symbol flags h =
+      slots-texts row side.Left false set zs bytes _ _ flags h.0
       (each_name-texts ns true flags h.1) (each_name-texts ns false flags h.1)
 
   each_name-texts : (ns : NameTrees) (of_symbol : Bool) (flags : ℕ) → EachNameOfNames IsUtf8 ns →
@@ -729,8 +887,8 @@ mutual
       let symbols = each_name-texts ns true flags h.1 in
       let names = each_name-texts ns false flags h.1 in
       grown_around-texts ts (layout_of row).around _ flags (between-texts _ s _
-      (slots-texts row side.Left pointed set zs _ _ flags symbols names) hs
-      (slots-texts row side.Right pointed set zs _ _ flags symbols names)) h.2
+      (slots-texts row side.Left pointed set zs bytes _ _ flags h.0 symbols names) hs
+      (slots-texts row side.Right pointed set zs bytes _ _ flags h.0 symbols names)) h.2
   grown-texts _ pointed s flags hs h = hs
 
   grown_around-texts : (ts : TypeTrees) (w : Option Bool) (s : Sides) (flags : ℕ) → SidesAreTexts s →

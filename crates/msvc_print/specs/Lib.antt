@@ -6,6 +6,7 @@ pub mod Words
 pub mod Operators
 pub mod Functions
 pub mod Sides
+pub mod Strings
 pub mod Shapes
 pub mod Declaration
 pub mod Within

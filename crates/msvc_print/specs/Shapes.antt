@@ -1,24 +1,28 @@
 -- The pieces that the layouts of the table of shapes stand for, by the parts of a shape.
-use Rattle.std.specs.Prelude.{ℕ, zero, suc, ◌+◌, List, [], ◌∷◌, ◌++◌, Bool, cond, codes, ◌==◌}
+use Rattle.std.specs.Prelude.{ℕ, zero, suc, ◌+◌, List, [], ◌∷◌, ◌++◌, Bool, true, false, cond, codes, ◌==◌}
 use Rattle.std.specs.Fmt.{decimal}
 use Rattle.msvc_nodes.specs.declared.nodes.Number.{Number}
 use Rattle.msvc_print.specs.Flags.{has, no_member_type}
+use Rattle.msvc_print.specs.Functions.{separator}
 use Rattle.msvc_print.specs.Pieces.{Piece, text}
-use Rattle.msvc_print.specs.Words.{closing, full_space, mark_qualifiers, opening, qualifiers}
+use Rattle.msvc_print.specs.Strings.{literal_pieces}
+use Rattle.msvc_print.specs.Words.{closing, full_space, mark_qualifiers, opening, qualifiers, table_qualifiers}
 use Rattle.msvc_shapes.specs.Layouts.{Slot}
 use Rattle.msvc_shapes.specs.Layouts as slot
 
--- the parts of a shape: its qualifiers, its numbers, and the pieces of each of its names, as that of a symbol itself
--- and as in a scope
+-- the parts of a shape: its qualifiers, its numbers, its bytes, and the pieces of each of its names, as that of a
+-- symbol itself and as in a scope
 pub record Parts : Type 0 where
   pub set : ℕ
   pub numbers : List Number
+  pub bytes : List ℕ
   pub symbols : List (List Piece)
   pub names : List (List Piece)
 
--- the parts of a shape, by its qualifiers, its numbers and the pieces of its names
-abbrev pub parts : ℕ → List Number → List (List Piece) → List (List Piece) → Parts
-parts set numbers symbols names = record { set = set; numbers = numbers; symbols = symbols; names = names }
+-- the parts of a shape, by its qualifiers, its numbers, its bytes and the pieces of its names
+abbrev pub parts : ℕ → List Number → List ℕ → List (List Piece) → List (List Piece) → Parts
+parts set numbers bytes symbols names =
+    record { set = set; numbers = numbers; bytes = bytes; symbols = symbols; names = names }
 
 -- a number in decimal, after a minus if it has one
 abbrev pub number_pieces : Number → List Piece
@@ -39,11 +43,35 @@ abbrev pub each_level : List Number → List Piece
 each_level [] = []
 each_level (n ∷ ns) = level_pieces n ++ each_level ns
 
+-- all numbers, parted by commas; `first` says whether none of them was printed before
+abbrev pub each_number : List Number → Bool → ℕ → List Piece
+each_number [] first flags = []
+each_number (n ∷ ns) first flags = separator first flags ++ (number_pieces n ++ each_number ns false flags)
+
+-- a number in braces, and nothing where it is 0
+abbrev pub index_pieces : Number → List Piece
+index_pieces n = cond (n.value == 0) [] (text (codes "{") ∷ (number_pieces n ++ text (codes "}") ∷ []))
+
+-- the number at a place of a list in braces, and nothing behind the end
+abbrev pub index_at : List Number → ℕ → List Piece
+index_at [] i = []
+index_at (n ∷ ns) zero = index_pieces n
+index_at (n ∷ ns) (suc i) = index_at ns i
+
 -- the pieces at a place of a list, and none behind the end
 abbrev pub pieces_at : List (List Piece) → ℕ → List Piece
 pieces_at [] i = []
 pieces_at (x ∷ xs) zero = x
 pieces_at (x ∷ xs) (suc i) = pieces_at xs i
+
+-- what stands before a class that a table is for
+abbrev pub target_start : Bool → List Piece
+target_start first = text (cond first (codes "{for ") (codes "s ")) ∷ []
+
+-- the classes that a table is for, and nothing if there are none; `first` says whether none of them was printed before
+abbrev pub target_pieces : List (List Piece) → Bool → List Piece
+target_pieces [] first = cond first [] (text (codes "}") ∷ [])
+target_pieces (x ∷ xs) first = target_start first ++ (x ++ target_pieces xs false)
 
 -- a word that NO_MEMBER_TYPE drops
 abbrev pub kind_word_pieces : List ℕ → ℕ → List Piece
@@ -61,6 +89,13 @@ slot_pieces slot.opening pointed p flags = opening pointed flags
 slot_pieces slot.closing pointed p flags = closing pointed
 slot_pieces (slot.symbol i) pointed p flags = pieces_at p.symbols i
 slot_pieces (slot.name i) pointed p flags = pieces_at p.names i
+slot_pieces slot.numbers pointed p flags = each_number p.numbers true flags
+slot_pieces slot.comma pointed p flags = separator false flags
+slot_pieces (slot.index i) pointed p flags = index_at p.numbers i
+slot_pieces slot.bytes pointed p flags = text p.bytes ∷ []
+slot_pieces slot.table_qualifiers pointed p flags = table_qualifiers p.set
+slot_pieces slot.targets pointed p flags = target_pieces p.names true
+slot_pieces (slot.literal is_wide) pointed p flags = literal_pieces is_wide p.numbers
 
 -- the pieces of slots, in their order
 unfoldable pub laid : List Slot → Bool → Parts → ℕ → List Piece

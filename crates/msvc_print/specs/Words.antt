@@ -66,6 +66,11 @@ unfoldable pub full_qualifiers : ℕ → List Piece
 full_qualifiers set = set_word 1 (codes " const") set
     ++ (set_word 2 (codes " volatile") set ++ set_word 32 (codes " __restrict") set)
 
+-- the qualifiers of a table, with one space between them
+unfoldable pub table_qualifiers : ℕ → List Piece
+table_qualifiers set = set_word 1 (codes "const") set
+    ++ set_word 2 (cond (has set 1) (codes " volatile") (codes "volatile")) set
+
 -- the `const` and the `volatile` of a set of qualifiers
 unfoldable pub qualifiers : ℕ → ℕ → List Piece
 qualifiers set flags = cond (has flags full_style) (full_qualifiers set)

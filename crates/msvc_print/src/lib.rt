@@ -21,6 +21,7 @@ mod qualified_names;
 mod shapes;
 mod simple_types;
 mod spaces;
+mod strings;
 mod style;
 mod text;
 mod types;

@@ -2,21 +2,27 @@
 //! rest.
 #![tactic(auto, using(crate::proofs::Stack::pushes))]
 
-ghost use Rattle.std.specs.Prelude.{[], Some, None, IfOk, OnOk, ◌≡◌, ◌+◌, cond};
-ghost use Rattle.msvc_nodes.specs.NodeView.{names_in};
-ghost use Rattle.msvc_print.specs.Declaration.{each_name};
+ghost use Rattle.std.specs.Prelude.{[], Some, None, IfOk, OnOk, true, false, ◌≡◌, ◌+◌, ◌++◌};
+ghost use Rattle.msvc_nodes.specs.NodeView.{name_of, names_in};
+ghost use Rattle.msvc_print.specs.Declaration.{each_name, name_pieces};
 ghost use Rattle.msvc_print.specs.Halves.{after, before};
 ghost use Rattle.msvc_print.specs.Limited.{Writes};
-ghost use Rattle.msvc_print.specs.ShapeNodes.{parts_of, rest_of_slots, rest_weight, shape_of};
+ghost use Rattle.msvc_print.specs.ShapeNodes.{name_slot_pieces, parts_of, rest_of_slots, rest_weight, shape_of};
+ghost use Rattle.msvc_print.specs.ShapeNodes.{slot_of};
 ghost use Rattle.msvc_print.specs.Shapes as spec;
-ghost use Rattle.msvc_print.specs.Weights.{scope_weight, type_weight};
+ghost use Rattle.msvc_print.specs.Weights.{name_weight, scope_weight, type_weight};
 ghost use Rattle.msvc_print.specs.Work.{AddsAtMost, Keeps, Lightens, Prints, Pushes};
-ghost use Rattle.msvc_print.specs.declared.shapes.NamePlace.{NamePlace as NamePlaceCode};
+ghost use Rattle.msvc_print.specs.declared.shapes.NameSlot.{NameSlot as NameSlotCode};
 ghost use Rattle.msvc_shapes.specs.Layouts as layouts;
 
+use crate::function_types::write_separator;
 use crate::item::{Item, push};
 use crate::printer::Printer;
-use crate::spaces::{write_closing, write_opening, write_pointer_qualifiers, write_qualifiers};
+use crate::spaces::{
+    write_closing, write_opening, write_pointer_qualifiers, write_qualifiers,
+    write_table_qualifiers,
+};
+use crate::strings::write_string;
 use crate::style::{Style, Wording};
 use crate::text::{Text, write_number, write_text};
 use crate::types::push_suffix;
@@ -25,11 +31,15 @@ use msvc_nodes::nodes::{Name, Number, Shape};
 use msvc_shapes::layouts::{Side, Slot, around, slots};
 use std::alloc::{AllocError, Allocator};
 
-/// The place of a name among the names of a shape, and whether it is printed as the name of a symbol itself.
+/// Tells which names a slot prints that has names in it.
 #[derive(Clone, Copy)]
-pub struct NamePlace {
-    at: usize,
-    of_symbol: bool,
+pub enum NameSlot {
+    /// Prints the name at this place, as that of a symbol itself.
+    Symbol(usize),
+    /// Prints the name at this place, as in a scope.
+    Name(usize),
+    /// Prints all names, as the classes that a table is for.
+    Targets,
 }
 
 /// Writes a number in decimal, after a minus if it has one.
@@ -79,6 +89,49 @@ fn write_levels<A: Allocator>(out: &mut Text<A>, lengths: &[Number]) -> Result<(
     Ok(())
 }
 
+/// Writes all numbers, with a comma before each but the first.
+fn write_numbers<W: Wording, A: Allocator>(
+    out: &mut Text<A>,
+    numbers: &[Number],
+    flags: Style<W>,
+) -> Result<(), AllocError>
+    ensures { OnOk result (Writes (spec.each_number numbers.now true flags.bits) out.old out.new) }
+{
+    let mut at = 0;
+    'numbers: while at < numbers.len() {
+        write_separator(out, at == 0, flags)?;
+        write_signed(out, numbers[at])?;
+        at += 1;
+    }
+    Ok(())
+}
+
+/// Writes a number in braces, unless it is 0.
+fn write_index<A: Allocator>(out: &mut Text<A>, number: Number) -> Result<(), AllocError>
+    ensures { OnOk result (Writes (spec.index_pieces number) out.old out.new) }
+{
+    if number.value == 0 {
+        return Ok(());
+    }
+    write_text(out, b"{")?;
+    write_signed(out, number)?;
+    write_text(out, b"}")
+}
+
+/// Writes the number at a place in braces, if there is one and it is not 0.
+fn write_index_at<A: Allocator>(
+    out: &mut Text<A>,
+    numbers: &[Number],
+    at: usize,
+) -> Result<(), AllocError>
+    ensures { OnOk result (Writes (spec.index_at numbers.now at) out.old out.new) }
+{
+    if at >= numbers.len() {
+        return Ok(());
+    }
+    write_index(out, numbers[at])
+}
+
 /// Writes a word, unless NO_MEMBER_TYPE drops it.
 fn write_kind_word<W: Wording, A: Allocator>(
     out: &mut Text<A>,
@@ -93,7 +146,7 @@ fn write_kind_word<W: Wording, A: Allocator>(
     write_text(out, word)
 }
 
-/// Writes a slot that has no name in it, or else returns the place of its name.
+/// Writes a slot that has no name in it, or else returns which names it has.
 #[tactic(auto, using(crate::proofs::Settling::settling), unfolding(crate::specs::Shapes::slot_pieces))]
 fn write_slot<'a, 'b, W: Wording, A: Allocator>(
     out: &mut Text<A>,
@@ -101,12 +154,12 @@ fn write_slot<'a, 'b, W: Wording, A: Allocator>(
     shape: &'b Shape<'a, 'b>,
     pointed: bool,
     flags: Style<W>,
-) -> Result<Option<NamePlace>, AllocError>
-    ensures written { IfOk result (λ name. name ≡ None → Writes (spec.slot_pieces (layouts.slot_seen slot.entry) pointed
+) -> Result<Option<NameSlot>, AllocError>
+    ensures written { IfOk result (λ names. names ≡ None → Writes (spec.slot_pieces (layouts.slot_seen slot.entry) pointed
         (parts_of shape.now flags.bits) flags.bits) out.old out.new) }
-    ensures same { IfOk result (λ name. (p : NamePlaceCode) → name ≡ Some p → out.new ≡ out.old) }
-    ensures named { IfOk result (λ name. (p : NamePlaceCode) → name ≡ Some p →
-        layouts.slot_seen slot.entry ≡ cond p.of_symbol (layouts.symbol p.at) (layouts.name p.at)) }
+    ensures same { IfOk result (λ names. (s : NameSlotCode) → names ≡ Some s → out.new ≡ out.old) }
+    ensures named { IfOk result (λ names. (s : NameSlotCode) → names ≡ Some s →
+        layouts.slot_seen slot.entry ≡ slot_of s) }
 {
     match slot {
         Slot::Word(word) => write_text(out, word)?,
@@ -117,18 +170,15 @@ fn write_slot<'a, 'b, W: Wording, A: Allocator>(
         Slot::PointerQualifiers => write_pointer_qualifiers(out, shape.qualifiers, flags)?,
         Slot::Opening => write_opening(out, pointed, flags)?,
         Slot::Closing => write_closing(out, pointed)?,
-        Slot::Symbol(at) => {
-            return Ok(Some(NamePlace {
-                at,
-                of_symbol: true,
-            }));
-        }
-        Slot::Name(at) => {
-            return Ok(Some(NamePlace {
-                at,
-                of_symbol: false,
-            }));
-        }
+        Slot::Symbol(at) => return Ok(Some(NameSlot::Symbol(at))),
+        Slot::Name(at) => return Ok(Some(NameSlot::Name(at))),
+        Slot::Targets => return Ok(Some(NameSlot::Targets)),
+        Slot::Numbers => write_numbers(out, shape.numbers, flags)?,
+        Slot::Comma => write_separator(out, false, flags)?,
+        Slot::Index(at) => write_index_at(out, shape.numbers, at)?,
+        Slot::Bytes => write_text(out, shape.text)?,
+        Slot::TableQualifiers => write_table_qualifiers(out, shape.qualifiers)?,
+        Slot::Literal(is_wide) => write_string(out, is_wide, shape.numbers)?,
     }
     Ok(None)
 }
@@ -137,23 +187,81 @@ fn write_slot<'a, 'b, W: Wording, A: Allocator>(
 fn push_name_at<'a, 'b, W: Wording, S: Allocator>(
     stack: &mut Vec<Item<'a, 'b>, S>,
     names: &'b [&'b Name<'a, 'b>],
-    place: NamePlace,
+    at: usize,
+    of_symbol: bool,
     flags: Style<W>,
 ) -> Result<(), AllocError>
-    ensures text { OnOk result (Pushes (spec.pieces_at (each_name (names_in names.now) place.of_symbol flags.bits)
-        place.at)
+    ensures text { OnOk result (Pushes (spec.pieces_at (each_name (names_in names.now) of_symbol flags.bits) at)
         flags.bits stack.old.items stack.new.items) }
     ensures lighter { OnOk result (AddsAtMost (scope_weight (names_in names.now)) stack.old.items stack.new.items) }
 {
-    if place.at >= names.len() {
+    if at >= names.len() {
         return Ok(());
     }
-    push(stack, Item::Name(names[place.at], place.of_symbol))
+    push(stack, Item::Name(names[at], of_symbol))
+}
+
+/// Pushes a name as a class that a table is for.
+fn push_target<'a, 'b, W: Wording, S: Allocator>(
+    stack: &mut Vec<Item<'a, 'b>, S>,
+    name: &'b Name<'a, 'b>,
+    first: bool,
+    flags: Style<W>,
+) -> Result<(), AllocError>
+    ensures text { OnOk result (Pushes (spec.target_start first ++ name_pieces (name_of name.now) false flags.bits)
+        flags.bits stack.old.items stack.new.items) }
+    ensures lighter { OnOk result (AddsAtMost (1 + name_weight (name_of name.now)) stack.old.items stack.new.items) }
+{
+    push(stack, Item::Name(name, false))?;
+    if first {
+        return push(stack, Item::Text(b"{for "));
+    }
+    push(stack, Item::Text(b"s "))
+}
+
+/// Pushes names as the classes that a table is for, the last first.
+fn push_targets<'a, 'b, W: Wording, S: Allocator>(
+    stack: &mut Vec<Item<'a, 'b>, S>,
+    names: &'b [&'b Name<'a, 'b>],
+    flags: Style<W>,
+) -> Result<(), AllocError>
+    ensures text { OnOk result (Pushes (spec.target_pieces (each_name (names_in names.now) false flags.bits) true)
+        flags.bits stack.old.items stack.new.items) }
+    ensures lighter { OnOk result (AddsAtMost (scope_weight (names_in names.now)) stack.old.items stack.new.items) }
+{
+    let mut at = names.len();
+    if at == 0 {
+        return Ok(());
+    }
+    push(stack, Item::Text(b"}"))?;
+    'targets: while at > 0 {
+        at -= 1;
+        push_target(stack, names[at], at == 0, flags)?;
+    }
+    Ok(())
+}
+
+/// Pushes the names that a slot prints.
+fn push_name_slot<'a, 'b, W: Wording, S: Allocator>(
+    stack: &mut Vec<Item<'a, 'b>, S>,
+    names: &'b [&'b Name<'a, 'b>],
+    slot: NameSlot,
+    flags: Style<W>,
+) -> Result<(), AllocError>
+    ensures text { OnOk result (Pushes (name_slot_pieces slot (names_in names.now) flags.bits)
+        flags.bits stack.old.items stack.new.items) }
+    ensures lighter { OnOk result (AddsAtMost (scope_weight (names_in names.now)) stack.old.items stack.new.items) }
+{
+    match slot {
+        NameSlot::Symbol(at) => push_name_at(stack, names, at, true, flags),
+        NameSlot::Name(at) => push_name_at(stack, names, at, false, flags),
+        NameSlot::Targets => push_targets(stack, names, flags),
+    }
 }
 
 impl<'a, 'b, 't, W: Wording, S: Allocator, A: Allocator> Printer<'a, 'b, 't, W, S, A> {
-    /// Prints a side of a shape from a slot on: writes slots up to the first that has a name in it, and pushes that
-    /// name and the rest.
+    /// Prints a side of a shape from a slot on: writes slots up to the first that has names in it, and pushes these
+    /// names and the rest.
     #[cold]
     #[inline(never)]
     pub fn print_slots(
@@ -175,9 +283,9 @@ impl<'a, 'b, 't, W: Wording, S: Allocator, A: Allocator> Printer<'a, 'b, 't, W, 
             at += 1;
             match write_slot(self.out, slot, shape, pointed, self.flags)? {
                 None => {}
-                Some(place) => {
+                Some(names) => {
                     push(self.stack, Item::Slots(shape, side, pointed, at))?;
-                    return push_name_at(self.stack, shape.names, place, self.flags);
+                    return push_name_slot(self.stack, shape.names, names, self.flags);
                 }
             }
         }

@@ -1,5 +1,5 @@
 //! Spaces that depend on the byte before them, and the qualifiers, marks and parentheses that are written with them.
-#![tactic(auto, using(crate::proofs::Stack::pushes), unfolding(crate::specs::Words::angle_end, crate::specs::Words::closing, crate::specs::Words::marked, crate::specs::Words::opening))]
+#![tactic(auto, using(crate::proofs::Stack::pushes), unfolding(crate::specs::Words::angle_end, crate::specs::Words::closing, crate::specs::Words::marked, crate::specs::Words::opening, crate::specs::Words::table_qualifiers))]
 
 ghost use Rattle.std.specs.Prelude.{◌≡◌, ◌∷◌, [], OnOk, cond};
 ghost use Rattle.msvc_print.specs.Flags.{has, space_before_pointer};
@@ -14,24 +14,24 @@ use bitflags::Flags;
 use msvc_nodes::flags::{DemangleFlags, StorageClass};
 use std::alloc::{AllocError, Allocator};
 
-/// The bytes after which a space is written.
+/// Tells after which bytes a space is written.
 #[derive(Clone, Copy)]
 pub enum Space {
-    /// After an ASCII letter, `>`, `)`, `&` or `*`.
+    /// Follows an ASCII letter, `>`, `)`, `&` or `*`.
     AfterPointer,
-    /// After an ASCII letter, `>`, `)` or `&`.
+    /// Follows an ASCII letter, `>`, `)` or `&`.
     AfterReference,
-    /// After an ASCII letter, `>` or `)`.
+    /// Follows an ASCII letter, `>` or `)`.
     AfterWord,
-    /// Unless the byte before is a space or `(`.
+    /// Follows any byte but a space and `(`.
     UnlessOpen,
-    /// After `>`.
+    /// Follows `>`.
     AfterAngle,
-    /// Of the second grammar's style: after an ASCII letter, an ASCII digit or `>`.
+    /// Follows an ASCII letter, an ASCII digit or `>`, in the second grammar's style.
     AfterFullWord,
-    /// Of the second grammar's style: after an ASCII letter, an ASCII digit, `>`, `)` or `&`.
+    /// Follows an ASCII letter, an ASCII digit, `>`, `)` or `&`, in the second grammar's style.
     AfterFullReference,
-    /// Of the second grammar's style: after an ASCII letter, an ASCII digit, `>`, `)`, `&`, `*`, `^` or `%`.
+    /// Follows an ASCII letter, an ASCII digit, `>`, `)`, `&`, `*`, `^` or `%`, in the second grammar's style.
     AfterFullPointer,
 }
 
@@ -156,6 +156,21 @@ fn write_full_qualifiers<A: Allocator>(
     write_set_word(out, StorageClass::CONST, b" const", qualifiers)?;
     write_set_word(out, StorageClass::VOLATILE, b" volatile", qualifiers)?;
     write_set_word(out, StorageClass::RESTRICT, b" __restrict", qualifiers)
+}
+
+/// Writes the qualifiers of a table, with one space between them.
+#[cold]
+pub fn write_table_qualifiers<A: Allocator>(
+    out: &mut Text<A>,
+    qualifiers: StorageClass,
+) -> Result<(), AllocError>
+    ensures { OnOk result (Writes (spec.table_qualifiers qualifiers.0) out.old out.new) }
+{
+    write_set_word(out, StorageClass::CONST, b"const", qualifiers)?;
+    if qualifiers.contains(StorageClass::CONST) {
+        return write_set_word(out, StorageClass::VOLATILE, b" volatile", qualifiers);
+    }
+    write_set_word(out, StorageClass::VOLATILE, b"volatile", qualifiers)
 }
 
 /// Writes `const` and `volatile`, if their bits are set.

@@ -25,6 +25,19 @@ pub data Slot : Type 0 where
   -- the name at a place, as that of a symbol itself, and as in a scope
   symbol : ℕ → Slot
   name : ℕ → Slot
+  -- all numbers, parted by commas, and a comma
+  numbers : Slot
+  comma : Slot
+  -- the number at a place in braces; nothing if it is 0
+  index : ℕ → Slot
+  -- the bytes of the shape
+  bytes : Slot
+  -- the qualifiers of a table
+  table_qualifiers : Slot
+  -- the names as in a scope, as the classes that a table is for
+  targets : Slot
+  -- a string by the numbers, its length and the bytes that were read; whether its characters are wide
+  literal : Bool → Slot
 
 -- The layout of a row: whether type 0 of the shape is printed around it, and then whether the shape stands under that
 -- type as the mark of a pointer does; and what the shape prints before and after the name.
@@ -37,13 +50,29 @@ pub record Layout : Type 0 where
 abbrev pub before : List Slot → Layout
 before left = record { around = None; left = left; right = [] }
 
+-- the layout of a row that has type 0 of the shape around it, and is no mark of a pointer
+abbrev pub inside : List Slot → List Slot → Layout
+inside left right = record { around = Some false; left = left; right = right }
+
+-- the layout of a row that prints one word
+abbrev pub only : List ℕ → Layout
+only w = before (word w ∷ [])
+
+-- a function that moves its `this`: all its numbers behind a word
+abbrev pub moved : List ℕ → Layout
+moved w = inside [] (word w ∷ numbers ∷ word (codes "}'") ∷ [])
+
+-- an initializer or a destructor of a variable: name 0 behind a word
+abbrev pub stub : List ℕ → Layout
+stub w = before (word w ∷ symbol 0 ∷ word (codes "''") ∷ [])
+
 -- the table: each row by its number
 abbrev pub table : List (ℕ × Layout)
 table =
     (rows.integer, before (number 0 ∷ []))
     ∷ (rows.custom, before (name 0 ∷ qualifiers ∷ []))
     ∷ (rows.nullptr, before (word (codes "std::nullptr_t") ∷ qualifiers ∷ []))
-    ∷ (rows.arrays, record { around = Some false; left = qualifiers ∷ opening ∷ []; right = closing ∷ lengths ∷ [] })
+    ∷ (rows.arrays, inside (qualifiers ∷ opening ∷ []) (closing ∷ lengths ∷ []))
     ∷ (
       rows.member_pointer,
       record {
@@ -59,7 +88,36 @@ table =
           (word (codes "`") ∷ symbol 0 ∷ word (codes "'::`") ∷ number 0 ∷ word (codes "'") ∷ []),
     )
     ∷ (rows.literal_operator, before (word (codes "operator \"\"") ∷ name 0 ∷ []))
-    ∷ (rows.spaceship, before (word (codes "operator<=>") ∷ []))
+    ∷ (rows.spaceship, only (codes "operator<=>"))
+    ∷ (rows.address, before (word (codes "&") ∷ symbol 0 ∷ []))
+    ∷ (rows.object, before (symbol 0 ∷ []))
+    ∷ (rows.offsets, before (word (codes "{") ∷ numbers ∷ word (codes "}") ∷ []))
+    ∷ (
+      rows.symbol_offsets,
+      before (word (codes "{") ∷ symbol 0 ∷ comma ∷ numbers ∷ word (codes "}") ∷ []),
+    )
+    ∷ (rows.typed, inside [] [])
+    ∷ (rows.adjustor, moved (codes "`adjustor{"))
+    ∷ (rows.vtordisp, moved (codes "`vtordisp{"))
+    ∷ (rows.vtordispex, moved (codes "`vtordispex{"))
+    ∷ (rows.tables, record { around = None; left = table_qualifiers ∷ []; right = targets ∷ [] })
+    ∷ (rows.type_descriptor, only (codes "`RTTI Type Descriptor'"))
+    ∷ (rows.md5_locator, before (word (codes "??@") ∷ bytes ∷ word (codes "@??_R4@") ∷ []))
+    ∷ (rows.initializer_of_name, stub (codes "`dynamic initializer for '"))
+    ∷ (rows.initializer_of_variable, stub (codes "`dynamic initializer for `"))
+    ∷ (rows.destructor_of_name, stub (codes "`dynamic atexit destructor for '"))
+    ∷ (rows.destructor_of_variable, stub (codes "`dynamic atexit destructor for `"))
+    ∷ (rows.static_guard, before (word (codes "`local static guard'") ∷ index 0 ∷ []))
+    ∷ (rows.thread_guard, before (word (codes "`local static thread guard'") ∷ index 0 ∷ []))
+    ∷ (rows.string_literal, before (literal false ∷ []))
+    ∷ (rows.wide_string_literal, before (literal true ∷ []))
+    ∷ (rows.managed_vector_ctor_iterator, only (codes "`managed vector ctor iterator'"))
+    ∷ (rows.managed_vector_dtor_iterator, only (codes "`managed vector dtor iterator'"))
+    ∷ (rows.eh_vector_copy_ctor_iterator, only (codes "`EH vector copy ctor iterator'"))
+    ∷ (rows.eh_vector_vbase_copy_ctor_iterator, only (codes "`EH vector vbase copy ctor iterator'"))
+    ∷ (rows.vector_copy_ctor_iterator, only (codes "`vector copy ctor iterator'"))
+    ∷ (rows.vector_vbase_copy_ctor_iterator, only (codes "`vector vbase copy constructor iterator'"))
+    ∷ (rows.managed_vector_vbase_copy_ctor_iterator, only (codes "`managed vector vbase copy constructor iterator'"))
     ∷ []
 
 -- the layout of a row of a table, an empty one if there is no such row
@@ -88,6 +146,13 @@ slot_seen slot_code.Opening = opening
 slot_seen slot_code.Closing = closing
 slot_seen (slot_code.Symbol i) = symbol i
 slot_seen (slot_code.Name i) = name i
+slot_seen slot_code.Numbers = numbers
+slot_seen slot_code.Comma = comma
+slot_seen (slot_code.Index i) = index i
+slot_seen slot_code.Bytes = bytes
+slot_seen slot_code.TableQualifiers = table_qualifiers
+slot_seen slot_code.Targets = targets
+slot_seen (slot_code.Literal is_wide) = literal is_wide
 
 abbrev pub slots_seen : List SlotCode → List Slot
 slots_seen [] = []

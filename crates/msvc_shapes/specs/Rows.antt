@@ -27,3 +27,81 @@ literal_operator = 7
 
 abbrev pub spaceship : ℕ
 spaceship = 8
+
+abbrev pub address : ℕ
+address = 9
+
+abbrev pub object : ℕ
+object = 10
+
+abbrev pub offsets : ℕ
+offsets = 11
+
+abbrev pub symbol_offsets : ℕ
+symbol_offsets = 12
+
+abbrev pub typed : ℕ
+typed = 13
+
+abbrev pub adjustor : ℕ
+adjustor = 14
+
+abbrev pub vtordisp : ℕ
+vtordisp = 15
+
+abbrev pub vtordispex : ℕ
+vtordispex = 16
+
+abbrev pub tables : ℕ
+tables = 17
+
+abbrev pub type_descriptor : ℕ
+type_descriptor = 18
+
+abbrev pub md5_locator : ℕ
+md5_locator = 19
+
+abbrev pub initializer_of_name : ℕ
+initializer_of_name = 20
+
+abbrev pub initializer_of_variable : ℕ
+initializer_of_variable = 21
+
+abbrev pub destructor_of_name : ℕ
+destructor_of_name = 22
+
+abbrev pub destructor_of_variable : ℕ
+destructor_of_variable = 23
+
+abbrev pub static_guard : ℕ
+static_guard = 24
+
+abbrev pub thread_guard : ℕ
+thread_guard = 25
+
+abbrev pub string_literal : ℕ
+string_literal = 26
+
+abbrev pub wide_string_literal : ℕ
+wide_string_literal = 27
+
+abbrev pub managed_vector_ctor_iterator : ℕ
+managed_vector_ctor_iterator = 28
+
+abbrev pub managed_vector_dtor_iterator : ℕ
+managed_vector_dtor_iterator = 29
+
+abbrev pub eh_vector_copy_ctor_iterator : ℕ
+eh_vector_copy_ctor_iterator = 30
+
+abbrev pub eh_vector_vbase_copy_ctor_iterator : ℕ
+eh_vector_vbase_copy_ctor_iterator = 31
+
+abbrev pub vector_copy_ctor_iterator : ℕ
+vector_copy_ctor_iterator = 32
+
+abbrev pub vector_vbase_copy_ctor_iterator : ℕ
+vector_vbase_copy_ctor_iterator = 33
+
+abbrev pub managed_vector_vbase_copy_ctor_iterator : ℕ
+managed_vector_vbase_copy_ctor_iterator = 34

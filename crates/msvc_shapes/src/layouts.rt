@@ -18,26 +18,41 @@ pub enum Side {
 /// Tells what a piece of a layout prints.
 #[derive(Clone, Copy)]
 pub enum Slot<'t> {
-    /// Fixed bytes.
+    /// Prints fixed bytes.
     Word(&'t [u8]),
-    /// Fixed bytes that NO_MEMBER_TYPE drops, as it drops `static` and `virtual`.
+    /// Prints fixed bytes that NO_MEMBER_TYPE drops, as it drops `static` and `virtual`.
     KindWord(&'t [u8]),
-    /// The number at this place.
+    /// Prints the number at this place.
     Number(usize),
-    /// Each number in brackets, as the lengths of the levels of an array; 0 as `[]`.
+    /// Prints each number in brackets, as the lengths of the levels of an array; 0 as `[]`.
     Lengths,
-    /// The qualifiers of a type that is no pointer.
+    /// Prints the qualifiers of a type that is no pointer.
     Qualifiers,
-    /// The qualifiers of a pointer, after its mark.
+    /// Prints the qualifiers of a pointer, after its mark.
     PointerQualifiers,
-    /// The parenthesis before the mark of a pointer to the shape.
+    /// Prints the parenthesis before the mark of a pointer to the shape.
     Opening,
-    /// The parenthesis that closes it.
+    /// Prints the parenthesis that closes it.
     Closing,
-    /// The name at this place, as that of a symbol itself.
+    /// Prints the name at this place, as that of a symbol itself.
     Symbol(usize),
-    /// The name at this place, as in a scope.
+    /// Prints the name at this place, as in a scope.
     Name(usize),
+    /// Prints all numbers, parted by commas.
+    Numbers,
+    /// Prints a comma.
+    Comma,
+    /// Prints the number at this place in braces; nothing if it is 0.
+    Index(usize),
+    /// Prints the bytes of the shape.
+    Bytes,
+    /// Prints the qualifiers of a table, with no space before them.
+    TableQualifiers,
+    /// Prints the names as in a scope, as the classes that a table is for.
+    Targets,
+    /// Prints a string by the numbers: its length, and the bytes that were read. The flag says whether its characters
+    /// are wide.
+    Literal(bool),
 }
 
 /// Holds the layout of a row.
@@ -63,6 +78,17 @@ fn before<'t>(left: &'t [Slot<'t>]) -> Layout<'t>
     }
 }
 
+/// Returns the layout of a row that has type 0 around it and is no mark of a pointer.
+fn inside<'t>(left: &'t [Slot<'t>], right: &'t [Slot<'t>]) -> Layout<'t>
+    ensures { spec.layout_seen result ≡ spec.inside (spec.slots_seen left.now) (spec.slots_seen right.now) }
+{
+    Layout {
+        around: Some(false),
+        left,
+        right,
+    }
+}
+
 /// Returns the layout of a row, an empty one if there is no such row.
 fn layout_of<'t>(row: u8) -> Layout<'t>
     ensures { spec.layout_seen result ≡ spec.layout_of row }
@@ -71,11 +97,10 @@ fn layout_of<'t>(row: u8) -> Layout<'t>
         INTEGER => before(&[Slot::Number(0)]),
         CUSTOM => before(&[Slot::Name(0), Slot::Qualifiers]),
         NULLPTR => before(&[Slot::Word(b"std::nullptr_t"), Slot::Qualifiers]),
-        ARRAYS => Layout {
-            around: Some(false),
-            left: &[Slot::Qualifiers, Slot::Opening],
-            right: &[Slot::Closing, Slot::Lengths],
-        },
+        ARRAYS => inside(
+            &[Slot::Qualifiers, Slot::Opening],
+            &[Slot::Closing, Slot::Lengths],
+        ),
         MEMBER_POINTER => Layout {
             around: Some(true),
             left: &[Slot::Symbol(0), Slot::Word(b"::*"), Slot::PointerQualifiers],
@@ -91,6 +116,77 @@ fn layout_of<'t>(row: u8) -> Layout<'t>
         ]),
         LITERAL_OPERATOR => before(&[Slot::Word(b"operator \"\""), Slot::Name(0)]),
         SPACESHIP => before(&[Slot::Word(b"operator<=>")]),
+        ADDRESS => before(&[Slot::Word(b"&"), Slot::Symbol(0)]),
+        OBJECT => before(&[Slot::Symbol(0)]),
+        OFFSETS => before(&[Slot::Word(b"{"), Slot::Numbers, Slot::Word(b"}")]),
+        SYMBOL_OFFSETS => before(&[
+            Slot::Word(b"{"),
+            Slot::Symbol(0),
+            Slot::Comma,
+            Slot::Numbers,
+            Slot::Word(b"}"),
+        ]),
+        TYPED => inside(&[], &[]),
+        ADJUSTOR => inside(
+            &[],
+            &[Slot::Word(b"`adjustor{"), Slot::Numbers, Slot::Word(b"}'")],
+        ),
+        VTORDISP => inside(
+            &[],
+            &[Slot::Word(b"`vtordisp{"), Slot::Numbers, Slot::Word(b"}'")],
+        ),
+        VTORDISPEX => inside(
+            &[],
+            &[
+                Slot::Word(b"`vtordispex{"),
+                Slot::Numbers,
+                Slot::Word(b"}'"),
+            ],
+        ),
+        TABLES => Layout {
+            around: None,
+            left: &[Slot::TableQualifiers],
+            right: &[Slot::Targets],
+        },
+        TYPE_DESCRIPTOR => before(&[Slot::Word(b"`RTTI Type Descriptor'")]),
+        MD5_LOCATOR => before(&[Slot::Word(b"??@"), Slot::Bytes, Slot::Word(b"@??_R4@")]),
+        INITIALIZER_OF_NAME => before(&[
+            Slot::Word(b"`dynamic initializer for '"),
+            Slot::Symbol(0),
+            Slot::Word(b"''"),
+        ]),
+        INITIALIZER_OF_VARIABLE => before(&[
+            Slot::Word(b"`dynamic initializer for `"),
+            Slot::Symbol(0),
+            Slot::Word(b"''"),
+        ]),
+        DESTRUCTOR_OF_NAME => before(&[
+            Slot::Word(b"`dynamic atexit destructor for '"),
+            Slot::Symbol(0),
+            Slot::Word(b"''"),
+        ]),
+        DESTRUCTOR_OF_VARIABLE => before(&[
+            Slot::Word(b"`dynamic atexit destructor for `"),
+            Slot::Symbol(0),
+            Slot::Word(b"''"),
+        ]),
+        STATIC_GUARD => before(&[Slot::Word(b"`local static guard'"), Slot::Index(0)]),
+        THREAD_GUARD => before(&[Slot::Word(b"`local static thread guard'"), Slot::Index(0)]),
+        STRING_LITERAL => before(&[Slot::Literal(false)]),
+        WIDE_STRING_LITERAL => before(&[Slot::Literal(true)]),
+        MANAGED_VECTOR_CTOR_ITERATOR => before(&[Slot::Word(b"`managed vector ctor iterator'")]),
+        MANAGED_VECTOR_DTOR_ITERATOR => before(&[Slot::Word(b"`managed vector dtor iterator'")]),
+        EH_VECTOR_COPY_CTOR_ITERATOR => before(&[Slot::Word(b"`EH vector copy ctor iterator'")]),
+        EH_VECTOR_VBASE_COPY_CTOR_ITERATOR => before(&[Slot::Word(
+            b"`EH vector vbase copy ctor iterator'",
+        )]),
+        VECTOR_COPY_CTOR_ITERATOR => before(&[Slot::Word(b"`vector copy ctor iterator'")]),
+        VECTOR_VBASE_COPY_CTOR_ITERATOR => before(&[Slot::Word(
+            b"`vector vbase copy constructor iterator'",
+        )]),
+        MANAGED_VECTOR_VBASE_COPY_CTOR_ITERATOR => before(&[Slot::Word(
+            b"`managed vector vbase copy constructor iterator'",
+        )]),
         _ => before(&[]),
     }
 }

@@ -1,13 +1,11 @@
-use Rattle.std.proofs.Common.{◌+◌, ap, arith, sym, ◌∙◌}
+use Rattle.std.proofs.Common.{ap, arith, sym, ◌∙◌}
 use Rattle.std.proofs.lemmas.Result.{on_ok_weaker}
 use Rattle.msvc_nodes.specs.NodeView.{names_in}
 use Rattle.msvc_print.proofs.Settling.{add_all-none}
-use Rattle.msvc_print.proofs.ShapePieces.{chosen_names, laid-name, laid-none, laid-step, slots_weight-positive}
-use Rattle.msvc_print.proofs.ShapePieces.{slots_weight-step}
+use Rattle.msvc_print.proofs.ShapePieces.{laid-names, laid-none, laid-step, slots_weight-positive, slots_weight-step}
 use Rattle.msvc_print.proofs.Stack.{pushed_one, work_one}
 use Rattle.msvc_print.specs.Limited.{add_all}
 use Rattle.msvc_print.specs.ShapeNodes.{rest_of_slots, slots_from}
-use Rattle.msvc_print.specs.Shapes.{pieces_at}
 use Rattle.msvc_print.specs.Weights.{scope_weight}
 use Rattle.msvc_print.specs.Work.{finished_after, work}
 use Rattle.msvc_print.proofs.printer.Printer.print_slots.Goals as goal
@@ -31,25 +29,20 @@ slots-preserved g c = record {
 pub returns-in-Some-clause-text : goal.returns-in-Some-clause-text
 unfolding slots_from
 returns-in-Some-clause-text g c =
-    let place = c.in-Some.place in
     let flags = c.slots.self.flags.bits in
-    let names = names_in c.args.shape.now.names.now in
-    on_ok_weaker c.push_name_at.result
+    on_ok_weaker c.push_name_slot.result
     (λ last. last _ ∙ pushed_one _ _ _ _ _ c.in_ok-push-in-Some.ensures
-    ∙ ap (λ x. finished_after c.slots.self (add_all (add_all c.write_slot.new.out (pieces_at x place.at))
-    (rest_of_slots c.args.shape.now c.args.side c.args.pointed (c.slots.at + 1) flags)))
-    (sym (chosen_names names place.of_symbol flags))
     ∙ ap (finished_after c.slots.self)
-    (laid-name c.slots-slots.result.now _ _ c.slots.at place.at place.of_symbol _ _ _ _ c.slots-slots.ensures
+    (laid-names c.slots-slots.result.now _ _ c.slots.at _ _ _ _ _ _ _ _ c.slots-slots.ensures
     (omega (arith, c.slots-test.true)) (c.in_ok-write_slot.ensures.named _ c.in-Some.is))
     ∙ ap (λ o. finished_after c.slots.self (add_all o (rest_of_slots c.args.shape.now c.args.side c.args.pointed
     c.slots.at flags))) (c.in_ok-write_slot.ensures.same _ c.in-Some.is)
     ∙ c.slots.invariant.text)
-    c.push_name_at.ensures.text
+    c.push_name_slot.ensures.text
 
 pub returns-in-Some-clause-lighter : goal.returns-in-Some-clause-lighter
 unfolding slots_from
-returns-in-Some-clause-lighter g c = on_ok_weaker c.push_name_at.result (λ last. omega (
+returns-in-Some-clause-lighter g c = on_ok_weaker c.push_name_slot.result (λ last. omega (
   arith,
   last,
   work_one _ _ _ c.in_ok-push-in-Some.ensures,
@@ -57,7 +50,7 @@ returns-in-Some-clause-lighter g c = on_ok_weaker c.push_name_at.result (λ last
       c.slots-slots.ensures (omega (arith, c.slots-test.true)),
   c.slots.invariant.lighter,
   ap (λ s. work s.items) c.slots.invariant.same,
-)) c.push_name_at.ensures.lighter
+)) c.push_name_slot.ensures.lighter
 
 pub returns-clause-text : goal.returns-clause-text
 unfolding slots_from
