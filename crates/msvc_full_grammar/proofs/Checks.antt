@@ -1,16 +1,21 @@
 -- The figures of Full, and that it passes the checks.
-use Rattle.std.proofs.Common.{ℕ, zero, suc, true, false, ◌≡◌}
+use Rattle.std.proofs.Common.{ℕ, zero, suc, true, false, ◌≡◌, None, Some}
+use Rattle.std.specs.Prelude.{pos, negsuc}
 use Rattle.std.proofs.Common.{refl}
 use Rattle.msvc_rules.specs.Rules.{call, letter, node, ◌>>=◌, give}
 use Rattle.msvc_rules.specs.Sorts.{Sort, base_type}
 use Rattle.msvc_nodes.specs.Trees.{base}
-use Rattle.msvc_full_grammar.specs.Forms.{absent, present, plain_operator, operator_by_row, encoding_by_row}
+use Rattle.msvc_full_grammar.specs.Forms.{absent, present, plain_operator, operator_word, operator_by_row, base_class}
+use Rattle.msvc_full_grammar.specs.Forms.{encoding_by_row, thunk_of, c_function, table_of_class, type_information, virtual_call}
+use Rattle.msvc_full_grammar.specs.Forms.{adjustor, vtordisp, vtordispex, hashed, string, descriptor, guard_of}
+use Rattle.msvc_full_grammar.specs.Forms.{value_by_row, of_symbol, offsets, member_offsets}
 use Rattle.msvc_full_grammar.specs.Forms.{free_function, function_of, of_pointer, of_member_pointer, of_value, named}
 use Rattle.msvc_full_grammar.specs.Forms.{pointer_with, reference_by, arrayed, function_with, the_same, qualified}
-use Rattle.msvc_full_grammar.specs.Forms.{type_by_row, extended, empty_pack, alias, argument_by_row}
+use Rattle.msvc_full_grammar.specs.Forms.{type_by_row, extended, empty_pack, alias, typed, argument_value}
 use Rattle.msvc_full_grammar.specs.Rows.{integer, frame}
-use Rattle.msvc_full_grammar.specs.Grammar.{grammar, full_grammar}
+use Rattle.msvc_full_grammar.specs.Grammar.{grammar, full_grammar, of_c}
 use Rattle.msvc_full_grammar.specs.Letters.{type_texts, encoding_texts, operator_texts, variable_texts}
+use Rattle.msvc_full_grammar.specs.Letters.{symbol_texts, function_texts, argument_texts, value_texts}
 use Rattle.msvc_full_grammar.specs.Letters.{base_types}
 use Rattle.msvc_full_grammar.specs.Productions.{Production, count, number, symbol, encoding, other_encoding}
 use Rattle.msvc_full_grammar.specs.Productions.{encoding_after, variable, variable_end, repeated_class, repeated_scope}
@@ -21,6 +26,10 @@ use Rattle.msvc_full_grammar.specs.Productions.{source_name, function_type, sign
 use Rattle.msvc_full_grammar.specs.Productions.{function_parameters, parameters, parameter, type_, type_after, pointer}
 use Rattle.msvc_full_grammar.specs.Productions.{reference, arrays, dimensions, positive, lengths, arguments, argument}
 use Rattle.msvc_full_grammar.specs.Productions.{argument_after, template_symbol, named_symbol, whole_text}
+use Rattle.msvc_full_grammar.specs.Productions.{numbers, small_number, unsigned, whole_hash, symbol_after, string_of}
+use Rattle.msvc_full_grammar.specs.Productions.{marked_symbol, operator_symbol}
+use Rattle.msvc_full_grammar.specs.Productions.{guard_name, guard_index, offsets_of, targets, result_type}
+use Rattle.msvc_full_grammar.specs.Productions.{template_value, value_after}
 use Rattle.msvc_rules.proofs.Checks.{Figures, Fit, Checked, Fine, Local, Even, consumes, firsts_by, firsts_within}
 use Rattle.msvc_rules.proofs.Checks.{firsts, exclude, settled, decided, fine_text_or, fine_texts, local_texts}
 use Rattle.msvc_rules.proofs.Checks.{apart_texts, anything, others}
@@ -29,18 +38,27 @@ use Rattle.msvc_rules.proofs.Checks.{apart_texts, anything, others}
 unfoldable pub rank : {a : Sort} → Production a → ℕ
 rank count = 1
 rank number = 2
+rank (numbers n) = 3
+rank small_number = 3
+rank (offsets_of moved) = 4
+rank targets = 4
+rank guard_index = 4
+rank (guard_name kind) = 5
+rank (symbol_after f) = 3
+rank marked_symbol = 3
+rank operator_symbol = 2
 rank whole_text = 1
 rank template_symbol = 3
 rank named_symbol = 2
 rank encoding = 1
-rank (encoding_after e) = 4
+rank (encoding_after e) = 5
 rank (variable k) = 1
 rank (variable_end e) = 1
 rank repeated_class = 2
 rank repeated_scope = 2
 rank repeated_name = 1
 rank symbol_name = 1
-rank (operator_after o) = 3
+rank (operator_after o) = 4
 rank type_name = 1
 rank type_symbol = 2
 rank class_symbol = 3
@@ -51,7 +69,8 @@ rank (name_row r) = 2
 rank (function_type own) = 3
 rank (signature own) = 2
 rank (own_qualifiers own) = 1
-rank returned = 1
+rank returned = 2
+rank result_type = 1
 rank function_parameters = 3
 rank parameters = 2
 rank parameter = 1
@@ -64,7 +83,8 @@ rank dimensions = 2
 rank (lengths n) = 2
 rank arguments = 2
 rank argument = 1
-rank (argument_after f) = 4
+rank (argument_after f) = 5
+rank (value_after f) = 4
 rank _ = 0
 
 -- how many bytes a production consumes at least, or fewer
@@ -82,6 +102,11 @@ consumer (type_row q r) = 0
 consumer (positive n) = 0
 consumer (lengths n) = 0
 consumer (argument_after f) = 0
+consumer (value_after f) = 0
+consumer (numbers n) = 0
+consumer (unsigned z) = 0
+consumer (string_of width length bytes) = 0
+consumer guard_index = 0
 consumer type_symbol = 2
 consumer _ = 1
 
@@ -89,6 +114,16 @@ consumer _ = 1
 unfoldable pub needs : {a : Sort} → Production a → ℕ
 needs whole_text = 7
 needs symbol = 1
+needs (symbol_after f) = 1
+needs marked_symbol = 1
+needs argument = 1
+needs (argument_after f) = 1
+needs template_value = 1
+needs (value_after f) = 1
+needs operator_symbol = 1
+needs (guard_name kind) = 1
+needs guard_index = 1
+needs whole_hash = 7
 needs template_symbol = 1
 needs named_symbol = 1
 needs encoding = 1
@@ -105,6 +140,15 @@ needs _ = 0
 unfoldable pub needs_inside : {a : Sort} → Production a → ℕ
 needs_inside whole_text = 7
 needs_inside symbol = 1
+needs_inside (symbol_after f) = 1
+needs_inside marked_symbol = 1
+needs_inside argument = 1
+needs_inside (argument_after f) = 1
+needs_inside template_value = 1
+needs_inside (value_after f) = 1
+needs_inside operator_symbol = 1
+needs_inside (guard_name kind) = 1
+needs_inside whole_hash = 7
 needs_inside template_symbol = 1
 needs_inside named_symbol = 1
 needs_inside encoding = 1
@@ -126,6 +170,18 @@ no_encoding_begins_another = refl
 pub no_variable_begins_another : apart_texts variable_texts ≡ true
 no_variable_begins_another = refl
 
+pub no_symbol_begins_another : apart_texts symbol_texts ≡ true
+no_symbol_begins_another = refl
+
+pub no_function_begins_another : apart_texts function_texts ≡ true
+no_function_begins_another = refl
+
+pub no_argument_begins_another : apart_texts argument_texts ≡ true
+no_argument_begins_another = refl
+
+pub no_value_begins_another : apart_texts value_texts ≡ true
+no_value_begins_another = refl
+
 pub no_operator_begins_another : apart_texts operator_texts ≡ true
 no_operator_begins_another = refl
 
@@ -135,6 +191,8 @@ runs_up function_parameters = 0
 runs_up parameters = 0
 runs_up parameter = 0
 runs_up source_name = 9
+runs_up scope = 2
+runs_up nested_name = 2
 runs_up _ = 1
 
 abbrev pub full_figures : Figures full_grammar
@@ -152,11 +210,38 @@ unfolding Checked Fine Local Even consumes firsts_by firsts_within firsts exclud
 checked (encoding_after (encoding_by_row r)) = search
 checked (encoding_after free_function) = search
 checked (encoding_after (function_of class)) = search
+checked (encoding_after (thunk_of moved class)) = search depth 20
+checked (encoding_after c_function) = (
+  fine_texts full_figures 0 function_texts (λ f. call (encoding_after (of_c f))) no_function_begins_another refl
+      (λ f. refl),
+  refl,
+  refl,
+  local_texts full_figures anything 0 function_texts (λ f. call (encoding_after (of_c f))) (λ f. refl),
+  local_texts full_figures others 0 function_texts (λ f. call (encoding_after (of_c f))) (λ f. refl),
+)
+checked (encoding_after table_of_class) = search depth 20
+checked (encoding_after type_information) = search
+checked (encoding_after virtual_call) = search depth 20
+checked (offsets_of adjustor) = search
+checked (offsets_of vtordisp) = search
+checked (offsets_of vtordispex) = search depth 20
+checked (numbers zero) = search
+checked (numbers (suc n)) = search
+checked (unsigned (pos n)) = search
+checked (unsigned (negsuc n)) = search
+checked (symbol_after hashed) = search depth 20
+checked (symbol_after string) = search depth 20
+checked (symbol_after descriptor) = search depth 20
+checked (symbol_after (guard_of kind)) = search depth 20
+checked (string_of width length None) = search
+checked (string_of width length (Some bytes)) = search
 checked (variable_end of_pointer) = search depth 20
 checked (variable_end of_member_pointer) = search depth 20
 checked (variable_end of_value) = search depth 20
 checked (operator_after (plain_operator o)) = search
+checked (operator_after (operator_word row)) = search
 checked (operator_after (operator_by_row r)) = search
+checked (operator_after base_class) = search depth 20
 checked (name_row frame) = search depth 20
 checked (name_row r) = search depth 20
 checked (anonymous_kept true ds) = search
@@ -180,7 +265,13 @@ checked (type_row q r) = search depth 20
 checked (type_after q extended) = search
 checked (argument_after empty_pack) = search
 checked (argument_after alias) = search
-checked (argument_after (argument_by_row r)) = search
+checked (argument_after typed) = search
+checked (argument_after (argument_value v)) = search
+checked (value_after (value_by_row r)) = search
+checked (value_after (of_symbol row)) = search depth 20
+checked (value_after (offsets n)) = search
+checked (value_after (member_offsets zero)) = search depth 30
+checked (value_after (member_offsets (suc n))) = search depth 30
 checked (type_ q) = (
   fine_text_or full_figures 0 type_texts (λ f. call (type_after q f))
       (node (letter base_type base_types >>= λ b. give (base b q)))
@@ -215,6 +306,36 @@ checked encoding = (
   refl,
   (local_texts full_figures anything 1 variable_texts (λ k. call (variable k)) (λ k. refl), search),
   (local_texts full_figures others 1 variable_texts (λ k. call (variable k)) (λ k. refl), search),
+)
+checked symbol = (
+  (tt, λ _. (refl, (tt, λ _. refl, λ _. refl), (refl, (tt, λ _. refl, λ _. refl), refl)), λ _. refl),
+  refl,
+  refl,
+  search depth 30,
+  search depth 30,
+)
+checked marked_symbol = (
+  fine_text_or full_figures 3 symbol_texts (λ f. call (symbol_after f)) (call operator_symbol) no_symbol_begins_another
+      refl (λ f. refl) refl,
+  refl,
+  refl,
+  (local_texts full_figures anything 1 symbol_texts (λ f. call (symbol_after f)) (λ f. refl), search),
+  (local_texts full_figures others 1 symbol_texts (λ f. call (symbol_after f)) (λ f. refl), search),
+)
+checked argument = (
+  fine_text_or full_figures 1 argument_texts (λ f. call (argument_after f)) (call (type_ 0)) no_argument_begins_another
+      refl (λ f. refl) refl,
+  refl,
+  refl,
+  (local_texts full_figures anything 1 argument_texts (λ f. call (argument_after f)) (λ f. refl), search),
+  (local_texts full_figures others 1 argument_texts (λ f. call (argument_after f)) (λ f. refl), search),
+)
+checked template_value = (
+  fine_texts full_figures 0 value_texts (λ v. call (value_after v)) no_value_begins_another refl (λ v. refl),
+  refl,
+  refl,
+  local_texts full_figures anything 1 value_texts (λ v. call (value_after v)) (λ v. refl),
+  local_texts full_figures others 1 value_texts (λ v. call (value_after v)) (λ v. refl),
 )
 checked (arrays q) = search depth 20
 checked (pointer q) = search depth 30

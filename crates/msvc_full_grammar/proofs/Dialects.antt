@@ -1,14 +1,17 @@
 -- Full has the laws of a dialect.
-use Rattle.std.proofs.Common.{ℕ, List}
+use Rattle.std.proofs.Common.{ℕ, List, [], ◌∷◌, ◌++◌, ◌≡◌}
+use Prim.Native.Char.{code}
 use Rattle.std.specs.Prelude.{codes}
 use Rattle.msvc_nodes.specs.Trees.{SymbolTree}
-use Rattle.msvc_rules.specs.Reads.{DerivesIn, Reads, a_literal, called, in_a_row, where_it_holds}
+use Rattle.msvc_rules.specs.Reads.{DerivesIn, Reads, a_literal, called, in_a_row, the_first, the_second}
+use Rattle.msvc_rules.specs.Reads.{where_it_holds}
 use Rattle.msvc_rules.specs.Rejections.{begins_with}
-use Rattle.msvc_rules.specs.Rules.{Condition, Grammar, Rule, call, here, literal, ◌>>=◌}
-use Rattle.msvc_rules.specs.Sorts.{Sort, Value, nothing}
+use Rattle.msvc_rules.specs.Rules.{Condition, Grammar, Rule, call, here, literal, literal_or, ◌>>=◌}
+use Rattle.msvc_rules.specs.Sorts.{Sort, Value, nothing, symbol_tree}
 use Rattle.msvc_rules.specs.State.{Note, State}
 use Rattle.msvc_rules.proofs.Dialects.{Lawful, laws_of}
 use Rattle.msvc_full_grammar.specs.Grammar.{full_grammar, grammar}
+use Rattle.msvc_full_grammar.specs.Productions.{symbol}
 use Rattle.msvc_full_grammar.specs.Parsed.{FullLaws, full_dialect}
 use Rattle.msvc_full_grammar.proofs.Checks.{full_figures, full_fit}
 use Rattle.msvc_full_grammar.proofs.DigitPlaces.{full_placing}
@@ -32,11 +35,23 @@ literal_begins : {G : Grammar} {a : Sort} {l : List ℕ} {f : Value nothing → 
     {s t : State} {v : Value a} → Reads G a (literal l >>= f) left s v rest t → begins_with l left
 literal_begins (in_a_row c d) = begins_by c
 
+-- a text that begins with another begins with the first byte of this
+first_of : (l left : List ℕ) (b : ℕ) → begins_with (b ∷ l) left → begins_with (b ∷ []) left
+first_of l left b (rest, e) = (l ++ rest, e)
+
+-- a hash or any other symbol begins with a question mark
+hash_or_symbol : {r : Rule full_grammar.family symbol_tree} {left rest : List ℕ} {s t : State} {v : SymbolTree}
+    → Reads full_grammar symbol_tree (literal_or (codes "??@") r (call symbol)) left s v rest t
+    → begins_with (codes "?") left
+unfolding grammar
+hash_or_symbol {left = left} (the_first d) = first_of (codes "?@") left (code "?") (literal_begins d)
+hash_or_symbol (the_second d) = literal_begins (rule_of (under d))
+
 -- a symbol begins with a question mark
 begun : (text : List ℕ) (tree : SymbolTree) (rest : List ℕ) (notes : List Note)
     → DerivesIn full_grammar text tree rest notes → begins_with (codes "?") text
 unfolding grammar
-begun text tree rest notes d = literal_begins (rule_of (under (rule_of d.1)))
+begun text tree rest notes d = hash_or_symbol (under (rule_of d.1))
 
 pub full_lawful : Lawful full_dialect
 full_lawful =

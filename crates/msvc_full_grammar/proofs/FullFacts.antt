@@ -1,11 +1,11 @@
 -- Worked symbols: the trees that Full reads of a text, and texts that it refuses. A name's digit stands in a text only
 -- where no two names were compared before it, since the test of equality isn't computed.
 use Rattle.std.proofs.Common.{ℕ, List, [], ◌∷◌, Option, Some, None, ◌≡◌, true, false, codes, refl}
-use Rattle.std.specs.Prelude.{option_map}
+use Rattle.std.specs.Prelude.{negsuc, option_map, pos}
 use Prim.Native.String.{String}
 use Rattle.msvc_nodes.specs.Trees.{NameTree, SymbolTree, TypeTree, spelled, no_names, names, no_types, types}
 use Rattle.msvc_nodes.specs.Trees.{name_trees, type_trees, plain, base, tagged, pointing, function, member_function}
-use Rattle.msvc_nodes.specs.Trees.{variable, shape, shaped, nested, anonymous, template, operator}
+use Rattle.msvc_nodes.specs.Trees.{variable, shape, shaped, nested, anonymous, template, operator, base_class_descriptor}
 use Rattle.msvc_nodes.specs.declared.kinds.PrimitiveKind.TheVariants as b
 use Rattle.msvc_nodes.specs.declared.kinds.Convention.TheVariants as c
 use Rattle.msvc_nodes.specs.declared.kinds.PointerAffinity.TheVariants as m
@@ -21,7 +21,10 @@ use Rattle.msvc_full_grammar.specs.Grammar.{grammar}
 use Rattle.msvc_full_grammar.specs.Productions.{whole_text}
 use Rattle.msvc_full_grammar.specs.Reading.{read_name}
 use Rattle.msvc_full_grammar.specs.Rows.{integer_row, custom_row, nullptr_row, arrays_row, member_pointer_row}
-use Rattle.msvc_full_grammar.specs.Rows.{extern_c_row, frame_row, literal_operator_row, spaceship_row}
+use Rattle.msvc_full_grammar.specs.Rows.{extern_c_row, frame_row, literal_operator_row, spaceship_row, adjustor_row}
+use Rattle.msvc_full_grammar.specs.Rows.{tables_row, md5_locator_row, string_literal_row, static_guard_row}
+use Rattle.msvc_full_grammar.specs.Rows.{type_descriptor_row, address_row, offsets_row}
+use Rattle.msvc_full_grammar.specs.Strings.{decoded}
 
 -- the tree that is read of a text, and the bytes left
 abbrev read_of : String → Option (SymbolTree × List ℕ)
@@ -225,10 +228,6 @@ pub no_operator_1 : read_of "??_P4A@@QEAAHH@Z" ≡ None
 unfolding read_name read_name_in read_within read_by part_here counting grammar
 no_operator_1 = refl
 
-pub no_operator_2 : read_of "??_C@_01A@a@" ≡ None
-unfolding read_name read_name_in read_within read_by part_here counting grammar
-no_operator_2 = refl
-
 -- texts that no type begins with
 pub no_type_1 : read_of "?f@@YAX_D@Z" ≡ None
 unfolding read_name read_name_in read_within read_by part_here counting grammar
@@ -242,14 +241,87 @@ pub no_type_3 : read_of "?x@@3?4A" ≡ None
 unfolding read_name read_name_in read_within read_by part_here counting grammar
 no_type_3 = refl
 
--- what no function begins with, and a class whose functions are thunks
-pub no_function_1 : read_of "?f@@$$J0YAXXZ" ≡ None
+-- no function is of C twice
+pub no_function : read_of "?f@@$$J09" ≡ None
 unfolding read_name read_name_in read_within read_by part_here counting grammar
-no_function_1 = refl
+no_function = refl
 
-pub no_function_2 : read_of "?f@C@@W3AEXXZ" ≡ None
+-- a function of C, and one that moves its this
+pub a_function_of_c : read_of "?f@@$$J0YAXXZ" ≡ whole (source "f") []
+    (member_function 264 c.Cdecl (types (base b.Void 0) no_types) 0 (base b.Void 0))
 unfolding read_name read_name_in read_within read_by part_here counting grammar
-no_function_2 = refl
+a_function_of_c = refl
+
+pub a_thunk : read_of "?f@@W?3AEXXZ" ≡ whole (source "f") []
+    (shape adjustor_row 0 (plus 4294967292 ∷ []) [] no_names (types
+    (member_function 161 c.Thiscall (types (base b.Void 0) no_types) 0 (base b.Void 0)) no_types))
+unfolding read_name read_name_in read_within read_by part_here counting grammar
+a_thunk = refl
+
+-- a table for two classes
+pub a_table : read_of "??_7A@@6BB@@C@@@" ≡ whole (operator o.VFTable) (source "A" ∷ [])
+    (shape tables_row 1 [] [] (names (class_of (source "B")) (names (class_of (source "C")) no_names)) no_types)
+unfolding read_name read_name_in read_within read_by part_here counting grammar
+a_table = refl
+
+-- hashes of a name and of a locator
+pub a_hash : read_of "??@ab@rest" ≡ Some (
+  record {
+    name = spelled s.Md5 (codes "ab");
+    scope = no_names;
+    symbol_type = plain p.None;
+  },
+  codes "rest",
+)
+unfolding read_name read_name_in read_within read_by part_here counting grammar
+a_hash = refl
+
+pub a_locator : read_of "??@ab@??_R4@" ≡ whole (shaped md5_locator_row 0 [] (codes "ab") no_names no_types) []
+    (plain p.None)
+unfolding read_name read_name_in read_within read_by part_here counting grammar
+a_locator = refl
+
+-- a string of two bytes, of which a ? and a digit stand for one
+pub a_string : read_of "??_C@_01A@?0@" ≡ whole (shaped string_literal_row 0 (plus 2 ∷ plus 44 ∷ []) [] no_names no_types)
+    [] (plain p.None)
+unfolding read_name read_name_in read_within read_by part_here counting grammar decoded
+a_string = refl
+
+pub no_string : read_of "??_C@_01A@?_@" ≡ None
+unfolding read_name read_name_in read_within read_by part_here counting grammar decoded
+no_string = refl
+
+-- the second guard of a function
+pub a_guard : read_of "??_Bf@@51" ≡ whole (shaped static_guard_row 0 (plus 2 ∷ []) [] no_names no_types)
+    (source "f" ∷ []) (plain p.None)
+unfolding read_name read_name_in read_within read_by part_here counting grammar
+a_guard = refl
+
+-- a descriptor of a type, and a part of one of a class
+pub a_descriptor : read_of "??_R0H@8" ≡ whole (shaped type_descriptor_row 0 [] [] no_names no_types) []
+    (variable (base b.Int 0) v.Global 0)
+unfolding read_name read_name_in read_within read_by part_here counting grammar
+a_descriptor = refl
+
+pub a_base_class : read_of "??_R1A@?0A@EA@B@@8" ≡ whole (base_class_descriptor (pos 0) (negsuc 0) (pos 0) (pos 64)) (source "B" ∷ [])
+    (plain p.Rtti)
+unfolding read_name read_name_in read_within read_by part_here counting grammar
+a_base_class = refl
+
+-- the address of a variable as an argument
+pub an_address : read_of "?x@@3U?$A@$1?y@@3HA@@A" ≡ whole (source "x") [] (variable
+    (tagged t.Struct (template (source "A") (types
+    (shape address_row 0 [] [] (names (nested (source "y") no_names (variable (base b.Int 0) v.Global 0)) no_names)
+    no_types) no_types)) no_names 0) v.Global 0)
+unfolding read_name read_name_in read_within read_by part_here counting grammar
+an_address = refl
+
+-- offsets of a pointer to a member
+pub some_offsets : read_of "?x@@3U?$A@$FA@?0@@A" ≡ whole (source "x") [] (variable
+    (tagged t.Struct (template (source "A") (types (shape offsets_row 0
+    (plus 0 ∷ record { is_negative = true; value = 1 } ∷ []) [] no_names no_types) no_types)) no_names 0) v.Global 0)
+unfolding read_name read_name_in read_within read_by part_here counting grammar
+some_offsets = refl
 
 -- a text begins with ?
 pub no_question_mark : read_of ".?AUA@@" ≡ None

@@ -1,26 +1,34 @@
 -- That each production of Full gives the names that it was given, and no bytes where a row has none.
-use Rattle.std.proofs.Common.{ℕ, zero, suc, List, [], ◌∷◌, Bool, true}
+use Rattle.std.proofs.Common.{ℕ, zero, suc, List, [], ◌∷◌, Bool, true, None, Some}
+use Rattle.std.specs.Prelude.{pos, negsuc}
 use Rattle.std.proofs.Common.{◌≡◌}
 use Rattle.std.proofs.Common.{false, refl}
 use Rattle.msvc_nodes.specs.EachName.{EachNameOfName, EachNameOfNames, EachNameOfType, EachNameOfTypes}
 use Rattle.msvc_nodes.specs.Trees.{NameTree, TypeTree, name_trees, type_trees}
 use Rattle.msvc_rules.specs.Rules.{Rule, call, every}
 use Rattle.msvc_rules.specs.Sorts.{Sort}
-use Rattle.msvc_full_grammar.specs.Forms.{absent, present, plain_operator, operator_by_row, encoding_by_row}
+use Rattle.msvc_full_grammar.specs.Forms.{absent, present, plain_operator, operator_word, operator_by_row, base_class}
+use Rattle.msvc_full_grammar.specs.Forms.{encoding_by_row, thunk_of, c_function, table_of_class, type_information, virtual_call}
+use Rattle.msvc_full_grammar.specs.Forms.{adjustor, vtordisp, vtordispex, hashed, string, descriptor, guard_of}
+use Rattle.msvc_full_grammar.specs.Forms.{value_by_row, of_symbol, offsets, member_offsets}
 use Rattle.msvc_full_grammar.specs.Forms.{free_function, function_of, of_pointer, of_member_pointer, of_value, named}
 use Rattle.msvc_full_grammar.specs.Forms.{pointer_with, reference_by, arrayed, function_with, the_same, qualified}
-use Rattle.msvc_full_grammar.specs.Forms.{type_by_row, extended, empty_pack, alias, argument_by_row}
+use Rattle.msvc_full_grammar.specs.Forms.{type_by_row, extended, empty_pack, alias, typed, argument_value}
 use Rattle.msvc_full_grammar.specs.Rows.{Field, a_number, a_count, a_type_name, a_source_name, a_symbol, a_text}
 use Rattle.msvc_full_grammar.specs.Rows.{fields_of_type, fields_of_name, Held, nothing_held, with_number, with_name}
-use Rattle.msvc_full_grammar.specs.Rows.{TypeRow, NameRow, integer, custom, nullptr, extern_c, frame, literal_operator}
-use Rattle.msvc_full_grammar.specs.Rows.{spaceship}
-use Rattle.msvc_full_grammar.specs.Grammar.{grammar, full_grammar, fields_rule}
+use Rattle.msvc_full_grammar.specs.Rows.{TypeRow, NameRow, integer, custom, nullptr, extern_c}
+use Rattle.msvc_full_grammar.specs.Rows.{frame, literal_operator}
+use Rattle.msvc_full_grammar.specs.Grammar.{grammar, full_grammar, fields_rule, of_c}
 use Rattle.msvc_full_grammar.specs.Letters.{type_texts, argument_texts, encoding_texts, operator_texts, variable_texts}
+use Rattle.msvc_full_grammar.specs.Letters.{symbol_texts, function_texts, value_texts}
 use Rattle.msvc_full_grammar.specs.Productions.{Production, template_symbol, named_symbol, encoding, other_encoding}
 use Rattle.msvc_full_grammar.specs.Productions.{encoding_after, variable, variable_end, operator_name, operator_after}
 use Rattle.msvc_full_grammar.specs.Productions.{class_symbol, template_name, anonymous_kept, function_type}
 use Rattle.msvc_full_grammar.specs.Productions.{own_qualifiers, type_, type_after, positive}
 use Rattle.msvc_full_grammar.specs.Productions.{lengths, argument, argument_after, name_row, type_row}
+use Rattle.msvc_full_grammar.specs.Productions.{marked_symbol, operator_symbol}
+use Rattle.msvc_full_grammar.specs.Productions.{numbers, unsigned, whole_hash, symbol_after, string_of, offsets_of}
+use Rattle.msvc_full_grammar.specs.Productions.{guard_name, targets, template_value, value_after}
 use Rattle.msvc_rules.proofs.NamesInText.{Each, Gives, gives_texts, ascii, each-last, Named}
 use Rattle.msvc_rules.proofs.FirstSets.{if_both}
 
@@ -67,7 +75,6 @@ module _ (P : List ℕ → Type 0) (none : P []) where
   names_ascii : (r : NameRow) → every field_ascii (fields_of_name r) ≡ true
   names_ascii frame = refl
   names_ascii literal_operator = refl
-  names_ascii spaceship = refl
 
   types_ascii : (r : TypeRow) → every field_ascii (fields_of_type r) ≡ true
   types_ascii integer = refl
@@ -77,6 +84,20 @@ module _ (P : List ℕ → Type 0) (none : P []) where
 
   pub gives : {a : Sort} (n : Production a) → Gives full_grammar P (grammar n)
   unfolding Gives grammar
+  gives marked_symbol = (gives_texts full_grammar P symbol_texts (λ f. call (symbol_after f)) refl (λ f. tt), tt)
+  gives operator_symbol = (tt, λ n h. (tt, λ ns k. (tt, λ t m. (h, in-names ns k, m))))
+  gives whole_hash = search depth 60
+  gives (symbol_after hashed) = search depth 60
+  gives (symbol_after string) = search depth 60
+  gives (symbol_after descriptor) = search depth 60
+  gives (symbol_after (guard_of kind)) = (tt, λ ns k. (tt, λ n h. (tt, λ t m. (h, in-names ns k, m))))
+  gives (string_of width length None) = search depth 60
+  gives (string_of width length (Some bytes)) = (none, tt, tt)
+  gives (guard_name kind) = search depth 60
+  gives (numbers zero) = search depth 60
+  gives (numbers (suc n)) = search depth 60
+  gives (unsigned (pos n)) = search depth 60
+  gives (unsigned (negsuc n)) = search depth 60
   gives template_symbol = (
     tt,
     λ n h. (
@@ -94,12 +115,23 @@ module _ (P : List ℕ → Type 0) (none : P []) where
   gives (encoding_after (encoding_by_row r)) = tt
   gives (encoding_after free_function) = tt
   gives (encoding_after (function_of class)) = (tt, λ f h. (in-types f.1.1.1 h.1.1.1, h.1.1.0))
+  gives (encoding_after (thunk_of moved class)) = (tt, λ zs _. (tt, λ f h. (none, tt, (h, tt))))
+  gives (encoding_after c_function) =
+      gives_texts full_grammar P function_texts (λ f. call (encoding_after (of_c f))) refl (λ f. tt)
+  gives (encoding_after table_of_class) = search in-names depth 60
+  gives (encoding_after type_information) = search depth 60
+  gives (encoding_after virtual_call) = search depth 60
+  gives (offsets_of adjustor) = search depth 60
+  gives (offsets_of vtordisp) = search depth 60
+  gives (offsets_of vtordispex) = search depth 60
   gives (variable_end of_pointer) = search depth 60
   gives (variable_end of_member_pointer) = search depth 60
   gives (variable_end of_value) = search depth 60
   gives operator_name = gives_texts full_grammar P operator_texts (λ o. call (operator_after o)) refl (λ o. tt)
   gives (operator_after (plain_operator o)) = tt
+  gives (operator_after (operator_word row)) = (none, tt, tt)
   gives (operator_after (operator_by_row r)) = tt
+  gives (operator_after base_class) = search depth 60
   gives (name_row r) =
       gives_fields (fields_of_name r) nothing_held _ (names_ascii r)
       (λ h g. (none, in-names h.names g.0, in-types h.types g.1)) (tt, tt)
@@ -131,7 +163,13 @@ module _ (P : List ℕ → Type 0) (none : P []) where
   gives argument = (gives_texts full_grammar P argument_texts (λ f. call (argument_after f)) refl (λ f. tt), tt)
   gives (argument_after empty_pack) = search depth 60
   gives (argument_after alias) = (tt, λ s h. (h.0, in-names s.1 h.1))
-  gives (argument_after (argument_by_row r)) = tt
+  gives (argument_after typed) = (tt, λ t h. (tt, λ v k. (none, tt, (k, (h, tt)))))
+  gives (argument_after (argument_value v)) = tt
+  gives template_value = gives_texts full_grammar P value_texts (λ v. call (value_after v)) refl (λ v. tt)
+  gives (value_after (value_by_row r)) = tt
+  gives (value_after (of_symbol row)) = search depth 60
+  gives (value_after (offsets n)) = search depth 60
+  gives (value_after (member_offsets n)) = search depth 60
   gives _ = search depth 60
 
 pub full_named : Named full_grammar

@@ -1,22 +1,26 @@
 -- That each production of Full counts the nodes of its value.
-use Rattle.std.proofs.Common.{ℕ, zero, suc, List, [], ◌∷◌, ◌++◌, true, false}
+use Rattle.std.proofs.Common.{ℕ, zero, suc, List, [], ◌∷◌, ◌++◌, true, false, None, Some}
+use Rattle.std.specs.Prelude.{pos, negsuc}
 use Rattle.std.proofs.Common.{◌≡◌, ◌+◌, refl, arith}
 use Rattle.msvc_nodes.specs.Trees.{NameTree, name_trees, type_trees}
 use Rattle.msvc_rules.specs.Counts.{name_count, names_count, types_count}
 use Rattle.msvc_rules.specs.Rules.{Rule, call}
 use Rattle.msvc_rules.specs.Sorts.{Sort}
-use Rattle.msvc_full_grammar.specs.Forms.{absent, present, plain_operator, operator_by_row, encoding_by_row}
+use Rattle.msvc_full_grammar.specs.Forms.{absent, present, plain_operator, operator_word, operator_by_row, base_class}
+use Rattle.msvc_full_grammar.specs.Forms.{encoding_by_row, thunk_of, c_function, table_of_class, type_information, virtual_call}
+use Rattle.msvc_full_grammar.specs.Forms.{adjustor, vtordisp, vtordispex, hashed, string, descriptor, guard_of}
+use Rattle.msvc_full_grammar.specs.Forms.{value_by_row, of_symbol, offsets, member_offsets}
 use Rattle.msvc_full_grammar.specs.Forms.{free_function, function_of, of_pointer, of_member_pointer, of_value, named}
 use Rattle.msvc_full_grammar.specs.Forms.{pointer_with, reference_by, arrayed, function_with, the_same, qualified}
-use Rattle.msvc_full_grammar.specs.Forms.{type_by_row, extended, empty_pack, alias, argument_by_row}
+use Rattle.msvc_full_grammar.specs.Forms.{type_by_row, extended, empty_pack, alias, typed, argument_value}
 use Rattle.msvc_full_grammar.specs.Rows.{Field, a_number, a_count, a_type_name, a_source_name, a_symbol, a_text}
 use Rattle.msvc_full_grammar.specs.Rows.{fields_of_type, fields_of_name, Held, nothing_held, with_number, with_name}
 use Rattle.msvc_full_grammar.specs.Grammar.{grammar, full_grammar, new_source_name, new_template, template_inside}
-use Rattle.msvc_full_grammar.specs.Grammar.{nested_symbol, fields_rule}
+use Rattle.msvc_full_grammar.specs.Grammar.{nested_symbol, fields_rule, of_c}
 use Rattle.msvc_full_grammar.specs.Letters.{digits, hexadecimal, hexadecimal_codes, qualifiers, member_qualifiers}
 use Rattle.msvc_full_grammar.specs.Letters.{pointer_sizes, restricts, alignments, reference_qualifiers, base_types}
 use Rattle.msvc_full_grammar.specs.Letters.{extended_types, type_texts, argument_texts, conventions, encoding_texts}
-use Rattle.msvc_full_grammar.specs.Letters.{variable_texts, operator_texts}
+use Rattle.msvc_full_grammar.specs.Letters.{variable_texts, operator_texts, symbol_texts, function_texts, value_texts, widths}
 use Rattle.msvc_full_grammar.specs.Productions.{Production, count, letters, number, whole_text, symbol, template_symbol}
 use Rattle.msvc_full_grammar.specs.Productions.{named_symbol, encoding, other_encoding, encoding_after, variable}
 use Rattle.msvc_full_grammar.specs.Productions.{variable_end, repeated_class, repeated_scope, repeated_name}
@@ -27,6 +31,10 @@ use Rattle.msvc_full_grammar.specs.Productions.{function_type}
 use Rattle.msvc_full_grammar.specs.Productions.{signature, own_qualifiers, marks, returned, function_parameters}
 use Rattle.msvc_full_grammar.specs.Productions.{parameters, parameter, type_, type_after, pointer, reference, arrays}
 use Rattle.msvc_full_grammar.specs.Productions.{dimensions, positive, lengths, arguments, argument, argument_after}
+use Rattle.msvc_full_grammar.specs.Productions.{numbers, small_number, unsigned, whole_hash, symbol_after, string_of}
+use Rattle.msvc_full_grammar.specs.Productions.{marked_symbol, operator_symbol}
+use Rattle.msvc_full_grammar.specs.Productions.{guard_name, guard_index, offsets_of, targets, result_type}
+use Rattle.msvc_full_grammar.specs.Productions.{template_value, value_after}
 use Rattle.msvc_rules.proofs.NodesCounted.{Makes, makes_optional, makes_texts, no_nodes, Counted}
 
 module _ (w : ℕ) where
@@ -91,8 +99,32 @@ module _ (w : ℕ) where
   makes count = ((no_nodes digits, λ _. refl), (refl, λ _. refl))
   makes (letters value) = ((refl, λ _. refl), (no_nodes hexadecimal, λ _. refl))
   makes number = ((refl, λ _. (refl, λ _. refl)), (refl, λ _. refl))
-  makes whole_text = refl
-  makes symbol = (refl, λ _. ((refl, λ _. refl), refl))
+  makes (numbers zero) = refl
+  makes (numbers (suc n)) = (refl, λ z. (refl, λ zs. refl))
+  makes small_number = (refl, λ n. refl)
+  makes (unsigned (pos n)) = refl
+  makes (unsigned (negsuc n)) = tt
+  makes whole_text = ((refl, λ _. refl), refl)
+  makes whole_hash =
+      (refl, λ ds. (((refl, λ _. omega arith), omega arith), λ n. (omega arith, λ t. omega arith)))
+  makes symbol = (refl, λ _. ((refl, λ _. refl), ((refl, λ _. refl), refl)))
+  makes marked_symbol = (makes_texts full_grammar w symbol_texts (λ f. call (symbol_after f)) (λ f. refl), refl)
+  makes operator_symbol = (refl, λ n. (refl, λ ns. (refl, λ t. omega arith)))
+  makes (symbol_after hashed) = (refl, λ ds. (omega arith, λ n. (omega arith, λ t. omega arith)))
+  makes (symbol_after string) = (
+    refl,
+    λ _. (
+      no_nodes widths,
+      λ width. (refl, λ length. (refl, λ _. (refl, λ bs. (refl, λ n. (omega arith, λ t. omega arith))))),
+    ),
+  )
+  makes (symbol_after descriptor) =
+      (omega arith, λ n. ((refl, λ t. omega arith), λ t. (refl, λ _. omega arith)))
+  makes (symbol_after (guard_of kind)) = (refl, λ ns. (refl, λ n. (refl, λ t. omega arith)))
+  makes (string_of width length None) = tt
+  makes (string_of width length (Some bytes)) = omega arith
+  makes (guard_name kind) = (((refl, refl), λ _. (refl, λ zs. omega arith)))
+  makes guard_index = (refl, (refl, λ z. (refl, λ i. refl)))
   makes template_symbol = (
     refl,
     λ n. (
@@ -110,6 +142,17 @@ module _ (w : ℕ) where
   makes (encoding_after (encoding_by_row r)) = refl
   makes (encoding_after free_function) = refl
   makes (encoding_after (function_of class)) = (refl, λ f. omega arith)
+  makes (encoding_after (thunk_of moved class)) = (refl, λ zs. (refl, λ f. omega arith))
+  makes (encoding_after c_function) =
+      makes_texts full_grammar w function_texts (λ f. call (encoding_after (of_c f))) (λ f. refl)
+  makes (encoding_after table_of_class) = (no_nodes qualifiers, λ q. (refl, λ ns. omega arith))
+  makes (encoding_after type_information) = omega arith
+  makes (encoding_after virtual_call) =
+      (refl, λ z. (refl, λ _. (no_nodes conventions, λ c. omega arith)))
+  makes (offsets_of adjustor) = (refl, λ z. refl)
+  makes (offsets_of vtordisp) = (refl, λ v. (refl, λ z. refl))
+  makes (offsets_of vtordispex) = (refl, λ p. (refl, λ o. (refl, λ v. (refl, λ z. refl))))
+  makes targets = ((refl, λ _. refl), (refl, λ n. (refl, λ ns. omega arith)))
   makes (variable k) = (refl, λ t. (refl, λ _. omega arith))
   makes (variable_end of_pointer) = (refl, λ _. (no_nodes qualifiers, λ _. refl))
   makes (variable_end of_member_pointer) = (refl, λ _. (no_nodes qualifiers, λ _. (refl, λ _. refl)))
@@ -121,7 +164,10 @@ module _ (w : ℕ) where
       ((no_nodes digits, λ _. refl), ((refl, λ _. refl), ((refl, λ _. refl), makes_source)))
   makes operator_name = makes_texts full_grammar w operator_texts (λ o. call (operator_after o)) (λ o. refl)
   makes (operator_after (plain_operator o)) = omega arith
+  makes (operator_after (operator_word row)) = omega arith
   makes (operator_after (operator_by_row r)) = refl
+  makes (operator_after base_class) =
+      (refl, λ a. (refl, λ b. (refl, λ c. (refl, λ d. omega arith))))
   makes (name_row r) =
       makes_fields (fields_of_name r) nothing_held _ w (0 + w) (λ h k e. omega (arith, e)) (omega arith)
   makes type_name = ((no_nodes digits, λ _. refl), ((refl, λ _. makes_kept), makes_source))
@@ -158,10 +204,8 @@ module _ (w : ℕ) where
       λ _. (makes_optional full_grammar w alignments, λ _. refl),
     ),
   )
-  makes returned = (
-    (refl, λ _. omega arith),
-    ((refl, λ _. (no_nodes qualifiers, λ _. refl)), refl),
-  )
+  makes returned = ((refl, λ _. omega arith), refl)
+  makes result_type = ((refl, λ _. (no_nodes qualifiers, λ _. refl)), refl)
   makes function_parameters = ((refl, λ _. omega arith), refl)
   makes parameters =
       ((refl, λ _. refl), ((refl, λ _. omega arith), (refl, λ t. (refl, λ ts. omega arith))))
@@ -217,7 +261,14 @@ module _ (w : ℕ) where
   makes argument = (makes_texts full_grammar w argument_texts (λ f. call (argument_after f)) (λ f. refl), refl)
   makes (argument_after empty_pack) = omega arith
   makes (argument_after alias) = (refl, λ s. omega arith)
-  makes (argument_after (argument_by_row r)) = refl
+  makes (argument_after typed) = (refl, λ t. (refl, λ v. omega arith))
+  makes (argument_after (argument_value v)) = refl
+  makes template_value = makes_texts full_grammar w value_texts (λ v. call (value_after v)) (λ v. refl)
+  makes (value_after (value_by_row r)) = refl
+  makes (value_after (of_symbol row)) = (makes_nested, λ x. omega arith)
+  makes (value_after (offsets n)) = (refl, λ zs. omega arith)
+  makes (value_after (member_offsets n)) =
+      ((refl, λ zs. omega arith), (makes_nested, λ x. (refl, λ zs. omega arith)))
 
 pub full_counted : Counted full_grammar
 full_counted = record { makes = λ w n. makes w n }

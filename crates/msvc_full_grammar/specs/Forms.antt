@@ -7,10 +7,25 @@ pub use Rattle.msvc_full_grammar.specs.declared.forms.OwnQualifiers.{OwnQualifie
 pub use Rattle.msvc_full_grammar.specs.declared.forms.OwnQualifiers.TheVariants.{Absent as absent, Present as present}
 pub use Rattle.msvc_full_grammar.specs.declared.forms.OperatorForm.{OperatorForm}
 pub use Rattle.msvc_full_grammar.specs.declared.forms.OperatorForm.TheVariants.{Plain as plain_operator}
+pub use Rattle.msvc_full_grammar.specs.declared.forms.OperatorForm.TheVariants.{Word as operator_word}
 pub use Rattle.msvc_full_grammar.specs.declared.forms.OperatorForm.TheVariants.{Row as operator_by_row}
+pub use Rattle.msvc_full_grammar.specs.declared.forms.OperatorForm.TheVariants.{BaseClass as base_class}
+pub use Rattle.msvc_full_grammar.specs.declared.forms.ValueForm.{ValueForm}
+pub use Rattle.msvc_full_grammar.specs.declared.forms.ValueForm.TheVariants.{Row as value_by_row, Symbol as of_symbol}
+pub use Rattle.msvc_full_grammar.specs.declared.forms.ValueForm.TheVariants.{Offsets as offsets}
+pub use Rattle.msvc_full_grammar.specs.declared.forms.ValueForm.TheVariants.{MemberOffsets as member_offsets}
+pub use Rattle.msvc_full_grammar.specs.declared.forms.Adjustment.{Adjustment}
+pub use Rattle.msvc_full_grammar.specs.declared.forms.Adjustment.TheVariants.{Adjustor as adjustor}
+pub use Rattle.msvc_full_grammar.specs.declared.forms.Adjustment.TheVariants.{VtorDisp as vtordisp}
+pub use Rattle.msvc_full_grammar.specs.declared.forms.Adjustment.TheVariants.{VtorDispEx as vtordispex}
+pub use Rattle.msvc_full_grammar.specs.declared.forms.SymbolForm.{SymbolForm}
+pub use Rattle.msvc_full_grammar.specs.declared.forms.SymbolForm.TheVariants.{Hashed as hashed, String as string}
+pub use Rattle.msvc_full_grammar.specs.declared.forms.SymbolForm.TheVariants.{Descriptor as descriptor}
+pub use Rattle.msvc_full_grammar.specs.declared.forms.SymbolForm.TheVariants.{Guard as guard_of}
 pub use Rattle.msvc_full_grammar.specs.declared.forms.ArgumentForm.{ArgumentForm}
 pub use Rattle.msvc_full_grammar.specs.declared.forms.ArgumentForm.TheVariants.{EmptyPack as empty_pack}
-pub use Rattle.msvc_full_grammar.specs.declared.forms.ArgumentForm.TheVariants.{Alias as alias, Row as argument_by_row}
+pub use Rattle.msvc_full_grammar.specs.declared.forms.ArgumentForm.TheVariants.{Alias as alias, Typed as typed}
+pub use Rattle.msvc_full_grammar.specs.declared.forms.ArgumentForm.TheVariants.{Value as argument_value}
 
 -- what the type of a symbol begins with, where the symbol is no variable
 pub data EncodingForm : Type 0 where
@@ -20,6 +35,16 @@ pub data EncodingForm : Type 0 where
   free_function : EncodingForm
   -- a function of this class
   function_of : ℕ → EncodingForm
+  -- a function of this class that moves its this before it calls another one
+  thunk_of : Adjustment → ℕ → EncodingForm
+  -- a function of C, whose class follows
+  c_function : EncodingForm
+  -- a table of a class, and what it is for follows
+  table_of_class : EncodingForm
+  -- nothing follows the names of run-time type information
+  type_information : EncodingForm
+  -- a call of a virtual function by its place in a table
+  virtual_call : EncodingForm
 
 -- what stands after the type of a variable
 pub data VariableEnd : Type 0 where

@@ -1,10 +1,16 @@
 -- Full, the second grammar of symbols. Its trees have the forms that LLVM reads too. Texts stand in the rules, and what
 -- letters stand for is in the tables of Letters.
-use Rattle.std.specs.Prelude.{ℕ, List, [], ◌∷◌, ◌++◌, ◌==◌, ◌+◌, ◌*◌, ◌%◌, ◌^◌, Bool, true, false, Some, None}
+use Rattle.std.specs.Prelude.{ℕ, ℤ, pos, negsuc, List, [], ◌∷◌, ◌++◌, ◌==◌, ◌+◌, ◌*◌, ◌%◌, ◌^◌, Bool, true, false}
+use Rattle.std.specs.Prelude.{Option, Some, None}
+use Rattle.std.specs.Int.{cast_signed, cast_unsigned, int_wrapping_neg, w32}
 use Rattle.std.specs.Prelude.{bit_and, bit_or, suc, zero, codes, if◌then◌else◌}
-use Rattle.msvc_nodes.specs.Trees.{TypeTree, spelled, operator, template, nested, anonymous, shaped, no_names}
-use Rattle.msvc_nodes.specs.Trees.{names, name_trees, plain, base, tagged, pointing, member_function, shape, no_types}
-use Rattle.msvc_nodes.specs.Trees.{types, type_trees}
+use Rattle.msvc_nodes.specs.Trees.{NameTree, TypeTree, spelled, operator, template, nested, anonymous, shaped, no_names}
+use Rattle.msvc_nodes.specs.Trees.{names, name_trees, base, tagged, pointing, member_function, shape, no_types}
+use Rattle.msvc_nodes.specs.Trees.{types, type_trees, base_class_descriptor, vcall_thunk}
+use Rattle.msvc_nodes.specs.declared.nodes.Number.{Number}
+use Rattle.msvc_nodes.specs.declared.kinds.Guard.{Guard}
+use Rattle.msvc_nodes.specs.declared.kinds.Guard.TheVariants as guard_kind
+use Rattle.msvc_nodes.specs.declared.kinds.VarStorageKind.TheVariants as storage_kind
 use Rattle.msvc_nodes.specs.Trees as tree
 use Rattle.msvc_nodes.specs.declared.kinds.PlainType.TheVariants as plain_kind
 use Rattle.msvc_nodes.specs.declared.kinds.PointerAffinity.TheVariants as mark_kind
@@ -16,18 +22,24 @@ use Rattle.msvc_rules.specs.Rules.{◌>>◌, ◌or◌, call, known_name, remembe
 use Rattle.msvc_rules.specs.Rules.{literal_or, node, text_and, text_or, optional, never}
 use Rattle.msvc_rules.specs.Sorts.{Sort, bits, base_type, convention, name_tree, type_tree}
 use Rattle.msvc_full_grammar.specs.Forms.{OwnQualifiers, absent, present}
-use Rattle.msvc_full_grammar.specs.Forms.{plain_operator, operator_by_row}
-use Rattle.msvc_full_grammar.specs.Forms.{encoding_by_row, free_function, function_of}
+use Rattle.msvc_full_grammar.specs.Forms.{plain_operator, operator_word, operator_by_row, base_class}
+use Rattle.msvc_full_grammar.specs.Forms.{EncodingForm, encoding_by_row, free_function, function_of, thunk_of}
+use Rattle.msvc_full_grammar.specs.Forms.{c_function, table_of_class, type_information, virtual_call}
+use Rattle.msvc_full_grammar.specs.Forms.{Adjustment, adjustor, vtordisp, vtordispex}
+use Rattle.msvc_full_grammar.specs.Forms.{hashed, string, descriptor, guard_of}
+use Rattle.msvc_full_grammar.specs.Forms.{value_by_row, of_symbol, offsets, member_offsets}
 use Rattle.msvc_full_grammar.specs.Forms.{VariableEnd, of_pointer, of_member_pointer, of_value}
 use Rattle.msvc_full_grammar.specs.Forms.{named, pointer_with, reference_by, arrayed, function_with, the_same}
 use Rattle.msvc_full_grammar.specs.Forms.{qualified, type_by_row, extended}
-use Rattle.msvc_full_grammar.specs.Forms.{empty_pack, alias, argument_by_row}
+use Rattle.msvc_full_grammar.specs.Forms.{empty_pack, alias, typed, argument_value}
 use Rattle.msvc_full_grammar.specs.Letters.{digits, hexadecimal, hexadecimal_base, capitals, hexadecimal_codes}
 use Rattle.msvc_full_grammar.specs.Letters.{noexcept}
 use Rattle.msvc_full_grammar.specs.Letters.{qualifiers, member_qualifiers, pointer_sizes, restricts, alignments}
 use Rattle.msvc_full_grammar.specs.Letters.{reference_qualifiers, base_types, extended_types, type_texts}
 use Rattle.msvc_full_grammar.specs.Letters.{argument_texts, conventions, global, static, encoding_texts, variable_texts}
-use Rattle.msvc_full_grammar.specs.Letters.{operator_texts, at_sign, label_texts}
+use Rattle.msvc_full_grammar.specs.Letters.{operator_texts, at_sign, label_texts, symbol_texts, value_texts}
+use Rattle.msvc_full_grammar.specs.Letters.{function_texts, c_linkage, widths}
+use Rattle.msvc_full_grammar.specs.Strings.{decoded}
 use Rattle.msvc_full_grammar.specs.Productions.{Production, count, letters, number, symbol, encoding, other_encoding}
 use Rattle.msvc_full_grammar.specs.Productions.{encoding_after, variable, variable_end, repeated_class, repeated_scope}
 use Rattle.msvc_full_grammar.specs.Productions.{repeated_name, symbol_name, operator_name, operator_after, type_name}
@@ -37,7 +49,15 @@ use Rattle.msvc_full_grammar.specs.Productions.{source_name, function_type, sign
 use Rattle.msvc_full_grammar.specs.Productions.{function_parameters, parameters, parameter, type_, type_after, pointer}
 use Rattle.msvc_full_grammar.specs.Productions.{reference, arrays, dimensions, positive, lengths, arguments, argument}
 use Rattle.msvc_full_grammar.specs.Productions.{argument_after, template_symbol, named_symbol, type_row, whole_text}
+use Rattle.msvc_full_grammar.specs.Productions.{numbers, small_number, unsigned, whole_hash, symbol_after, string_of}
+use Rattle.msvc_full_grammar.specs.Productions.{marked_symbol, operator_symbol}
+use Rattle.msvc_full_grammar.specs.Productions.{guard_name, guard_index, offsets_of, targets, result_type}
+use Rattle.msvc_full_grammar.specs.Productions.{template_value, value_after}
 use Rattle.msvc_full_grammar.specs.Rows.{arrays_row, member_pointer_row, frame, type_row_number, name_row_number, Field}
+use Rattle.msvc_full_grammar.specs.Rows.{offsets_row, symbol_offsets_row, typed_row, tables_row, adjustor_row}
+use Rattle.msvc_full_grammar.specs.Rows.{vtordisp_row, vtordispex_row, type_descriptor_row, md5_locator_row}
+use Rattle.msvc_full_grammar.specs.Rows.{static_guard_row, thread_guard_row, string_literal_row}
+use Rattle.msvc_full_grammar.specs.Rows.{wide_string_literal_row}
 use Rattle.msvc_full_grammar.specs.Rows.{a_number, a_count, a_type_name, a_source_name, a_symbol, a_text}
 use Rattle.msvc_full_grammar.specs.Rows.{fields_of_type, fields_of_name, Held, nothing_held, with_number, with_name}
 
@@ -61,11 +81,70 @@ end_of (pointing mark t q) = of_pointer
 end_of (shape row q zs bytes ns ts) = if row == member_pointer_row then of_member_pointer else of_value
 end_of _ = of_value
 
+-- a number without a sign
+abbrev pub plain : ℕ → Number
+plain n = record { is_negative = false; value = n }
+
+abbrev pub each_plain : List ℕ → List Number
+each_plain [] = []
+each_plain (n ∷ ns) = plain n ∷ each_plain ns
+
+-- the low 32 bits of a number, signed
+abbrev pub small : Number → ℤ
+small n = if n.is_negative then int_wrapping_neg w32 (cast_signed w32 (n.value % 2 ^ 32))
+    else cast_signed w32 (n.value % 2 ^ 32)
+
+-- a number of 32 bits with its sign, and one whose bits have no sign
+abbrev pub signed_number : ℤ → Number
+signed_number (pos n) = plain n
+signed_number (negsuc n) = record { is_negative = true; value = suc n }
+
+abbrev pub unsigned_number : ℤ → Number
+unsigned_number z = plain (cast_unsigned w32 z)
+
+-- the same class of function, of C
+abbrev pub of_c : EncodingForm → EncodingForm
+of_c free_function = function_of (bit_or global c_linkage)
+of_c (function_of class) = function_of (bit_or class c_linkage)
+of_c (thunk_of moved class) = thunk_of moved (bit_or class c_linkage)
+of_c form = form
+
+-- the rows of functions that move their this, of guards, and of strings by the width of their characters
+abbrev pub adjusted_row : Adjustment → ℕ
+adjusted_row adjustor = adjustor_row
+adjusted_row vtordisp = vtordisp_row
+adjusted_row vtordispex = vtordispex_row
+
+abbrev pub guard_row : Guard → ℕ
+guard_row guard_kind.Static = static_guard_row
+guard_row guard_kind.Thread = thread_guard_row
+
+abbrev pub string_row : ℕ → ℕ
+string_row width = if width == 0 then string_literal_row else wide_string_literal_row
+
 -- Parts of productions
 
 -- what stands for a type where there is none
 abbrev pub no_type : Rule Production type_tree
-no_type = node (give (plain plain_kind.None))
+no_type = node (give (tree.plain plain_kind.None))
+
+-- a name that is read of no bytes
+abbrev pub made_name : NameTree → Rule Production name_tree
+made_name n = node (give n)
+
+-- the hash of a name
+abbrev pub hash_name : List ℕ → Rule Production name_tree
+hash_name digits = made_name (spelled spelling_kind.Md5 digits)
+
+-- the hash of a name, or of a locator
+abbrev pub whole_hash_name : List ℕ → Rule Production name_tree
+whole_hash_name digits = literal_or (codes "??_R4@")
+    (made_name (shaped md5_locator_row 0 [] digits no_names no_types))
+    (hash_name digits)
+
+-- a variable of the type that a descriptor has
+abbrev pub described : Rule Production type_tree
+described = node (do t ← call result_type; give (tree.variable t storage_kind.Global 0))
 
 -- a name that enters the table of names
 abbrev pub entering_name : Rule Production name_tree → Rule Production name_tree
@@ -102,7 +181,7 @@ nested_symbol = node (do
 -- a field of a row, and what follows with what it holds
 abbrev pub field_rule : {a : Sort} → Field → Held → (Held → Rule Production a) → Rule Production a
 field_rule a_number h f = call number >>= λ n. f (with_number h n)
-field_rule a_count h f = call count >>= λ n. f (with_number h (record { is_negative = false; value = n }))
+field_rule a_count h f = call count >>= λ n. f (with_number h (plain n))
 field_rule a_type_name h f = call type_name >>= λ n. f (with_name h n)
 field_rule a_source_name h f = new_source_name >>= λ n. f (with_name h n)
 field_rule a_symbol h f = nested_symbol >>= λ n. f (with_name h n)
@@ -130,11 +209,77 @@ grammar number =
     literal_or (codes "?")
     (do n ← call count; give (record { is_negative = true; value = n }))
     (do n ← call count; give (record { is_negative = false; value = n }))
+-- as many numbers as the number says
+grammar (numbers zero) = give []
+grammar (numbers (suc n)) = do
+  z ← call number
+  zs ← call (numbers n)
+  give (z ∷ zs)
+-- a number of which the low 32 bits count
+grammar small_number = do
+  n ← call number
+  give (small n)
+grammar (unsigned (pos n)) = give n
+grammar (unsigned (negsuc n)) = never
 -- Symbols.
--- A symbol that is no label.
-grammar whole_text = here (none_of label_texts) (call symbol)
--- A ?, the name, its scope and its type.
-grammar symbol = literal (codes "?") >> literal_or (codes "?$") (call template_symbol) (call named_symbol)
+-- A symbol that is no label. A hash that is no part of a name may be that of a locator.
+grammar whole_text = here (none_of label_texts) (literal_or (codes "??@") (call whole_hash) (call symbol))
+grammar whole_hash = do
+  digits ← up_to at_sign
+  n ← whole_hash_name digits
+  t ← no_type
+  give (record { name = n; scope = no_names; symbol_type = t })
+-- A ?, the name, its scope and its type. A template begins with ?$, and an operator or what has no name with a ?.
+grammar symbol = literal (codes "?")
+    >> literal_or (codes "?$") (call template_symbol)
+    (literal_or (codes "?") (call marked_symbol) (call named_symbol))
+grammar marked_symbol = text_or symbol_texts (λ f. call (symbol_after f)) (call operator_symbol)
+grammar operator_symbol = do
+  n ← call operator_name
+  ns ← call scope
+  t ← call encoding
+  give (record { name = n; scope = name_trees ns; symbol_type = t })
+grammar (symbol_after hashed) = do
+  digits ← up_to at_sign
+  n ← hash_name digits
+  t ← no_type
+  give (record { name = n; scope = no_names; symbol_type = t })
+-- the width of the characters, the length in bytes, a checksum, and the bytes
+grammar (symbol_after string) = do
+  literal (codes "@_")
+  width ← letter bits widths
+  length ← call count
+  _ ← up_to at_sign
+  encoded ← up_to at_sign
+  n ← call (string_of width length (decoded encoded))
+  t ← no_type
+  give (record { name = n; scope = no_names; symbol_type = t })
+-- the type, as a function returns it, and an @8
+grammar (symbol_after descriptor) = do
+  n ← made_name (shaped type_descriptor_row 0 [] [] no_names no_types)
+  t ← described
+  literal (codes "@8")
+  give (record { name = n; scope = no_names; symbol_type = t })
+-- the scope, and the index of the guard behind it
+grammar (symbol_after (guard_of kind)) = do
+  ns ← call scope
+  n ← call (guard_name kind)
+  t ← call encoding
+  give (record { name = n; scope = name_trees ns; symbol_type = t })
+grammar (string_of width length None) = never
+grammar (string_of width length (Some bytes)) =
+    made_name (shaped (string_row width) 0 (each_plain (length ∷ bytes)) [] no_names no_types)
+grammar (guard_name kind) = node (do
+  literal (codes "4IA") or literal (codes "5")
+  zs ← call guard_index
+  give (shaped (guard_row kind) 0 zs [] no_names no_types))
+-- at the end of the text a guard has no index
+grammar guard_index =
+    here at_end (give [])
+    or (do
+      n ← call number
+      i ← call (unsigned (small n))
+      give (plain i ∷ []))
 -- What follows the ?$ of a symbol. The template's name enters the table behind the names of its scope where a variable
 -- follows, and else not at all.
 grammar template_symbol = do
@@ -164,6 +309,38 @@ grammar (encoding_after free_function) = call (function_type absent)
 grammar (encoding_after (function_of class)) = node (do
   f ← call (signature (own_of_class class))
   give (member_function class f.1.0 (type_trees f.1.1.1) f.0 f.1.1.0))
+grammar (encoding_after (thunk_of moved class)) = node (do
+  zs ← call (offsets_of moved)
+  f ← call (encoding_after (function_of class))
+  give (shape (adjusted_row moved) 0 zs [] no_names (types f no_types)))
+grammar (encoding_after c_function) = text_and function_texts (λ f. call (encoding_after (of_c f)))
+-- a qualifier, and the classes that the table is for
+grammar (encoding_after table_of_class) = node (do
+  q ← letter bits qualifiers
+  ns ← call targets
+  give (shape tables_row q [] [] (name_trees ns) no_types))
+grammar (encoding_after type_information) = node (give (tree.plain plain_kind.Rtti))
+grammar (encoding_after virtual_call) = node (do
+  z ← call small_number
+  literal (codes "A")
+  c ← letter convention conventions
+  give (vcall_thunk z c))
+-- the offsets by which a function moves its this, of which the last has no sign
+grammar (offsets_of adjustor) = do
+  z ← call small_number
+  give (unsigned_number z ∷ [])
+grammar (offsets_of vtordisp) = do
+  v ← call small_number
+  z ← call small_number
+  give (signed_number v ∷ unsigned_number z ∷ [])
+grammar (offsets_of vtordispex) = do
+  p ← call small_number
+  o ← call small_number
+  v ← call small_number
+  z ← call small_number
+  give (signed_number p ∷ signed_number o ∷ signed_number v ∷ unsigned_number z ∷ [])
+-- classes up to an @
+grammar targets = literal_or (codes "@") (give []) (do n ← call class_symbol; ns ← call targets; give (n ∷ ns))
 -- a type, and what stands after it by that type
 grammar (variable k) = node (do
   t ← call (type_ 0)
@@ -197,7 +374,15 @@ grammar symbol_name =
     (literal_or (codes "?$") (call template_name) (literal_or (codes "?") (call operator_name) new_source_name))
 grammar operator_name = text_and operator_texts (λ o. call (operator_after o))
 grammar (operator_after (plain_operator o)) = node (give (operator o))
+grammar (operator_after (operator_word row)) = node (give (shaped row 0 [] [] no_names no_types))
 grammar (operator_after (operator_by_row r)) = call (name_row r)
+-- the places of a base class in an object, and its attributes
+grammar (operator_after base_class) = node (do
+  in_class ← call small_number
+  in_table ← call small_number
+  entry ← call small_number
+  attributes ← call small_number
+  give (base_class_descriptor in_class in_table entry attributes))
 -- the fields of a row of names
 grammar (name_row r) = node (fields_rule (fields_of_name r) nothing_held (λ h.
     give (shaped (name_row_number r) 0 h.numbers [] (name_trees h.names) (type_trees h.types))))
@@ -260,17 +445,17 @@ grammar marks = do
   restrict ← optional restricts
   alignment ← optional alignments
   give (bit_or size (bit_or restrict alignment))
--- an @ for no type, as a constructor has none; or a type, before which a ? and a qualifier may stand
-grammar returned =
-    literal_or (codes "@") no_type
-    (literal_or (codes "?") (do q ← letter bits qualifiers; call (type_ q)) (call (type_ 0)))
+-- an @ for no type, as a constructor has none
+grammar returned = literal_or (codes "@") no_type (call result_type)
+-- a type, before which a ? and a qualifier may stand
+grammar result_type = literal_or (codes "?") (do q ← letter bits qualifiers; call (type_ q)) (call (type_ 0))
 -- X for one void, or parameters
 grammar function_parameters =
     literal_or (codes "X") (node (give (base base_kind.Void 0 ∷ []))) (call parameters)
 -- parameters up to an @ or a Z, which adds an ellipsis
 grammar parameters =
     (do literal (codes "@"); give [])
-    or (do literal (codes "Z"); node (give (plain plain_kind.Variadic ∷ [])))
+    or (do literal (codes "Z"); node (give (tree.plain plain_kind.Variadic ∷ [])))
     or here (none_of (codes "@" ∷ codes "Z" ∷ [])) (do t ← call parameter; ts ← call parameters; give (t ∷ ts))
 -- a digit is the type of an entry, and is noted; a type that was read enters the table
 grammar parameter =
@@ -351,11 +536,34 @@ grammar (lengths (suc n)) = do
 -- Arguments of templates, up to an @.
 grammar arguments = literal_or (codes "@") (give []) (do t ← call argument; ts ← call arguments; give (t ∷ ts))
 grammar argument = text_or argument_texts (λ f. call (argument_after f)) (call (type_ 0))
-grammar (argument_after empty_pack) = node (give (plain plain_kind.EmptyPack))
+grammar (argument_after empty_pack) = node (give (tree.plain plain_kind.EmptyPack))
 grammar (argument_after alias) = node (do
   s ← call type_symbol
   give (tagged tag_kind.Alias s.0 (name_trees s.1) 0))
-grammar (argument_after (argument_by_row r)) = call (type_row 0 r)
+-- a value behind its type
+grammar (argument_after typed) = node (do
+  t ← call (type_ 0)
+  v ← call template_value
+  give (shape typed_row 0 [] [] no_names (types v (types t no_types))))
+grammar (argument_after (argument_value v)) = call (value_after v)
+-- Values among the arguments of templates.
+grammar template_value = text_and value_texts (λ v. call (value_after v))
+grammar (value_after (value_by_row r)) = call (type_row 0 r)
+grammar (value_after (of_symbol row)) = node (do
+  x ← nested_symbol
+  give (shape row 0 [] [] (names x no_names) no_types))
+grammar (value_after (offsets n)) = node (do
+  zs ← call (numbers n)
+  give (shape offsets_row 0 zs [] no_names no_types))
+-- the function that is pointed to, if a ? stands, and offsets
+grammar (value_after (member_offsets n)) = node (
+    here (none_of (codes "?" ∷ [])) (do
+      zs ← call (numbers n)
+      give (shape offsets_row 0 zs [] no_names no_types))
+    or (do
+      x ← nested_symbol
+      zs ← call (numbers n)
+      give (shape symbol_offsets_row 0 zs [] (names x no_names) no_types)))
 
 -- Full, as a grammar
 abbrev pub full_grammar : Grammar

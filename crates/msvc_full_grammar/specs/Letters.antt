@@ -1,6 +1,6 @@
 -- What the letters of a symbol of Full stand for, and the texts that types, operators and encodings begin with: the
 -- tables that the productions of Grammar go by. A row has a letter, or a text, and what it stands for.
-use Rattle.std.specs.Prelude.{ℕ, List, [], ◌∷◌, ◌+◌, codes}
+use Rattle.std.specs.Prelude.{ℕ, List, [], ◌∷◌, ◌++◌, ◌+◌, codes}
 use Prim.Native.Char.{code}
 use Rattle.msvc_nodes.specs.declared.kinds.Convention.{Convention}
 use Rattle.msvc_nodes.specs.declared.kinds.Convention.TheVariants as convention_kind
@@ -10,15 +10,25 @@ use Rattle.msvc_nodes.specs.declared.kinds.TagKind.TheVariants as tag_kind
 use Rattle.msvc_nodes.specs.declared.kinds.PrimitiveKind.{PrimitiveKind}
 use Rattle.msvc_nodes.specs.declared.kinds.PointerAffinity.TheVariants as mark_kind
 use Rattle.msvc_nodes.specs.declared.kinds.PlainOperator.TheVariants as operator_kind
+use Rattle.msvc_nodes.specs.declared.kinds.Guard.TheVariants as guard_kind
 use Rattle.msvc_nodes.specs.BaseTypes.{BaseRow, basic_types, under_types}
 use Rattle.msvc_nodes.specs.PlainOperators.{OperatorRow, basic_operators}
-use Rattle.msvc_full_grammar.specs.Forms.{OperatorForm, plain_operator, operator_by_row}
-use Rattle.msvc_full_grammar.specs.Forms.{EncodingForm, encoding_by_row, free_function, function_of}
+use Rattle.msvc_full_grammar.specs.Forms.{OperatorForm, plain_operator, operator_word, operator_by_row, base_class}
+use Rattle.msvc_full_grammar.specs.Forms.{EncodingForm, encoding_by_row, free_function, function_of, thunk_of}
+use Rattle.msvc_full_grammar.specs.Forms.{c_function, table_of_class, type_information, virtual_call, adjustor, vtordisp}
+use Rattle.msvc_full_grammar.specs.Forms.{vtordispex, ValueForm, value_by_row, of_symbol, offsets, member_offsets, typed}
+use Rattle.msvc_full_grammar.specs.Forms.{SymbolForm, hashed, string, descriptor, guard_of}
 use Rattle.msvc_full_grammar.specs.Forms.{absent, present}
 use Rattle.msvc_full_grammar.specs.Forms.{TypeForm, named, pointer_with, reference_by, arrayed, function_with, the_same}
 use Rattle.msvc_full_grammar.specs.Forms.{qualified, type_by_row, extended}
-use Rattle.msvc_full_grammar.specs.Forms.{ArgumentForm, empty_pack, alias, argument_by_row}
-use Rattle.msvc_full_grammar.specs.Rows.{integer, custom, nullptr, extern_c, literal_operator, spaceship}
+use Rattle.msvc_full_grammar.specs.Forms.{ArgumentForm, empty_pack, alias, argument_value}
+use Rattle.msvc_full_grammar.specs.Rows.{integer, custom, nullptr, address_row, object_row, literal_operator}
+use Rattle.msvc_full_grammar.specs.Rows.{spaceship_row}
+use Rattle.msvc_full_grammar.specs.Rows.{static_guard_row, thread_guard_row, managed_vector_ctor_iterator}
+use Rattle.msvc_full_grammar.specs.Rows.{managed_vector_dtor_iterator, eh_vector_copy_ctor_iterator}
+use Rattle.msvc_full_grammar.specs.Rows.{eh_vector_vbase_copy_ctor_iterator, vector_copy_ctor_iterator}
+use Rattle.msvc_full_grammar.specs.Rows.{vector_vbase_copy_ctor_iterator, managed_vector_vbase_copy_ctor_iterator}
+use Rattle.msvc_full_grammar.specs.Rows as row
 
 -- How tables are written
 
@@ -162,6 +172,24 @@ type_texts =
     ∷ (codes "_", extended)
     ∷ []
 
+-- The texts that values begin with, after a $. None begins another.
+abbrev pub value_texts : List (List ℕ × ValueForm)
+value_texts =
+    (codes "0", value_by_row integer)
+    ∷ (codes "1", of_symbol address_row)
+    ∷ (codes "E", of_symbol object_row)
+    ∷ (codes "F", offsets 2)
+    ∷ (codes "G", offsets 3)
+    ∷ (codes "H", member_offsets 1)
+    ∷ (codes "I", member_offsets 2)
+    ∷ (codes "J", member_offsets 3)
+    ∷ []
+
+-- values as arguments of templates, after other texts
+abbrev pub values_of : List (List ℕ × ValueForm) → List (List ℕ × ArgumentForm)
+values_of [] = []
+values_of (row ∷ table) = (code "$" ∷ row.0, argument_value row.1) ∷ values_of table
+
 -- The texts that arguments of templates begin with where they are no types. None begins another, and none a type.
 abbrev pub argument_texts : List (List ℕ × ArgumentForm)
 argument_texts =
@@ -170,8 +198,8 @@ argument_texts =
     ∷ (codes "$$$V", empty_pack)
     ∷ (codes "$$Z", empty_pack)
     ∷ (codes "$$Y", alias)
-    ∷ (codes "$0", argument_by_row integer)
-    ∷ []
+    ∷ (codes "$M", typed)
+    ∷ values_of value_texts
 
 -- Functions and symbols
 
@@ -215,31 +243,76 @@ virtual = 32
 abbrev pub far : ℕ
 far = 64
 
--- The texts that the type of a symbol begins with where it is no variable. None begins another.
-abbrev pub encoding_texts : List (List ℕ × EncodingForm)
-encoding_texts =
-    (codes "9", encoding_by_row extern_c)
-    ∷ (codes "A", function_of private)
+abbrev pub thunk : ℕ
+thunk = 128
+
+-- of a function of C
+abbrev pub c_linkage : ℕ
+c_linkage = 256
+
+-- the classes of functions, by one letter, and other texts after them
+abbrev pub function_letters : List (List ℕ × EncodingForm) → List (List ℕ × EncodingForm)
+function_letters others =
+    (codes "A", function_of private)
     ∷ (codes "B", function_of (private + far))
     ∷ (codes "C", function_of (private + static))
     ∷ (codes "D", function_of (private + static + far))
     ∷ (codes "E", function_of (private + virtual))
     ∷ (codes "F", function_of (private + virtual + far))
+    ∷ (codes "G", thunk_of adjustor (private + thunk))
+    ∷ (codes "H", thunk_of adjustor (private + far + thunk))
     ∷ (codes "I", function_of protected)
     ∷ (codes "J", function_of (protected + far))
     ∷ (codes "K", function_of (protected + static))
     ∷ (codes "L", function_of (protected + static + far))
     ∷ (codes "M", function_of (protected + virtual))
     ∷ (codes "N", function_of (protected + virtual + far))
+    ∷ (codes "O", thunk_of adjustor (protected + virtual + thunk))
+    ∷ (codes "P", thunk_of adjustor (protected + virtual + far + thunk))
     ∷ (codes "Q", function_of public)
     ∷ (codes "R", function_of (public + far))
     ∷ (codes "S", function_of (public + static))
     ∷ (codes "T", function_of (public + static + far))
     ∷ (codes "U", function_of (public + virtual))
     ∷ (codes "V", function_of (public + virtual + far))
+    ∷ (codes "W", thunk_of adjustor (public + virtual + thunk))
+    ∷ (codes "X", thunk_of adjustor (public + virtual + far + thunk))
     ∷ (codes "Y", free_function)
     ∷ (codes "Z", function_of (global + far))
+    ∷ others
+
+-- the classes of functions that move their this by an offset of the object
+abbrev pub dollar_functions : List (List ℕ × EncodingForm)
+dollar_functions =
+    (codes "$0", thunk_of vtordisp (private + virtual + thunk))
+    ∷ (codes "$1", thunk_of vtordisp (private + virtual + far + thunk))
+    ∷ (codes "$2", thunk_of vtordisp (protected + virtual + thunk))
+    ∷ (codes "$3", thunk_of vtordisp (protected + virtual + far + thunk))
+    ∷ (codes "$4", thunk_of vtordisp (public + virtual + thunk))
+    ∷ (codes "$5", thunk_of vtordisp (public + virtual + far + thunk))
+    ∷ (codes "$R0", thunk_of vtordispex (private + virtual + thunk))
+    ∷ (codes "$R1", thunk_of vtordispex (private + virtual + far + thunk))
+    ∷ (codes "$R2", thunk_of vtordispex (protected + virtual + thunk))
+    ∷ (codes "$R3", thunk_of vtordispex (protected + virtual + far + thunk))
+    ∷ (codes "$R4", thunk_of vtordispex (public + virtual + thunk))
+    ∷ (codes "$R5", thunk_of vtordispex (public + virtual + far + thunk))
     ∷ []
+
+-- The texts that the class of a function begins with. None begins another.
+abbrev pub function_texts : List (List ℕ × EncodingForm)
+function_texts = function_letters dollar_functions
+
+-- The texts that the type of a symbol begins with where it is no variable. None begins another.
+abbrev pub encoding_texts : List (List ℕ × EncodingForm)
+encoding_texts =
+    (codes "6", table_of_class)
+    ∷ (codes "7", table_of_class)
+    ∷ (codes "8", type_information)
+    ∷ (codes "9", encoding_by_row row.extern_c)
+    ∷ function_letters (
+    (codes "$B", virtual_call)
+    ∷ (codes "$$J0", c_function)
+    ∷ dollar_functions)
 
 -- the texts that the type of a variable begins with, and where the variable lives
 abbrev pub variable_texts : List (List ℕ × VarStorageKind)
@@ -254,6 +327,32 @@ variable_texts =
 -- The texts that labels of exception handling begin with. They are no symbols, though they begin with a ?.
 abbrev pub label_texts : List (List ℕ)
 label_texts = codes "?catch$" ∷ codes "?dtor$" ∷ codes "?filt$" ∷ codes "?fin$" ∷ []
+
+-- The texts that a symbol begins with, after its ??, which has no name of the source. None begins another.
+abbrev pub symbol_texts : List (List ℕ × SymbolForm)
+symbol_texts =
+    (codes "@", hashed)
+    ∷ (codes "_C", string)
+    ∷ (codes "_R0", descriptor)
+    ∷ (codes "_B", guard_of guard_kind.Static)
+    ∷ (codes "__J", guard_of guard_kind.Thread)
+    ∷ []
+
+-- Strings
+
+-- the widths of the characters of a string, by their letters: 1 of wide characters
+abbrev pub widths : List (ℕ × ℕ)
+widths = rows (codes "01") (0 ∷ 1 ∷ [])
+
+-- letters, each of which stands for its byte and 128
+abbrev pub raised : List ℕ → List (ℕ × ℕ)
+raised [] = []
+raised (b ∷ bs) = (b, b + 128) ∷ raised bs
+
+-- the bytes of a string that a ? and one more byte stand for
+abbrev pub escapes : List (ℕ × ℕ)
+escapes = rows (codes "0123456789") (codes ",/\\:. \n\t'-")
+    ++ (raised (codes "abcdefghijklmnopqrstuvwxyz") ++ raised (codes "ABCDEFGHIJKLMNOPQRSTUVWXYZ"))
 
 -- Operators
 
@@ -275,9 +374,39 @@ operator_texts = operators_of basic_operators (
     ∷ (codes "_7", plain_operator operator_kind.VFTable)
     ∷ (codes "_8", plain_operator operator_kind.VBTable)
     ∷ (codes "_9", plain_operator operator_kind.VCall)
+    ∷ (codes "_A", plain_operator operator_kind.Typeof)
+    ∷ (codes "_B", operator_word static_guard_row)
+    ∷ (codes "_D", plain_operator operator_kind.VBaseDtor)
+    ∷ (codes "_E", plain_operator operator_kind.VectorDeletingDtor)
+    ∷ (codes "_F", plain_operator operator_kind.DefaultCtorClosure)
+    ∷ (codes "_G", plain_operator operator_kind.ScalarDeletingDtor)
+    ∷ (codes "_H", plain_operator operator_kind.VectorCtorIterator)
+    ∷ (codes "_I", plain_operator operator_kind.VectorDtorIterator)
+    ∷ (codes "_J", plain_operator operator_kind.VectorVBaseCtorIterator)
+    ∷ (codes "_K", plain_operator operator_kind.VirtualDisplacementMap)
+    ∷ (codes "_L", plain_operator operator_kind.EHVectorCtorIterator)
+    ∷ (codes "_M", plain_operator operator_kind.EHVectorDtorIterator)
+    ∷ (codes "_N", plain_operator operator_kind.EHVectorVBaseCtorIterator)
+    ∷ (codes "_O", plain_operator operator_kind.CopyCtorClosure)
+    ∷ (codes "_S", plain_operator operator_kind.LocalVFTable)
+    ∷ (codes "_T", plain_operator operator_kind.LocalVFTableCtorClosure)
     ∷ (codes "_U", plain_operator operator_kind.ArrayNew)
     ∷ (codes "_V", plain_operator operator_kind.ArrayDelete)
+    ∷ (codes "_X", plain_operator operator_kind.PlacementDeleteClosure)
+    ∷ (codes "_Y", plain_operator operator_kind.PlacementArrayDeleteClosure)
+    ∷ (codes "_R1", base_class)
+    ∷ (codes "_R2", plain_operator operator_kind.RTTIBaseClassArray)
+    ∷ (codes "_R3", plain_operator operator_kind.RTTIClassHierarchyDescriptor)
+    ∷ (codes "_R4", plain_operator operator_kind.RTTIClassCompleteObjectLocator)
+    ∷ (codes "__A", operator_word managed_vector_ctor_iterator)
+    ∷ (codes "__B", operator_word managed_vector_dtor_iterator)
+    ∷ (codes "__C", operator_word eh_vector_copy_ctor_iterator)
+    ∷ (codes "__D", operator_word eh_vector_vbase_copy_ctor_iterator)
+    ∷ (codes "__G", operator_word vector_copy_ctor_iterator)
+    ∷ (codes "__H", operator_word vector_vbase_copy_ctor_iterator)
+    ∷ (codes "__I", operator_word managed_vector_vbase_copy_ctor_iterator)
+    ∷ (codes "__J", operator_word thread_guard_row)
     ∷ (codes "__K", operator_by_row literal_operator)
     ∷ (codes "__L", plain_operator operator_kind.CoroutineAwait)
-    ∷ (codes "__M", operator_by_row spaceship)
+    ∷ (codes "__M", operator_word spaceship_row)
     ∷ [])

@@ -18,3 +18,4 @@ pub mod Parsed
 pub mod Productions
 pub mod Reading
 pub mod Rows
+pub mod Strings

@@ -1,12 +1,13 @@
 -- The productions of Full, by name.
-use Rattle.std.specs.Prelude.{ℕ, List, Bool}
+use Rattle.std.specs.Prelude.{ℕ, ℤ, List, Bool, Option}
 use Rattle.msvc_nodes.specs.declared.kinds.PointerAffinity.{PointerAffinity}
 use Rattle.msvc_nodes.specs.declared.kinds.VarStorageKind.{VarStorageKind}
 use Rattle.msvc_rules.specs.Sorts.{Sort, nothing, bits, bytes, name_tree, type_tree, symbol_tree, convention, list}
-use Rattle.msvc_rules.specs.Sorts.{both, perhaps}
+use Rattle.msvc_rules.specs.Sorts.{both, perhaps, integer}
 use Rattle.msvc_rules.specs.Sorts as sort
 use Rattle.msvc_full_grammar.specs.Forms.{OwnQualifiers, OperatorForm, EncodingForm, VariableEnd, TypeForm}
-use Rattle.msvc_full_grammar.specs.Forms.{ArgumentForm}
+use Rattle.msvc_full_grammar.specs.Forms.{ArgumentForm, ValueForm, Adjustment, SymbolForm}
+use Rattle.msvc_nodes.specs.declared.kinds.Guard.{Guard}
 use Rattle.msvc_full_grammar.specs.Rows.{NameRow, TypeRow}
 
 -- The names of the productions, each with the sort of what it reads. What stands after a name is what the production
@@ -16,14 +17,26 @@ pub data Production : Sort → Type 0 where
   count : Production bits
   letters : ℕ → Production bits
   number : Production sort.number
+  numbers : ℕ → Production (list sort.number)
+  small_number : Production integer
+  unsigned : ℤ → Production bits
   -- symbols
   whole_text : Production symbol_tree
+  whole_hash : Production symbol_tree
   symbol : Production symbol_tree
+  marked_symbol : Production symbol_tree
+  symbol_after : SymbolForm → Production symbol_tree
+  operator_symbol : Production symbol_tree
+  string_of : ℕ → ℕ → Option (List ℕ) → Production name_tree
+  guard_name : Guard → Production name_tree
+  guard_index : Production (list sort.number)
   template_symbol : Production symbol_tree
   named_symbol : Production symbol_tree
   encoding : Production type_tree
   other_encoding : Production type_tree
   encoding_after : EncodingForm → Production type_tree
+  offsets_of : Adjustment → Production (list sort.number)
+  targets : Production (list name_tree)
   variable : VarStorageKind → Production type_tree
   variable_end : VariableEnd → Production bits
   repeated_class : Production nothing
@@ -50,6 +63,7 @@ pub data Production : Sort → Type 0 where
   own_qualifiers : OwnQualifiers → Production bits
   marks : Production bits
   returned : Production type_tree
+  result_type : Production type_tree
   function_parameters : Production (list type_tree)
   parameters : Production (list type_tree)
   parameter : Production type_tree
@@ -67,3 +81,5 @@ pub data Production : Sort → Type 0 where
   arguments : Production (list type_tree)
   argument : Production type_tree
   argument_after : ArgumentForm → Production type_tree
+  template_value : Production type_tree
+  value_after : ValueForm → Production type_tree

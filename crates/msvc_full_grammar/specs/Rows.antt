@@ -6,8 +6,19 @@ pub use Rattle.msvc_shapes.specs.Rows.{integer as integer_row, custom as custom_
 pub use Rattle.msvc_shapes.specs.Rows.{arrays as arrays_row, member_pointer as member_pointer_row}
 pub use Rattle.msvc_shapes.specs.Rows.{extern_c as extern_c_row, frame as frame_row}
 pub use Rattle.msvc_shapes.specs.Rows.{literal_operator as literal_operator_row, spaceship as spaceship_row}
+pub use Rattle.msvc_shapes.specs.Rows.{address as address_row, object as object_row, offsets as offsets_row}
+pub use Rattle.msvc_shapes.specs.Rows.{symbol_offsets as symbol_offsets_row, typed as typed_row, tables as tables_row}
+pub use Rattle.msvc_shapes.specs.Rows.{adjustor as adjustor_row, vtordisp as vtordisp_row}
+pub use Rattle.msvc_shapes.specs.Rows.{vtordispex as vtordispex_row, type_descriptor as type_descriptor_row}
+pub use Rattle.msvc_shapes.specs.Rows.{md5_locator as md5_locator_row, static_guard as static_guard_row}
+pub use Rattle.msvc_shapes.specs.Rows.{thread_guard as thread_guard_row, string_literal as string_literal_row}
+pub use Rattle.msvc_shapes.specs.Rows.{wide_string_literal as wide_string_literal_row}
+pub use Rattle.msvc_shapes.specs.Rows.{managed_vector_ctor_iterator, managed_vector_dtor_iterator}
+pub use Rattle.msvc_shapes.specs.Rows.{eh_vector_copy_ctor_iterator, eh_vector_vbase_copy_ctor_iterator}
+pub use Rattle.msvc_shapes.specs.Rows.{vector_copy_ctor_iterator, vector_vbase_copy_ctor_iterator}
+pub use Rattle.msvc_shapes.specs.Rows.{managed_vector_vbase_copy_ctor_iterator}
 pub use Rattle.msvc_full_grammar.specs.declared.forms.NameRow.{NameRow}
-pub use Rattle.msvc_full_grammar.specs.declared.forms.NameRow.TheVariants.{Frame as frame, Spaceship as spaceship}
+pub use Rattle.msvc_full_grammar.specs.declared.forms.NameRow.TheVariants.{Frame as frame}
 pub use Rattle.msvc_full_grammar.specs.declared.forms.NameRow.TheVariants.{LiteralOperator as literal_operator}
 pub use Rattle.msvc_full_grammar.specs.declared.forms.TypeRow.{TypeRow}
 pub use Rattle.msvc_full_grammar.specs.declared.forms.TypeRow.TheVariants.{Integer as integer, Custom as custom}
@@ -24,7 +35,6 @@ type_row_number extern_c = extern_c_row
 abbrev pub name_row_number : NameRow → ℕ
 name_row_number frame = frame_row
 name_row_number literal_operator = literal_operator_row
-name_row_number spaceship = spaceship_row
 
 pub data Field : Type 0 where
   -- a number, and one without a sign
@@ -45,7 +55,6 @@ fields_of_type extern_c = []
 abbrev pub fields_of_name : NameRow → List Field
 fields_of_name frame = a_count ∷ a_text (codes "?") ∷ a_symbol ∷ []
 fields_of_name literal_operator = a_source_name ∷ []
-fields_of_name spaceship = []
 
 -- what the fields that were read hold, in their order
 pub record Held : Type 0 where

@@ -1,6 +1,6 @@
 //! Tells what the tables of texts stand for, and which rows of the table of shapes are read field by field.
 
-use msvc_nodes::kinds::PlainOperator;
+use msvc_nodes::kinds::{Guard, PlainOperator};
 
 /// Tells whether a function has qualifiers of its own, which it has on the object that it is called on.
 #[derive(Clone, Copy)]
@@ -29,8 +29,6 @@ pub enum NameRow {
     Frame,
     /// An operator of literals, and its suffix follows.
     LiteralOperator,
-    /// `operator<=>`.
-    Spaceship,
 }
 
 /// Tells what the code of an operator stands for.
@@ -38,8 +36,25 @@ pub enum NameRow {
 pub enum OperatorForm {
     /// An operator with nothing in it.
     Plain(PlainOperator),
+    /// An operator with nothing in it, by its row of the table of shapes.
+    Word(u8),
     /// The fields of a row follow.
     Row(NameRow),
+    /// The descriptor of a base class, and its numbers follow.
+    BaseClass,
+}
+
+/// Tells what a value among the arguments of a template begins with.
+#[derive(Clone, Copy)]
+pub enum ValueForm {
+    /// The fields of a row follow.
+    Row(TypeRow),
+    /// A symbol follows, which a shape of this row has.
+    Symbol(u8),
+    /// This many offsets of a pointer to a member follow.
+    Offsets(u64),
+    /// The same, and the function that is pointed to may stand before them.
+    MemberOffsets(u64),
 }
 
 /// Tells what an argument of a template begins with, where it is no type.
@@ -49,6 +64,32 @@ pub enum ArgumentForm {
     EmptyPack,
     /// A template by another name, which follows.
     Alias,
-    /// The fields of a row follow.
-    Row(TypeRow),
+    /// A value, and its type before it.
+    Typed,
+    /// A value of this form.
+    Value(ValueForm),
+}
+
+/// Tells how a function moves its `this` before it calls another one.
+#[derive(Clone, Copy)]
+pub enum Adjustment {
+    /// By a fixed offset.
+    Adjustor,
+    /// By an offset that the object holds.
+    VtorDisp,
+    /// By an offset that a virtual base of the object holds.
+    VtorDispEx,
+}
+
+/// Tells what a symbol begins with, after its `??`, that has no name of the source.
+#[derive(Clone, Copy)]
+pub enum SymbolForm {
+    /// The hash of a name.
+    Hashed,
+    /// A string.
+    String,
+    /// The descriptor of a type.
+    Descriptor,
+    /// A guard of static variables.
+    Guard(Guard),
 }

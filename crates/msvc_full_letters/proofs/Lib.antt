@@ -2,8 +2,10 @@ pub mod Choices
 pub mod LengthSteps
 pub mod NameSteps
 pub mod NumberSteps
+pub mod OffsetSteps
 pub mod QualifierSteps
 pub mod SharedTables
+pub mod StringSteps
 pub mod TextSteps
 pub mod TextsByLetter
 pub mod WrappedLetters

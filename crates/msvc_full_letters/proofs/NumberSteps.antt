@@ -5,9 +5,9 @@ use Rattle.msvc_rules.specs.Readers.{Found, read_by, letter_here, and_then, or_e
 use Rattle.msvc_rules.specs.Rules.{after, give, call, ◌>>=◌}
 use Rattle.msvc_rules.specs.Sorts as sort
 use Rattle.msvc_rules.specs.State.{State}
-use Rattle.msvc_full_grammar.specs.Grammar.{grammar}
+use Rattle.msvc_full_grammar.specs.Grammar.{grammar, small}
 use Rattle.msvc_full_grammar.specs.Letters.{digits}
-use Rattle.msvc_full_grammar.specs.Productions.{count, number}
+use Rattle.msvc_full_grammar.specs.Productions.{count, number, small_number}
 use Rattle.msvc_full_grammar.specs.Reading.{read_name, read}
 use Rattle.msvc_full_grammar.proofs.Laws.{read_name-is}
 use Rattle.msvc_cursor.proofs.Choices.{choose, chosen}
@@ -37,4 +37,9 @@ count_step left s = read_name-is count left s ∙ go (letter_here digits left s)
     go None = refl
     go (Some x) = refl
 
-pub ruleset steps = (number_step, count_step)
+pub small_number_step : (left : List ℕ) (s : State) → read_name small_number left s
+    ≡ and_then (read_name number left s) (λ n l t. Some (small n, l, t))
+unfolding grammar read read_by
+small_number_step left s = read_name-is small_number left s
+
+pub ruleset steps = (number_step, count_step, small_number_step)

@@ -1,40 +1,39 @@
 -- Step lemmas of what begins with the text of a table.
-use Rattle.std.proofs.Common.{ℕ, List, [], ◌∷◌, Option, Some, None, Bool, true, false, cond, not, ◌≡◌, ◌∙◌, refl, ap}
+use Rattle.std.proofs.Common.{ℕ, List, [], ◌∷◌, Option, Some, None, true, ◌≡◌, ◌∙◌, refl, ap}
 use Rattle.std.specs.Option.{option_map}
 use Rattle.msvc_nodes.specs.Trees.{TypeTree, base, plain}
 use Rattle.msvc_nodes.specs.declared.kinds.PlainType.TheVariants as plain_kind
 use Rattle.msvc_nodes.specs.declared.kinds.PrimitiveKind.{PrimitiveKind}
 use Rattle.msvc_rules.specs.Readers.{Found, and_then, in_node, letter_here, or_else, read_by, with_value}
-use Rattle.msvc_rules.specs.Rules.{begins, call, give, letter, lookup, node, some_of, text_and, ◌>>=◌}
+use Rattle.msvc_rules.specs.Rules.{call, give, letter, lookup, node, text_and, ◌>>=◌}
 use Rattle.msvc_rules.specs.Sorts.{base_type}
 use Rattle.msvc_rules.specs.State.{State}
-use Rattle.msvc_rules.proofs.Checks.{apart_texts}
-use Rattle.msvc_full_grammar.specs.Forms.{extended}
-use Rattle.msvc_full_grammar.specs.Grammar.{grammar}
-use Rattle.msvc_full_grammar.specs.Letters.{argument_texts, base_types, encoding_texts, extended_types, operator_texts}
-use Rattle.msvc_full_grammar.specs.Letters.{label_texts, type_texts, variable_texts}
+use Rattle.msvc_full_grammar.specs.Forms.{c_function, extended}
+use Rattle.msvc_full_grammar.specs.Grammar.{grammar, of_c}
+use Rattle.msvc_full_grammar.specs.Letters.{argument_texts, base_types, encoding_texts, extended_types, function_texts}
+use Rattle.msvc_full_grammar.specs.Letters.{operator_texts, symbol_texts, type_texts, value_texts, variable_texts}
 use Rattle.msvc_full_grammar.specs.Productions.{argument, argument_after, encoding, encoding_after, operator_after}
-use Rattle.msvc_full_grammar.specs.Productions.{operator_name, other_encoding, symbol, type_, type_after, variable}
-use Rattle.msvc_full_grammar.specs.Productions.{whole_text}
+use Rattle.msvc_full_grammar.specs.Productions.{operator_name, other_encoding, type_, type_after, variable}
+use Rattle.msvc_full_grammar.specs.Productions.{marked_symbol, operator_symbol, symbol_after, template_value}
+use Rattle.msvc_full_grammar.specs.Productions.{value_after}
 use Rattle.msvc_full_grammar.specs.Reading.{read_name, read}
-use Rattle.msvc_full_grammar.proofs.Checks.{no_encoding_begins_another, no_operator_begins_another}
+use Rattle.msvc_full_grammar.proofs.Checks.{no_argument_begins_another, no_encoding_begins_another, no_function_begins_another}
+use Rattle.msvc_full_grammar.proofs.Checks.{no_operator_begins_another, no_symbol_begins_another, no_value_begins_another}
 use Rattle.msvc_full_grammar.proofs.Checks.{no_type_begins_another, no_variable_begins_another}
 use Rattle.msvc_full_grammar.proofs.Laws.{read_name-is}
-use Rattle.msvc_cursor.specs.Parser.{byte_here, letter_at, text_at}
+use Rattle.msvc_cursor.specs.Parser.{byte_here, text_at}
 use Rattle.msvc_cursor.proofs.Choices.{by_text}
-use Rattle.msvc_full_letters.specs.Texts.{encoding_letters, operator_at}
+use Rattle.msvc_full_letters.specs.Texts.{encoding_at, function_at, operator_at}
 use Rattle.msvc_full_letters.proofs.Choices.{text_and-is, text_or-is}
-use Rattle.msvc_full_letters.proofs.TextsByLetter.{encoding_by_letter, operator_by_letter}
+use Rattle.msvc_full_letters.proofs.TextsByLetter.{encoding_by_letter, function_by_letter, operator_by_letter}
 
--- a symbol where no label begins
-pub whole_text_step : (left : List ℕ) (s : State) → read_name whole_text left s
-    ≡ cond (some_of (begins left) label_texts) None (read_name symbol left s)
+pub marked_symbol_step : (left : List ℕ) (s : State) → read_name marked_symbol left s
+    ≡ by_text (text_at symbol_texts left) (λ f rest. read_name (symbol_after f) rest s)
+    (read_name operator_symbol left s)
 unfolding grammar read read_by
-whole_text_step left s = read_name-is whole_text left s ∙ go (some_of (begins left) label_texts)
-  where
-    go : (t : Bool) → cond (not t) (read_name symbol left s) None ≡ cond t None (read_name symbol left s)
-    go true = refl
-    go false = refl
+marked_symbol_step left s =
+    read_name-is marked_symbol left s
+    ∙ text_or-is symbol_texts (λ f. call (symbol_after f)) (call operator_symbol) left s no_symbol_begins_another
 
 pub operator_name_step : (left : List ℕ) (s : State) → read_name operator_name left s
     ≡ by_text (operator_at left) (λ o rest. read_name (operator_after o) rest s) None
@@ -55,10 +54,10 @@ encoding_step left s =
 abbrev pub other_encoding_by : List ℕ → State → Found TypeTree
 other_encoding_by [] s = in_node [] s (λ l t. Some (plain plain_kind.None, l, t))
 other_encoding_by (b ∷ bs) s =
-    by_text (letter_at encoding_letters (b ∷ bs)) (λ e rest. read_name (encoding_after e) rest s) None
+    by_text (encoding_at (b ∷ bs)) (λ e rest. read_name (encoding_after e) rest s) None
 
 by_encoding : (left : List ℕ) (s : State) → read (text_and encoding_texts (λ e. call (encoding_after e))) left s
-    ≡ by_text (letter_at encoding_letters left) (λ e rest. read_name (encoding_after e) rest s) None
+    ≡ by_text (encoding_at left) (λ e rest. read_name (encoding_after e) rest s) None
 unfolding read read_by
 by_encoding left s =
     text_and-is encoding_texts (λ e. call (encoding_after e)) left s no_encoding_begins_another
@@ -69,15 +68,27 @@ or_nothing None = refl
 or_nothing (Some x) = refl
 
 pub other_encoding_step : (left : List ℕ) (s : State) → read_name other_encoding left s ≡ other_encoding_by left s
-unfolding grammar read read_by
+unfolding grammar read read_by encoding_at
 other_encoding_step [] s =
     read_name-is other_encoding [] s
     ∙ ap (or_else (in_node [] s (λ l t. Some (plain plain_kind.None, l, t)))) (by_encoding [] s)
     ∙ or_nothing (in_node [] s (λ l t. Some (plain plain_kind.None, l, t)))
 other_encoding_step (b ∷ bs) s = read_name-is other_encoding (b ∷ bs) s ∙ by_encoding (b ∷ bs) s
 
-no_argument_begins_another : apart_texts argument_texts ≡ true
-no_argument_begins_another = refl
+pub c_function_step : (left : List ℕ) (s : State) → read_name (encoding_after c_function) left s
+    ≡ by_text (function_at left) (λ f rest. read_name (encoding_after (of_c f)) rest s) None
+unfolding grammar read read_by
+c_function_step left s =
+    read_name-is (encoding_after c_function) left s
+    ∙ text_and-is function_texts (λ f. call (encoding_after (of_c f))) left s no_function_begins_another
+    ∙ ap (λ o. by_text o (λ f rest. read_name (encoding_after (of_c f)) rest s) None) (function_by_letter left)
+
+pub template_value_step : (left : List ℕ) (s : State) → read_name template_value left s
+    ≡ by_text (text_at value_texts left) (λ v rest. read_name (value_after v) rest s) None
+unfolding grammar read read_by
+template_value_step left s =
+    read_name-is template_value left s
+    ∙ text_and-is value_texts (λ v. call (value_after v)) left s no_value_begins_another
 
 pub argument_step : (left : List ℕ) (s : State) → read_name argument left s
     ≡ by_text (text_at argument_texts left) (λ f rest. read_name (argument_after f) rest s)
@@ -123,10 +134,12 @@ extended_step q left s =
     ∙ λ i. in_node left s (λ l t. base_letter extended_types q l t i)
 
 pub ruleset steps = (
-  whole_text_step,
+  marked_symbol_step,
   operator_name_step,
   encoding_step,
   other_encoding_step,
+  c_function_step,
+  template_value_step,
   argument_step,
   type_step,
   extended_step,

@@ -7,5 +7,6 @@ pub use Rattle.msvc_rules.specs.Readers
 pub use Rattle.msvc_rules.specs.Rules
 pub mod Names
 pub mod Numbers
+pub mod Strings
 pub mod Texts
 pub mod Views

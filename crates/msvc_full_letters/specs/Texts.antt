@@ -4,7 +4,8 @@ use Prim.Native.Char.{code}
 use Rattle.msvc_full_grammar.specs.Forms.{EncodingForm, TypeForm}
 use Rattle.msvc_full_grammar.specs.declared.forms.ArgumentForm.{ArgumentForm}
 use Rattle.msvc_full_grammar.specs.declared.forms.OperatorForm.{OperatorForm}
-use Rattle.msvc_full_grammar.specs.Letters.{argument_texts, encoding_texts, operator_texts, type_texts}
+use Rattle.msvc_full_grammar.specs.Letters.{argument_texts, encoding_texts, function_texts, operator_texts}
+use Rattle.msvc_full_grammar.specs.Letters.{type_texts}
 use Rattle.msvc_rules.specs.Rules.{lookup}
 use Rattle.msvc_cursor.specs.Parser.{at_rest, one_less, text_at}
 
@@ -36,9 +37,31 @@ abbrev pub letters_in : {A : Type 0} → List (List ℕ × A) → List (ℕ × A
 letters_in [] = []
 letters_in (row ∷ table) = letter_row row.0 row.1 (letters_in table)
 
--- the letters of encodings
+-- what the letters of one table and, after the letter `lead`, the texts of another stand for
+abbrev pub text_by : {A : Type 0} → ℕ → List (List ℕ × A) → List (ℕ × A) → List ℕ → Option (A × List ℕ)
+text_by lead texts letters [] = None
+text_by lead texts letters (b ∷ bs) = if b == lead then text_at texts bs else at_rest (lookup b letters) bs
+
+-- the letters of encodings, and what follows the $ of others
 abbrev pub encoding_letters : List (ℕ × EncodingForm)
 encoding_letters = letters_in encoding_texts
+
+abbrev pub encoding_dollar_texts : List (List ℕ × EncodingForm)
+encoding_dollar_texts = one_less dollar encoding_texts
+
+-- the same of functions alone
+abbrev pub function_letters : List (ℕ × EncodingForm)
+function_letters = letters_in function_texts
+
+abbrev pub function_dollar_texts : List (List ℕ × EncodingForm)
+function_dollar_texts = one_less dollar function_texts
+
+-- the encoding and the function that the bytes begin with
+unfoldable pub encoding_at : List ℕ → Option (EncodingForm × List ℕ)
+encoding_at left = text_by dollar encoding_dollar_texts encoding_letters left
+
+unfoldable pub function_at : List ℕ → Option (EncodingForm × List ℕ)
+function_at left = text_by dollar function_dollar_texts function_letters left
 
 -- the operators whose code is one letter, and what follows the _ of the others
 abbrev pub operator_letters : List (ℕ × OperatorForm)
@@ -50,8 +73,13 @@ underscore = code "_"
 abbrev pub under_operator_texts : List (List ℕ × OperatorForm)
 under_operator_texts = one_less underscore operator_texts
 
--- the operator whose code the bytes begin with, by its letter or after a _
+-- what follows _R, and what follows __
+abbrev pub type_information_texts : List (List ℕ × OperatorForm)
+type_information_texts = one_less (code "R") under_operator_texts
+
+abbrev pub double_under_operator_texts : List (List ℕ × OperatorForm)
+double_under_operator_texts = one_less underscore under_operator_texts
+
+-- the operator whose code the bytes begin with
 unfoldable pub operator_at : List ℕ → Option (OperatorForm × List ℕ)
-operator_at [] = None
-operator_at (b ∷ bs) =
-    if b == underscore then text_at under_operator_texts bs else at_rest (lookup b operator_letters) bs
+operator_at left = text_by underscore under_operator_texts operator_letters left

@@ -9,6 +9,11 @@ abbrev pub encoding_form_of : EncodingForm → form.EncodingForm
 encoding_form_of (encodings.Row r) = form.encoding_by_row r
 encoding_form_of encodings.FreeFunction = form.free_function
 encoding_form_of (encodings.Function class) = form.function_of class.0
+encoding_form_of (encodings.Thunk moved class) = form.thunk_of moved class.0
+encoding_form_of encodings.CFunction = form.c_function
+encoding_form_of encodings.Table = form.table_of_class
+encoding_form_of encodings.TypeInformation = form.type_information
+encoding_form_of encodings.VirtualCall = form.virtual_call
 
 abbrev pub type_form_of : TypeForm → form.TypeForm
 type_form_of (types.Named tag) = form.named tag

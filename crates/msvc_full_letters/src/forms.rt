@@ -1,6 +1,6 @@
 //! Tells what the tables of texts of Full stand for, as `msvc_full_grammar` does, with sets in place of their bits.
 
-use msvc_full_grammar::forms::{OwnQualifiers, TypeRow};
+use msvc_full_grammar::forms::{Adjustment, OwnQualifiers, TypeRow};
 use msvc_nodes::flags::{FuncClass, StorageClass};
 use msvc_nodes::kinds::{PointerAffinity, TagKind};
 
@@ -13,6 +13,16 @@ pub enum EncodingForm {
     FreeFunction,
     /// A function of this class.
     Function(FuncClass),
+    /// A function of this class that moves its `this` before it calls another one.
+    Thunk(Adjustment, FuncClass),
+    /// A function of C, whose class follows.
+    CFunction,
+    /// A table of a class, and what it is for follows.
+    Table,
+    /// Nothing, after the names of run-time type information.
+    TypeInformation,
+    /// A call of a virtual function by its place in a table.
+    VirtualCall,
 }
 
 /// Tells what a type begins with, but for the base types of one letter.

@@ -1,15 +1,17 @@
 //! Tables of letters: one function per table returns what a letter stands for.
 
 ghost use Rattle.std.specs.Option.{option_map};
-ghost use Rattle.std.specs.Prelude.{◌≡◌};
+ghost use Rattle.std.specs.Prelude.{◌≡◌, bit_or};
 ghost use Rattle.msvc_rules.specs.Rules.{lookup};
-ghost use Rattle.msvc_full_grammar.specs.Letters.{conventions, member_qualifiers};
-ghost use Rattle.msvc_full_letters.specs.Texts.{encoding_letters};
+ghost use Rattle.msvc_full_grammar.specs.Forms.{thunk_of};
+ghost use Rattle.msvc_full_grammar.specs.declared.forms.Adjustment.TheVariants as adjustments;
+ghost use Rattle.msvc_full_grammar.specs.Letters.{conventions, member_qualifiers, thunk, virtual};
+ghost use Rattle.msvc_full_letters.specs.Texts.{encoding_letters, function_letters};
 ghost use Rattle.msvc_full_letters.specs.Views.{encoding_form_of};
 
 use crate::forms::EncodingForm;
 use bitflags::Flags;
-use msvc_full_grammar::forms::TypeRow;
+use msvc_full_grammar::forms::{Adjustment, TypeRow};
 use msvc_nodes::flags::{FuncClass, StorageClass};
 use msvc_nodes::kinds::Convention;
 
@@ -51,12 +53,40 @@ pub fn member_qualifier(letter: u8) -> Option<StorageClass>
 }
 
 /// Returns what the type of a symbol is that begins with a letter.
+#[inline(always)]
 pub fn encoding(letter: u8) -> Option<EncodingForm>
     ensures { option_map encoding_form_of result ≡ lookup letter encoding_letters }
 {
+    match letter {
+        b'6' | b'7' => Some(EncodingForm::Table),
+        b'8' => Some(EncodingForm::TypeInformation),
+        b'9' => Some(EncodingForm::Row(TypeRow::ExternC)),
+        _ => function(letter),
+    }
+}
+
+/// Returns what a function is whose class is a letter.
+pub fn function(letter: u8) -> Option<EncodingForm>
+    ensures { option_map encoding_form_of result ≡ lookup letter function_letters }
+{
     let class = match letter {
-        b'9' => return Some(EncodingForm::Row(TypeRow::ExternC)),
         b'Y' => return Some(EncodingForm::FreeFunction),
+        b'G' => return Some(adjustor(FuncClass::PRIVATE)),
+        b'H' => return Some(adjustor(FuncClass::PRIVATE.union(FuncClass::FAR))),
+        b'O' => return Some(moved(Adjustment::Adjustor, FuncClass::PROTECTED)),
+        b'P' => {
+            return Some(moved(
+                Adjustment::Adjustor,
+                FuncClass::PROTECTED.union(FuncClass::FAR),
+            ));
+        }
+        b'W' => return Some(moved(Adjustment::Adjustor, FuncClass::PUBLIC)),
+        b'X' => {
+            return Some(moved(
+                Adjustment::Adjustor,
+                FuncClass::PUBLIC.union(FuncClass::FAR),
+            ));
+        }
         b'A' => FuncClass::PRIVATE,
         b'B' => FuncClass::PRIVATE.union(FuncClass::FAR),
         b'C' => FuncClass::PRIVATE.union(FuncClass::STATIC),
@@ -91,4 +121,21 @@ pub fn encoding(letter: u8) -> Option<EncodingForm>
         _ => return None,
     };
     Some(EncodingForm::Function(class))
+}
+
+/// Returns a function that moves its `this` by a fixed offset and isn't virtual.
+fn adjustor(class: FuncClass) -> EncodingForm
+    ensures { encoding_form_of result ≡ thunk_of adjustments.Adjustor (bit_or class.0 thunk) }
+{
+    EncodingForm::Thunk(Adjustment::Adjustor, class.union(FuncClass::THUNK))
+}
+
+/// Returns a virtual function that moves its `this`.
+pub fn moved(adjustment: Adjustment, class: FuncClass) -> EncodingForm
+    ensures { encoding_form_of result ≡ thunk_of adjustment (bit_or (bit_or class.0 virtual) thunk) }
+{
+    EncodingForm::Thunk(
+        adjustment,
+        class.union(FuncClass::VIRTUAL).union(FuncClass::THUNK),
+    )
 }

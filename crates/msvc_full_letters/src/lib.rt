@@ -9,6 +9,8 @@ pub mod forms;
 pub mod letters;
 pub mod names;
 pub mod numbers;
+pub mod offsets;
 pub mod operators;
 pub mod qualifiers;
+pub mod strings;
 pub mod texts;

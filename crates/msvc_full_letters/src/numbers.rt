@@ -1,6 +1,8 @@
 //! Numbers: a digit, or base 16 letters up to an `@`. Their values have 64 bits.
 #![tactic(auto, using(crate::proofs::NumberSteps::steps, crate::proofs::WrappedLetters::letters_go_on), unfolding(crate::proofs::WrappedLetters::letters_at))]
 
+ghost use Rattle.std.specs.Prelude.{◌≡◌};
+ghost use Rattle.msvc_full_grammar.specs.Grammar.{small};
 ghost use Rattle.msvc_full_grammar.specs.Productions as production;
 ghost use Rattle.msvc_full_grammar.specs.Reading.{read, read_name};
 ghost use Rattle.msvc_cursor.specs.Parser.{Consumes, ReadsAs};
@@ -16,7 +18,11 @@ use std::alloc::Allocator;
 /// Base of a number's letters.
 const BASE: u64 = 16;
 
+/// One more than the greatest value of the low 32 bits.
+const LOW_BITS: u64 = 1 << 32;
+
 /// Reads `NUMBER = ["?"] COUNT`: a `?` stands for a minus.
+#[inline(always)]
 pub fn number<'a, 'b, L: NodeBudget, A: Allocator>(
     parser: &mut Parser<'a, 'b, L, A>,
 ) -> Result<Number, Failed>
@@ -35,6 +41,28 @@ pub fn number<'a, 'b, L: NodeBudget, A: Allocator>(
         is_negative: true,
         value,
     })
+}
+
+/// Reads `SMALL_NUMBER = NUMBER`, of which the low 32 bits count.
+pub fn small_number<'a, 'b, L: NodeBudget, A: Allocator>(
+    parser: &mut Parser<'a, 'b, L, A>,
+) -> Result<i32, Failed>
+    ensures value { ReadsAs (λ z. z) parser.old parser.new result (read_name production.small_number) }
+    ensures consumes { Consumes parser.old parser.new result }
+{
+    let number = number(parser)?;
+    Ok(low_bits(number))
+}
+
+/// Returns the low 32 bits of a number, signed.
+fn low_bits(number: Number) -> i32
+    ensures { result ≡ small number }
+{
+    let low = ((number.value % LOW_BITS) as u32).cast_signed();
+    if number.is_negative {
+        return low.wrapping_neg();
+    }
+    low
 }
 
 /// Reads `COUNT = digit | LETTERS`: the value of a digit is one more than the digit. Fails at any other byte, where the

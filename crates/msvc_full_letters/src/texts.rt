@@ -2,22 +2,26 @@
 #![tactic(auto, unfolding(msvc_cursor::specs::Parser::text_at))]
 
 ghost use Rattle.std.specs.Option.{option_map};
-ghost use Rattle.std.specs.Prelude.{◌≡◌, ◌<◌, ◌≤◌, IfSome, length, None};
-ghost use Rattle.msvc_rules.specs.Rules.{begins, some_of};
-ghost use Rattle.msvc_full_grammar.specs.Letters.{argument_texts, label_texts, type_texts, variable_texts};
+ghost use Rattle.std.specs.Prelude.{◌≡◌, ◌<◌, ◌≤◌, bit_or, IfSome, length, None};
+ghost use Rattle.msvc_full_grammar.specs.Letters.{argument_texts, far, symbol_texts, type_texts};
+ghost use Rattle.msvc_full_grammar.specs.Letters.{value_texts, variable_texts};
 ghost use Rattle.msvc_cursor.specs.Messages.{limit_of_message};
-ghost use Rattle.msvc_cursor.specs.Parser.{letter_at, text_at};
-ghost use Rattle.msvc_full_letters.specs.Texts.{argument_dollar_texts, argument_double_dollar_texts, encoding_letters};
+ghost use Rattle.msvc_cursor.specs.Parser.{at_rest, text_at};
+ghost use Rattle.msvc_full_letters.specs.Texts.{argument_dollar_texts, argument_double_dollar_texts, encoding_at};
+ghost use Rattle.msvc_full_letters.specs.Texts.{encoding_dollar_texts, function_at, function_dollar_texts};
 ghost use Rattle.msvc_full_letters.specs.Texts.{type_dollar_texts, type_double_dollar_texts};
 ghost use Rattle.msvc_full_letters.specs.Views.{encoding_form_of, type_form_of};
 
 use crate::forms::{EncodingForm, TypeForm};
-use crate::letters::encoding;
+use crate::letters::{encoding, function, moved};
 use bitflags::Flags;
 use msvc_cursor::failure::Message;
-use msvc_full_grammar::forms::{ArgumentForm, OwnQualifiers, TypeRow};
-use msvc_nodes::flags::StorageClass;
-use msvc_nodes::kinds::{PointerAffinity, TagKind, VarStorageKind};
+use msvc_full_grammar::forms::{
+    Adjustment, ArgumentForm, OwnQualifiers, SymbolForm, TypeRow, ValueForm,
+};
+use msvc_nodes::flags::{FuncClass, StorageClass};
+use msvc_nodes::kinds::{Guard, PointerAffinity, TagKind, VarStorageKind};
+use msvc_shapes::rows;
 
 /// Returns the form of type whose text `left` begins with, and the bytes after that text.
 #[inline(always)]
@@ -99,8 +103,16 @@ fn argument_form_after_dollar<'a>(left: &'a [u8]) -> Option<(ArgumentForm, &'a [
 {
     match left {
         [b'$', rest @ ..] => argument_form_after_dollars(rest),
-        [b'0', rest @ ..] => Some((ArgumentForm::Row(TypeRow::Integer), rest)),
         [b'S', rest @ ..] => Some((ArgumentForm::EmptyPack, rest)),
+        [b'M', rest @ ..] => Some((ArgumentForm::Typed, rest)),
+        [b'0', rest @ ..] => Some((ArgumentForm::Value(ValueForm::Row(TypeRow::Integer)), rest)),
+        [b'1', rest @ ..] => Some((ArgumentForm::Value(ValueForm::Symbol(rows::ADDRESS)), rest)),
+        [b'E', rest @ ..] => Some((ArgumentForm::Value(ValueForm::Symbol(rows::OBJECT)), rest)),
+        [b'F', rest @ ..] => Some((ArgumentForm::Value(ValueForm::Offsets(2)), rest)),
+        [b'G', rest @ ..] => Some((ArgumentForm::Value(ValueForm::Offsets(3)), rest)),
+        [b'H', rest @ ..] => Some((ArgumentForm::Value(ValueForm::MemberOffsets(1)), rest)),
+        [b'I', rest @ ..] => Some((ArgumentForm::Value(ValueForm::MemberOffsets(2)), rest)),
+        [b'J', rest @ ..] => Some((ArgumentForm::Value(ValueForm::MemberOffsets(3)), rest)),
         _ => None,
     }
 }
@@ -116,6 +128,41 @@ fn argument_form_after_dollars<'a>(left: &'a [u8]) -> Option<(ArgumentForm, &'a 
         [b'V' | b'Z', rest @ ..] => Some((ArgumentForm::EmptyPack, rest)),
         [b'Y', rest @ ..] => Some((ArgumentForm::Alias, rest)),
         [b'$', b'V', rest @ ..] => Some((ArgumentForm::EmptyPack, rest)),
+        _ => None,
+    }
+}
+
+/// Returns the form of value whose text `left` begins with, and the bytes after that text.
+pub fn value_form<'a>(left: &'a [u8]) -> Option<(ValueForm, &'a [u8])>
+    ensures value { option_map (λ x. (x.0, x.1.now)) result ≡ text_at value_texts left.now }
+    ensures shorter { IfSome result (λ x. length x.1.now < length left.now) }
+{
+    match left {
+        [b'0', rest @ ..] => Some((ValueForm::Row(TypeRow::Integer), rest)),
+        [b'1', rest @ ..] => Some((ValueForm::Symbol(rows::ADDRESS), rest)),
+        [b'E', rest @ ..] => Some((ValueForm::Symbol(rows::OBJECT), rest)),
+        [b'F', rest @ ..] => Some((ValueForm::Offsets(2), rest)),
+        [b'G', rest @ ..] => Some((ValueForm::Offsets(3), rest)),
+        [b'H', rest @ ..] => Some((ValueForm::MemberOffsets(1), rest)),
+        [b'I', rest @ ..] => Some((ValueForm::MemberOffsets(2), rest)),
+        [b'J', rest @ ..] => Some((ValueForm::MemberOffsets(3), rest)),
+        _ => None,
+    }
+}
+
+/// Returns what a symbol is that has no name of the source, whose text `left` begins with, and the bytes after that
+/// text.
+#[inline(always)]
+pub fn symbol_form<'a>(left: &'a [u8]) -> Option<(SymbolForm, &'a [u8])>
+    ensures value { option_map (λ x. (x.0, x.1.now)) result ≡ text_at symbol_texts left.now }
+    ensures shorter { IfSome result (λ x. length x.1.now < length left.now) }
+{
+    match left {
+        [b'@', rest @ ..] => Some((SymbolForm::Hashed, rest)),
+        [b'_', b'C', rest @ ..] => Some((SymbolForm::String, rest)),
+        [b'_', b'R', b'0', rest @ ..] => Some((SymbolForm::Descriptor, rest)),
+        [b'_', b'B', rest @ ..] => Some((SymbolForm::Guard(Guard::Static), rest)),
+        [b'_', b'_', b'J', rest @ ..] => Some((SymbolForm::Guard(Guard::Thread), rest)),
         _ => None,
     }
 }
@@ -137,14 +184,97 @@ pub fn variable_kind<'a>(left: &'a [u8]) -> Option<(VarStorageKind, &'a [u8])>
 }
 
 /// Returns what the type of a symbol is, no variable, whose text `left` begins with, and the bytes after that text.
+#[tactic(auto, unfolding(crate::specs::Texts::encoding_at))]
+#[inline(always)]
 pub fn encoding_form<'a>(left: &'a [u8]) -> Option<(EncodingForm, &'a [u8])>
-    ensures value { option_map (λ x. (encoding_form_of x.0, x.1.now)) result ≡ letter_at encoding_letters left.now }
+    ensures value { option_map (λ x. (encoding_form_of x.0, x.1.now)) result ≡ encoding_at left.now }
     ensures shorter { IfSome result (λ x. length x.1.now < length left.now) }
 {
-    let [letter, rest @ ..] = left else {
-        return None;
-    };
-    match encoding(*letter) {
+    match left {
+        [b'$', rest @ ..] => encoding_form_after_dollar(rest),
+        [letter, rest @ ..] => with_rest(encoding(*letter), rest),
+        [] => None,
+    }
+}
+
+/// Returns the same after a `$`.
+#[inline(never)]
+fn encoding_form_after_dollar<'a>(left: &'a [u8]) -> Option<(EncodingForm, &'a [u8])>
+    ensures value { option_map (λ x. (encoding_form_of x.0, x.1.now)) result
+        ≡ text_at encoding_dollar_texts left.now }
+    ensures shorter { IfSome result (λ x. length x.1.now ≤ length left.now) }
+{
+    match left {
+        [b'B', rest @ ..] => Some((EncodingForm::VirtualCall, rest)),
+        [b'$', b'J', b'0', rest @ ..] => Some((EncodingForm::CFunction, rest)),
+        _ => function_form_after_dollar(left),
+    }
+}
+
+/// Returns what a function is whose class `left` begins with, and the bytes after that class.
+#[tactic(auto, unfolding(crate::specs::Texts::function_at))]
+pub fn function_form<'a>(left: &'a [u8]) -> Option<(EncodingForm, &'a [u8])>
+    ensures value { option_map (λ x. (encoding_form_of x.0, x.1.now)) result ≡ function_at left.now }
+    ensures shorter { IfSome result (λ x. length x.1.now < length left.now) }
+{
+    match left {
+        [b'$', rest @ ..] => function_form_after_dollar(rest),
+        [letter, rest @ ..] => with_rest(function(*letter), rest),
+        [] => None,
+    }
+}
+
+/// Returns the same after a `$`.
+fn function_form_after_dollar<'a>(left: &'a [u8]) -> Option<(EncodingForm, &'a [u8])>
+    ensures value { option_map (λ x. (encoding_form_of x.0, x.1.now)) result
+        ≡ text_at function_dollar_texts left.now }
+    ensures shorter { IfSome result (λ x. length x.1.now ≤ length left.now) }
+{
+    match left {
+        [b'0', rest @ ..] => Some((moved(Adjustment::VtorDisp, FuncClass::PRIVATE), rest)),
+        [b'1', rest @ ..] => Some((moved(Adjustment::VtorDisp, far(FuncClass::PRIVATE)), rest)),
+        [b'2', rest @ ..] => Some((moved(Adjustment::VtorDisp, FuncClass::PROTECTED), rest)),
+        [b'3', rest @ ..] => {
+            Some((moved(Adjustment::VtorDisp, far(FuncClass::PROTECTED)), rest))
+        }
+        [b'4', rest @ ..] => Some((moved(Adjustment::VtorDisp, FuncClass::PUBLIC), rest)),
+        [b'5', rest @ ..] => Some((moved(Adjustment::VtorDisp, far(FuncClass::PUBLIC)), rest)),
+        [b'R', b'0', rest @ ..] => Some((moved(Adjustment::VtorDispEx, FuncClass::PRIVATE), rest)),
+        [b'R', b'1', rest @ ..] => {
+            Some((moved(Adjustment::VtorDispEx, far(FuncClass::PRIVATE)), rest))
+        }
+        [b'R', b'2', rest @ ..] => {
+            Some((moved(Adjustment::VtorDispEx, FuncClass::PROTECTED), rest))
+        }
+        [b'R', b'3', rest @ ..] => {
+            Some((
+                moved(Adjustment::VtorDispEx, far(FuncClass::PROTECTED)),
+                rest,
+            ))
+        }
+        [b'R', b'4', rest @ ..] => Some((moved(Adjustment::VtorDispEx, FuncClass::PUBLIC), rest)),
+        [b'R', b'5', rest @ ..] => {
+            Some((moved(Adjustment::VtorDispEx, far(FuncClass::PUBLIC)), rest))
+        }
+        _ => None,
+    }
+}
+
+/// Returns a class with FAR.
+fn far(class: FuncClass) -> FuncClass
+    ensures { result.0 ≡ bit_or class.0 far }
+{
+    class.union(FuncClass::FAR)
+}
+
+/// Returns a form, if there is one, and the bytes after its text.
+#[inline(always)]
+fn with_rest<'a>(form: Option<EncodingForm>, rest: &'a [u8]) -> Option<(EncodingForm, &'a [u8])>
+    ensures value { option_map (λ x. (encoding_form_of x.0, x.1.now)) result
+        ≡ at_rest (option_map encoding_form_of form) rest.now }
+    ensures still { IfSome result (λ x. length x.1.now ≡ length rest.now) }
+{
+    match form {
         Some(form) => Some((form, rest)),
         None => None,
     }
@@ -160,21 +290,5 @@ pub fn unknown_encoding(left: &[u8]) -> (Message, usize)
         [b'$', b'R', _, rest @ ..] => (Message::UnknownFuncClass, rest.len()),
         [b'$', _, rest @ ..] => (Message::UnknownFuncClass, rest.len()),
         [_, rest @ ..] => (Message::UnknownFuncClass, rest.len()),
-    }
-}
-
-/// Returns whether `left` begins with a label of exception handling, which is no symbol.
-pub fn is_label(left: &[u8]) -> bool
-    ensures { result ≡ some_of (begins left.now) label_texts }
-{
-    let [b'?', rest @ ..] = left else {
-        return false;
-    };
-    match rest {
-        [b'c', b'a', b't', b'c', b'h', b'$', ..] => true,
-        [b'd', b't', b'o', b'r', b'$', ..] => true,
-        [b'f', b'i', b'l', b't', b'$', ..] => true,
-        [b'f', b'i', b'n', b'$', ..] => true,
-        _ => false,
     }
 }

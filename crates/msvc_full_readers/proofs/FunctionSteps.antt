@@ -19,7 +19,7 @@ use Rattle.msvc_full_grammar.specs.Forms.{function_of}
 use Rattle.msvc_full_grammar.specs.Grammar.{grammar, no_type, own_of_class}
 use Rattle.msvc_full_grammar.specs.Letters.{at_sign, conventions, digits, noexcept, qualifiers}
 use Rattle.msvc_full_grammar.specs.Productions.{Production, encoding_after, function_parameters, function_type}
-use Rattle.msvc_full_grammar.specs.Productions.{own_qualifiers, parameter, parameters, returned, signature, type_}
+use Rattle.msvc_full_grammar.specs.Productions.{own_qualifiers, parameter, parameters, result_type, returned, signature, type_}
 use Rattle.msvc_full_grammar.specs.Reading.{read_name, read}
 use Rattle.msvc_full_grammar.specs.declared.forms.OwnQualifiers.{OwnQualifiers}
 use Rattle.msvc_full_grammar.proofs.Laws.{read_name-is}
@@ -69,18 +69,19 @@ signature_end_step q c x xs left s = go (after (codes "_E") left)
 
 pub returned_step : (left : List ℕ) (s : State) → read_name returned left s
     ≡ chosen (after (codes "@") left) (λ rest. in_node rest s (λ l t. Some (plain plain_kind.None, l, t)))
-    (chosen (after (codes "?") left)
-    (λ rest. and_then (letter_here qualifiers rest s) (λ q l t. read_name (type_ q) l t))
-    (read_name (type_ 0) left s))
+    (read_name result_type left s)
 unfolding grammar read read_by
 returned_step left s =
-    read_name-is returned left s
-    ∙ literal_or-is {a = type_tree} (codes "@") no_type (literal_or (codes "?") qualified_type (call (type_ 0))) left s
-    ∙ ap (chosen (after (codes "@") left) (λ rest. in_node rest s (λ l t. Some (plain plain_kind.None, l, t))))
-    (literal_or-is {a = type_tree} (codes "?") qualified_type (call (type_ 0)) left s)
-  where
-    qualified_type : Rule Production type_tree
-    qualified_type = do q ← letter bits qualifiers; call (type_ q)
+    read_name-is returned left s ∙ literal_or-is {a = type_tree} (codes "@") no_type (call result_type) left s
+
+pub result_type_step : (left : List ℕ) (s : State) → read_name result_type left s
+    ≡ chosen (after (codes "?") left)
+    (λ rest. and_then (letter_here qualifiers rest s) (λ q l t. read_name (type_ q) l t))
+    (read_name (type_ 0) left s)
+unfolding grammar read read_by
+result_type_step left s =
+    read_name-is result_type left s
+    ∙ literal_or-is {a = type_tree} (codes "?") (do q ← letter bits qualifiers; call (type_ q)) (call (type_ 0)) left s
 
 -- parameters
 
@@ -190,6 +191,7 @@ pub ruleset steps = (
   member_function_step,
   signature_step,
   returned_step,
+  result_type_step,
   function_parameters_step,
   parameter_step,
   parameters_starts,

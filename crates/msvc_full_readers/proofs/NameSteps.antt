@@ -1,11 +1,11 @@
 -- Step lemmas of names, scopes and templates.
-use Rattle.std.proofs.Common.{ℕ, List, [], ◌∷◌, ◌++◌, Option, Some, None, false, ◌≡◌, refl, ap, ◌∙◌, append-nil}
+use Rattle.std.proofs.Common.{ℕ, ℤ, List, [], ◌∷◌, ◌++◌, Option, Some, None, false, ◌≡◌, refl, ap, ◌∙◌, append-nil}
 use Rattle.std.specs.Prelude.{slice_get, codes}
 use Rattle.msvc_nodes.specs.Trees.{NameTree, name_trees, names, nested, no_names, no_types, operator, plain, shaped}
-use Rattle.msvc_nodes.specs.Trees.{template, type_trees}
+use Rattle.msvc_nodes.specs.Trees.{base_class_descriptor, template, type_trees}
 use Rattle.msvc_nodes.specs.declared.kinds.PlainOperator.{PlainOperator}
 use Rattle.msvc_nodes.specs.declared.kinds.PlainType.TheVariants as plain_kind
-use Rattle.msvc_rules.specs.Readers.{and_then, counting, in_node, letter_here, name_known, put_apart, read_by}
+use Rattle.msvc_rules.specs.Readers.{Found, and_then, counting, in_node, letter_here, name_known, put_apart, read_by}
 use Rattle.msvc_rules.specs.Reads.{emptied}
 use Rattle.msvc_rules.specs.Rules.{Rule, after, call, give, known_name, literal, literal_or, ◌>>=◌}
 use Rattle.msvc_rules.specs.Sorts.{list, name_tree}
@@ -16,11 +16,11 @@ use Rattle.msvc_full_grammar.specs.Grammar.{template_inside}
 use Rattle.msvc_full_grammar.specs.Letters.{digits}
 use Rattle.msvc_full_grammar.specs.Productions.{Production, arguments, class_symbol, count, name_row, nested_name}
 use Rattle.msvc_full_grammar.specs.Productions.{operator_after, operator_name, scope, symbol, symbol_name}
-use Rattle.msvc_full_grammar.specs.Productions.{template_name, type_name, type_symbol}
+use Rattle.msvc_full_grammar.specs.Productions.{small_number, targets, template_name, type_name, type_symbol}
 use Rattle.msvc_full_grammar.specs.Reading.{read_name, read}
-use Rattle.msvc_full_grammar.specs.Rows.{frame_row, literal_operator_row, spaceship_row}
+use Rattle.msvc_full_grammar.specs.Rows.{frame_row, literal_operator_row}
 use Rattle.msvc_full_grammar.specs.declared.forms.NameRow.{NameRow}
-use Rattle.msvc_full_grammar.specs.declared.forms.NameRow.TheVariants.{Frame, LiteralOperator, Spaceship}
+use Rattle.msvc_full_grammar.specs.declared.forms.NameRow.TheVariants.{Frame, LiteralOperator}
 use Rattle.msvc_full_grammar.specs.declared.forms.OperatorForm.TheVariants as operators
 use Rattle.msvc_full_grammar.proofs.Laws.{read_name-is}
 use Rattle.msvc_cursor.proofs.Choices.{choose, chosen}
@@ -50,6 +50,26 @@ pub plain_operator_step : (o : PlainOperator) (left : List ℕ) (s : State)
 unfolding grammar read read_by
 plain_operator_step o left s = read_name-is (operator_after (operators.Plain o)) left s
 
+pub operator_word_step : (row : ℕ) (left : List ℕ) (s : State) → read_name (operator_after (operators.Word row)) left s
+    ≡ in_node left s (λ l t. Some (shaped row 0 [] [] no_names no_types, l, t))
+unfolding grammar read read_by
+operator_word_step row left s = read_name-is (operator_after (operators.Word row)) left s
+
+pub base_class_step : (left : List ℕ) (s : State) → read_name (operator_after operators.BaseClass) left s
+    ≡ in_node left s (λ i a. and_then (read_name small_number i a) (λ x j b. and_then (read_name small_number j b)
+    (λ y k c. and_then (read_name small_number k c) (λ z h d. and_then (read_name small_number h d)
+    (λ w l t. Some (base_class_descriptor x y z w, l, t))))))
+unfolding grammar read read_by
+base_class_step left s = read_name-is (operator_after operators.BaseClass) left s
+
+-- what is read of a base class, by what is read of its numbers
+pub base_class_reads : (left i l k j rest : List ℕ) (s r t u v w : State) (a b c d : ℤ)
+    → counting s.count.weight left s ≡ Some (tt, i, r)
+    → read_name small_number i r ≡ Some (a, l, t) → read_name small_number l t ≡ Some (b, k, u)
+    → read_name small_number k u ≡ Some (c, j, v) → read_name small_number j v ≡ Some (d, rest, w)
+    → read_name (operator_after operators.BaseClass) left s ≡ Some (base_class_descriptor a b c d, rest, w)
+base_class_reads left i l k j rest s r t u v w a b c d n e f g h = base_class_step left s ∙ rw (n, e, f, g, h)
+
 pub operator_row_step : (r : NameRow) (left : List ℕ) (s : State)
     → read_name (operator_after (operators.Row r)) left s ≡ read_name (name_row r) left s
 unfolding grammar read read_by
@@ -72,11 +92,6 @@ pub literal_operator_step : (left : List ℕ) (s : State) → read_name (name_ro
     (λ x l t. Some (shaped literal_operator_row 0 [] [] (names x no_names) no_types, l, t)))
 unfolding grammar read read_by
 literal_operator_step left s = read_name-is (name_row LiteralOperator) left s
-
-pub spaceship_step : (left : List ℕ) (s : State) → read_name (name_row Spaceship) left s
-    ≡ in_node left s (λ l t. Some (shaped spaceship_row 0 [] [] no_names no_types, l, t))
-unfolding grammar read read_by
-spaceship_step left s = read_name-is (name_row Spaceship) left s
 
 pub nested_symbol_step : (left : List ℕ) (s : State) → read nested_symbol left s
     ≡ in_node left s (λ j a. and_then (read_name symbol j a)
@@ -154,7 +169,14 @@ nested_name_step left s =
     anonymous_or_other : Rule Production name_tree
     anonymous_or_other = literal_or (codes "?A") anonymous_namespace frame_or_new
 
--- names up to an @
+-- names up to an @, of a scope, and the classes that a table is for
+
+stopped : (o : Option (List ℕ)) (first : Found NameTree) (others : List ℕ → State → Found (List NameTree)) (s : State)
+    → chosen o (λ rest. Some ([], rest, s))
+    (and_then first (λ n l t. and_then (others l t) (λ ns k u. Some (n ∷ ns, k, u))))
+    ≡ row_by others (scope_stop o) first s
+stopped None first others s = refl
+stopped (Some rest) first others s = refl
 
 scope_step : (left : List ℕ) (s : State)
     → read_name scope left s
@@ -164,15 +186,17 @@ scope_step left s =
     read_name-is scope left s
     ∙ literal_or-is {a =
     list name_tree} (codes "@") (give []) (do n ← call nested_name; ns ← call scope; give (n ∷ ns)) left s
-    ∙ go (after (codes "@") left)
-  where
-    go : (o : Option (List ℕ))
-        → chosen o (λ rest. Some ([], rest, s))
-        (and_then (read_name nested_name left s)
-        (λ n l t. and_then (read_name scope l t) (λ ns k u. Some (n ∷ ns, k, u))))
-        ≡ row_by (read_name scope) (scope_stop o) (read_name nested_name left s) s
-    go None = refl
-    go (Some rest) = refl
+    ∙ stopped (after (codes "@") left) (read_name nested_name left s) (read_name scope) s
+
+targets_step : (left : List ℕ) (s : State)
+    → read_name targets left s
+    ≡ row_by (read_name targets) (scope_stop (after (codes "@") left)) (read_name class_symbol left s) s
+unfolding grammar read read_by
+targets_step left s =
+    read_name-is targets left s
+    ∙ literal_or-is {a =
+    list name_tree} (codes "@") (give []) (do n ← call class_symbol; ns ← call targets; give (n ∷ ns)) left s
+    ∙ stopped (after (codes "@") left) (read_name class_symbol left s) (read_name targets) s
 
 pub scope_starts : (left : List ℕ) (s : State) → with_front [] (read_name scope left s) ≡ read_name scope left s
 scope_starts left s = front_none (read_name scope left s)
@@ -197,13 +221,37 @@ scope_more xs left l s t x e some =
     row_more (read_name scope) (read_name nested_name)
     (λ m. scope_stop (after (codes "@") m)) scope_step xs left l s t x (ap scope_stop e) some
 
+pub targets_starts : (left : List ℕ) (s : State) → with_front [] (read_name targets left s) ≡ read_name targets left s
+targets_starts left s = front_none (read_name targets left s)
+
+pub targets_ends : (xs : List NameTree) (left rest : List ℕ) (s : State) → after (codes "@") left ≡ Some rest
+    → with_front xs (read_name targets left s) ≡ Some (xs, rest, s)
+targets_ends xs left rest s e =
+    row_ends (read_name targets) (read_name class_symbol)
+    (λ l. scope_stop (after (codes "@") l)) targets_step xs [] left rest s (ap scope_stop e)
+    ∙ ap (λ z. Some (z, rest, s)) (append-nil xs)
+
+pub targets_rejected : (xs : List NameTree) (left : List ℕ) (s : State) → after (codes "@") left ≡ None
+    → read_name class_symbol left s ≡ None → with_front xs (read_name targets left s) ≡ None
+targets_rejected xs left s e none =
+    row_rejected (read_name targets) (read_name class_symbol)
+    (λ l. scope_stop (after (codes "@") l)) targets_step xs left s (ap scope_stop e) none
+
+pub targets_more : (xs : List NameTree) (left l : List ℕ) (s t : State) (x : NameTree) → after (codes "@") left ≡ None
+    → read_name class_symbol left s ≡ Some (x, l, t)
+    → with_front xs (read_name targets left s) ≡ with_front (xs ++ x ∷ []) (read_name targets l t)
+targets_more xs left l s t x e some =
+    row_more (read_name targets) (read_name class_symbol)
+    (λ m. scope_stop (after (codes "@") m)) targets_step xs left l s t x (ap scope_stop e) some
+
 pub ruleset steps = (
   symbol_name_step,
   plain_operator_step,
   operator_row_step,
   frame_step,
   literal_operator_step,
-  spaceship_step,
+  operator_word_step,
+  base_class_step,
   nested_symbol_step,
   type_name_step,
   type_symbol_step,
@@ -216,4 +264,7 @@ pub ruleset steps = (
   scope_starts,
   scope_ends,
   scope_rejected,
+  targets_starts,
+  targets_ends,
+  targets_rejected,
 )

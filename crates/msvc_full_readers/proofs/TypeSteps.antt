@@ -1,28 +1,35 @@
 -- Step lemmas of types and of arguments.
-use Rattle.std.proofs.Common.{ℕ, List, [], ◌∷◌, ◌++◌, Option, Some, None, ◌≡◌, refl, ap, ◌∙◌, append-nil}
-use Rattle.std.specs.Prelude.{bit_or, codes}
-use Rattle.msvc_nodes.specs.Trees.{TypeTree, name_trees, names, no_names, no_types, plain, pointing, shape, tagged}
+use Rattle.std.proofs.Common.{ℕ, List, [], ◌∷◌, ◌++◌, Option, Some, None, Bool, true, false, cond, not, ◌≡◌, refl, ap}
+use Rattle.std.proofs.Common.{◌∙◌, append-nil, true≢false}
+use Rattle.std.specs.Prelude.{bit_or, codes, is_some}
+use Rattle.msvc_nodes.specs.Trees.{NameTree, SymbolTree, TypeTree, name_trees, names, nested, no_names, no_types, plain, pointing, shape, tagged}
+use Rattle.msvc_nodes.specs.Trees.{types}
 use Rattle.msvc_nodes.specs.declared.kinds.PlainType.TheVariants as plain_kind
 use Rattle.msvc_nodes.specs.declared.kinds.PointerAffinity.{PointerAffinity}
 use Rattle.msvc_nodes.specs.declared.kinds.PointerAffinity.TheVariants as mark_kind
 use Rattle.msvc_nodes.specs.declared.kinds.TagKind.{TagKind}
 use Rattle.msvc_nodes.specs.declared.kinds.TagKind.TheVariants as tag_kind
 use Rattle.msvc_nodes.specs.declared.nodes.Number.{Number}
-use Rattle.msvc_rules.specs.Readers.{Found, and_then, in_node, letter_here, read_by}
-use Rattle.msvc_rules.specs.Rules.{Rule, after, call, give, letter, letter_or, literal, literal_or, ◌>>=◌}
+use Rattle.msvc_rules.specs.Readers.{Found, after_literal, and_then, counting, in_node, letter_here}
+use Rattle.msvc_rules.specs.Readers.{only_if, or_else, read_by}
+use Rattle.msvc_rules.specs.Rules.{Rule, after, begins, call, give, letter, letter_or, literal, literal_or, ◌>>=◌}
 use Rattle.msvc_rules.specs.Sorts.{bits, list, type_tree}
-use Rattle.msvc_rules.specs.State.{State}
+use Rattle.msvc_rules.specs.State.{State, counted, is_allowed, more}
 use Rattle.msvc_grammar.specs.Reading.{read as crate_read}
 use Rattle.msvc_full_grammar.specs.Forms.{arrayed, function_with, named, pointer_with, qualified, reference_by}
 use Rattle.msvc_full_grammar.specs.Forms.{TypeForm, the_same, type_by_row}
-use Rattle.msvc_full_grammar.specs.Grammar.{grammar}
+use Rattle.msvc_full_grammar.specs.Grammar.{grammar, nested_symbol}
 use Rattle.msvc_full_grammar.specs.Letters.{base_types, member_qualifiers, qualifiers, type_texts}
 use Rattle.msvc_full_grammar.specs.Productions.{Production, argument, argument_after, arguments, arrays, class_symbol}
 use Rattle.msvc_full_grammar.specs.Productions.{dimensions, function_type, lengths, marks, number, pointer, reference}
-use Rattle.msvc_full_grammar.specs.Productions.{type_, type_after, type_name, type_row, type_symbol}
+use Rattle.msvc_full_grammar.specs.Productions.{numbers, symbol, template_value, type_, type_after, type_name, type_row, type_symbol}
+use Rattle.msvc_full_grammar.specs.Productions.{value_after}
 use Rattle.msvc_full_grammar.specs.Reading.{read_name, read}
-use Rattle.msvc_full_grammar.specs.Rows.{custom_row, extern_c_row, integer_row, nullptr_row}
+use Rattle.msvc_full_grammar.specs.Rows.{custom_row, extern_c_row, integer_row, nullptr_row, offsets_row}
+use Rattle.msvc_full_grammar.specs.Rows.{symbol_offsets_row, typed_row}
 use Rattle.msvc_full_grammar.specs.declared.forms.ArgumentForm.TheVariants as forms
+use Rattle.msvc_full_grammar.specs.declared.forms.ValueForm.{ValueForm}
+use Rattle.msvc_full_grammar.specs.declared.forms.ValueForm.TheVariants as values
 use Rattle.msvc_full_grammar.specs.declared.forms.OwnQualifiers.{OwnQualifiers}
 use Rattle.msvc_full_grammar.specs.declared.forms.OwnQualifiers.TheVariants as own
 use Rattle.msvc_full_grammar.specs.declared.forms.TypeRow.{TypeRow}
@@ -33,7 +40,7 @@ use Rattle.msvc_cursor.proofs.Choices.{by_text, choose, chosen}
 use Rattle.msvc_cursor.proofs.RowSteps.{front_none, row_by, row_ends, row_more, row_rejected, with_front}
 use Rattle.msvc_full_letters.proofs.Choices.{letter_or-is, literal_or-is}
 use Rattle.msvc_full_letters.proofs.TextSteps.{base_by, type_step}
-use Rattle.msvc_full_readers.specs.Readings.{array_lengths, arrays_of, elements, member_pointer, pointed_function, pointed_member}
+use Rattle.msvc_full_readers.specs.Readings.{array_lengths, arrays_of, elements, member_pointer, pointed_function, pointed_member, symbol_body}
 use Rattle.msvc_full_readers.specs.Readings.{pointed_member_function, pointed_type, tagged_type}
 
 -- what follows the text of a type
@@ -80,33 +87,7 @@ type_by_row_step q r left s = read_name-is (type_after q (type_by_row r)) left s
 
 -- by the text that is next
 
-pub type_by : (q : ℕ) (f : TypeForm) (left rest : List ℕ) (s : State) → text_at type_texts left ≡ Some (f, rest)
-    → read_name (type_ q) left s ≡ read_name (type_after q f) rest s
-type_by q f left rest s e =
-    type_step q left s
-    ∙ ap (λ o. by_text o (λ g r. read_name (type_after q g) r s) (base_by base_types q left s)) e
-
-pub type_by_letter : (q : ℕ) (left : List ℕ) (s : State) → text_at type_texts left ≡ None
-    → read_name (type_ q) left s ≡ base_by base_types q left s
-type_by_letter q left s e =
-    type_step q left s
-    ∙ ap (λ o. by_text o (λ g r. read_name (type_after q g) r s) (base_by base_types q left s)) e
-
 -- a mark changes the qualifiers of the type behind it alone
-
-pub same_more : (q : ℕ) (left rest : List ℕ) (s : State) → text_at type_texts left ≡ Some (the_same, rest)
-    → read_name (type_ q) left s ≡ read_name (type_ q) rest s
-same_more q left rest s e = type_by q the_same left rest s e ∙ the_same_step q rest s
-
-abbrev after_qualifier : ℕ → Found ℕ → Found TypeTree
-after_qualifier q o = and_then o (λ more l t. read_name (type_ (bit_or q more)) l t)
-
-pub qualified_more : (q more : ℕ) (left rest l : List ℕ) (s t : State)
-    → text_at type_texts left ≡ Some (qualified, rest)
-    → letter_here qualifiers rest s ≡ Some (more, l, t)
-    → read_name (type_ q) left s ≡ read_name (type_ (bit_or q more)) l t
-qualified_more q more left rest l s t e read =
-    type_by q qualified left rest s e ∙ qualified_step q rest s ∙ ap (after_qualifier q) read
 
 pub tagged_type_step : (tag : TagKind) (q : ℕ) (left : List ℕ) (s : State) → read (tagged_type tag q) left s
     ≡ in_node left s (λ j a. and_then (read_name type_symbol j a)
@@ -255,10 +236,85 @@ pub alias_step : (left : List ℕ) (s : State)
 unfolding grammar read read_by
 alias_step left s = read_name-is (argument_after forms.Alias) left s
 
-pub argument_row_step : (r : TypeRow) (left : List ℕ) (s : State)
-    → read_name (argument_after (forms.Row r)) left s ≡ read_name (type_row 0 r) left s
+pub argument_value_step : (v : ValueForm) (left : List ℕ) (s : State)
+    → read_name (argument_after (forms.Value v)) left s ≡ read_name (value_after v) left s
 unfolding grammar read read_by
-argument_row_step r left s = read_name-is (argument_after (forms.Row r)) left s
+argument_value_step v left s = read_name-is (argument_after (forms.Value v)) left s
+
+pub typed_step : (left : List ℕ) (s : State) → read_name (argument_after forms.Typed) left s
+    ≡ in_node left s (λ j a. and_then (read_name (type_ 0) j a) (λ x l t. and_then (read_name template_value l t)
+    (λ y k u. Some (shape typed_row 0 [] [] no_names (types y (types x no_types)), k, u))))
+unfolding grammar read read_by
+typed_step left s = read_name-is (argument_after forms.Typed) left s
+
+pub value_row_step : (r : TypeRow) (left : List ℕ) (s : State)
+    → read_name (value_after (values.Row r)) left s ≡ read_name (type_row 0 r) left s
+unfolding grammar read read_by
+value_row_step r left s = read_name-is (value_after (values.Row r)) left s
+
+pub value_symbol_step : (row : ℕ) (left : List ℕ) (s : State) → read_name (value_after (values.Symbol row)) left s
+    ≡ in_node left s (λ j a. and_then (read nested_symbol j a)
+    (λ x l t. Some (shape row 0 [] [] (names x no_names) no_types, l, t)))
+unfolding grammar read read_by
+value_symbol_step row left s = read_name-is (value_after (values.Symbol row)) left s
+
+pub offsets_step : (n : ℕ) (left : List ℕ) (s : State) → read_name (value_after (values.Offsets n)) left s
+    ≡ in_node left s (λ j a. and_then (read_name (numbers n) j a)
+    (λ zs l t. Some (shape offsets_row 0 zs [] no_names no_types, l, t)))
+unfolding grammar read read_by
+offsets_step n left s = read_name-is (value_after (values.Offsets n)) left s
+
+-- offsets alone, and offsets after a function
+abbrev only_offsets : ℕ → List ℕ → State → Found TypeTree
+only_offsets n l t =
+    and_then (read_name (numbers n) l t) (λ zs k u. Some (shape offsets_row 0 zs [] no_names no_types, k, u))
+
+abbrev symbol_and_offsets : ℕ → List ℕ → State → Found TypeTree
+symbol_and_offsets n l t = and_then (read nested_symbol l t) (λ x k u. and_then (read_name (numbers n) k u)
+    (λ zs h v. Some (shape symbol_offsets_row 0 zs [] (names x no_names) no_types, h, v)))
+
+-- no symbol is read where no ? stands
+no_symbol : (n : ℕ) (l : List ℕ) (t : State) → begins l (codes "?") ≡ false → symbol_and_offsets n l t ≡ None
+unfolding grammar read read_by counting
+no_symbol n l t e = go (is_allowed (more t.count.weight t.count)) (counted t.count.weight t)
+  where
+    with_nested : SymbolTree → List ℕ → State → Found NameTree
+    with_nested x h v = Some (nested x.name x.scope x.symbol_type, h, v)
+
+    with_offsets : NameTree → List ℕ → State → Found TypeTree
+    with_offsets x k u = and_then (read_name (numbers n) k u)
+        (λ zs h v. Some (shape symbol_offsets_row 0 zs [] (names x no_names) no_types, h, v))
+
+    at : (o : Option (List ℕ)) (u : State) → is_some o ≡ false
+        → and_then (after_literal o u) (λ _ h v. read symbol_body h v) ≡ None
+    at None u h = refl
+    at (Some rest) u h = absurd (true≢false h)
+
+    rejected : (u : State) → read_name symbol l u ≡ None
+    rejected u = read_name-is symbol l u ∙ at (after (codes "?") l) u e
+
+    go : (b : Bool) (u : State)
+        → and_then (and_then (only_if b l u) (λ _ k v. and_then (read_name symbol k v) with_nested)) with_offsets ≡ None
+    go true u = ap (λ o. and_then (and_then o with_nested) with_offsets) (rejected u)
+    go false u = refl
+
+pub member_offsets_step : (n : ℕ) (left : List ℕ) (s : State)
+    → read_name (value_after (values.MemberOffsets n)) left s
+    ≡ in_node left s (λ l t. cond (begins l (codes "?")) (symbol_and_offsets n l t) (only_offsets n l t))
+unfolding grammar read read_by
+member_offsets_step n left s =
+    read_name-is (value_after (values.MemberOffsets n)) left s
+    ∙ λ i. in_node left s (λ l t. go (begins l (codes "?")) l t refl i)
+  where
+    or_nothing : (o : Found TypeTree) → or_else o None ≡ o
+    or_nothing None = refl
+    or_nothing (Some x) = refl
+
+    go : (b : Bool) (l : List ℕ) (t : State) → begins l (codes "?") ≡ b
+        → or_else (cond (not (cond b true false)) (only_offsets n l t) None) (symbol_and_offsets n l t)
+        ≡ cond b (symbol_and_offsets n l t) (only_offsets n l t)
+    go true l t e = refl
+    go false l t e = ap (or_else (only_offsets n l t)) (no_symbol n l t e) ∙ or_nothing (only_offsets n l t)
 
 abbrev arguments_stop : Option (List ℕ) → Option (List TypeTree × List ℕ)
 arguments_stop None = None
@@ -331,7 +387,12 @@ pub ruleset steps = (
   elements_step,
   empty_pack_step,
   alias_step,
-  argument_row_step,
+  argument_value_step,
+  typed_step,
+  value_row_step,
+  value_symbol_step,
+  offsets_step,
+  member_offsets_step,
   arguments_start,
   arguments_end,
   arguments_rejected,

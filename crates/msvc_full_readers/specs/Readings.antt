@@ -5,7 +5,8 @@ use Rattle.std.specs.Prelude.{map}
 use Prim.Native.Char.{code}
 use Rattle.msvc_nodes.specs.NodeView.{type_at}
 use Rattle.msvc_nodes.specs.Trees.{NameTree, TypeTree, anonymous, name_trees, names, no_names, no_types}
-use Rattle.msvc_nodes.specs.Trees.{pointing, shape, tagged, types}
+use Rattle.msvc_nodes.specs.Trees.{SymbolTree, pointing, shape, shaped, tagged, types, variable}
+use Rattle.msvc_nodes.specs.declared.kinds.VarStorageKind.TheVariants as storage_kind
 use Rattle.msvc_nodes.specs.declared.nodes.Function.{Function}
 use Rattle.msvc_nodes.specs.declared.nodes.Number.{Number}
 use Rattle.msvc_nodes.specs.declared.kinds.Convention.{Convention}
@@ -20,10 +21,10 @@ use Rattle.msvc_full_grammar.specs.Forms.{TypeForm}
 use Rattle.msvc_full_grammar.specs.declared.forms.OwnQualifiers.TheVariants.{Absent as absent, Present as present}
 use Rattle.msvc_full_grammar.specs.Letters.{at_sign, base_types, capitals, noexcept, qualifiers}
 use Rattle.msvc_full_grammar.specs.Productions.{Production, anonymous_digits, class_symbol, dimensions}
-use Rattle.msvc_full_grammar.specs.Productions.{function_type, lengths, named_symbol, scope, symbol_name, template_symbol, type_, type_after, type_symbol}
+use Rattle.msvc_full_grammar.specs.Productions.{function_type, lengths, marked_symbol, named_symbol, scope, symbol_name, template_symbol, type_, type_after, type_symbol}
 use Rattle.msvc_full_grammar.specs.Reading.{read_name}
 use Rattle.msvc_full_letters.proofs.TextSteps.{base_by}
-use Rattle.msvc_full_grammar.specs.Rows.{arrays_row, member_pointer_row}
+use Rattle.msvc_full_grammar.specs.Rows.{arrays_row, member_pointer_row, type_descriptor_row}
 use Rattle.msvc_grammar.specs.declared.forms.Ellipsis.{Ellipsis}
 use Rattle.msvc_grammar.specs.declared.forms.Ellipsis.TheVariants as ellipsis
 
@@ -37,7 +38,20 @@ anonymous_name = do ds ← call anonymous_digits; give (anonymous ds)
 
 -- a symbol after its ?
 abbrev pub symbol_body : Rule Production symbol_tree
-symbol_body = literal_or (codes "?$") (call template_symbol) (call named_symbol)
+symbol_body =
+    literal_or (codes "?$") (call template_symbol) (literal_or (codes "?") (call marked_symbol) (call named_symbol))
+
+-- the marker of a guard
+abbrev pub guard_marker : Rule Production sort.nothing
+guard_marker = literal (codes "4IA") or literal (codes "5")
+
+-- the descriptor of a type
+abbrev pub descriptor_of : TypeTree → SymbolTree
+descriptor_of t = record {
+  name = shaped type_descriptor_row 0 [] [] no_names no_types;
+  scope = no_names;
+  symbol_type = variable t storage_kind.Global 0;
+}
 
 -- the name of a symbol in its scope
 abbrev pub name_in_scope : Rule Production (both name_tree (list name_tree))

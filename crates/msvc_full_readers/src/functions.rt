@@ -71,7 +71,7 @@ fn signature<'a, 'b, L: NodeBudget, A: Allocator>(
     put_signature(parser, convention, class, qualifiers, returned, checkpoint)
 }
 
-/// Reads `RETURNED = "@" | "?" qualifier TYPE | TYPE`: an `@` means no type, as of a constructor.
+/// Reads `RETURNED = "@" | RESULT_TYPE`: an `@` means no type, as of a constructor.
 #[cycle(readers)]
 fn returned<'a, 'b, L: NodeBudget, A: Allocator>(
     parser: &mut Parser<'a, 'b, L, A>,
@@ -82,6 +82,18 @@ fn returned<'a, 'b, L: NodeBudget, A: Allocator>(
     if parser.consume(b"@") {
         return parser.new_plain(PlainType::None);
     }
+    result_type(parser)
+}
+
+/// Reads `RESULT_TYPE = "?" qualifier TYPE | TYPE`.
+#[cycle(readers)]
+#[inline(always)]
+pub fn result_type<'a, 'b, L: NodeBudget, A: Allocator>(
+    parser: &mut Parser<'a, 'b, L, A>,
+) -> Result<&'b Type<'a, 'b>, Failed>
+    ensures value { ReadsAs type_at parser.old parser.new result (read_name production.result_type) }
+    ensures consumes { Consumes parser.old parser.new result }
+{
     if parser.consume(b"?") {
         let qualifiers = qualifier(parser)?;
         return type_(parser, qualifiers);

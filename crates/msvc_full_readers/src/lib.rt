@@ -8,6 +8,7 @@ mod anonymous_namespaces;
 mod arguments;
 mod base_types;
 mod functions;
+mod made_symbols;
 mod names;
 mod parameters;
 mod pointers;

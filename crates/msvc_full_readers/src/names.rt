@@ -6,13 +6,16 @@ ghost use Rattle.msvc_full_grammar.specs.Grammar.{nested_symbol, new_template, t
 ghost use Rattle.msvc_full_grammar.specs.Productions as production;
 ghost use Rattle.msvc_full_grammar.specs.Reading.{read, read_name};
 ghost use Rattle.msvc_full_grammar.specs.declared.forms.NameRow.TheVariants as rows_of;
+ghost use Rattle.msvc_full_grammar.specs.declared.forms.OperatorForm.TheVariants as operators;
 ghost use Rattle.msvc_cursor.specs.Parser.{Consumes, MayConsume, ReadsAs};
 ghost use Rattle.msvc_cursor.specs.Rows.{ListsNames, named_at};
 ghost use Rattle.msvc_cursor.specs.NestedList.{current};
 
 use crate::anonymous_namespaces::anonymous_namespace;
 use crate::arguments::arguments;
-use crate::store::{new_operator, put_class, put_empty_name, put_frame, put_named_name};
+use crate::store::{
+    new_operator, put_base_class, put_class, put_empty_name, put_frame, put_named_name,
+};
 use crate::symbols::symbol;
 use msvc_cursor::budget::NodeBudget;
 use msvc_cursor::failure::{Failed, Message};
@@ -20,9 +23,9 @@ use msvc_cursor::nested_list::Checkpoint;
 use msvc_cursor::parser::Parser;
 use msvc_full_grammar::forms::{NameRow, OperatorForm};
 use msvc_full_letters::names::new_source_name;
-use msvc_full_letters::numbers::count;
+use msvc_full_letters::numbers::{count, small_number};
 use msvc_full_letters::operators::{operator_form, unknown_operator};
-use msvc_nodes::nodes::{Name, Number, Symbol};
+use msvc_nodes::nodes::{BaseClass, Name, Number, Symbol};
 use msvc_shapes::rows;
 use std::alloc::Allocator;
 
@@ -48,7 +51,7 @@ pub fn symbol_name<'a, 'b, L: NodeBudget, A: Allocator>(
 
 /// Reads `OPERATOR_NAME = code of operators OPERATOR_AFTER`.
 #[cycle(readers)]
-fn operator_name<'a, 'b, L: NodeBudget, A: Allocator>(
+pub fn operator_name<'a, 'b, L: NodeBudget, A: Allocator>(
     parser: &mut Parser<'a, 'b, L, A>,
 ) -> Result<&'b Name<'a, 'b>, Failed>
     ensures value { ReadsAs name_at parser.old parser.new result (read_name production.operator_name) }
@@ -84,7 +87,9 @@ fn operator_after<'a, 'b, L: NodeBudget, A: Allocator>(
 {
     match form {
         OperatorForm::Plain(kind) => new_operator(parser, kind),
+        OperatorForm::Word(row) => operator_word(parser, row),
         OperatorForm::Row(row) => name_row(parser, row),
+        OperatorForm::BaseClass => base_class_descriptor(parser),
     }
 }
 
@@ -100,7 +105,6 @@ fn name_row<'a, 'b, L: NodeBudget, A: Allocator>(
     match row {
         NameRow::Frame => frame(parser),
         NameRow::LiteralOperator => literal_operator(parser),
-        NameRow::Spaceship => spaceship(parser),
     }
 }
 
@@ -125,7 +129,7 @@ fn frame<'a, 'b, L: NodeBudget, A: Allocator>(
 
 /// Reads a symbol as a name.
 #[cycle(readers)]
-fn nested_symbol<'a, 'b, L: NodeBudget, A: Allocator>(
+pub fn nested_symbol<'a, 'b, L: NodeBudget, A: Allocator>(
     parser: &mut Parser<'a, 'b, L, A>,
 ) -> Result<&'b Name<'a, 'b>, Failed>
     ensures value { ReadsAs name_at parser.old parser.new result (read nested_symbol) }
@@ -150,16 +154,43 @@ fn literal_operator<'a, 'b, L: NodeBudget, A: Allocator>(
     put_named_name(parser, rows::LITERAL_OPERATOR, suffix)
 }
 
-/// Stores `operator<=>`.
+/// Counts and stores an operator that has nothing in it, by its row.
 #[inline(never)]
-fn spaceship<'a, 'b, L: NodeBudget, A: Allocator>(
+fn operator_word<'a, 'b, L: NodeBudget, A: Allocator>(
     parser: &mut Parser<'a, 'b, L, A>,
+    row: u8,
 ) -> Result<&'b Name<'a, 'b>, Failed>
-    ensures value { ReadsAs name_at parser.old parser.new result (read_name (production.name_row rows_of.Spaceship)) }
+    ensures value { ReadsAs name_at parser.old parser.new result
+        (read_name (production.operator_after (operators.Word row))) }
     ensures consumes { MayConsume parser.old parser.new result }
 {
     parser.count_node()?;
-    put_empty_name(parser, rows::SPACESHIP)
+    put_empty_name(parser, row)
+}
+
+/// Reads four numbers: the place of a base class in an object, and its attributes.
+#[inline(never)]
+fn base_class_descriptor<'a, 'b, L: NodeBudget, A: Allocator>(
+    parser: &mut Parser<'a, 'b, L, A>,
+) -> Result<&'b Name<'a, 'b>, Failed>
+    ensures value { ReadsAs name_at parser.old parser.new result
+        (read_name (production.operator_after operators.BaseClass)) }
+    ensures consumes { Consumes parser.old parser.new result }
+{
+    parser.count_node()?;
+    let member = small_number(parser)?;
+    let pointer = small_number(parser)?;
+    let entry = small_number(parser)?;
+    let attributes = small_number(parser)?;
+    put_base_class(
+        parser,
+        BaseClass {
+            member,
+            pointer,
+            entry,
+            attributes,
+        },
+    )
 }
 
 /// Reads `TYPE_NAME = digit | "?$" TEMPLATE_NAME | SOURCE_NAME`.
@@ -268,6 +299,30 @@ pub fn scope<'a, 'b, L: NodeBudget, A: Allocator>(
             return Ok(checkpoint);
         }
         let name = nested_name(parser)?;
+        if parser.listed_names.push(name).is_err() {
+            return Err(parser.no_memory());
+        }
+    }
+}
+
+/// Reads `TARGETS = {CLASS_SYMBOL} "@"`: the classes that a table is for. The names are on a new part of the parser's
+/// list, and the result ends that part.
+#[cycle(readers)]
+#[inline(never)]
+pub fn targets<'a, 'b, L: NodeBudget, A: Allocator>(
+    parser: &mut Parser<'a, 'b, L, A>,
+) -> Result<Checkpoint, Failed>
+    ensures value { ReadsAs (λ _. map name_at (current parser.new.listed_names)) parser.old parser.new result
+        (read_name production.targets) }
+    ensures shorter { IfOk result (λ _. length parser.new.rest.now < length parser.old.rest.now) }
+    ensures lists { ListsNames parser.old parser.new result }
+{
+    let checkpoint = parser.listed_names.begin();
+    'names: loop {
+        if parser.consume(b"@") {
+            return Ok(checkpoint);
+        }
+        let name = class_symbol(parser)?;
         if parser.listed_names.push(name).is_err() {
             return Err(parser.no_memory());
         }

@@ -3,16 +3,19 @@
 ghost use Rattle.std.specs.Option.{option_map};
 ghost use Rattle.std.specs.Prelude.{◌≡◌, ◌<◌, IfSome, length, MatchOption};
 ghost use Rattle.msvc_rules.specs.Readers.{letter_here};
-ghost use Rattle.msvc_full_grammar.specs.Grammar.{own_of_class};
+ghost use Rattle.msvc_full_grammar.specs.Grammar.{adjusted_row, of_c, own_of_class};
+ghost use Rattle.msvc_full_letters.specs.Views.{encoding_form_of};
 ghost use Rattle.msvc_full_grammar.specs.Letters as letters_of;
 ghost use Rattle.msvc_cursor.specs.Parser.{frame_of, state_of};
 
 use bitflags::Flags;
 use msvc_cursor::budget::NodeBudget;
 use msvc_cursor::parser::Parser;
-use msvc_full_grammar::forms::OwnQualifiers;
+use msvc_full_grammar::forms::{Adjustment, OwnQualifiers};
+use msvc_full_letters::forms::EncodingForm;
 use msvc_full_letters::letters;
 use msvc_nodes::flags::{FuncClass, StorageClass};
+use msvc_shapes::rows;
 use std::alloc::Allocator;
 
 /// Reads the letter of the qualifier of a member that is pointed to, if it is next.
@@ -54,4 +57,38 @@ pub fn noexcept() -> StorageClass
     ensures { result.0 ≡ letters_of.noexcept }
 {
     StorageClass::from_bits_retain(512)
+}
+
+/// Returns the bit of a function of C in its class.
+fn c_linkage() -> FuncClass
+    ensures { result.0 ≡ letters_of.c_linkage }
+{
+    FuncClass::from_bits_retain(256)
+}
+
+/// Returns the same class of function, of C.
+pub fn of_c(form: EncodingForm) -> EncodingForm
+    ensures { encoding_form_of result ≡ of_c (encoding_form_of form) }
+{
+    match form {
+        EncodingForm::FreeFunction => {
+            EncodingForm::Function(FuncClass::GLOBAL.union(c_linkage()))
+        }
+        EncodingForm::Function(class) => EncodingForm::Function(class.union(c_linkage())),
+        EncodingForm::Thunk(adjustment, class) => {
+            EncodingForm::Thunk(adjustment, class.union(c_linkage()))
+        }
+        _ => form,
+    }
+}
+
+/// Returns the row of a function that moves its `this`.
+pub fn adjusted_row(adjustment: Adjustment) -> u8
+    ensures { result ≡ adjusted_row adjustment }
+{
+    match adjustment {
+        Adjustment::Adjustor => rows::ADJUSTOR,
+        Adjustment::VtorDisp => rows::VTORDISP,
+        Adjustment::VtorDispEx => rows::VTORDISPEX,
+    }
 }

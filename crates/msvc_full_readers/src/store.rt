@@ -10,23 +10,25 @@ ghost use Rattle.msvc_nodes.specs.Trees as tree;
 ghost use Rattle.msvc_nodes.specs.declared.kinds.PlainType.TheVariants as plain_kind;
 ghost use Rattle.msvc_rules.specs.Readers.{in_node, with_value};
 ghost use Rattle.msvc_full_grammar.specs.Reading.{read};
-ghost use Rattle.msvc_full_grammar.specs.Rows.{frame_row};
+ghost use Rattle.msvc_nodes.specs.declared.kinds.VarStorageKind.TheVariants as storage_kind;
+ghost use Rattle.msvc_full_grammar.specs.Rows.{frame_row, symbol_offsets_row, tables_row, typed_row};
 ghost use Rattle.msvc_cursor.specs.NestedList.{current, enclosing};
 ghost use Rattle.msvc_cursor.specs.Parser.{ReadsAs, Stays};
-ghost use Rattle.msvc_cursor.specs.Rows.{EndsTypes};
-ghost use Rattle.msvc_full_readers.specs.Readings.{arrays_of, member_pointer, signature_at, signature_end};
+ghost use Rattle.msvc_cursor.specs.Rows.{EndsNames, EndsTypes, typed_symbol_at};
+ghost use Rattle.msvc_full_readers.specs.Readings.{member_pointer, signature_at, signature_end};
 
 use crate::qualifiers::noexcept;
 use bitflags::Flags;
 use bumpalo::Bump;
+use bumpalo::collections::into_bump_slice;
 use msvc_cursor::budget::NodeBudget;
 use msvc_cursor::failure::{Failed, Message};
 use msvc_cursor::nested_list::Checkpoint;
 use msvc_cursor::parser::Parser;
 use msvc_nodes::flags::{FuncClass, StorageClass};
-use msvc_nodes::kinds::{Convention, PlainOperator, PlainType};
+use msvc_nodes::kinds::{Convention, PlainOperator, PlainType, VarStorageKind};
 use msvc_nodes::list::List;
-use msvc_nodes::nodes::{Function, Name, Number, Shape, Symbol, Type};
+use msvc_nodes::nodes::{BaseClass, Function, Name, Number, Shape, Symbol, Type, TypedSymbol};
 use msvc_shapes::rows;
 use std::alloc::Allocator;
 
@@ -121,29 +123,141 @@ pub fn put_named_type<'a, 'b, L: NodeBudget, A: Allocator>(
     parser.put_type(Type::Shape(shape))
 }
 
-/// Stores arrays of these lengths.
+/// Stores a type of a row that has numbers, if any.
 #[inline(never)]
-pub fn put_arrays<'a, 'b, L: NodeBudget, A: Allocator>(
+pub fn put_numbers_type<'a, 'b, L: NodeBudget, A: Allocator>(
     parser: &mut Parser<'a, 'b, L, A>,
-    lengths: &'b [Number],
-    element: &'b Type<'a, 'b>,
+    row: u8,
+    numbers: &'b [Number],
+) -> Result<&'b Type<'a, 'b>, Failed>
+    ensures value { ReadsAs type_at parser.old parser.new result
+        (with_value (Some (shape row 0 numbers.now [] no_names no_types))) }
+    ensures stays { Stays parser.old parser.new result }
+{
+    let names: &[&Name<'a, 'b>] = &[];
+    let types: &[&Type<'a, 'b>] = &[];
+    let shape = parser.put(Shape {
+        row,
+        qualifiers: StorageClass::empty(),
+        numbers,
+        text: b"",
+        names,
+        types,
+    })?;
+    parser.put_type(Type::Shape(shape))
+}
+
+/// Stores a type of a row around another type, with numbers and qualifiers, if any.
+#[inline(never)]
+pub fn put_outer_type<'a, 'b, L: NodeBudget, A: Allocator>(
+    parser: &mut Parser<'a, 'b, L, A>,
+    row: u8,
+    numbers: &'b [Number],
+    inner: &'b Type<'a, 'b>,
     qualifiers: StorageClass,
 ) -> Result<&'b Type<'a, 'b>, Failed>
     ensures value { ReadsAs type_at parser.old parser.new result
-        (with_value (Some (arrays_of lengths.now (type_of element.now) qualifiers.0))) }
+        (with_value (Some (shape row qualifiers.0 numbers.now [] no_names (types (type_of inner.now) no_types)))) }
     ensures stays { Stays parser.old parser.new result }
 {
-    let Some(types) = list_of(parser.arena, element) else {
+    let Some(types) = list_of(parser.arena, inner) else {
         return Err(parser.no_memory());
     };
     let names: &[&Name<'a, 'b>] = &[];
     let shape = parser.put(Shape {
-        row: rows::ARRAYS,
+        row,
         qualifiers,
-        numbers: lengths,
+        numbers,
         text: b"",
         names,
         types: types.items,
+    })?;
+    parser.put_type(Type::Shape(shape))
+}
+
+/// Stores a value with its type.
+#[inline(never)]
+pub fn put_typed<'a, 'b, L: NodeBudget, A: Allocator>(
+    parser: &mut Parser<'a, 'b, L, A>,
+    value: &'b Type<'a, 'b>,
+    value_type: &'b Type<'a, 'b>,
+) -> Result<&'b Type<'a, 'b>, Failed>
+    ensures value { ReadsAs type_at parser.old parser.new result
+        (with_value (Some (shape typed_row 0 [] [] no_names
+        (types (type_of value.now) (types (type_of value_type.now) no_types))))) }
+    ensures stays { Stays parser.old parser.new result }
+{
+    let mut types = Vec::new(parser.arena);
+    if types.push(value).is_err() || types.push(value_type).is_err() {
+        return Err(parser.no_memory());
+    }
+    let numbers: &[Number] = &[];
+    let names: &[&Name<'a, 'b>] = &[];
+    let shape = parser.put(Shape {
+        row: rows::TYPED,
+        qualifiers: StorageClass::empty(),
+        numbers,
+        text: b"",
+        names,
+        types: into_bump_slice(types),
+    })?;
+    parser.put_type(Type::Shape(shape))
+}
+
+/// Stores offsets of a pointer to a member function.
+#[inline(never)]
+pub fn put_symbol_offsets<'a, 'b, L: NodeBudget, A: Allocator>(
+    parser: &mut Parser<'a, 'b, L, A>,
+    function: &'b Name<'a, 'b>,
+    numbers: &'b [Number],
+) -> Result<&'b Type<'a, 'b>, Failed>
+    ensures value { ReadsAs type_at parser.old parser.new result
+        (with_value (Some (shape symbol_offsets_row 0 numbers.now [] (names (name_of function.now) no_names)
+        no_types))) }
+    ensures stays { Stays parser.old parser.new result }
+{
+    let Some(names) = list_of(parser.arena, function) else {
+        return Err(parser.no_memory());
+    };
+    let types: &[&Type<'a, 'b>] = &[];
+    let shape = parser.put(Shape {
+        row: rows::SYMBOL_OFFSETS,
+        qualifiers: StorageClass::empty(),
+        numbers,
+        text: b"",
+        names: names.items,
+        types,
+    })?;
+    parser.put_type(Type::Shape(shape))
+}
+
+/// Stores a table for the classes on the list.
+#[tactic(auto, using(msvc_cursor::proofs::Nodes::views, crate::proofs::StoreSteps::steps))]
+#[inline(never)]
+pub fn put_table<'a, 'b, L: NodeBudget, A: Allocator>(
+    parser: &mut Parser<'a, 'b, L, A>,
+    qualifiers: StorageClass,
+    checkpoint: Checkpoint,
+) -> Result<&'b Type<'a, 'b>, Failed>
+    requires { checkpoint.from ≤ length (enclosing parser.old.listed_names) }
+    ensures value { ReadsAs type_at parser.old parser.new result
+        (with_value (Some (shape tables_row qualifiers.0 [] []
+        (name_trees (map name_at (current parser.old.listed_names))) no_types))) }
+    ensures rest { IfOk result (λ _. parser.new.rest.now ≡ parser.old.rest.now) }
+    ensures kept { EndsNames checkpoint parser.old parser.new result }
+{
+    let Some(names) = parser.listed_names.end_in(parser.arena, checkpoint) else {
+        return Err(parser.no_memory());
+    };
+    let numbers: &[Number] = &[];
+    let types: &[&Type<'a, 'b>] = &[];
+    let shape = parser.put(Shape {
+        row: rows::TABLES,
+        qualifiers,
+        numbers,
+        text: b"",
+        names: names.items,
+        types,
     })?;
     parser.put_type(Type::Shape(shape))
 }
@@ -199,6 +313,90 @@ pub fn put_empty_name<'a, 'b, L: NodeBudget, A: Allocator>(
         types,
     })?;
     parser.put_name(Name::Shape(shape))
+}
+
+/// Stores a name of a row that has bytes of the symbol.
+pub fn put_bytes_name<'a, 'b, L: NodeBudget, A: Allocator>(
+    parser: &mut Parser<'a, 'b, L, A>,
+    row: u8,
+    text: &'a [u8],
+) -> Result<&'b Name<'a, 'b>, Failed>
+    ensures value { ReadsAs name_at parser.old parser.new result
+        (with_value (Some (shaped row 0 [] text.now no_names no_types))) }
+    ensures stays { Stays parser.old parser.new result }
+{
+    let numbers: &[Number] = &[];
+    let names: &[&Name<'a, 'b>] = &[];
+    let types: &[&Type<'a, 'b>] = &[];
+    let shape = parser.put(Shape {
+        row,
+        qualifiers: StorageClass::empty(),
+        numbers,
+        text,
+        names,
+        types,
+    })?;
+    parser.put_name(Name::Shape(shape))
+}
+
+/// Stores a name of a row that has numbers.
+pub fn put_numbers_name<'a, 'b, L: NodeBudget, A: Allocator>(
+    parser: &mut Parser<'a, 'b, L, A>,
+    row: u8,
+    numbers: &'b [Number],
+) -> Result<&'b Name<'a, 'b>, Failed>
+    ensures value { ReadsAs name_at parser.old parser.new result
+        (with_value (Some (shaped row 0 numbers.now [] no_names no_types))) }
+    ensures stays { Stays parser.old parser.new result }
+{
+    let names: &[&Name<'a, 'b>] = &[];
+    let types: &[&Type<'a, 'b>] = &[];
+    let shape = parser.put(Shape {
+        row,
+        qualifiers: StorageClass::empty(),
+        numbers,
+        text: b"",
+        names,
+        types,
+    })?;
+    parser.put_name(Name::Shape(shape))
+}
+
+/// Stores the place of a base class as a name.
+pub fn put_base_class<'a, 'b, L: NodeBudget, A: Allocator>(
+    parser: &mut Parser<'a, 'b, L, A>,
+    place: BaseClass,
+) -> Result<&'b Name<'a, 'b>, Failed>
+    ensures value { ReadsAs name_at parser.old parser.new result (with_value (Some
+        (tree.base_class_descriptor place.member place.pointer place.entry place.attributes))) }
+    ensures stays { Stays parser.old parser.new result }
+{
+    let place = parser.put(place)?;
+    parser.put_name(Name::BaseClassDescriptor(place))
+}
+
+/// Stores the descriptor of a type under this name, as a variable without a scope.
+pub fn put_described<'a, 'b, L: NodeBudget, A: Allocator>(
+    parser: &mut Parser<'a, 'b, L, A>,
+    name: &'b Name<'a, 'b>,
+    described: &'b Type<'a, 'b>,
+) -> Result<&'b TypedSymbol<'a, 'b>, Failed>
+    ensures value { ReadsAs typed_symbol_at parser.old parser.new result
+        (with_value (Some (record {
+          name = name_of name.now;
+          scope = no_names;
+          symbol_type = tree.variable (type_of described.now) storage_kind.Global 0;
+        }))) }
+    ensures stays { Stays parser.old parser.new result }
+{
+    let symbol_type = parser.put_type(Type::Variable(
+        VarStorageKind::Global,
+        StorageClass::empty(),
+        described,
+    ))?;
+    let scope: &[&Name<'a, 'b>] = &[];
+    let symbol = parser.put(Symbol { name, scope })?;
+    parser.put_typed_symbol(symbol, symbol_type)
 }
 
 /// Stores a name of a row that has a name.

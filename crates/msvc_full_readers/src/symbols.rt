@@ -4,31 +4,42 @@ ghost use Rattle.std.specs.Prelude.{◌≡◌, codes, IfOk, length, None, Some};
 ghost use Rattle.msvc_nodes.specs.NodeView.{name_of, type_at, typed_symbol_of};
 ghost use Rattle.msvc_rules.specs.Counts.{name_count};
 ghost use Rattle.msvc_rules.specs.Rules.{after, begins, some_of};
+ghost use Rattle.msvc_full_grammar.specs.Forms as forms_of;
 ghost use Rattle.msvc_full_grammar.specs.Letters.{variable_texts};
 ghost use Rattle.msvc_full_grammar.specs.Productions as production;
 ghost use Rattle.msvc_full_grammar.specs.Reading.{read, read_name};
+ghost use Rattle.msvc_full_grammar.specs.declared.forms.SymbolForm.TheVariants as symbol_forms;
 ghost use Rattle.msvc_cursor.specs.Parser.{Consumes, MayConsume, ReadsAs, Stays, text_at};
 ghost use Rattle.msvc_cursor.specs.Rows.{named_at, typed_symbol_at};
 ghost use Rattle.msvc_full_letters.specs.Views.{encoding_form_of};
 ghost use Rattle.msvc_full_readers.specs.Readings.{entered, label_endings, name_in_scope, symbol_body};
 
-use crate::functions::{function_type, member_function};
-use crate::names::{scope, symbol_name, template_name};
+use crate::functions::{function_type, member_function, result_type};
+use crate::made_symbols::{
+    described_symbol, guard_name, hashed_symbol, string_symbol, virtual_call, whole_hash,
+};
+use crate::names::{operator_name, scope, symbol_name, targets, template_name};
+use crate::qualifiers::{adjusted_row, of_c};
 use crate::repeated_classes::variable_end;
+use crate::store::{put_outer_type, put_table};
 use crate::types::{type_, type_row};
 use bitflags::Flags;
 use msvc_cursor::budget::NodeBudget;
 use msvc_cursor::failure::{Failed, Failure, Message};
 use msvc_cursor::parser::Parser;
-use msvc_full_grammar::forms::OwnQualifiers;
+use msvc_full_grammar::forms::{Adjustment, OwnQualifiers, SymbolForm};
 use msvc_full_letters::forms::EncodingForm;
-use msvc_full_letters::texts::{encoding_form, unknown_encoding, variable_kind};
-use msvc_nodes::flags::StorageClass;
-use msvc_nodes::kinds::{PlainType, VarStorageKind};
+use msvc_full_letters::offsets::offsets_of;
+use msvc_full_letters::qualifiers::qualifier;
+use msvc_full_letters::texts::{
+    encoding_form, function_form, symbol_form, unknown_encoding, variable_kind,
+};
+use msvc_nodes::flags::{FuncClass, StorageClass};
+use msvc_nodes::kinds::{Guard, PlainType, VarStorageKind};
 use msvc_nodes::nodes::{Name, Symbol, Type, TypedSymbol};
 use std::alloc::Allocator;
 
-/// Reads `WHOLE_TEXT = SYMBOL`, which is no label of exception handling.
+/// Reads `WHOLE_TEXT = "??@" WHOLE_HASH | SYMBOL`, which is no label of exception handling.
 pub fn whole_text<'a, 'b, L: NodeBudget, A: Allocator>(
     parser: &mut Parser<'a, 'b, L, A>,
 ) -> Result<TypedSymbol<'a, 'b>, Failed>
@@ -42,6 +53,10 @@ pub fn whole_text<'a, 'b, L: NodeBudget, A: Allocator>(
     }
     if is_label(parser.rest) {
         return Err(parser.reject(Message::NameExpected));
+    }
+    if parser.consume(b"?@") {
+        let hash = whole_hash(parser)?;
+        return Ok(*hash);
     }
     let symbol = symbol_body(parser)?;
     Ok(*symbol)
@@ -84,7 +99,7 @@ pub fn symbol<'a, 'b, L: NodeBudget, A: Allocator>(
     symbol_body(parser)
 }
 
-/// Reads `SYMBOL_BODY = "?$" TEMPLATE_SYMBOL | NAMED_SYMBOL`.
+/// Reads `SYMBOL_BODY = "?$" TEMPLATE_SYMBOL | "?" MARKED_SYMBOL | NAMED_SYMBOL`.
 #[cycle(readers)]
 fn symbol_body<'a, 'b, L: NodeBudget, A: Allocator>(
     parser: &mut Parser<'a, 'b, L, A>,
@@ -95,7 +110,93 @@ fn symbol_body<'a, 'b, L: NodeBudget, A: Allocator>(
     if parser.consume(b"?$") {
         return template_symbol(parser);
     }
+    if parser.consume(b"?") {
+        return marked_symbol(parser);
+    }
     named_symbol(parser)
+}
+
+/// Reads `MARKED_SYMBOL = text of symbols SYMBOL_AFTER | OPERATOR_SYMBOL`.
+#[cycle(readers)]
+#[inline(never)]
+fn marked_symbol<'a, 'b, L: NodeBudget, A: Allocator>(
+    parser: &mut Parser<'a, 'b, L, A>,
+) -> Result<&'b TypedSymbol<'a, 'b>, Failed>
+    ensures value { ReadsAs typed_symbol_at parser.old parser.new result (read_name production.marked_symbol) }
+    ensures consumes { Consumes parser.old parser.new result }
+{
+    if let Some((form, rest)) = symbol_form(parser.rest) {
+        parser.rest = rest;
+        return symbol_after(parser, form);
+    }
+    operator_symbol(parser)
+}
+
+/// Reads `OPERATOR_SYMBOL = OPERATOR_NAME SCOPE ENCODING`.
+#[cycle(readers)]
+fn operator_symbol<'a, 'b, L: NodeBudget, A: Allocator>(
+    parser: &mut Parser<'a, 'b, L, A>,
+) -> Result<&'b TypedSymbol<'a, 'b>, Failed>
+    ensures value { ReadsAs typed_symbol_at parser.old parser.new result (read_name production.operator_symbol) }
+    ensures consumes { Consumes parser.old parser.new result }
+{
+    let name = operator_name(parser)?;
+    let checkpoint = scope(parser)?;
+    let symbol = parser.put_symbol(name, checkpoint)?;
+    let symbol_type = encoding(parser)?;
+    parser.put_typed_symbol(symbol, symbol_type)
+}
+
+/// Reads what follows the text of a symbol that has no name of the source.
+#[cycle(readers)]
+#[inline(never)]
+fn symbol_after<'a, 'b, L: NodeBudget, A: Allocator>(
+    parser: &mut Parser<'a, 'b, L, A>,
+    form: SymbolForm,
+) -> Result<&'b TypedSymbol<'a, 'b>, Failed>
+    ensures value { ReadsAs typed_symbol_at parser.old parser.new result (read_name (production.symbol_after form)) }
+    ensures consumes { Consumes parser.old parser.new result }
+{
+    match form {
+        SymbolForm::Hashed => hashed_symbol(parser),
+        SymbolForm::String => string_symbol(parser),
+        SymbolForm::Descriptor => descriptor_symbol(parser),
+        SymbolForm::Guard(guard) => guard_symbol(parser, guard),
+    }
+}
+
+/// Reads `RESULT_TYPE "@8"`: the descriptor of a type.
+#[cycle(readers)]
+#[inline(never)]
+fn descriptor_symbol<'a, 'b, L: NodeBudget, A: Allocator>(
+    parser: &mut Parser<'a, 'b, L, A>,
+) -> Result<&'b TypedSymbol<'a, 'b>, Failed>
+    ensures value { ReadsAs typed_symbol_at parser.old parser.new result
+        (read_name (production.symbol_after symbol_forms.Descriptor)) }
+    ensures consumes { Consumes parser.old parser.new result }
+{
+    parser.count_node()?;
+    parser.count_node()?;
+    let described = result_type(parser)?;
+    described_symbol(parser, described)
+}
+
+/// Reads `SCOPE GUARD_NAME ENCODING`: a guard of static variables.
+#[cycle(readers)]
+#[inline(never)]
+fn guard_symbol<'a, 'b, L: NodeBudget, A: Allocator>(
+    parser: &mut Parser<'a, 'b, L, A>,
+    guard: Guard,
+) -> Result<&'b TypedSymbol<'a, 'b>, Failed>
+    ensures value { ReadsAs typed_symbol_at parser.old parser.new result
+        (read_name (production.symbol_after (symbol_forms.Guard guard))) }
+    ensures consumes { Consumes parser.old parser.new result }
+{
+    let checkpoint = scope(parser)?;
+    let name = guard_name(parser, guard)?;
+    let symbol = parser.put_symbol(name, checkpoint)?;
+    let symbol_type = encoding(parser)?;
+    parser.put_typed_symbol(symbol, symbol_type)
 }
 
 /// Reads `TEMPLATE_SYMBOL = TEMPLATE_NAME SCOPE ENCODING`: the template's name is memorized where a variable follows.
@@ -209,6 +310,7 @@ fn no_encoding<'a, 'b, L: NodeBudget, A: Allocator>(
 
 /// Reads what follows the text of an encoding.
 #[cycle(readers)]
+#[inline(always)]
 fn encoding_after<'a, 'b, L: NodeBudget, A: Allocator>(
     parser: &mut Parser<'a, 'b, L, A>,
     form: EncodingForm,
@@ -221,7 +323,69 @@ fn encoding_after<'a, 'b, L: NodeBudget, A: Allocator>(
         EncodingForm::Row(row) => type_row(parser, row, StorageClass::empty()),
         EncodingForm::FreeFunction => function_type(parser, OwnQualifiers::Absent),
         EncodingForm::Function(class) => member_function(parser, class),
+        EncodingForm::Thunk(adjustment, class) => thunk(parser, adjustment, class),
+        EncodingForm::CFunction => c_function(parser),
+        EncodingForm::Table => table(parser),
+        EncodingForm::TypeInformation => parser.new_plain(PlainType::Rtti),
+        EncodingForm::VirtualCall => virtual_call(parser),
     }
+}
+
+/// Reads a function of C, after its `$$J0`.
+#[cycle(readers)]
+#[inline(never)]
+fn c_function<'a, 'b, L: NodeBudget, A: Allocator>(
+    parser: &mut Parser<'a, 'b, L, A>,
+) -> Result<&'b Type<'a, 'b>, Failed>
+    ensures value { ReadsAs type_at parser.old parser.new result
+        (read_name (production.encoding_after forms_of.c_function)) }
+    ensures consumes { Consumes parser.old parser.new result }
+{
+    let Some((form, rest)) = function_form(parser.rest) else {
+        return no_encoding(parser);
+    };
+    parser.rest = rest;
+    encoding_after(parser, of_c(form))
+}
+
+/// Reads the offsets by which a function moves its `this`, and its signature.
+#[cycle(readers)]
+#[inline(never)]
+fn thunk<'a, 'b, L: NodeBudget, A: Allocator>(
+    parser: &mut Parser<'a, 'b, L, A>,
+    adjustment: Adjustment,
+    class: FuncClass,
+) -> Result<&'b Type<'a, 'b>, Failed>
+    ensures value { ReadsAs type_at parser.old parser.new result
+        (read_name (production.encoding_after (forms_of.thunk_of adjustment class.0))) }
+    ensures consumes { Consumes parser.old parser.new result }
+{
+    parser.count_node()?;
+    let offsets = offsets_of(parser, adjustment)?;
+    let function = member_function(parser, class)?;
+    put_outer_type(
+        parser,
+        adjusted_row(adjustment),
+        offsets,
+        function,
+        StorageClass::empty(),
+    )
+}
+
+/// Reads a qualifier and the classes that a table is for.
+#[cycle(readers)]
+#[inline(never)]
+fn table<'a, 'b, L: NodeBudget, A: Allocator>(
+    parser: &mut Parser<'a, 'b, L, A>,
+) -> Result<&'b Type<'a, 'b>, Failed>
+    ensures value { ReadsAs type_at parser.old parser.new result
+        (read_name (production.encoding_after forms_of.table_of_class)) }
+    ensures consumes { Consumes parser.old parser.new result }
+{
+    parser.count_node()?;
+    let qualifiers = qualifier(parser)?;
+    let checkpoint = targets(parser)?;
+    put_table(parser, qualifiers, checkpoint)
 }
 
 /// Reads `VARIABLE = TYPE VARIABLE_END`.

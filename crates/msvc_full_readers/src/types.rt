@@ -15,7 +15,7 @@ use crate::base_types::{base_type, extended_type};
 use crate::functions::function_type;
 use crate::names::{type_name, type_symbol};
 use crate::pointers::{pointer, reference};
-use crate::store::{put_arrays, put_empty_type, put_named_type, put_number_type};
+use crate::store::{put_empty_type, put_named_type, put_number_type, put_outer_type};
 use bitflags::Flags;
 use msvc_cursor::budget::NodeBudget;
 use msvc_cursor::failure::{Failed, Message};
@@ -156,6 +156,7 @@ pub fn type_row<'a, 'b, L: NodeBudget, A: Allocator>(
 }
 
 /// Reads a number as an argument of a template.
+#[inline(always)]
 fn integer<'a, 'b, L: NodeBudget, A: Allocator>(
     parser: &mut Parser<'a, 'b, L, A>,
     qualifiers: StorageClass,
@@ -255,8 +256,14 @@ fn elements<'a, 'b, L: NodeBudget, A: Allocator>(
     if parser.consume(b"$$C") {
         let more = qualifier(parser)?;
         let element = type_(parser, StorageClass::empty())?;
-        return put_arrays(parser, lengths, element, qualifiers.union(more));
+        return put_outer_type(
+            parser,
+            rows::ARRAYS,
+            lengths,
+            element,
+            qualifiers.union(more),
+        );
     }
     let element = type_(parser, StorageClass::empty())?;
-    put_arrays(parser, lengths, element, qualifiers)
+    put_outer_type(parser, rows::ARRAYS, lengths, element, qualifiers)
 }

@@ -6,12 +6,22 @@
 /// The tables of Full.
 pub const TABLES: &str = "
 # Symbols. Only a whole text can end after a scope. The name of a template is memorized if a variable follows.
-text = ? symbol | ? symbol_at_the_end
-symbol = named scope encoding | ?$ template scope function_or_c | ?$ template scope variable_kind name_done variable
+text = ? symbol | ? symbol_at_the_end | ??@ key @ | ??@ key @??_R4@
+symbol = named scope encoding | unnamed | ?$ template scope function_or_c | ?$ template scope variable_kind name_done variable
 symbol_at_the_end = named scope | ?$ template scope
 named = known_name | ? operator
-encoding = 9 | variable_kind variable | function
+encoding = 9 | variable_kind variable | function | table | 8 | $B number A convention
 function_or_c = 9 | function
+table = table_letter qualifier @ | table_letter qualifier type_symbol @ | table_letter qualifier type_symbol type_symbol @
+table_letter = 6 | 7
+
+# Symbols without a name of the source. Inside another symbol a guard has an index.
+unnamed = ?@ key @ | ?_C@_ width count key @ string_bytes @ | ?_R0 result_type @8 | ?_B scope marker count encoding \
+    | ?__J scope marker count encoding
+width = 0 | 1
+string_bytes = | string_byte string_bytes | string_byte string_byte string_bytes
+string_byte = a | 0 | _ | ?0 | ?9 | ?a | ?Z | ?$AA | ?$HP | ?$OB | \u{E9}
+marker = 5 | 4IA
 
 # Variables.
 variable_kind = 0 | 1 | 2 | 3 | 4
@@ -21,12 +31,18 @@ repeated_scope = @ | repeated_name repeated_scope
 repeated_name = known_name | ?A@ | ?A0x key @ name_done | ?A0x key capital key @
 
 # Functions.
-function = Y function_type | free_class function_type | member_class own_qualifiers function_type
+function = any_function | $$J0 any_function
+any_function = Y function_type | free_class function_type | member_class own_qualifiers function_type \
+    | moved own_qualifiers function_type
+moved = adjustor_class number | $ moved_class number number | $R moved_class number number number number
+adjustor_class = G | H | O | P | W | X
+moved_class = 0 | 1 | 2 | 3 | 4 | 5
 free_class = C | D | K | L | S | T | Z
 member_class = A | B | E | F | I | J | M | N | Q | R | U | V
 function_type = convention returned parameters throws
 convention = A | B | C | D | E | F | G | H | I | J | M | N | O | P | Q | S | U | V | W | w | x
-returned = certain_type | @ | ? qualifier type
+returned = @ | result_type
+result_type = certain_type | ? qualifier type
 throws = Z | _E
 own_qualifiers = marks own_reference qualifier
 own_reference = | G | H
@@ -89,17 +105,23 @@ start = a | b | z | A | Z | _ | $ | < | \u{E9}
 rest = | a | z | 0 | ? | $ | _ | > | O | \u{20AC}
 
 # Operators.
-operator = operator_letter | _ letter_after_one | __K literal rest @ name_done | __L | __M
+operator = operator_letter | _ letter_after_one | __ letter_after_two | __K literal rest @ name_done \
+    | _R1 number number number number | _R2 | _R3 | _R4
 operator_letter = 0 | 1 | 2 | 3 | 4 | 5 | 6 | 7 | 8 | 9 | A | B | C | D | E | F | G | H | I | J | K | L | M | N \
     | O | P | Q | R | S | T | U | V | W | X | Y | Z
-letter_after_one = 0 | 1 | 2 | 3 | 4 | 5 | 6 | 7 | 8 | 9 | U | V
+letter_after_one = 0 | 1 | 2 | 3 | 4 | 5 | 6 | 7 | 8 | 9 | A | D | E | F | G | H | I | J | K | L | M | N | O | S | T \
+    | U | V | X | Y
+letter_after_two = A | B | C | D | G | H | I | L | M
 literal = start | 7
 
 # Templates.
 template = template_begins template_name arguments template_ends
 template_name = named | ?$ template
 arguments = @ | argument arguments | argument argument arguments
-argument = type | $S | $$V | $$$V | $$Z | $$Y type_symbol | $0 number
+argument = type | $S | $$V | $$$V | $$Z | $$Y type_symbol | $ value | $M type value
+value = 0 number | 1? symbol | E? symbol | F number number | G number number number | H member_offsets \
+    | I member_offsets number | J member_offsets number number
+member_offsets = count | ? symbol number
 
 # Numbers. They stay below 2^31, also with letters before the last sixteen, which don't count.
 number = count | ? count

@@ -12,7 +12,7 @@ use Rattle.msvc_rules.specs.Rules.{after}
 use Rattle.msvc_rules.specs.State.{State}
 use Rattle.msvc_full_grammar.specs.Grammar.{template_inside}
 use Rattle.msvc_full_grammar.specs.Productions.{argument, arguments, nested_name, other_encoding, parameter, parameters}
-use Rattle.msvc_full_grammar.specs.Productions.{scope, template_name}
+use Rattle.msvc_full_grammar.specs.Productions.{class_symbol, scope, targets, template_name}
 use Rattle.msvc_full_grammar.specs.Reading.{read, read_name}
 use Rattle.msvc_full_grammar.proofs.Laws.{type_made}
 use Rattle.msvc_cursor.proofs.Nodes.{frame_names, frame_types, map_last}
@@ -24,7 +24,7 @@ use Rattle.msvc_cursor.specs.declared.entries.MemorizedType.{MemorizedType}
 use Rattle.msvc_full_readers.specs.Readings.{parameters_stop}
 use Rattle.msvc_full_readers.proofs.Counts.{template_name_made}
 use Rattle.msvc_full_readers.proofs.FunctionSteps.{parameters_ended, parameters_more}
-use Rattle.msvc_full_readers.proofs.NameSteps.{scope_ends, scope_more, template_name_step}
+use Rattle.msvc_full_readers.proofs.NameSteps.{scope_ends, scope_more, targets_ends, targets_more, template_name_step}
 use Rattle.msvc_full_readers.proofs.SymbolSteps.{encoding_at_end}
 use Rattle.msvc_full_readers.proofs.TypeSteps.{arguments_end, arguments_more}
 use Rattle.msvc_full_readers.proofs.+readers.Goals as goal
@@ -81,6 +81,62 @@ names::scope-names-preserved g t c =
           }) pushed
           ∙ ap (λ xs. record (frame_of c.nested_name.new.parser) {
             listed_names = current c.nested_name.new.parser.listed_names ++ c.in_ok-name.name ∷ [];
+            names_before = xs;
+          }) around),
+    )
+
+-- the same of the classes that a table is for
+pub names::targets-returns-then-consume-clause-value : goal.names::targets-returns-then-consume-clause-value
+names::targets-returns-then-consume-clause-value g t c =
+    let end = c.consume.new.self in
+    let ends : after (codes "@") c.names.parser.rest.now ≡ Some end.rest.now = search rules in
+    let same : current c.names.parser.listed_names ≡ current end.listed_names =
+    ap (λ (f : Frame _ _). f.listed_names) (sym c.consume.ensures.kept) in
+    let state : state_of c.names.parser ≡ state_of end = sym c.consume.ensures.state in
+    sym c.names.invariant.0
+    ∙ targets_ends (map name_at (current c.names.parser.listed_names)) c.names.parser.rest.now end.rest.now
+    (state_of c.names.parser) ends
+    ∙ ap (λ ns. Some (map name_at ns, end.rest.now, state_of c.names.parser)) same
+    ∙ ap (λ s. Some (map name_at (current end.listed_names), end.rest.now, s)) state
+
+pub names::targets-names-preserved : goal.names::targets-names-preserved
+names::targets-names-preserved g t c =
+    let kept : frame_of c.class_symbol.new.parser ≡ frame_of c.names.parser =
+    c.in_ok-name.ensures.consumes.1 ∙ c.consume.ensures.kept in
+    let shorter : length c.class_symbol.new.parser.rest.now < length c.names.parser.rest.now = search rules in
+    let pushed : current c.push.new.self
+    ≡ current c.class_symbol.new.parser.listed_names ++ c.in_ok-name.name ∷ [] = search rules in
+    let around : enclosing c.push.new.self ≡ enclosing c.class_symbol.new.parser.listed_names = search rules in
+    let items : current c.push.new.self ≡ current c.names.parser.listed_names ++ c.in_ok-name.name ∷ [] =
+    pushed ∙ ap (λ (f : Frame _ _). f.listed_names ++ c.in_ok-name.name ∷ []) kept in
+    let seen : map name_at (current c.push.new.self)
+    ≡ map name_at (current c.names.parser.listed_names) ++ name_at c.in_ok-name.name ∷ [] =
+    ap (map name_at) items ∙ map_last name_at (current c.names.parser.listed_names) c.in_ok-name.name in
+    let none : after (codes "@") c.names.parser.rest.now ≡ None = search rules in
+    let read : read_name class_symbol c.names.parser.rest.now (state_of c.names.parser)
+    ≡ Some (name_at c.in_ok-name.name, c.class_symbol.new.parser.rest.now, state_of c.class_symbol.new.parser) =
+    search rules in (
+      ap (λ (ns : List NameTree). with_front ns
+          (read_name targets c.class_symbol.new.parser.rest.now (state_of c.class_symbol.new.parser))) seen
+          ∙ sym (targets_more (map name_at (current c.names.parser.listed_names)) c.names.parser.rest.now
+          c.class_symbol.new.parser.rest.now
+          (state_of c.names.parser) (state_of c.class_symbol.new.parser) (name_at c.in_ok-name.name) none read)
+          ∙ c.names.invariant.0,
+      omega (arith, shorter, c.names.invariant.1),
+      c.names.invariant.2,
+      frame_names _ _ _ _ (frame_of c.names.parser) (frame_of c.class_symbol.new.parser)
+          (record (frame_of c.class_symbol.new.parser) {
+            listed_names = current c.push.new.self;
+            names_before = enclosing c.push.new.self;
+          })
+          c.in_ok-name.name _
+          c.names.invariant.3 kept
+          (ap (λ xs. record (frame_of c.class_symbol.new.parser) {
+            listed_names = xs;
+            names_before = enclosing c.push.new.self;
+          }) pushed
+          ∙ ap (λ xs. record (frame_of c.class_symbol.new.parser) {
+            listed_names = current c.class_symbol.new.parser.listed_names ++ c.in_ok-name.name ∷ [];
             names_before = xs;
           }) around),
     )

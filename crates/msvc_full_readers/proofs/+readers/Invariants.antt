@@ -1,7 +1,7 @@
 use Rattle.std.proofs.Common.{ℕ, List, ◌≡◌, ◌≤◌, ◌+◌, ◌*◌, ◌++◌, length}
 use Rattle.std.specs.Prelude.{map}
 use Rattle.msvc_nodes.specs.NodeView.{name_at, type_at}
-use Rattle.msvc_full_grammar.specs.Productions.{arguments, parameters, scope}
+use Rattle.msvc_full_grammar.specs.Productions.{arguments, parameters, scope, targets}
 use Rattle.msvc_full_grammar.specs.Reading.{read_name}
 use Rattle.msvc_cursor.specs.Parser.{frame_of, state_of}
 use Rattle.msvc_cursor.specs.NestedList.{current, enclosing}
@@ -26,7 +26,7 @@ abbrev pub decreases-types::qualified_type : goal.decreases-types::qualified_typ
 decreases-types::qualified_type g l = level l.parser.now.rest.now 0
 
 abbrev pub decreases-types::type_row : goal.decreases-types::type_row
-decreases-types::type_row g l = level l.parser.now.rest.now 2
+decreases-types::type_row g l = level l.parser.now.rest.now 3
 
 abbrev pub decreases-types::custom : goal.decreases-types::custom
 decreases-types::custom g l = level l.parser.now.rest.now 1
@@ -65,7 +65,7 @@ abbrev pub decreases-functions::signature : goal.decreases-functions::signature
 decreases-functions::signature g l = level l.parser.now.rest.now 0
 
 abbrev pub decreases-functions::returned : goal.decreases-functions::returned
-decreases-functions::returned g l = level l.parser.now.rest.now 2
+decreases-functions::returned g l = level l.parser.now.rest.now 3
 
 abbrev pub decreases-parameters::function_parameters : goal.decreases-parameters::function_parameters
 decreases-parameters::function_parameters g l = level l.parser.now.rest.now 4
@@ -83,7 +83,7 @@ abbrev pub decreases-arguments::argument : goal.decreases-arguments::argument
 decreases-arguments::argument g l = level l.parser.now.rest.now 2
 
 abbrev pub decreases-arguments::argument_after : goal.decreases-arguments::argument_after
-decreases-arguments::argument_after g l = level l.parser.now.rest.now 3
+decreases-arguments::argument_after g l = level l.parser.now.rest.now 5
 
 abbrev pub decreases-names::symbol_name : goal.decreases-names::symbol_name
 decreases-names::symbol_name g l = level l.parser.now.rest.now 0
@@ -149,10 +149,55 @@ abbrev pub decreases-symbols::other_encoding : goal.decreases-symbols::other_enc
 decreases-symbols::other_encoding g l = level l.parser.now.rest.now 0
 
 abbrev pub decreases-symbols::encoding_after : goal.decreases-symbols::encoding_after
-decreases-symbols::encoding_after g l = level l.parser.now.rest.now 3
+decreases-symbols::encoding_after g l = level l.parser.now.rest.now 4
 
 abbrev pub decreases-symbols::variable : goal.decreases-symbols::variable
 decreases-symbols::variable g l = level l.parser.now.rest.now 2
+
+abbrev pub decreases-functions::result_type : goal.decreases-functions::result_type
+decreases-functions::result_type g l = level l.parser.now.rest.now 2
+
+abbrev pub decreases-arguments::typed_value : goal.decreases-arguments::typed_value
+decreases-arguments::typed_value g l = level l.parser.now.rest.now 2
+
+abbrev pub decreases-arguments::template_value : goal.decreases-arguments::template_value
+decreases-arguments::template_value g l = level l.parser.now.rest.now 0
+
+abbrev pub decreases-arguments::value_after : goal.decreases-arguments::value_after
+decreases-arguments::value_after g l = level l.parser.now.rest.now 4
+
+abbrev pub decreases-arguments::symbol_value : goal.decreases-arguments::symbol_value
+decreases-arguments::symbol_value g l = level l.parser.now.rest.now 2
+
+abbrev pub decreases-arguments::member_offsets : goal.decreases-arguments::member_offsets
+decreases-arguments::member_offsets g l = level l.parser.now.rest.now 2
+
+abbrev pub decreases-names::targets : goal.decreases-names::targets
+decreases-names::targets g l = level l.parser.now.rest.now 3
+
+abbrev pub decreases-symbols::marked_symbol : goal.decreases-symbols::marked_symbol
+decreases-symbols::marked_symbol g l = level l.parser.now.rest.now 2
+
+abbrev pub decreases-symbols::operator_symbol : goal.decreases-symbols::operator_symbol
+decreases-symbols::operator_symbol g l = level l.parser.now.rest.now 1
+
+abbrev pub decreases-symbols::symbol_after : goal.decreases-symbols::symbol_after
+decreases-symbols::symbol_after g l = level l.parser.now.rest.now 4
+
+abbrev pub decreases-symbols::descriptor_symbol : goal.decreases-symbols::descriptor_symbol
+decreases-symbols::descriptor_symbol g l = level l.parser.now.rest.now 3
+
+abbrev pub decreases-symbols::guard_symbol : goal.decreases-symbols::guard_symbol
+decreases-symbols::guard_symbol g l = level l.parser.now.rest.now 2
+
+abbrev pub decreases-symbols::c_function : goal.decreases-symbols::c_function
+decreases-symbols::c_function g l = level l.parser.now.rest.now 0
+
+abbrev pub decreases-symbols::thunk : goal.decreases-symbols::thunk
+decreases-symbols::thunk g l = level l.parser.now.rest.now 0
+
+abbrev pub decreases-symbols::table : goal.decreases-symbols::table
+decreases-symbols::table g l = level l.parser.now.rest.now 0
 
 -- the names so far, before what is read of the rest, are what is read of all; those that others gather stay
 abbrev pub invariant-names::scope-names : goal.invariant-names::scope-names
@@ -169,6 +214,22 @@ invariant-names::scope-names g l =
 
 abbrev pub decreases-names::scope-names : goal.decreases-names::scope-names
 decreases-names::scope-names g l = length l.parser.rest.now
+
+-- and the classes that a table is for
+abbrev pub invariant-names::targets-names : goal.invariant-names::targets-names
+invariant-names::targets-names g l =
+    (with_front (map name_at (current l.parser.listed_names)) (read_name targets l.parser.rest.now (state_of l.parser))
+    ≡ read_name targets l.fn.parser.rest.now (state_of l.fn.parser))
+    × (length l.parser.rest.now ≤ length l.fn.parser.rest.now)
+    × (l.checkpoint.from ≡ length (enclosing l.fn.parser.listed_names))
+    × (frame_of l.parser
+    ≡ record (frame_of l.fn.parser) {
+      listed_names = current l.parser.listed_names;
+      names_before = enclosing l.fn.parser.listed_names ++ current l.fn.parser.listed_names;
+    })
+
+abbrev pub decreases-names::targets-names : goal.decreases-names::targets-names
+decreases-names::targets-names g l = length l.parser.rest.now
 
 -- the parameters so far, before what is read of the rest, are what is read of all; those that others gather stay
 abbrev pub invariant-parameters::parameters-parameters : goal.invariant-parameters::parameters-parameters
