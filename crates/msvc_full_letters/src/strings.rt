@@ -115,6 +115,7 @@ fn plain(value: u64) -> Number
 /// Returns the byte that encoded bytes begin with, of which `first` is the first, and those after it, which borrow from
 /// `rest`. Returns `None` if they stand for no byte.
 #[tactic(auto, unfolding(msvc_full_grammar::specs::Strings::decoded))]
+#[inline(always)]
 fn string_byte(first: u8, rest: &[u8]) -> Option<(u8, &[u8])>
     ensures value { decoded (first ∷ rest.now) ≡ from_first (option_map (λ r. (r.0, r.1.now)) result) }
     ensures shorter { IfSome result (λ r. length r.1.now ≤ length rest.now) }
@@ -127,6 +128,7 @@ fn string_byte(first: u8, rest: &[u8]) -> Option<(u8, &[u8])>
 
 /// Returns the byte that encoded bytes behind a `?` begin with, and those after it, which borrow from `bytes`. Returns
 /// `None` if they stand for no byte.
+#[inline(always)]
 fn escaped_byte(bytes: &[u8]) -> Option<(u8, &[u8])>
     ensures value { escaped bytes.now ≡ from_first (option_map (λ r. (r.0, r.1.now)) result) }
     ensures shorter { IfSome result (λ r. length r.1.now ≤ length bytes.now) }
@@ -143,6 +145,7 @@ fn escaped_byte(bytes: &[u8]) -> Option<(u8, &[u8])>
 /// Returns the byte of the two digits that encoded bytes begin with, and those after it, which borrow from `bytes`.
 /// Returns `None` if there are no two digits.
 #[tactic(auto, using(crate::proofs::StringSteps::steps), unfolding(msvc_full_grammar::specs::Strings::in_digits, msvc_full_grammar::specs::Strings::low_digit))]
+#[inline(always)]
 fn byte_of_digits(bytes: &[u8]) -> Option<(u8, &[u8])>
     ensures value { in_digits bytes.now ≡ from_first (option_map (λ r. (r.0, r.1.now)) result) }
     ensures shorter { IfSome result (λ r. length r.1.now ≤ length bytes.now) }

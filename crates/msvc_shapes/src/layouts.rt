@@ -90,6 +90,7 @@ fn inside<'t>(left: &'t [Slot<'t>], right: &'t [Slot<'t>]) -> Layout<'t>
 }
 
 /// Returns the layout of a row, an empty one if there is no such row.
+#[inline(always)]
 fn layout_of<'t>(row: u8) -> Layout<'t>
     ensures { spec.layout_seen result ≡ spec.layout_of row }
 {
@@ -200,6 +201,7 @@ pub fn around(row: u8) -> Option<bool>
 }
 
 /// Returns what a shape of this row prints on a side.
+#[inline(always)]
 pub fn slots<'t>(row: u8, side: Side) -> &'t [Slot<'t>]
     ensures { spec.slots_seen result.now ≡ spec.slots row side }
 {
