@@ -49,6 +49,8 @@ message_words messages.ZeroExpected = codes "0 expected"
 message_words messages.StringStartExpected = codes "@_ expected"
 message_words messages.InitializerEndExpected = codes "@@ expected"
 message_words messages.DescriptorEndExpected = codes "@8 expected"
+message_words messages.FuncletScopeExpected = codes "?0? expected"
+message_words messages.FuncletEndExpected = codes "@4HA expected"
 message_words messages.TooManyNodes = too_many_nodes
 
 -- the limit that a message is about

@@ -57,6 +57,10 @@ pub enum Message {
     InitializerEndExpected,
     /// `@8` is missing after the type of a descriptor.
     DescriptorEndExpected,
+    /// `?0?` is missing before the function of a funclet.
+    FuncletScopeExpected,
+    /// `@4HA` is missing after the function of a funclet.
+    FuncletEndExpected,
     /// The limit on nodes is reached.
     TooManyNodes,
 }
@@ -139,6 +143,8 @@ impl Message {
             Message::StringStartExpected => "@_ expected",
             Message::InitializerEndExpected => "@@ expected",
             Message::DescriptorEndExpected => "@8 expected",
+            Message::FuncletScopeExpected => "?0? expected",
+            Message::FuncletEndExpected => "@4HA expected",
             Message::TooManyNodes => TOO_MANY_NODES,
             Message::InvalidBackReference(index) => {
                 return Ok(MessageText::Made(format!(in alloc; "invalid backreference: {index}")?));
