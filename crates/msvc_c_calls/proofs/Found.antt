@@ -1,7 +1,6 @@
 -- What C sees of a failure of the library is right of the symbol.
 use Rattle.std.proofs.Common.{◌≡◌, ◌≢◌, ◌-◌, ℕ, List, [], Option, Some, None, IfSome, arith, length, refl}
 use Rattle.std.proofs.Common.{subst, sym}
-use Rattle.std.specs.Prelude.{codes}
 use Rattle.std.specs.Str.{IsAscii, IsUtf8, IsValidUpTo}
 use Rattle.msvc_cursor.specs.declared.failure.Message.{Message}
 use Rattle.msvc_cursor.proofs.Messages.{not-bytes, words-limit}
@@ -12,9 +11,7 @@ use Rattle.msvc_demangler.specs.Failures.{FailsIn, IsFailureIn, IsFailureText, l
 use Rattle.msvc_demangler.specs.Failure.{Failure}
 use Rattle.msvc_demangler.specs.Failure.TheVariants as why
 use Rattle.msvc_demangler.specs.GrammarNames.{Grammar}
-use Rattle.msvc_demangler.specs.GrammarNames.TheVariants.{Crate, Full}
 use Rattle.msvc_demangler.specs.Grammars.{dialect_of}
-use Rattle.msvc_demangler.specs.RejectionsIn.{begins_with}
 use Rattle.msvc_c_calls.proofs.Rejected.{rejected}
 use Rattle.msvc_c_calls.specs.Calls.{IsFound, IsMeasured, IsNotRead, IsRejection, Says}
 use Rattle.msvc_c_calls.specs.Calls.{not_measured, not_read, not_utf8, not_utf8_text, out_of_memory, out_of_memory_text}
@@ -27,12 +24,6 @@ unlimited : (g : Grammar) (nodes : Option ℕ) (symbol : List ℕ) (message : Me
 unlimited g None symbol message left fails none = fails.limit
 unlimited g (Some most) symbol message left fails none = absurd (cc)
 
--- the symbols of both grammars begin with a question mark
-begins-in : (g : Grammar) (symbol : List ℕ) (offset : ℕ) → (((dialect_of g).Begins symbol → ⊥) → offset ≡ 0)
-    → (begins_with (codes "?") symbol → ⊥) → offset ≡ 0
-begins-in Crate symbol offset begins = begins
-begins-in Full symbol offset begins = begins
-
 -- a rejection, of which such a text is shown
 unread : (g : Grammar) (limits : Limits) (symbol : List ℕ) (status : ℕ) (message : Message) (left : ℕ)
     (context text : List ℕ) → IsUtf8 symbol → FailsIn (dialect_of g) limits.nodes symbol (why.Rejected message left)
@@ -41,9 +32,9 @@ unread : (g : Grammar) (limits : Limits) (symbol : List ℕ) (status : ℕ) (mes
     → Says (message_words message) context (length symbol - left) text
     → IsNotRead g limits symbol status (length symbol - left) text
 unread g limits symbol status message left context text u fails is shows says =
-    let rejection : IsRejection symbol (message_words message) (length symbol - left) text = record {
+    let rejection : IsRejection g symbol (message_words message) (length symbol - left) text = record {
       inside = omega arith;
-      begins = begins-in g symbol (length symbol - left) fails.begins;
+      begins = fails.begins;
       context = context;
       shows = shows;
       says = says;

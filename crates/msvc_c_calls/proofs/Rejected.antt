@@ -32,13 +32,13 @@ set-nodes (Some most) set = refl
 
 pub rejected : (g : Grammar) (limits : Limits) (symbol : List ℕ) (status offset : ℕ) (message text : List ℕ)
     (limit : Option Limit)
-    → IsUtf8 symbol → IsNone g limits.nodes symbol → IsRejection symbol message offset text
+    → IsUtf8 symbol → IsNone g limits.nodes symbol → IsRejection g symbol message offset text
     → message_limit message ≡ limit → limit ≢ Some Bytes → (limits.nodes ≡ None → limit ≡ None)
     → IsStatusOf limit status → IsNotRead g limits symbol status offset text
 rejected g limits symbol status offset message text None u none rejection about other set is =
     subst (λ n. IsNotRead g limits symbol n offset text) (sym is) (invalid u none about rejection)
 rejected g limits symbol status offset message text (Some Nodes) u none rejection about other set is =
-    let Of : List ℕ → Type 0 = λ m. IsRejection symbol m offset text in
+    let Of : List ℕ → Type 0 = λ m. IsRejection g symbol m offset text in
     subst (λ n. IsNotRead g limits symbol n offset text) (sym is)
     (too_many_nodes u none (set-nodes limits.nodes set) (subst Of (nodes-message message about) rejection))
 rejected g limits symbol status offset message text (Some Bytes) u none rejection about other set is =

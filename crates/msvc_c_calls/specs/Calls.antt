@@ -14,7 +14,7 @@ use Rattle.msvc_demangler.specs.GrammarNames.TheVariants.{Crate, Full}
 use Rattle.msvc_demangler.specs.Grammars.{dialect_of, under}
 use Rattle.msvc_demangler.specs.Limits.{IsWithin}
 use Rattle.msvc_demangler.specs.ParsedIn.{IsParsedIn, IsSymbolLengthIn}
-use Rattle.msvc_demangler.specs.RejectionsIn.{IsNoSymbolIn, begins_with}
+use Rattle.msvc_demangler.specs.RejectionsIn.{IsNoSymbolIn}
 use Rattle.msvc_demangler.specs.Trees.{SymbolTree}
 use Rattle.msvc_c_calls.specs.Buffers.{ArePartsWritten, IsWritten}
 
@@ -42,12 +42,12 @@ out_of_memory_text = codes "out of memory"
 abbrev pub Says : (message context : List ℕ) (offset : ℕ) (text : List ℕ) → Type 0
 Says message context offset text = IfSome (rejection_text message context offset) (λ said. text ≡ said)
 
--- The symbol is rejected with this message at this offset, and the text is that of the rejection.
-pub record IsRejection (symbol message : List ℕ) (offset : ℕ) (text : List ℕ) : Type 0 where
+-- A grammar rejects the symbol with this message at this offset, and the text is that of the rejection.
+pub record IsRejection (g : Grammar) (symbol message : List ℕ) (offset : ℕ) (text : List ℕ) : Type 0 where
   -- the offset is in the symbol
   pub inside : offset ≤ length symbol
-  -- a symbol without a question mark at its beginning is rejected at offset 0
-  pub begins : (begins_with (codes "?") symbol → ⊥) → offset ≡ 0
+  -- a text that does not begin as the grammar's symbols do is rejected at offset 0
+  pub begins : ((dialect_of g).Begins symbol → ⊥) → offset ≡ 0
   -- the part of the symbol that the text shows
   pub context : List ℕ
   -- if the symbol is ASCII, the context is the part at the offset
@@ -60,7 +60,7 @@ pub data IsNotRead (g : Grammar) (limits : Limits) (symbol : List ℕ) : (status
   -- INVALID: the message is about no limit
   invalid : {offset : ℕ} {message text : List ℕ} → IsUtf8 symbol → IsNone g limits.nodes symbol
       → message_limit message ≡ None
-      → IsRejection symbol message offset text
+      → IsRejection g symbol message offset text
       → IsNotRead g limits symbol 1 offset text
   -- NOT_UTF8: the symbol is UTF-8 up to the offset
   not_utf8 : {offset : ℕ} → ¬ (IsUtf8 symbol) → IsValidUpTo symbol offset
@@ -70,7 +70,7 @@ pub data IsNotRead (g : Grammar) (limits : Limits) (symbol : List ℕ) : (status
   -- TOO_MANY_NODES: nodes are limited, and the message is about the limit on nodes
   too_many_nodes : {offset : ℕ} {text : List ℕ} → IsUtf8 symbol → IsNone g limits.nodes symbol
       → is_some limits.nodes ≡ true
-      → IsRejection symbol errors.too_many_nodes offset text
+      → IsRejection g symbol errors.too_many_nodes offset text
       → IsNotRead g limits symbol 4 offset text
 
 -- What a call that demangles a symbol returns: the status, the offset, and the symbol's declaration or the text that

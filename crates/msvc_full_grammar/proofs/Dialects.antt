@@ -3,16 +3,17 @@ use Rattle.std.proofs.Common.{ℕ, List, [], ◌∷◌, ◌++◌, ◌≡◌}
 use Prim.Native.Char.{code}
 use Rattle.std.specs.Prelude.{codes}
 use Rattle.msvc_nodes.specs.Trees.{SymbolTree}
-use Rattle.msvc_rules.specs.Reads.{DerivesIn, Reads, a_literal, called, in_a_row, the_first, the_second}
+use Rattle.msvc_rules.specs.Reads.{DerivesIn, Reads, a_letter, a_literal, called, in_a_row, the_first, the_second}
 use Rattle.msvc_rules.specs.Reads.{where_it_holds}
 use Rattle.msvc_rules.specs.Rejections.{begins_with}
-use Rattle.msvc_rules.specs.Rules.{Condition, Grammar, Rule, call, here, literal, literal_or, ◌>>=◌}
+use Rattle.msvc_rules.specs.Rules.{Condition, Grammar, Rule, call, here, literal, literal_or, text_and, ◌>>=◌}
 use Rattle.msvc_rules.specs.Sorts.{Sort, Value, nothing, symbol_tree}
 use Rattle.msvc_rules.specs.State.{Note, State}
 use Rattle.msvc_rules.proofs.Dialects.{Lawful, laws_of}
 use Rattle.msvc_full_grammar.specs.Grammar.{full_grammar, grammar}
-use Rattle.msvc_full_grammar.specs.Productions.{symbol}
-use Rattle.msvc_full_grammar.specs.Parsed.{FullLaws, full_dialect}
+use Rattle.msvc_full_grammar.specs.Letters.{funclet_texts}
+use Rattle.msvc_full_grammar.specs.Productions.{funclet, symbol, whole_text}
+use Rattle.msvc_full_grammar.specs.Parsed.{BeginsSymbol, FullLaws, a_symbol, a_type_name, full_dialect}
 use Rattle.msvc_full_grammar.proofs.Checks.{full_figures, full_fit}
 use Rattle.msvc_full_grammar.proofs.DigitPlaces.{full_placing}
 use Rattle.msvc_full_grammar.proofs.Laws.{full_starting, types-are-local}
@@ -47,11 +48,30 @@ unfolding grammar
 hash_or_symbol {left = left} (the_first d) = first_of (codes "?@") left (code "?") (literal_begins d)
 hash_or_symbol (the_second d) = literal_begins (rule_of (under d))
 
--- a symbol begins with a question mark
-begun : (text : List ℕ) (tree : SymbolTree) (rest : List ℕ) (notes : List Note)
-    → DerivesIn full_grammar text tree rest notes → begins_with (codes "?") text
+-- so does a funclet
+funclet_begins : {left rest : List ℕ} {s t : State} {v : SymbolTree}
+    → Reads full_grammar symbol_tree (text_and funclet_texts (λ row. call (funclet row))) left s v rest t
+    → begins_with (codes "?") left
+funclet_begins {left = left} (the_first d) = first_of (codes "catch$") left (code "?") (literal_begins d)
+funclet_begins {left = left} (the_second (the_first d)) =
+    first_of (codes "dtor$") left (code "?") (literal_begins d)
+funclet_begins {left = left} (the_second (the_second (the_first d))) =
+    first_of (codes "filt$") left (code "?") (literal_begins d)
+funclet_begins {left = left} (the_second (the_second (the_second (the_first d)))) =
+    first_of (codes "fin$") left (code "?") (literal_begins d)
+funclet_begins (the_second (the_second (the_second (the_second (a_letter e))))) = absurd (cc)
+
+-- a text that is read begins as symbols do
+text_begins : {left rest : List ℕ} {s t : State} {v : SymbolTree}
+    → Reads full_grammar symbol_tree (grammar whole_text) left s v rest t → BeginsSymbol left
 unfolding grammar
-begun text tree rest notes d = hash_or_symbol (under (rule_of d.1))
+text_begins (the_first d) = a_type_name (literal_begins d)
+text_begins (the_second (where_it_holds h (the_first d))) = a_symbol (funclet_begins d)
+text_begins (the_second (where_it_holds h (the_second d))) = a_symbol (hash_or_symbol (under d))
+
+begun : (text : List ℕ) (tree : SymbolTree) (rest : List ℕ) (notes : List Note)
+    → DerivesIn full_grammar text tree rest notes → BeginsSymbol text
+begun text tree rest notes d = text_begins (rule_of d.1)
 
 pub full_lawful : Lawful full_dialect
 full_lawful =

@@ -5,7 +5,8 @@ use Rattle.std.specs.Prelude.{negsuc, option_map, pos}
 use Prim.Native.String.{String}
 use Rattle.msvc_nodes.specs.Trees.{NameTree, SymbolTree, TypeTree, spelled, no_names, names, no_types, types}
 use Rattle.msvc_nodes.specs.Trees.{name_trees, type_trees, plain, base, tagged, pointing, function, member_function}
-use Rattle.msvc_nodes.specs.Trees.{variable, shape, shaped, nested, anonymous, template, operator, base_class_descriptor}
+use Rattle.msvc_nodes.specs.Trees.{variable, shape, shaped, nested, anonymous, template, operator}
+use Rattle.msvc_nodes.specs.Trees.{base_class_descriptor}
 use Rattle.msvc_nodes.specs.declared.kinds.PrimitiveKind.TheVariants as b
 use Rattle.msvc_nodes.specs.declared.kinds.Convention.TheVariants as c
 use Rattle.msvc_nodes.specs.declared.kinds.PointerAffinity.TheVariants as m
@@ -23,7 +24,9 @@ use Rattle.msvc_full_grammar.specs.Reading.{read_name}
 use Rattle.msvc_full_grammar.specs.Rows.{integer_row, custom_row, nullptr_row, arrays_row, member_pointer_row}
 use Rattle.msvc_full_grammar.specs.Rows.{extern_c_row, frame_row, literal_operator_row, spaceship_row, adjustor_row}
 use Rattle.msvc_full_grammar.specs.Rows.{tables_row, md5_locator_row, string_literal_row, static_guard_row}
-use Rattle.msvc_full_grammar.specs.Rows.{type_descriptor_row, address_row, offsets_row}
+use Rattle.msvc_full_grammar.specs.Rows.{type_descriptor_row, address_row, offsets_row, type_descriptor_name_row}
+use Rattle.msvc_full_grammar.specs.Rows.{initializer_of_name_row, initializer_of_variable_row, handle_row}
+use Rattle.msvc_full_grammar.specs.Rows.{destructor_row}
 use Rattle.msvc_full_grammar.specs.Strings.{decoded}
 
 -- the tree that is read of a text, and the bytes left
@@ -219,9 +222,11 @@ pub no_frame_2 : read_of "?a@?1?@4HA" ≡ None
 unfolding read_name read_name_in read_within read_by part_here counting grammar
 no_frame_2 = refl
 
-pub no_frame_3 : read_of "?a@??f@@YAXXZ@3HA" ≡ None
+-- a symbol as a scope
+pub a_symbol_as_scope : read_of "?a@??f@@YAXXZ@3HA" ≡ whole (source "a")
+    (nested (source "f") no_names (plain_function (base b.Void 0)) ∷ []) (variable (base b.Int 0) v.Global 0)
 unfolding read_name read_name_in read_within read_by part_here counting grammar
-no_frame_3 = refl
+a_symbol_as_scope = refl
 
 -- codes that stand for no operator
 pub no_operator_1 : read_of "??_P4A@@QEAAHH@Z" ≡ None
@@ -282,8 +287,8 @@ unfolding read_name read_name_in read_within read_by part_here counting grammar
 a_locator = refl
 
 -- a string of two bytes, of which a ? and a digit stand for one
-pub a_string : read_of "??_C@_01A@?0@" ≡ whole (shaped string_literal_row 0 (plus 2 ∷ plus 44 ∷ []) [] no_names no_types)
-    [] (plain p.None)
+pub a_string : read_of "??_C@_01A@?0@"
+    ≡ whole (shaped string_literal_row 0 (plus 2 ∷ plus 44 ∷ []) [] no_names no_types) [] (plain p.None)
 unfolding read_name read_name_in read_within read_by part_here counting grammar decoded
 a_string = refl
 
@@ -303,8 +308,8 @@ pub a_descriptor : read_of "??_R0H@8" ≡ whole (shaped type_descriptor_row 0 []
 unfolding read_name read_name_in read_within read_by part_here counting grammar
 a_descriptor = refl
 
-pub a_base_class : read_of "??_R1A@?0A@EA@B@@8" ≡ whole (base_class_descriptor (pos 0) (negsuc 0) (pos 0) (pos 64)) (source "B" ∷ [])
-    (plain p.Rtti)
+pub a_base_class : read_of "??_R1A@?0A@EA@B@@8"
+    ≡ whole (base_class_descriptor (pos 0) (negsuc 0) (pos 0) (pos 64)) (source "B" ∷ []) (plain p.Rtti)
 unfolding read_name read_name_in read_within read_by part_here counting grammar
 a_base_class = refl
 
@@ -323,12 +328,43 @@ pub some_offsets : read_of "?x@@3U?$A@$FA@?0@@A" ≡ whole (source "x") [] (vari
 unfolding read_name read_name_in read_within read_by part_here counting grammar
 some_offsets = refl
 
--- a text begins with ?
-pub no_question_mark : read_of ".?AUA@@" ≡ None
+-- the name of a type begins with a full stop, and any other text with a ?
+pub a_type_name : read_of ".?AUA@@" ≡ whole (shaped type_descriptor_name_row 0 [] [] no_names no_types) []
+    (variable (tagged t.Struct (source "A") no_names 0) v.Global 0)
+unfolding read_name read_name_in read_within read_by part_here counting grammar
+a_type_name = refl
+
+pub no_question_mark : read_of "AUA@@" ≡ None
 unfolding read_name read_name_in read_within read_by part_here counting grammar
 no_question_mark = refl
 
--- labels are no symbols
+-- an initializer, by the name of its variable and by the variable
+pub a_stub : read_of "??__Ex@@YAXXZ" ≡ whole (shaped initializer_of_name_row 0 [] []
+    (names (class_of (source "x")) no_names) no_types) [] (plain_function (base b.Void 0))
+unfolding read_name read_name_in read_within read_by part_here counting grammar
+a_stub = refl
+
+pub a_stub_of_a_variable : read_of "??__E?x@@3HA@@YAXXZ" ≡ whole (shaped initializer_of_variable_row 0 [] []
+    (names (nested (source "x") no_names (variable (base b.Int 0) v.Global 0)) no_names) no_types) []
+    (plain_function (base b.Void 0))
+unfolding read_name read_name_in read_within read_by part_here counting grammar
+a_stub_of_a_variable = refl
+
+-- a handle, as a parameter of a function of managed code
+pub a_handle : read_of "?f@@$$FYMXP$AAUA@@@Z" ≡ whole (source "f") [] (function c.Clrcall
+    (types (shape handle_row 0 [] [] no_names (types (tagged t.Struct (source "A") no_names 0) no_types)) no_types)
+    0 (base b.Void 0))
+unfolding read_name read_name_in read_within read_by part_here counting grammar
+a_handle = refl
+
+-- a funclet of a function of C
+pub a_funclet : read_of "?dtor$2@?0?u@4HA" ≡ whole (shaped destructor_row 0 [] (codes "2") no_names no_types)
+    (shaped frame_row 0 (plus 1 ∷ []) [] (names (class_of (source "u")) no_names) no_types ∷ [])
+    (variable (base b.Int 0) v.FunctionLocalStatic 0)
+unfolding read_name read_name_in read_within read_by part_here counting grammar
+a_funclet = refl
+
+-- funclets have a function
 pub no_label : read_of "?dtor$5@x@@YAXXZ" ≡ None
 unfolding read_name read_name_in read_within read_by part_here counting grammar
 no_label = refl

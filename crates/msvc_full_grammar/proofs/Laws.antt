@@ -12,7 +12,8 @@ use Rattle.msvc_rules.specs.Reads.{DerivesIn}
 use Rattle.msvc_rules.specs.Sorts.{Sort}
 use Rattle.msvc_rules.specs.State.{Count, Note, State, beginning, beginning_with}
 use Rattle.msvc_rules.specs.Written.{AreRising, CanBeWrittenOutIn, DigitsCanBeWrittenOutIn}
-use Rattle.msvc_full_grammar.specs.Grammar.{full_grammar, template_inside, grammar}
+use Rattle.msvc_full_grammar.specs.Grammar.{full_grammar, grammar}
+use Rattle.msvc_full_grammar.specs.Fragments.{template_inside}
 use Rattle.msvc_full_grammar.specs.Productions.{Production, whole_text, type_}
 use Rattle.msvc_full_grammar.specs.Reading.{read_name, read}
 use Rattle.msvc_rules.proofs.NodeLimits.{at_most}

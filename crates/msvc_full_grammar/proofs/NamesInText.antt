@@ -8,19 +8,25 @@ use Rattle.msvc_nodes.specs.Trees.{NameTree, TypeTree, name_trees, type_trees}
 use Rattle.msvc_rules.specs.Rules.{Rule, call, every}
 use Rattle.msvc_rules.specs.Sorts.{Sort}
 use Rattle.msvc_full_grammar.specs.Forms.{absent, present, plain_operator, operator_word, operator_by_row, base_class}
-use Rattle.msvc_full_grammar.specs.Forms.{encoding_by_row, thunk_of, c_function, table_of_class, type_information, virtual_call}
-use Rattle.msvc_full_grammar.specs.Forms.{adjustor, vtordisp, vtordispex, hashed, string, descriptor, guard_of}
-use Rattle.msvc_full_grammar.specs.Forms.{value_by_row, of_symbol, offsets, member_offsets}
+use Rattle.msvc_full_grammar.specs.Forms.{encoding_by_row, thunk_of, c_function, managed_function, table_of_class}
+use Rattle.msvc_full_grammar.specs.Forms.{type_information, virtual_call, displaced}
+use Rattle.msvc_full_grammar.specs.Forms.{adjustor, vtordisp, vtordispex, hashed, string, descriptor, guard_of, stub_of}
+use Rattle.msvc_full_grammar.specs.Forms.{value_by_row, of_symbol, offsets, member_offsets, bits_of, value_word}
+use Rattle.msvc_full_grammar.specs.Forms.{aggregate, elements, subobject, element, union_value, template_object}
+use Rattle.msvc_full_grammar.specs.Forms.{member as member_form, an_argument, a_member, an_element}
 use Rattle.msvc_full_grammar.specs.Forms.{free_function, function_of, of_pointer, of_member_pointer, of_value, named}
-use Rattle.msvc_full_grammar.specs.Forms.{pointer_with, reference_by, arrayed, function_with, the_same, qualified}
+use Rattle.msvc_full_grammar.specs.Forms.{pointer_with, reference_by, volatile_reference, arrayed, function_with}
+use Rattle.msvc_full_grammar.specs.Forms.{the_same, qualified}
 use Rattle.msvc_full_grammar.specs.Forms.{type_by_row, extended, empty_pack, alias, typed, argument_value}
 use Rattle.msvc_full_grammar.specs.Rows.{Field, a_number, a_count, a_type_name, a_source_name, a_symbol, a_text}
 use Rattle.msvc_full_grammar.specs.Rows.{fields_of_type, fields_of_name, Held, nothing_held, with_number, with_name}
 use Rattle.msvc_full_grammar.specs.Rows.{TypeRow, NameRow, integer, custom, nullptr, extern_c}
 use Rattle.msvc_full_grammar.specs.Rows.{frame, literal_operator}
-use Rattle.msvc_full_grammar.specs.Grammar.{grammar, full_grammar, fields_rule, of_c}
+use Rattle.msvc_full_grammar.specs.Grammar.{grammar, full_grammar}
+use Rattle.msvc_full_grammar.specs.Fragments.{fields_rule, of_c}
 use Rattle.msvc_full_grammar.specs.Letters.{type_texts, argument_texts, encoding_texts, operator_texts, variable_texts}
-use Rattle.msvc_full_grammar.specs.Letters.{symbol_texts, function_texts, value_texts}
+use Rattle.msvc_full_grammar.specs.Letters.{symbol_texts, function_texts, value_texts, code_texts, funclet_texts}
+use Rattle.msvc_full_grammar.specs.Letters.{member_texts}
 use Rattle.msvc_full_grammar.specs.Productions.{Production, template_symbol, named_symbol, encoding, other_encoding}
 use Rattle.msvc_full_grammar.specs.Productions.{encoding_after, variable, variable_end, operator_name, operator_after}
 use Rattle.msvc_full_grammar.specs.Productions.{class_symbol, template_name, anonymous_kept, function_type}
@@ -28,7 +34,11 @@ use Rattle.msvc_full_grammar.specs.Productions.{own_qualifiers, type_, type_afte
 use Rattle.msvc_full_grammar.specs.Productions.{lengths, argument, argument_after, name_row, type_row}
 use Rattle.msvc_full_grammar.specs.Productions.{marked_symbol, operator_symbol}
 use Rattle.msvc_full_grammar.specs.Productions.{numbers, unsigned, whole_hash, symbol_after, string_of, offsets_of}
-use Rattle.msvc_full_grammar.specs.Productions.{guard_name, targets, template_value, value_after}
+use Rattle.msvc_full_grammar.specs.Productions.{guard_name, template_value, value_after, whole_text}
+use Rattle.msvc_full_grammar.specs.Productions.{named_type}
+use Rattle.msvc_full_grammar.specs.Productions.{funclet, funclet_or_symbol, funclet_function, stub_name, function_code}
+use Rattle.msvc_full_grammar.specs.Productions.{stubbed_template, stubbed_name, variable_or_none, stubbed_variable}
+use Rattle.msvc_full_grammar.specs.Productions.{funclet_home, member, no_variable, one_listed}
 use Rattle.msvc_rules.proofs.NamesInText.{Each, Gives, gives_texts, ascii, each-last, Named}
 use Rattle.msvc_rules.proofs.FirstSets.{if_both}
 
@@ -84,6 +94,48 @@ module _ (P : List ℕ → Type 0) (none : P []) where
 
   pub gives : {a : Sort} (n : Production a) → Gives full_grammar P (grammar n)
   unfolding Gives grammar
+  gives whole_text = (
+    (refl, λ _ _. tt),
+    (
+      gives_texts full_grammar P funclet_texts (λ row. call (funclet row)) refl (λ row. tt),
+      ((refl, λ _ _. tt), tt),
+    ),
+  )
+  gives named_type = search depth 60
+  gives (funclet row) = (search, λ label h. ((h, tt, tt), λ n k. (tt, λ x m. (k, (m.0, tt), m.1))))
+  gives funclet_home = (
+    (
+      refl,
+      λ _ _. ((tt, λ n h. (tt, λ ns k. (tt, λ t m. (h, in-names ns k, m)))), λ x h. (tt, λ t k. (h, k))),
+    ),
+    search depth 60,
+  )
+  gives funclet_or_symbol =
+      (gives_texts full_grammar P funclet_texts (λ row. call (funclet row)) refl (λ row. tt), tt)
+  gives funclet_function = search depth 60
+  gives (stub_name stub) = search depth 60
+  gives (stubbed_template required) = (
+    tt,
+    λ n h. (
+      tt,
+      λ ns k. (
+        search in-names depth 60,
+        (tt, λ t m. (h, in-names ns k, m)),
+      ),
+    ),
+  )
+  gives (stubbed_name required) = (tt, λ n h. (tt, λ ns k. (tt, λ t m. (h, in-names ns k, m))))
+  gives (variable_or_none required) = (
+    gives_texts full_grammar P variable_texts (λ k. call (stubbed_variable required k)) refl (λ k. tt),
+    tt,
+  )
+  gives (stubbed_variable true k) = search depth 60
+  gives (stubbed_variable false k) = search depth 60
+  gives (no_variable true) = search depth 60
+  gives (no_variable false) = search depth 60
+  gives (symbol_after (stub_of stub)) = search depth 60
+  gives (symbol_after template_object) = search depth 60
+  gives function_code = gives_texts full_grammar P code_texts (λ f. call (encoding_after f)) refl (λ f. tt)
   gives marked_symbol = (gives_texts full_grammar P symbol_texts (λ f. call (symbol_after f)) refl (λ f. tt), tt)
   gives operator_symbol = (tt, λ n h. (tt, λ ns k. (tt, λ t m. (h, in-names ns k, m))))
   gives whole_hash = search depth 60
@@ -118,6 +170,9 @@ module _ (P : List ℕ → Type 0) (none : P []) where
   gives (encoding_after (thunk_of moved class)) = (tt, λ zs _. (tt, λ f h. (none, tt, (h, tt))))
   gives (encoding_after c_function) =
       gives_texts full_grammar P function_texts (λ f. call (encoding_after (of_c f))) refl (λ f. tt)
+  gives (encoding_after managed_function) =
+      gives_texts full_grammar P function_texts (λ f. call (encoding_after f)) refl (λ f. tt)
+  gives (encoding_after displaced) = search depth 60
   gives (encoding_after table_of_class) = search in-names depth 60
   gives (encoding_after type_information) = search depth 60
   gives (encoding_after virtual_call) = search depth 60
@@ -147,6 +202,7 @@ module _ (P : List ℕ → Type 0) (none : P []) where
   gives (type_after q (named tag)) = (tt, λ s h. (h.0, in-names s.1 h.1))
   gives (type_after q (pointer_with more)) = tt
   gives (type_after q (reference_by mark)) = tt
+  gives (type_after q volatile_reference) = tt
   gives (type_after q arrayed) = tt
   gives (type_after q (function_with own)) = tt
   gives (type_after q the_same) = tt
@@ -169,6 +225,23 @@ module _ (P : List ℕ → Type 0) (none : P []) where
   gives (value_after (value_by_row r)) = tt
   gives (value_after (of_symbol row)) = search depth 60
   gives (value_after (offsets n)) = search depth 60
+  gives (value_after (bits_of row)) = search depth 60
+  gives (value_after (value_word row)) = search depth 60
+  gives (value_after aggregate) =
+      (tt, λ t h. ((tt, λ ts k. (none, tt, in-types ts k)), λ v k. (none, tt, (h, (k, tt)))))
+  gives (value_after elements) =
+      (tt, λ t h. ((tt, λ ts k. (none, tt, in-types ts k)), λ v k. (none, tt, (k, (h, tt)))))
+  gives (value_after subobject) = search depth 60
+  gives (value_after member_form) = search depth 60
+  gives (value_after element) = search depth 60
+  gives (value_after union_value) = search depth 60
+  gives (one_listed an_argument) = tt
+  gives (one_listed a_member) = tt
+  gives (one_listed an_element) = search depth 60
+  gives member = (
+    gives_texts full_grammar P member_texts (λ v. call (value_after v)) refl (λ v. tt),
+    (tt, λ t h. (tt, λ v k. (none, tt, (k, (h, tt))))),
+  )
   gives (value_after (member_offsets n)) = search depth 60
   gives _ = search depth 60
 

@@ -14,6 +14,14 @@ pub use Rattle.msvc_full_grammar.specs.declared.forms.ValueForm.{ValueForm}
 pub use Rattle.msvc_full_grammar.specs.declared.forms.ValueForm.TheVariants.{Row as value_by_row, Symbol as of_symbol}
 pub use Rattle.msvc_full_grammar.specs.declared.forms.ValueForm.TheVariants.{Offsets as offsets}
 pub use Rattle.msvc_full_grammar.specs.declared.forms.ValueForm.TheVariants.{MemberOffsets as member_offsets}
+pub use Rattle.msvc_full_grammar.specs.declared.forms.ValueForm.TheVariants.{Bits as bits_of, Word as value_word}
+pub use Rattle.msvc_full_grammar.specs.declared.forms.ValueForm.TheVariants.{Aggregate as aggregate}
+pub use Rattle.msvc_full_grammar.specs.declared.forms.ValueForm.TheVariants.{Elements as elements}
+pub use Rattle.msvc_full_grammar.specs.declared.forms.ValueForm.TheVariants.{Subobject as subobject, Member as member}
+pub use Rattle.msvc_full_grammar.specs.declared.forms.ValueForm.TheVariants.{Element as element, Union as union_value}
+pub use Rattle.msvc_full_grammar.specs.declared.forms.Listed.{Listed}
+pub use Rattle.msvc_full_grammar.specs.declared.forms.Listed.TheVariants.{Argument as an_argument, Member as a_member}
+pub use Rattle.msvc_full_grammar.specs.declared.forms.Listed.TheVariants.{Element as an_element}
 pub use Rattle.msvc_full_grammar.specs.declared.forms.Adjustment.{Adjustment}
 pub use Rattle.msvc_full_grammar.specs.declared.forms.Adjustment.TheVariants.{Adjustor as adjustor}
 pub use Rattle.msvc_full_grammar.specs.declared.forms.Adjustment.TheVariants.{VtorDisp as vtordisp}
@@ -21,7 +29,11 @@ pub use Rattle.msvc_full_grammar.specs.declared.forms.Adjustment.TheVariants.{Vt
 pub use Rattle.msvc_full_grammar.specs.declared.forms.SymbolForm.{SymbolForm}
 pub use Rattle.msvc_full_grammar.specs.declared.forms.SymbolForm.TheVariants.{Hashed as hashed, String as string}
 pub use Rattle.msvc_full_grammar.specs.declared.forms.SymbolForm.TheVariants.{Descriptor as descriptor}
-pub use Rattle.msvc_full_grammar.specs.declared.forms.SymbolForm.TheVariants.{Guard as guard_of}
+pub use Rattle.msvc_full_grammar.specs.declared.forms.SymbolForm.TheVariants.{Guard as guard_of, Stub as stub_of}
+pub use Rattle.msvc_full_grammar.specs.declared.forms.SymbolForm.TheVariants.{Object as template_object}
+pub use Rattle.msvc_full_grammar.specs.declared.forms.Stub.{Stub}
+pub use Rattle.msvc_full_grammar.specs.declared.forms.Stub.TheVariants.{Initializer as initializer}
+pub use Rattle.msvc_full_grammar.specs.declared.forms.Stub.TheVariants.{Destructor as destructor}
 pub use Rattle.msvc_full_grammar.specs.declared.forms.ArgumentForm.{ArgumentForm}
 pub use Rattle.msvc_full_grammar.specs.declared.forms.ArgumentForm.TheVariants.{EmptyPack as empty_pack}
 pub use Rattle.msvc_full_grammar.specs.declared.forms.ArgumentForm.TheVariants.{Alias as alias, Typed as typed}
@@ -39,12 +51,16 @@ pub data EncodingForm : Type 0 where
   thunk_of : Adjustment → ℕ → EncodingForm
   -- a function of C, whose class follows
   c_function : EncodingForm
+  -- a function of managed code, whose class follows
+  managed_function : EncodingForm
   -- a table of a class, and what it is for follows
   table_of_class : EncodingForm
   -- nothing follows the names of run-time type information
   type_information : EncodingForm
   -- a call of a virtual function by its place in a table
   virtual_call : EncodingForm
+  -- the class that a map of displacements is for
+  displaced : EncodingForm
 
 -- what stands after the type of a variable
 pub data VariableEnd : Type 0 where
@@ -63,6 +79,8 @@ pub data TypeForm : Type 0 where
   pointer_with : ℕ → TypeForm
   -- a reference of this kind
   reference_by : PointerAffinity → TypeForm
+  -- a reference that is volatile itself
+  volatile_reference : TypeForm
   arrayed : TypeForm
   function_with : OwnQualifiers → TypeForm
   -- a type as it stands

@@ -1,44 +1,45 @@
 -- Full, the second grammar of symbols. Its trees have the forms that LLVM reads too. Texts stand in the rules, and what
 -- letters stand for is in the tables of Letters.
-use Rattle.std.specs.Prelude.{ℕ, ℤ, pos, negsuc, List, [], ◌∷◌, ◌++◌, ◌==◌, ◌+◌, ◌*◌, ◌%◌, ◌^◌, Bool, true, false}
-use Rattle.std.specs.Prelude.{Option, Some, None}
-use Rattle.std.specs.Int.{cast_signed, cast_unsigned, int_wrapping_neg, w32}
-use Rattle.std.specs.Prelude.{bit_and, bit_or, suc, zero, codes, if◌then◌else◌}
-use Rattle.msvc_nodes.specs.Trees.{NameTree, TypeTree, spelled, operator, template, nested, anonymous, shaped, no_names}
+use Rattle.std.specs.Prelude.{pos, negsuc, [], ◌∷◌, ◌++◌, ◌+◌, ◌*◌, ◌%◌, ◌^◌, true, false}
+use Rattle.std.specs.Prelude.{Some, None}
+use Rattle.std.specs.Prelude.{bit_or, suc, zero, codes}
+use Rattle.msvc_nodes.specs.Trees.{spelled, operator, nested, anonymous, shaped, no_names}
 use Rattle.msvc_nodes.specs.Trees.{names, name_trees, base, tagged, pointing, member_function, shape, no_types}
 use Rattle.msvc_nodes.specs.Trees.{types, type_trees, base_class_descriptor, vcall_thunk}
-use Rattle.msvc_nodes.specs.declared.nodes.Number.{Number}
-use Rattle.msvc_nodes.specs.declared.kinds.Guard.{Guard}
-use Rattle.msvc_nodes.specs.declared.kinds.Guard.TheVariants as guard_kind
-use Rattle.msvc_nodes.specs.declared.kinds.VarStorageKind.TheVariants as storage_kind
 use Rattle.msvc_nodes.specs.Trees as tree
 use Rattle.msvc_nodes.specs.declared.kinds.PlainType.TheVariants as plain_kind
 use Rattle.msvc_nodes.specs.declared.kinds.PointerAffinity.TheVariants as mark_kind
 use Rattle.msvc_nodes.specs.declared.kinds.PrimitiveKind.TheVariants as base_kind
 use Rattle.msvc_nodes.specs.declared.kinds.Spelling.TheVariants as spelling_kind
 use Rattle.msvc_nodes.specs.declared.kinds.TagKind.TheVariants as tag_kind
-use Rattle.msvc_rules.specs.Rules.{none_of, at_end, Grammar, Rule, some_of, give, letter, literal, up_to, here, ◌>>=◌}
-use Rattle.msvc_rules.specs.Rules.{◌>>◌, ◌or◌, call, known_name, remember, noted, entering, apart, begins_of, letter_or}
+use Rattle.msvc_rules.specs.Rules.{none_of, at_end, Grammar, Rule, give, letter, literal, up_to, here}
+use Rattle.msvc_rules.specs.Rules.{◌>>=◌, ◌>>◌, ◌or◌, call, known_name, remember, noted, entering, apart, begins_of}
+use Rattle.msvc_rules.specs.Rules.{letter_or}
 use Rattle.msvc_rules.specs.Rules.{literal_or, node, text_and, text_or, optional, never}
-use Rattle.msvc_rules.specs.Sorts.{Sort, bits, base_type, convention, name_tree, type_tree}
-use Rattle.msvc_full_grammar.specs.Forms.{OwnQualifiers, absent, present}
+use Rattle.msvc_rules.specs.Sorts.{Sort, bits, base_type, convention}
+use Rattle.msvc_full_grammar.specs.Forms.{absent, present}
 use Rattle.msvc_full_grammar.specs.Forms.{plain_operator, operator_word, operator_by_row, base_class}
-use Rattle.msvc_full_grammar.specs.Forms.{EncodingForm, encoding_by_row, free_function, function_of, thunk_of}
-use Rattle.msvc_full_grammar.specs.Forms.{c_function, table_of_class, type_information, virtual_call}
-use Rattle.msvc_full_grammar.specs.Forms.{Adjustment, adjustor, vtordisp, vtordispex}
-use Rattle.msvc_full_grammar.specs.Forms.{hashed, string, descriptor, guard_of}
-use Rattle.msvc_full_grammar.specs.Forms.{value_by_row, of_symbol, offsets, member_offsets}
-use Rattle.msvc_full_grammar.specs.Forms.{VariableEnd, of_pointer, of_member_pointer, of_value}
-use Rattle.msvc_full_grammar.specs.Forms.{named, pointer_with, reference_by, arrayed, function_with, the_same}
+use Rattle.msvc_full_grammar.specs.Forms.{encoding_by_row, free_function, function_of, thunk_of}
+use Rattle.msvc_full_grammar.specs.Forms.{c_function, managed_function, table_of_class, type_information}
+use Rattle.msvc_full_grammar.specs.Forms.{virtual_call, displaced}
+use Rattle.msvc_full_grammar.specs.Forms.{adjustor, vtordisp, vtordispex}
+use Rattle.msvc_full_grammar.specs.Forms.{hashed, string, descriptor, guard_of, stub_of}
+use Rattle.msvc_full_grammar.specs.Forms.{value_by_row, of_symbol, offsets, member_offsets, bits_of, value_word}
+use Rattle.msvc_full_grammar.specs.Forms.{aggregate, elements, subobject, element, union_value, template_object}
+use Rattle.msvc_full_grammar.specs.Forms.{member as member_form, an_argument, a_member, an_element}
+use Rattle.msvc_full_grammar.specs.Forms.{of_pointer, of_member_pointer, of_value}
+use Rattle.msvc_full_grammar.specs.Forms.{named, pointer_with, reference_by, volatile_reference, arrayed}
+use Rattle.msvc_full_grammar.specs.Forms.{function_with, the_same}
 use Rattle.msvc_full_grammar.specs.Forms.{qualified, type_by_row, extended}
 use Rattle.msvc_full_grammar.specs.Forms.{empty_pack, alias, typed, argument_value}
-use Rattle.msvc_full_grammar.specs.Letters.{digits, hexadecimal, hexadecimal_base, capitals, hexadecimal_codes}
+use Rattle.msvc_full_grammar.specs.Letters.{digits, hexadecimal, hexadecimal_base, hexadecimal_codes}
 use Rattle.msvc_full_grammar.specs.Letters.{noexcept}
 use Rattle.msvc_full_grammar.specs.Letters.{qualifiers, member_qualifiers, pointer_sizes, restricts, alignments}
 use Rattle.msvc_full_grammar.specs.Letters.{reference_qualifiers, base_types, extended_types, type_texts}
-use Rattle.msvc_full_grammar.specs.Letters.{argument_texts, conventions, global, static, encoding_texts, variable_texts}
-use Rattle.msvc_full_grammar.specs.Letters.{operator_texts, at_sign, label_texts, symbol_texts, value_texts}
-use Rattle.msvc_full_grammar.specs.Letters.{function_texts, c_linkage, widths}
+use Rattle.msvc_full_grammar.specs.Letters.{argument_texts, conventions, encoding_texts, variable_texts}
+use Rattle.msvc_full_grammar.specs.Letters.{operator_texts, at_sign, funclet_texts, symbol_texts, value_texts}
+use Rattle.msvc_full_grammar.specs.Letters.{code_texts, deduced_types, member_texts, volatile}
+use Rattle.msvc_full_grammar.specs.Letters.{function_texts, widths}
 use Rattle.msvc_full_grammar.specs.Strings.{decoded}
 use Rattle.msvc_full_grammar.specs.Productions.{Production, count, letters, number, symbol, encoding, other_encoding}
 use Rattle.msvc_full_grammar.specs.Productions.{encoding_after, variable, variable_end, repeated_class, repeated_scope}
@@ -47,150 +48,34 @@ use Rattle.msvc_full_grammar.specs.Productions.{type_symbol, class_symbol, templ
 use Rattle.msvc_full_grammar.specs.Productions.{anonymous_digits, anonymous_kept, hexadecimal_digits, name_row}
 use Rattle.msvc_full_grammar.specs.Productions.{source_name, function_type, signature, own_qualifiers, marks, returned}
 use Rattle.msvc_full_grammar.specs.Productions.{function_parameters, parameters, parameter, type_, type_after, pointer}
-use Rattle.msvc_full_grammar.specs.Productions.{reference, arrays, dimensions, positive, lengths, arguments, argument}
+use Rattle.msvc_full_grammar.specs.Productions.{reference, arrays, dimensions, positive, lengths, listed, one_listed}
+use Rattle.msvc_full_grammar.specs.Productions.{argument, member, member_value}
 use Rattle.msvc_full_grammar.specs.Productions.{argument_after, template_symbol, named_symbol, type_row, whole_text}
 use Rattle.msvc_full_grammar.specs.Productions.{numbers, small_number, unsigned, whole_hash, symbol_after, string_of}
+use Rattle.msvc_full_grammar.specs.Productions.{named_type, funclet, funclet_or_symbol, funclet_function}
+use Rattle.msvc_full_grammar.specs.Productions.{funclet_home, stub_name, stubbed, stubbed_template, stubbed_name}
+use Rattle.msvc_full_grammar.specs.Productions.{marked_stubbed, variable_or_none, stubbed_variable, no_variable}
+use Rattle.msvc_full_grammar.specs.Productions.{function_code, marked_scope}
 use Rattle.msvc_full_grammar.specs.Productions.{marked_symbol, operator_symbol}
 use Rattle.msvc_full_grammar.specs.Productions.{guard_name, guard_index, offsets_of, targets, result_type}
 use Rattle.msvc_full_grammar.specs.Productions.{template_value, value_after}
-use Rattle.msvc_full_grammar.specs.Rows.{arrays_row, member_pointer_row, frame, type_row_number, name_row_number, Field}
-use Rattle.msvc_full_grammar.specs.Rows.{offsets_row, symbol_offsets_row, typed_row, tables_row, adjustor_row}
-use Rattle.msvc_full_grammar.specs.Rows.{vtordisp_row, vtordispex_row, type_descriptor_row, md5_locator_row}
-use Rattle.msvc_full_grammar.specs.Rows.{static_guard_row, thread_guard_row, string_literal_row}
-use Rattle.msvc_full_grammar.specs.Rows.{wide_string_literal_row}
-use Rattle.msvc_full_grammar.specs.Rows.{a_number, a_count, a_type_name, a_source_name, a_symbol, a_text}
-use Rattle.msvc_full_grammar.specs.Rows.{fields_of_type, fields_of_name, Held, nothing_held, with_number, with_name}
-
--- What values are made of
-
--- whether a class has a bit
-abbrev pub has : ℕ → ℕ → Bool
-has class bit = bit_and class bit == bit
-
--- whether a function of a class has qualifiers of its own: a static one has none, and one outside all classes has none
-abbrev pub own_of_class : ℕ → OwnQualifiers
-own_of_class class = if has class static then absent else (if has class global then absent else present)
-
--- whether capitals are among some digits
-abbrev pub has_capital : List ℕ → Bool
-has_capital ds = some_of (λ d. some_of (λ c. d == c) capitals) ds
-
--- what stands after the type of a variable, by that type
-abbrev pub end_of : TypeTree → VariableEnd
-end_of (pointing mark t q) = of_pointer
-end_of (shape row q zs bytes ns ts) = if row == member_pointer_row then of_member_pointer else of_value
-end_of _ = of_value
-
--- a number without a sign
-abbrev pub plain : ℕ → Number
-plain n = record { is_negative = false; value = n }
-
-abbrev pub each_plain : List ℕ → List Number
-each_plain [] = []
-each_plain (n ∷ ns) = plain n ∷ each_plain ns
-
--- the low 32 bits of a number, signed
-abbrev pub small : Number → ℤ
-small n = if n.is_negative then int_wrapping_neg w32 (cast_signed w32 (n.value % 2 ^ 32))
-    else cast_signed w32 (n.value % 2 ^ 32)
-
--- a number of 32 bits with its sign, and one whose bits have no sign
-abbrev pub signed_number : ℤ → Number
-signed_number (pos n) = plain n
-signed_number (negsuc n) = record { is_negative = true; value = suc n }
-
-abbrev pub unsigned_number : ℤ → Number
-unsigned_number z = plain (cast_unsigned w32 z)
-
--- the same class of function, of C
-abbrev pub of_c : EncodingForm → EncodingForm
-of_c free_function = function_of (bit_or global c_linkage)
-of_c (function_of class) = function_of (bit_or class c_linkage)
-of_c (thunk_of moved class) = thunk_of moved (bit_or class c_linkage)
-of_c form = form
-
--- the rows of functions that move their this, of guards, and of strings by the width of their characters
-abbrev pub adjusted_row : Adjustment → ℕ
-adjusted_row adjustor = adjustor_row
-adjusted_row vtordisp = vtordisp_row
-adjusted_row vtordispex = vtordispex_row
-
-abbrev pub guard_row : Guard → ℕ
-guard_row guard_kind.Static = static_guard_row
-guard_row guard_kind.Thread = thread_guard_row
-
-abbrev pub string_row : ℕ → ℕ
-string_row width = if width == 0 then string_literal_row else wide_string_literal_row
-
--- Parts of productions
-
--- what stands for a type where there is none
-abbrev pub no_type : Rule Production type_tree
-no_type = node (give (tree.plain plain_kind.None))
-
--- a name that is read of no bytes
-abbrev pub made_name : NameTree → Rule Production name_tree
-made_name n = node (give n)
-
--- the hash of a name
-abbrev pub hash_name : List ℕ → Rule Production name_tree
-hash_name digits = made_name (spelled spelling_kind.Md5 digits)
-
--- the hash of a name, or of a locator
-abbrev pub whole_hash_name : List ℕ → Rule Production name_tree
-whole_hash_name digits = literal_or (codes "??_R4@")
-    (made_name (shaped md5_locator_row 0 [] digits no_names no_types))
-    (hash_name digits)
-
--- a variable of the type that a descriptor has
-abbrev pub described : Rule Production type_tree
-described = node (do t ← call result_type; give (tree.variable t storage_kind.Global 0))
-
--- a name that enters the table of names
-abbrev pub entering_name : Rule Production name_tree → Rule Production name_tree
-entering_name r = do
-  n ← r
-  remember n
-  give n
-
--- a source name, which enters the table of names
-abbrev pub new_source_name : Rule Production name_tree
-new_source_name = entering_name (node (do n ← call source_name; give (spelled spelling_kind.Source n)))
-
--- a template that enters the table of names, after its ?$
-abbrev pub new_template : Rule Production name_tree
-new_template = entering_name (call template_name)
-
--- a name and arguments
-abbrev pub template_inside : Rule Production name_tree
-template_inside = node (do
-  n ← call symbol_name
-  ts ← call arguments
-  give (template n (type_trees ts)))
-
--- an anonymous namespace, after its ?A
-abbrev pub anonymous_namespace : Rule Production name_tree
-anonymous_namespace = node (do ds ← call anonymous_digits; give (anonymous ds))
-
--- a whole symbol inside a scope
-abbrev pub nested_symbol : Rule Production name_tree
-nested_symbol = node (do
-  s ← call symbol
-  give (nested s.name s.scope s.symbol_type))
-
--- a field of a row, and what follows with what it holds
-abbrev pub field_rule : {a : Sort} → Field → Held → (Held → Rule Production a) → Rule Production a
-field_rule a_number h f = call number >>= λ n. f (with_number h n)
-field_rule a_count h f = call count >>= λ n. f (with_number h (plain n))
-field_rule a_type_name h f = call type_name >>= λ n. f (with_name h n)
-field_rule a_source_name h f = new_source_name >>= λ n. f (with_name h n)
-field_rule a_symbol h f = nested_symbol >>= λ n. f (with_name h n)
-field_rule (a_text bytes) h f = literal bytes >> f h
-
--- fields, and what follows with all that they hold
-abbrev pub fields_rule : {a : Sort} → List Field → Held → (Held → Rule Production a) → Rule Production a
-fields_rule [] h f = f h
-fields_rule (field ∷ fields) h f = field_rule field h (λ held. fields_rule fields held f)
+use Rattle.msvc_full_grammar.specs.Rows.{arrays_row, member_pointer_row, frame, type_row_number, name_row_number}
+use Rattle.msvc_full_grammar.specs.Rows.{offsets_row, symbol_offsets_row, typed_row, tables_row}
+use Rattle.msvc_full_grammar.specs.Rows.{type_descriptor_row}
+use Rattle.msvc_full_grammar.specs.Rows.{type_descriptor_name_row, displacement_row}
+use Rattle.msvc_full_grammar.specs.Rows.{block_row, handle_row}
+use Rattle.msvc_full_grammar.specs.Rows.{tracking_row}
+use Rattle.msvc_full_grammar.specs.Rows.{subobject_row, member_row, element_row}
+use Rattle.msvc_full_grammar.specs.Rows.{aggregate_row, empty_union_row, union_value_row, absent_row}
+use Rattle.msvc_full_grammar.specs.Rows.{fields_of_type, fields_of_name, nothing_held}
+use Rattle.msvc_full_grammar.specs.Fragments.{adjusted_row, anonymous_namespace, described, each_plain, end_of}
+use Rattle.msvc_full_grammar.specs.Fragments.{fields_rule}
+use Rattle.msvc_full_grammar.specs.Fragments.{funclet_frame, funclet_type, guard_row, has_capital, hash_name}
+use Rattle.msvc_full_grammar.specs.Fragments.{interface_name, made_name, managed_mark, name_alone, nested_symbol}
+use Rattle.msvc_full_grammar.specs.Fragments.{new_source_name, new_template, no_type, object_name, of_c, own_of_class}
+use Rattle.msvc_full_grammar.specs.Fragments.{plain, pointed, signed_number, small, string_row, stub_row}
+use Rattle.msvc_full_grammar.specs.Fragments.{template_inside}
+use Rattle.msvc_full_grammar.specs.Fragments.{typed_member, unsigned_number, values_of, whole_hash_name}
 
 -- The productions
 
@@ -222,8 +107,39 @@ grammar small_number = do
 grammar (unsigned (pos n)) = give n
 grammar (unsigned (negsuc n)) = never
 -- Symbols.
--- A symbol that is no label. A hash that is no part of a name may be that of a locator.
-grammar whole_text = here (none_of label_texts) (literal_or (codes "??@") (call whole_hash) (call symbol))
+-- The name of a type, a funclet or a symbol. A hash that is no part of a name may be that of a locator.
+grammar whole_text =
+    literal_or (codes ".") (call named_type)
+    (text_or funclet_texts (λ row. call (funclet row))
+    (literal_or (codes "??@") (call whole_hash) (call symbol)))
+grammar named_type = do
+  n ← made_name (shaped type_descriptor_name_row 0 [] [] no_names no_types)
+  t ← described
+  give (record { name = n; scope = no_names; symbol_type = t })
+-- the rest of a funclet's name, and the function that it is a part of
+grammar (funclet row) = do
+  label ← up_to at_sign
+  n ← made_name (shaped row 0 [] label no_names no_types)
+  h ← call funclet_home
+  give (record { name = n; scope = names h.0 no_names; symbol_type = h.1 })
+-- the function by its name, or as one whose static variable the funclet would be
+grammar funclet_home =
+    literal_or (codes "0@")
+    (do x ← name_alone; t ← no_type; give (x, t))
+    (do literal (codes "?0?"); x ← funclet_frame; t ← funclet_type; give (x, t))
+grammar funclet_or_symbol = text_or funclet_texts (λ row. call (funclet row)) (call symbol)
+-- a name of C up to an @, or a function with an @ behind it
+grammar funclet_function =
+    here (none_of (codes "?" ∷ [])) (node (do
+      x ← call source_name
+      n ← made_name (spelled spelling_kind.Source x)
+      t ← no_type
+      literal (codes "4HA")
+      give (nested n no_names t)))
+    or node (do
+      s ← call funclet_or_symbol
+      literal (codes "@4HA")
+      give (nested s.name s.scope s.symbol_type))
 grammar whole_hash = do
   digits ← up_to at_sign
   n ← whole_hash_name digits
@@ -264,8 +180,17 @@ grammar (symbol_after descriptor) = do
 grammar (symbol_after (guard_of kind)) = do
   ns ← call scope
   n ← call (guard_name kind)
-  t ← call encoding
+  t ← no_type
   give (record { name = n; scope = name_trees ns; symbol_type = t })
+grammar (symbol_after template_object) = do
+  n ← object_name
+  t ← no_type
+  give (record { name = n; scope = no_names; symbol_type = t })
+-- a function that begins or ends the life of a variable, and its signature
+grammar (symbol_after (stub_of stub)) = do
+  n ← call (stub_name stub)
+  t ← call function_code
+  give (record { name = n; scope = no_names; symbol_type = t })
 grammar (string_of width length None) = never
 grammar (string_of width length (Some bytes)) =
     made_name (shaped (string_row width) 0 (each_plain (length ∷ bytes)) [] no_names no_types)
@@ -280,6 +205,37 @@ grammar guard_index =
       n ← call number
       i ← call (unsigned (small n))
       give (plain i ∷ []))
+grammar (stub_name stub) = node (node (do
+  s ← call stubbed
+  give (shaped (stub_row stub s.symbol_type) 0 [] [] (names (nested s.name s.scope s.symbol_type) no_names) no_types)))
+-- What a stub is of: behind a ? a variable and @@, and else a variable and an @, or the name of one. The name of a
+-- template enters the table where a variable follows, as in symbols.
+grammar stubbed =
+    literal_or (codes "?$") (call (stubbed_template false))
+    (literal_or (codes "?") (call marked_stubbed) (call (stubbed_name false)))
+grammar marked_stubbed = literal_or (codes "?$") (call (stubbed_template true)) (call (stubbed_name true))
+grammar (stubbed_template required) = do
+  n ← call template_name
+  ns ← call scope
+  text_or variable_texts
+      (λ k. do
+        remember n
+        t ← call (stubbed_variable required k)
+        give (record { name = n; scope = name_trees ns; symbol_type = t }))
+      (do
+        t ← call (no_variable required)
+        give (record { name = n; scope = name_trees ns; symbol_type = t }))
+grammar (stubbed_name required) = do
+  n ← call symbol_name
+  ns ← call scope
+  t ← call (variable_or_none required)
+  give (record { name = n; scope = name_trees ns; symbol_type = t })
+grammar (variable_or_none required) =
+    text_or variable_texts (λ k. call (stubbed_variable required k)) (call (no_variable required))
+grammar (stubbed_variable true k) = do t ← call (variable k); literal (codes "@@"); give t
+grammar (stubbed_variable false k) = do t ← call (variable k); literal (codes "@"); give t
+grammar (no_variable true) = never
+grammar (no_variable false) = no_type
 -- What follows the ?$ of a symbol. The template's name enters the table behind the names of its scope where a variable
 -- follows, and else not at all.
 grammar template_symbol = do
@@ -314,6 +270,7 @@ grammar (encoding_after (thunk_of moved class)) = node (do
   f ← call (encoding_after (function_of class))
   give (shape (adjusted_row moved) 0 zs [] no_names (types f no_types)))
 grammar (encoding_after c_function) = text_and function_texts (λ f. call (encoding_after (of_c f)))
+grammar (encoding_after managed_function) = text_and function_texts (λ f. call (encoding_after f))
 -- a qualifier, and the classes that the table is for
 grammar (encoding_after table_of_class) = node (do
   q ← letter bits qualifiers
@@ -325,6 +282,11 @@ grammar (encoding_after virtual_call) = node (do
   literal (codes "A")
   c ← letter convention conventions
   give (vcall_thunk z c))
+grammar (encoding_after displaced) = node (do
+  n ← call class_symbol
+  give (shape displacement_row 0 [] [] (names n no_names) no_types))
+-- the type of a symbol that is a function
+grammar function_code = text_and code_texts (λ f. call (encoding_after f))
 -- the offsets by which a function moves its this, of which the last has no sign
 grammar (offsets_of adjustor) = do
   z ← call small_number
@@ -401,13 +363,17 @@ grammar class_symbol = node (do
 grammar template_name = apart template_inside
 -- names up to an @
 grammar scope = literal_or (codes "@") (give []) (do n ← call nested_name; ns ← call scope; give (n ∷ ns))
--- a name of a type, or after a ? an anonymous namespace or what a function declares
+-- A name of a type, or after a ? an anonymous namespace, an interface, a scope inside a function, or a symbol that has
+-- its own ?.
 grammar nested_name =
     letter_or digits
     (λ i. known_name i)
     (literal_or (codes "?$") new_template
     (literal_or (codes "?A") anonymous_namespace
-    (literal_or (codes "?") (call (name_row frame)) new_source_name)))
+    (literal_or (codes "?") (call marked_scope) new_source_name)))
+grammar marked_scope =
+    literal_or (codes "Q") interface_name
+    (here (none_of (codes "?" ∷ [])) (call (name_row frame)) or nested_symbol)
 -- An @ alone, or 0x, digits to base 16 and an @. With these the name enters the table unless a digit is a capital.
 grammar anonymous_digits =
     (do literal (codes "@"); give None)
@@ -437,6 +403,7 @@ grammar (signature own) = do
 grammar (own_qualifiers absent) = give 0
 grammar (own_qualifiers present) = do
   m ← call marks
+  managed_mark
   kind ← optional reference_qualifiers
   q ← letter bits qualifiers
   give (bit_or m (bit_or kind q))
@@ -469,6 +436,7 @@ grammar (type_after q (named tag)) = node (do
   give (tagged tag s.0 (name_trees s.1) q))
 grammar (type_after q (pointer_with more)) = call (pointer (bit_or q more))
 grammar (type_after q (reference_by mark)) = call (reference mark q)
+grammar (type_after q volatile_reference) = call (reference mark_kind.Reference (bit_or q volatile))
 grammar (type_after q arrayed) = call (arrays q)
 grammar (type_after q (function_with own)) = call (function_type own)
 grammar (type_after q the_same) = call (type_ q)
@@ -476,13 +444,14 @@ grammar (type_after q qualified) = do
   more ← letter bits qualifiers
   call (type_ (bit_or q more))
 grammar (type_after q (type_by_row r)) = call (type_row q r)
-grammar (type_after q extended) = node (do
-  b ← letter base_type extended_types
-  give (base b q))
+grammar (type_after q extended) = node (
+    letter_or deduced_types
+    (λ row. give (shape row q [] [] no_names no_types))
+    (do b ← letter base_type extended_types; give (base b q)))
 -- the fields of a row of types, with qualifiers
 grammar (type_row q r) = node (fields_rule (fields_of_type r) nothing_held (λ h.
     give (shape (type_row_number r) q h.numbers [] (name_trees h.names) (type_trees h.types))))
--- a function; a member function of a class; marks and a member of a class; marks and a type
+-- a function; a member function of a class; a block; marks and a member of a class; marks and a type
 grammar (pointer q) = node (
     literal_or (codes "6") (do f ← call (function_type absent); give (pointing mark_kind.Pointer f q))
     (literal_or (codes "8")
@@ -490,6 +459,8 @@ grammar (pointer q) = node (
       c ← call class_symbol
       f ← call (function_type present)
       give (shape member_pointer_row q [] [] (names c no_names) (types f no_types)))
+    (literal_or (codes "_E")
+    (do f ← call (function_type absent); give (shape block_row q [] [] no_names (types f no_types)))
     (do
       m ← call marks
       letter_or member_qualifiers
@@ -497,18 +468,13 @@ grammar (pointer q) = node (
             c ← call class_symbol
             t ← call (type_ s)
             give (shape member_pointer_row (bit_or q m) [] [] (names c no_names) (types t no_types)))
-          (do
-            s ← letter bits qualifiers
-            t ← call (type_ s)
-            give (pointing mark_kind.Pointer t (bit_or q m))))))
+          (pointed handle_row mark_kind.Pointer (bit_or q m))))))
 -- a function; marks and a type
 grammar (reference mark q) = node (
     literal_or (codes "6") (do f ← call (function_type absent); give (pointing mark f q))
     (do
       m ← call marks
-      s ← letter bits qualifiers
-      t ← call (type_ s)
-      give (pointing mark t (bit_or q m))))
+      pointed tracking_row mark (bit_or q m)))
 -- A number above 0, that many lengths, a qualifier after a $$C, and the type of the elements. The type stands in both
 -- alternatives, since its bytes tell that no $$C begins.
 grammar (arrays q) = node (do
@@ -533,8 +499,12 @@ grammar (lengths (suc n)) = do
   z ← call count
   zs ← call (lengths n)
   give (record { is_negative = false; value = z } ∷ zs)
--- Arguments of templates, up to an @.
-grammar arguments = literal_or (codes "@") (give []) (do t ← call argument; ts ← call arguments; give (t ∷ ts))
+-- Arguments of templates, members of classes and elements of arrays, up to an @.
+grammar (listed kind) =
+    literal_or (codes "@") (give []) (do t ← call (one_listed kind); ts ← call (listed kind); give (t ∷ ts))
+grammar (one_listed an_argument) = call argument
+grammar (one_listed a_member) = call member
+grammar (one_listed an_element) = do v ← call template_value; literal (codes "@"); give v
 grammar argument = text_or argument_texts (λ f. call (argument_after f)) (call (type_ 0))
 grammar (argument_after empty_pack) = node (give (tree.plain plain_kind.EmptyPack))
 grammar (argument_after alias) = node (do
@@ -555,6 +525,50 @@ grammar (value_after (of_symbol row)) = node (do
 grammar (value_after (offsets n)) = node (do
   zs ← call (numbers n)
   give (shape offsets_row 0 zs [] no_names no_types))
+-- the bits of a number
+grammar (value_after (bits_of row)) = node (do
+  n ← call count
+  give (shape row 0 (plain n ∷ []) [] no_names no_types))
+grammar (value_after (value_word row)) = node (give (shape row 0 [] [] no_names no_types))
+-- the type, and the values of members or of elements
+grammar (value_after aggregate) = node (do
+  t ← call (type_ 0)
+  v ← values_of a_member
+  give (shape aggregate_row 0 [] [] no_names (types t (types v no_types))))
+grammar (value_after elements) = node (do
+  t ← call (type_ 0)
+  v ← values_of an_element
+  give (shape typed_row 0 [] [] no_names (types v (types t no_types))))
+-- a value, which is a part of another, or of which a member or an element is meant
+grammar (value_after subobject) = node (do
+  v ← call template_value
+  literal (codes "@")
+  give (shape subobject_row 0 [] [] no_names (types v no_types)))
+grammar (value_after member_form) = node (do
+  v ← call template_value
+  n ← call type_name
+  literal (codes "@")
+  give (shape member_row 0 [] [] (names n no_names) (types v no_types)))
+grammar (value_after element) = node (do
+  v ← call template_value
+  literal (codes "0")
+  n ← call number
+  literal (codes "@")
+  give (shape element_row 0 (n ∷ []) [] no_names (types v no_types)))
+-- the type of a union, and the name and the value of the member that it has, if any
+grammar (value_after union_value) = node (do
+  t ← call (type_ 0)
+  literal_or (codes "@")
+      (give (shape empty_union_row 0 [] [] no_names (types t no_types)))
+      (do
+        n ← call type_name
+        v ← call template_value
+        literal (codes "@")
+        give (shape union_value_row 0 [] [] (names n no_names) (types t (types v no_types)))))
+-- a value that needs no type, or a type and the value, if there is one
+grammar member = text_or member_texts (λ v. call (value_after v)) typed_member
+grammar member_value =
+    literal_or (codes "@") (node (give (shape absent_row 0 [] [] no_names no_types))) (call template_value)
 -- the function that is pointed to, if a ? stands, and offsets
 grammar (value_after (member_offsets n)) = node (
     here (none_of (codes "?" ∷ [])) (do

@@ -15,15 +15,21 @@ use Rattle.msvc_nodes.specs.BaseTypes.{BaseRow, basic_types, under_types}
 use Rattle.msvc_nodes.specs.PlainOperators.{OperatorRow, basic_operators}
 use Rattle.msvc_full_grammar.specs.Forms.{OperatorForm, plain_operator, operator_word, operator_by_row, base_class}
 use Rattle.msvc_full_grammar.specs.Forms.{EncodingForm, encoding_by_row, free_function, function_of, thunk_of}
-use Rattle.msvc_full_grammar.specs.Forms.{c_function, table_of_class, type_information, virtual_call, adjustor, vtordisp}
-use Rattle.msvc_full_grammar.specs.Forms.{vtordispex, ValueForm, value_by_row, of_symbol, offsets, member_offsets, typed}
-use Rattle.msvc_full_grammar.specs.Forms.{SymbolForm, hashed, string, descriptor, guard_of}
+use Rattle.msvc_full_grammar.specs.Forms.{c_function, managed_function, table_of_class, type_information, virtual_call}
+use Rattle.msvc_full_grammar.specs.Forms.{displaced, adjustor, vtordisp, bits_of, value_word, volatile_reference}
+use Rattle.msvc_full_grammar.specs.Forms.{vtordispex, ValueForm, value_by_row, of_symbol, offsets, member_offsets}
+use Rattle.msvc_full_grammar.specs.Forms.{typed}
+use Rattle.msvc_full_grammar.specs.Forms.{SymbolForm, hashed, string, descriptor, guard_of, stub_of}
+use Rattle.msvc_full_grammar.specs.Forms.{initializer, destructor, template_object}
+use Rattle.msvc_full_grammar.specs.Forms.{aggregate, elements, subobject, member, element, union_value}
 use Rattle.msvc_full_grammar.specs.Forms.{absent, present}
 use Rattle.msvc_full_grammar.specs.Forms.{TypeForm, named, pointer_with, reference_by, arrayed, function_with, the_same}
 use Rattle.msvc_full_grammar.specs.Forms.{qualified, type_by_row, extended}
 use Rattle.msvc_full_grammar.specs.Forms.{ArgumentForm, empty_pack, alias, argument_value}
 use Rattle.msvc_full_grammar.specs.Rows.{integer, custom, nullptr, address_row, object_row, literal_operator}
-use Rattle.msvc_full_grammar.specs.Rows.{spaceship_row}
+use Rattle.msvc_full_grammar.specs.Rows.{spaceship_row, auto_row, decltype_auto_row, tracking_row, catch_row}
+use Rattle.msvc_full_grammar.specs.Rows.{destructor_row, filter_row, finally_row, float_row, double_row, float16_row}
+use Rattle.msvc_full_grammar.specs.Rows.{bfloat16_row, float80_row, float128_row, ibm128_row, null_member_row, pin_row}
 use Rattle.msvc_full_grammar.specs.Rows.{static_guard_row, thread_guard_row, managed_vector_ctor_iterator}
 use Rattle.msvc_full_grammar.specs.Rows.{managed_vector_dtor_iterator, eh_vector_copy_ctor_iterator}
 use Rattle.msvc_full_grammar.specs.Rows.{eh_vector_vbase_copy_ctor_iterator, vector_copy_ctor_iterator}
@@ -161,6 +167,7 @@ type_texts =
     ∷ (codes "R", pointer_with volatile)
     ∷ (codes "S", pointer_with (const + volatile))
     ∷ (codes "A", reference_by mark_kind.Reference)
+    ∷ (codes "B", volatile_reference)
     ∷ (codes "$$Q", reference_by mark_kind.RValueReference)
     ∷ (codes "Y", arrayed)
     ∷ (codes "$$A6", function_with absent)
@@ -171,6 +178,15 @@ type_texts =
     ∷ (codes "?", type_by_row custom)
     ∷ (codes "_", extended)
     ∷ []
+
+-- the rows of pointers and references of managed code, by their letters behind a $; one is that of the pointer's or the
+-- reference's own
+abbrev pub managed_rows : ℕ → List (ℕ × ℕ)
+managed_rows own_row = rows (codes "ABC") (own_row ∷ pin_row ∷ tracking_row ∷ [])
+
+-- the rows of the types that stand for a type which is deduced, by their letters, after _
+abbrev pub deduced_types : List (ℕ × ℕ)
+deduced_types = rows (codes "PT") (auto_row ∷ decltype_auto_row ∷ [])
 
 -- The texts that values begin with, after a $. None begins another.
 abbrev pub value_texts : List (List ℕ × ValueForm)
@@ -183,6 +199,29 @@ value_texts =
     ∷ (codes "H", member_offsets 1)
     ∷ (codes "I", member_offsets 2)
     ∷ (codes "J", member_offsets 3)
+    ∷ (codes "A", bits_of float_row)
+    ∷ (codes "B", bits_of double_row)
+    ∷ (codes "V", bits_of float16_row)
+    ∷ (codes "W", bits_of bfloat16_row)
+    ∷ (codes "X", bits_of float80_row)
+    ∷ (codes "Y", bits_of float128_row)
+    ∷ (codes "Z", bits_of ibm128_row)
+    ∷ (codes "N", value_word null_member_row)
+    ∷ (codes "2", aggregate)
+    ∷ (codes "3", elements)
+    ∷ (codes "5", subobject)
+    ∷ (codes "6", member)
+    ∷ (codes "C", element)
+    ∷ (codes "7", union_value)
+    ∷ []
+
+-- The texts of values without a type before them, among the members of a class. None begins another, and none a type.
+abbrev pub member_texts : List (List ℕ × ValueForm)
+member_texts =
+    (codes "0", value_by_row integer)
+    ∷ (codes "2", aggregate)
+    ∷ (codes "3", elements)
+    ∷ (codes "7", union_value)
     ∷ []
 
 -- values as arguments of templates, after other texts
@@ -302,6 +341,19 @@ dollar_functions =
 abbrev pub function_texts : List (List ℕ × EncodingForm)
 function_texts = function_letters dollar_functions
 
+-- the texts before the class of a function of C or of managed code, and other texts after them
+abbrev pub before_functions : List (List ℕ × EncodingForm) → List (List ℕ × EncodingForm)
+before_functions others =
+    (codes "$$J0", c_function)
+    ∷ (codes "$$F", managed_function)
+    ∷ (codes "$$H", managed_function)
+    ∷ (codes "$$h", managed_function)
+    ∷ others
+
+-- The texts that a function begins with, after its name. None begins another.
+abbrev pub code_texts : List (List ℕ × EncodingForm)
+code_texts = function_letters (before_functions dollar_functions)
+
 -- The texts that the type of a symbol begins with where it is no variable. None begins another.
 abbrev pub encoding_texts : List (List ℕ × EncodingForm)
 encoding_texts =
@@ -311,8 +363,8 @@ encoding_texts =
     ∷ (codes "9", encoding_by_row row.extern_c)
     ∷ function_letters (
     (codes "$B", virtual_call)
-    ∷ (codes "$$J0", c_function)
-    ∷ dollar_functions)
+    ∷ (codes "$C", displaced)
+    ∷ before_functions dollar_functions)
 
 -- the texts that the type of a variable begins with, and where the variable lives
 abbrev pub variable_texts : List (List ℕ × VarStorageKind)
@@ -324,9 +376,14 @@ variable_texts =
     ∷ (codes "4", storage_kind.FunctionLocalStatic)
     ∷ []
 
--- The texts that labels of exception handling begin with. They are no symbols, though they begin with a ?.
-abbrev pub label_texts : List (List ℕ)
-label_texts = codes "?catch$" ∷ codes "?dtor$" ∷ codes "?filt$" ∷ codes "?fin$" ∷ []
+-- The texts that the names of funclets begin with, and the row of each. None begins another.
+abbrev pub funclet_texts : List (List ℕ × ℕ)
+funclet_texts =
+    (codes "?catch$", catch_row)
+    ∷ (codes "?dtor$", destructor_row)
+    ∷ (codes "?filt$", filter_row)
+    ∷ (codes "?fin$", finally_row)
+    ∷ []
 
 -- The texts that a symbol begins with, after its ??, which has no name of the source. None begins another.
 abbrev pub symbol_texts : List (List ℕ × SymbolForm)
@@ -336,6 +393,9 @@ symbol_texts =
     ∷ (codes "_R0", descriptor)
     ∷ (codes "_B", guard_of guard_kind.Static)
     ∷ (codes "__J", guard_of guard_kind.Thread)
+    ∷ (codes "__E", stub_of initializer)
+    ∷ (codes "__F", stub_of destructor)
+    ∷ (codes "__N", template_object)
     ∷ []
 
 -- Strings

@@ -12,6 +12,7 @@ pub use Rattle.msvc_rules.specs.Sorts
 pub use Rattle.msvc_rules.specs.State
 pub use Rattle.msvc_rules.specs.Written
 pub mod Forms
+pub mod Fragments
 pub mod Grammar
 pub mod Letters
 pub mod Parsed

@@ -6,7 +6,7 @@ use Rattle.msvc_rules.specs.Sorts.{Sort, nothing, bits, bytes, name_tree, type_t
 use Rattle.msvc_rules.specs.Sorts.{both, perhaps, integer}
 use Rattle.msvc_rules.specs.Sorts as sort
 use Rattle.msvc_full_grammar.specs.Forms.{OwnQualifiers, OperatorForm, EncodingForm, VariableEnd, TypeForm}
-use Rattle.msvc_full_grammar.specs.Forms.{ArgumentForm, ValueForm, Adjustment, SymbolForm}
+use Rattle.msvc_full_grammar.specs.Forms.{ArgumentForm, ValueForm, Adjustment, Listed, Stub, SymbolForm}
 use Rattle.msvc_nodes.specs.declared.kinds.Guard.{Guard}
 use Rattle.msvc_full_grammar.specs.Rows.{NameRow, TypeRow}
 
@@ -23,6 +23,11 @@ pub data Production : Sort → Type 0 where
   -- symbols
   whole_text : Production symbol_tree
   whole_hash : Production symbol_tree
+  named_type : Production symbol_tree
+  funclet : ℕ → Production symbol_tree
+  funclet_home : Production (both name_tree type_tree)
+  funclet_or_symbol : Production symbol_tree
+  funclet_function : Production name_tree
   symbol : Production symbol_tree
   marked_symbol : Production symbol_tree
   symbol_after : SymbolForm → Production symbol_tree
@@ -30,11 +35,20 @@ pub data Production : Sort → Type 0 where
   string_of : ℕ → ℕ → Option (List ℕ) → Production name_tree
   guard_name : Guard → Production name_tree
   guard_index : Production (list sort.number)
+  stub_name : Stub → Production name_tree
+  stubbed : Production symbol_tree
+  marked_stubbed : Production symbol_tree
+  stubbed_template : (required : Bool) → Production symbol_tree
+  stubbed_name : (required : Bool) → Production symbol_tree
+  variable_or_none : (required : Bool) → Production type_tree
+  stubbed_variable : (required : Bool) → VarStorageKind → Production type_tree
+  no_variable : (required : Bool) → Production type_tree
   template_symbol : Production symbol_tree
   named_symbol : Production symbol_tree
   encoding : Production type_tree
   other_encoding : Production type_tree
   encoding_after : EncodingForm → Production type_tree
+  function_code : Production type_tree
   offsets_of : Adjustment → Production (list sort.number)
   targets : Production (list name_tree)
   variable : VarStorageKind → Production type_tree
@@ -52,6 +66,7 @@ pub data Production : Sort → Type 0 where
   template_name : Production name_tree
   scope : Production (list name_tree)
   nested_name : Production name_tree
+  marked_scope : Production name_tree
   anonymous_digits : Production (perhaps (list bits))
   anonymous_kept : (has_capital : Bool) → List ℕ → Production nothing
   hexadecimal_digits : Production (list bits)
@@ -78,8 +93,12 @@ pub data Production : Sort → Type 0 where
   positive : ℕ → Production bits
   lengths : ℕ → Production (list sort.number)
   -- arguments of templates
-  arguments : Production (list type_tree)
+  -- up to an @
+  listed : Listed → Production (list type_tree)
+  one_listed : Listed → Production type_tree
   argument : Production type_tree
   argument_after : ArgumentForm → Production type_tree
   template_value : Production type_tree
   value_after : ValueForm → Production type_tree
+  member : Production type_tree
+  member_value : Production type_tree

@@ -13,6 +13,24 @@ pub use Rattle.msvc_shapes.specs.Rows.{vtordispex as vtordispex_row, type_descri
 pub use Rattle.msvc_shapes.specs.Rows.{md5_locator as md5_locator_row, static_guard as static_guard_row}
 pub use Rattle.msvc_shapes.specs.Rows.{thread_guard as thread_guard_row, string_literal as string_literal_row}
 pub use Rattle.msvc_shapes.specs.Rows.{wide_string_literal as wide_string_literal_row}
+pub use Rattle.msvc_shapes.specs.Rows.{initializer_of_name as initializer_of_name_row}
+pub use Rattle.msvc_shapes.specs.Rows.{initializer_of_variable as initializer_of_variable_row}
+pub use Rattle.msvc_shapes.specs.Rows.{destructor_of_name as destructor_of_name_row}
+pub use Rattle.msvc_shapes.specs.Rows.{destructor_of_variable as destructor_of_variable_row}
+pub use Rattle.msvc_shapes.specs.Rows.{type_descriptor_name as type_descriptor_name_row}
+pub use Rattle.msvc_shapes.specs.Rows.{displacement as displacement_row, auto as auto_row}
+pub use Rattle.msvc_shapes.specs.Rows.{decltype_auto as decltype_auto_row, block as block_row, handle as handle_row}
+pub use Rattle.msvc_shapes.specs.Rows.{tracking as tracking_row, interface as interface_row}
+pub use Rattle.msvc_shapes.specs.Rows.{null_member as null_member_row, float as float_row, double as double_row}
+pub use Rattle.msvc_shapes.specs.Rows.{float16 as float16_row, bfloat16 as bfloat16_row, float80 as float80_row}
+pub use Rattle.msvc_shapes.specs.Rows.{float128 as float128_row, ibm128 as ibm128_row, absent as absent_row}
+pub use Rattle.msvc_shapes.specs.Rows.{pin as pin_row, cli_array as cli_array_row}
+pub use Rattle.msvc_shapes.specs.Rows.{template_object as template_object_row}
+pub use Rattle.msvc_shapes.specs.Rows.{subobject as subobject_row, member as member_row, element as element_row}
+pub use Rattle.msvc_shapes.specs.Rows.{aggregate as aggregate_row, values as values_row}
+pub use Rattle.msvc_shapes.specs.Rows.{empty_union as empty_union_row, union_value as union_value_row}
+pub use Rattle.msvc_shapes.specs.Rows.{catch_funclet as catch_row, destructor_funclet as destructor_row}
+pub use Rattle.msvc_shapes.specs.Rows.{filter_funclet as filter_row, finally_funclet as finally_row}
 pub use Rattle.msvc_shapes.specs.Rows.{managed_vector_ctor_iterator, managed_vector_dtor_iterator}
 pub use Rattle.msvc_shapes.specs.Rows.{eh_vector_copy_ctor_iterator, eh_vector_vbase_copy_ctor_iterator}
 pub use Rattle.msvc_shapes.specs.Rows.{vector_copy_ctor_iterator, vector_vbase_copy_ctor_iterator}

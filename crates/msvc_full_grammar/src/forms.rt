@@ -55,6 +55,33 @@ pub enum ValueForm {
     Offsets(u64),
     /// The same, and the function that is pointed to may stand before them.
     MemberOffsets(u64),
+    /// The bits of a number of this row follow.
+    Bits(u8),
+    /// Nothing follows, and the value is a word of this row.
+    Word(u8),
+    /// A type follows, and the values of the members of a class.
+    Aggregate,
+    /// A type follows, and the values of the elements of an array.
+    Elements,
+    /// A value follows that is a part of another.
+    Subobject,
+    /// A value follows, and the name of a member of it.
+    Member,
+    /// A value follows, and the place of an element of it.
+    Element,
+    /// A type follows, and one member of a union with its value, if any.
+    Union,
+}
+
+/// Tells what a list of types up to an `@` has.
+#[derive(Clone, Copy)]
+pub enum Listed {
+    /// Arguments of a template.
+    Argument,
+    /// Values of the members of a class.
+    Member,
+    /// Values of the elements of an array, each with an `@` behind it.
+    Element,
 }
 
 /// Tells what an argument of a template begins with, where it is no type.
@@ -92,4 +119,17 @@ pub enum SymbolForm {
     Descriptor,
     /// A guard of static variables.
     Guard(Guard),
+    /// A function that begins or ends the life of a variable.
+    Stub(Stub),
+    /// An object that is an argument of a template.
+    Object,
+}
+
+/// Tells which function the compiler makes for a variable of static storage.
+#[derive(Clone, Copy)]
+pub enum Stub {
+    /// The function that initializes the variable.
+    Initializer,
+    /// The function that destroys the variable at exit.
+    Destructor,
 }

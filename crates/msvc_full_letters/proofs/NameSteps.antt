@@ -5,7 +5,8 @@ use Rattle.msvc_nodes.specs.Trees.{spelled}
 use Rattle.msvc_nodes.specs.declared.kinds.Spelling.TheVariants as spelling_kind
 use Rattle.msvc_rules.specs.Readers.{Found, and_then, counting, in_node, part_here, read_by}
 use Rattle.msvc_rules.specs.State.{State, remember_name}
-use Rattle.msvc_full_grammar.specs.Grammar.{grammar, new_source_name}
+use Rattle.msvc_full_grammar.specs.Grammar.{grammar}
+use Rattle.msvc_full_grammar.specs.Fragments.{new_source_name}
 use Rattle.msvc_full_grammar.specs.Letters.{at_sign}
 use Rattle.msvc_full_grammar.specs.Productions.{source_name}
 use Rattle.msvc_full_grammar.specs.Reading.{read_name, read}

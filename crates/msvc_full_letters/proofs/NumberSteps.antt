@@ -5,7 +5,8 @@ use Rattle.msvc_rules.specs.Readers.{Found, read_by, letter_here, and_then, or_e
 use Rattle.msvc_rules.specs.Rules.{after, give, call, ◌>>=◌}
 use Rattle.msvc_rules.specs.Sorts as sort
 use Rattle.msvc_rules.specs.State.{State}
-use Rattle.msvc_full_grammar.specs.Grammar.{grammar, small}
+use Rattle.msvc_full_grammar.specs.Grammar.{grammar}
+use Rattle.msvc_full_grammar.specs.Fragments.{small}
 use Rattle.msvc_full_grammar.specs.Letters.{digits}
 use Rattle.msvc_full_grammar.specs.Productions.{count, number, small_number}
 use Rattle.msvc_full_grammar.specs.Reading.{read_name, read}

@@ -1,13 +1,14 @@
 -- Step lemmas of offsets and of the indices of guards, and of numbers as a loop reads them.
-use Rattle.std.proofs.Common.{ℕ, ℤ, pos, negsuc, suc, zero, List, [], ◌∷◌, ◌++◌, Some, None, Bool, true, false, ◌≡◌}
+use Rattle.std.proofs.Common.{ℕ, ℤ, pos, negsuc, suc, zero, List, [], ◌∷◌, ◌++◌, Some, None, true, false, ◌≡◌}
 use Rattle.std.proofs.Common.{◌<◌, ◌==◌, ◌∙◌, ap, refl, sym, append-nil, arith, true≢false}
 use Rattle.std.proofs.lemmas.Bool.{eqb-true}
 use Rattle.std.specs.Prelude.{length}
 use Rattle.msvc_nodes.specs.declared.nodes.Number.{Number}
-use Rattle.msvc_rules.specs.Readers.{Found, and_then, or_else, read_by}
+use Rattle.msvc_rules.specs.Readers.{Found, and_then, read_by}
 use Rattle.msvc_rules.specs.State.{State}
 use Rattle.msvc_full_grammar.specs.declared.forms.Adjustment.TheVariants.{Adjustor, VtorDisp, VtorDispEx}
-use Rattle.msvc_full_grammar.specs.Grammar.{grammar, plain, signed_number, small, unsigned_number}
+use Rattle.msvc_full_grammar.specs.Grammar.{grammar}
+use Rattle.msvc_full_grammar.specs.Fragments.{plain, signed_number, small, unsigned_number}
 use Rattle.msvc_full_grammar.specs.Productions.{guard_index, number, numbers, offsets_of, small_number, unsigned}
 use Rattle.msvc_full_grammar.specs.Reading.{read_name, read}
 use Rattle.msvc_full_letters.specs.Numbers.{signed_offset, unsigned_offset}
@@ -35,8 +36,8 @@ vtordisp_step left s =
     read_name-is (offsets_of VtorDisp) left s
     ∙ (λ i. and_then (read_name small_number left s) (λ v j a. sym (made_then (λ z. unsigned_number z)
     (read_name small_number j a) (λ z l t. Some (signed_number v ∷ z ∷ [], l, t))) i))
-    ∙ sym (made_then (λ z. signed_number z) (read_name small_number left s) (λ v j a. and_then (read unsigned_offset j a)
-    (λ z l t. Some (v ∷ z ∷ [], l, t))))
+    ∙ sym (made_then (λ z. signed_number z) (read_name small_number left s)
+    (λ v j a. and_then (read unsigned_offset j a) (λ z l t. Some (v ∷ z ∷ [], l, t))))
 
 pub vtordispex_step : (left : List ℕ) (s : State) → read_name (offsets_of VtorDispEx) left s
     ≡ and_then (read signed_offset left s) (λ p j a. and_then (read signed_offset j a)
@@ -59,8 +60,8 @@ vtordispex_step left s =
     third p o k b =
         (λ i. and_then (read_name small_number k b) (λ v h c. sym (made_then (λ z. unsigned_number z)
         (read_name small_number h c) (λ z l t. Some (p ∷ o ∷ signed_number v ∷ z ∷ [], l, t))) i))
-        ∙ sym (made_then (λ z. signed_number z) (read_name small_number k b) (λ v h c. and_then (read unsigned_offset h c)
-        (λ z l t. Some (p ∷ o ∷ v ∷ z ∷ [], l, t))))
+        ∙ sym (made_then (λ z. signed_number z) (read_name small_number k b)
+        (λ v h c. and_then (read unsigned_offset h c) (λ z l t. Some (p ∷ o ∷ v ∷ z ∷ [], l, t))))
 
     second : (p : Number) (j : List ℕ) (a : State)
         → and_then (read_name small_number j a) (λ o k b. and_then (read_name small_number k b)

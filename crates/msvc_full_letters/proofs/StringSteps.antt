@@ -11,7 +11,7 @@ use Rattle.msvc_rules.specs.Rules.{literal, lookup}
 use Rattle.msvc_rules.specs.State.{State}
 use Rattle.msvc_grammar.proofs.Characters.{lookup-after, lookup-first}
 use Rattle.msvc_grammar.specs.Reading.{read as crate_read}
-use Rattle.msvc_full_grammar.specs.Grammar.{each_plain, plain}
+use Rattle.msvc_full_grammar.specs.Fragments.{each_plain, plain}
 use Rattle.msvc_full_grammar.specs.Letters.{escapes, raised, rows, widths}
 use Rattle.msvc_full_grammar.specs.Productions.{count}
 use Rattle.msvc_full_grammar.specs.Reading.{read_name, read}

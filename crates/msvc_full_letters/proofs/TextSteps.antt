@@ -1,31 +1,38 @@
 -- Step lemmas of what begins with the text of a table.
-use Rattle.std.proofs.Common.{ℕ, List, [], ◌∷◌, Option, Some, None, true, ◌≡◌, ◌∙◌, refl, ap}
+use Rattle.std.proofs.Common.{ℕ, List, [], ◌∷◌, Option, Some, None, ◌≡◌, ◌∙◌, refl, ap}
 use Rattle.std.specs.Option.{option_map}
-use Rattle.msvc_nodes.specs.Trees.{TypeTree, base, plain}
+use Rattle.msvc_nodes.specs.Trees.{TypeTree, base, no_names, no_types, plain, shape}
 use Rattle.msvc_nodes.specs.declared.kinds.PlainType.TheVariants as plain_kind
 use Rattle.msvc_nodes.specs.declared.kinds.PrimitiveKind.{PrimitiveKind}
 use Rattle.msvc_rules.specs.Readers.{Found, and_then, in_node, letter_here, or_else, read_by, with_value}
-use Rattle.msvc_rules.specs.Rules.{call, give, letter, lookup, node, text_and, ◌>>=◌}
-use Rattle.msvc_rules.specs.Sorts.{base_type}
+use Rattle.msvc_rules.specs.Rules.{Rule, call, give, letter, letter_or, lookup, node, text_and, ◌>>=◌}
+use Rattle.msvc_rules.specs.Sorts.{base_type, type_tree}
 use Rattle.msvc_rules.specs.State.{State}
-use Rattle.msvc_full_grammar.specs.Forms.{c_function, extended}
-use Rattle.msvc_full_grammar.specs.Grammar.{grammar, of_c}
-use Rattle.msvc_full_grammar.specs.Letters.{argument_texts, base_types, encoding_texts, extended_types, function_texts}
+use Rattle.msvc_full_grammar.specs.Forms.{c_function, extended, managed_function}
+use Rattle.msvc_full_grammar.specs.Grammar.{grammar}
+use Rattle.msvc_full_grammar.specs.Fragments.{of_c, typed_member}
+use Rattle.msvc_full_grammar.specs.Letters.{argument_texts, base_types, code_texts, deduced_types, encoding_texts}
+use Rattle.msvc_full_grammar.specs.Letters.{extended_types, funclet_texts, function_texts, member_texts}
 use Rattle.msvc_full_grammar.specs.Letters.{operator_texts, symbol_texts, type_texts, value_texts, variable_texts}
-use Rattle.msvc_full_grammar.specs.Productions.{argument, argument_after, encoding, encoding_after, operator_after}
+use Rattle.msvc_full_grammar.specs.Productions.{Production, argument, argument_after, encoding, encoding_after}
+use Rattle.msvc_full_grammar.specs.Productions.{operator_after}
 use Rattle.msvc_full_grammar.specs.Productions.{operator_name, other_encoding, type_, type_after, variable}
 use Rattle.msvc_full_grammar.specs.Productions.{marked_symbol, operator_symbol, symbol_after, template_value}
-use Rattle.msvc_full_grammar.specs.Productions.{value_after}
+use Rattle.msvc_full_grammar.specs.Productions.{funclet, funclet_or_symbol, function_code, member, symbol, value_after}
 use Rattle.msvc_full_grammar.specs.Reading.{read_name, read}
-use Rattle.msvc_full_grammar.proofs.Checks.{no_argument_begins_another, no_encoding_begins_another, no_function_begins_another}
-use Rattle.msvc_full_grammar.proofs.Checks.{no_operator_begins_another, no_symbol_begins_another, no_value_begins_another}
-use Rattle.msvc_full_grammar.proofs.Checks.{no_type_begins_another, no_variable_begins_another}
+use Rattle.msvc_full_grammar.proofs.Checks.{no_argument_begins_another, no_encoding_begins_another}
+use Rattle.msvc_full_grammar.proofs.Checks.{no_function_begins_another}
+use Rattle.msvc_full_grammar.proofs.Checks.{no_operator_begins_another, no_symbol_begins_another}
+use Rattle.msvc_full_grammar.proofs.Checks.{no_value_begins_another}
+use Rattle.msvc_full_grammar.proofs.Checks.{no_code_begins_another, no_funclet_begins_another, no_type_begins_another}
+use Rattle.msvc_full_grammar.proofs.Checks.{no_member_begins_another, no_variable_begins_another}
 use Rattle.msvc_full_grammar.proofs.Laws.{read_name-is}
 use Rattle.msvc_cursor.specs.Parser.{byte_here, text_at}
-use Rattle.msvc_cursor.proofs.Choices.{by_text}
-use Rattle.msvc_full_letters.specs.Texts.{encoding_at, function_at, operator_at}
-use Rattle.msvc_full_letters.proofs.Choices.{text_and-is, text_or-is}
-use Rattle.msvc_full_letters.proofs.TextsByLetter.{encoding_by_letter, function_by_letter, operator_by_letter}
+use Rattle.msvc_cursor.proofs.Choices.{by_text, choose}
+use Rattle.msvc_full_letters.specs.Texts.{code_at, encoding_at, function_at, operator_at}
+use Rattle.msvc_full_letters.proofs.Choices.{letter_or-is, text_and-is, text_or-is}
+use Rattle.msvc_full_letters.proofs.TextsByLetter.{code_by_letter, encoding_by_letter, function_by_letter}
+use Rattle.msvc_full_letters.proofs.TextsByLetter.{operator_by_letter}
 
 pub marked_symbol_step : (left : List ℕ) (s : State) → read_name marked_symbol left s
     ≡ by_text (text_at symbol_texts left) (λ f rest. read_name (symbol_after f) rest s)
@@ -83,12 +90,42 @@ c_function_step left s =
     ∙ text_and-is function_texts (λ f. call (encoding_after (of_c f))) left s no_function_begins_another
     ∙ ap (λ o. by_text o (λ f rest. read_name (encoding_after (of_c f)) rest s) None) (function_by_letter left)
 
+pub managed_function_step : (left : List ℕ) (s : State) → read_name (encoding_after managed_function) left s
+    ≡ by_text (function_at left) (λ f rest. read_name (encoding_after f) rest s) None
+unfolding grammar read read_by
+managed_function_step left s =
+    read_name-is (encoding_after managed_function) left s
+    ∙ text_and-is function_texts (λ f. call (encoding_after f)) left s no_function_begins_another
+    ∙ ap (λ o. by_text o (λ f rest. read_name (encoding_after f) rest s) None) (function_by_letter left)
+
+pub function_code_step : (left : List ℕ) (s : State) → read_name function_code left s
+    ≡ by_text (code_at left) (λ f rest. read_name (encoding_after f) rest s) None
+unfolding grammar read read_by
+function_code_step left s =
+    read_name-is function_code left s
+    ∙ text_and-is code_texts (λ f. call (encoding_after f)) left s no_code_begins_another
+    ∙ ap (λ o. by_text o (λ f rest. read_name (encoding_after f) rest s) None) (code_by_letter left)
+
+pub funclet_or_symbol_step : (left : List ℕ) (s : State) → read_name funclet_or_symbol left s
+    ≡ by_text (text_at funclet_texts left) (λ row rest. read_name (funclet row) rest s) (read_name symbol left s)
+unfolding grammar read read_by
+funclet_or_symbol_step left s =
+    read_name-is funclet_or_symbol left s
+    ∙ text_or-is funclet_texts (λ row. call (funclet row)) (call symbol) left s no_funclet_begins_another
+
 pub template_value_step : (left : List ℕ) (s : State) → read_name template_value left s
     ≡ by_text (text_at value_texts left) (λ v rest. read_name (value_after v) rest s) None
 unfolding grammar read read_by
 template_value_step left s =
     read_name-is template_value left s
     ∙ text_and-is value_texts (λ v. call (value_after v)) left s no_value_begins_another
+
+pub member_step : (left : List ℕ) (s : State) → read_name member left s
+    ≡ by_text (text_at member_texts left) (λ v rest. read_name (value_after v) rest s) (read typed_member left s)
+unfolding grammar read read_by
+member_step left s =
+    read_name-is member left s
+    ∙ text_or-is member_texts (λ v. call (value_after v)) typed_member left s no_member_begins_another
 
 pub argument_step : (left : List ℕ) (s : State) → read_name argument left s
     ≡ by_text (text_at argument_texts left) (λ f rest. read_name (argument_after f) rest s)
@@ -126,12 +163,42 @@ type_step q left s =
     ∙ λ i. by_text (text_at type_texts left) (λ f rest. read_name (type_after q f) rest s)
     (in_node left s (λ l t. base_letter base_types q l t i))
 
-pub extended_step : (q : ℕ) (left : List ℕ) (s : State)
-    → read_name (type_after q extended) left s ≡ base_by extended_types q left s
-unfolding grammar read read_by
+-- a type that is deduced, by its row, or another type
+abbrev pub deduced_or : Option ℕ → Option TypeTree → ℕ → Option TypeTree
+deduced_or None other q = other
+deduced_or (Some row) other q = Some (shape row q [] [] no_names no_types)
+
+-- a type of a second letter, with qualifiers
+abbrev pub extended_by : ℕ → ℕ → Option TypeTree
+extended_by q b = deduced_or (lookup b deduced_types) (option_map (λ x. base x q) (lookup b extended_types)) q
+
+pub extended_step : (q : ℕ) (left : List ℕ) (s : State) → read_name (type_after q extended) left s
+    ≡ in_node left s (λ l t. and_then (byte_here l t) (λ b k u. with_value (extended_by q b) k u))
+unfolding grammar read read_by byte_here
 extended_step q left s =
     read_name-is (type_after q extended) left s
-    ∙ λ i. in_node left s (λ l t. base_letter extended_types q l t i)
+    ∙ λ i. in_node left s (λ l t. inside l t i)
+  where
+    a_base : Rule Production type_tree
+    a_base = do b ← letter base_type extended_types; give (base b q)
+
+    of_row : ℕ → Rule Production type_tree
+    of_row row = give (shape row q [] [] no_names no_types)
+
+    found : (o : Option ℕ) (p : Option PrimitiveKind) (bs : List ℕ) (t : State)
+        → choose (with_value o bs t) (λ row k u. Some (shape row q [] [] no_names no_types, k, u))
+        (and_then (with_value p bs t) (λ x k u. Some (base x q, k, u)))
+        ≡ with_value (deduced_or o (option_map (λ x. base x q) p) q) bs t
+    found None None bs t = refl
+    found None (Some x) bs t = refl
+    found (Some row) p bs t = refl
+
+    inside : (l : List ℕ) (t : State) → read (letter_or deduced_types of_row a_base) l t
+        ≡ and_then (byte_here l t) (λ b k u. with_value (extended_by q b) k u)
+    inside [] t = letter_or-is {a = type_tree} deduced_types of_row a_base [] t
+    inside (b ∷ bs) t =
+        letter_or-is {a = type_tree} deduced_types of_row a_base (b ∷ bs) t
+        ∙ found (lookup b deduced_types) (lookup b extended_types) bs t
 
 pub ruleset steps = (
   marked_symbol_step,
@@ -139,7 +206,11 @@ pub ruleset steps = (
   encoding_step,
   other_encoding_step,
   c_function_step,
+  managed_function_step,
+  function_code_step,
+  funclet_or_symbol_step,
   template_value_step,
+  member_step,
   argument_step,
   type_step,
   extended_step,

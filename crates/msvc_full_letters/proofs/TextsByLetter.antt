@@ -2,11 +2,12 @@
 use Rattle.std.proofs.Common.{ℕ, List, [], ◌∷◌, Option, Some, None, Bool, true, false, cond, ◌==◌, ◌≡◌, refl, ap, ◌∙◌}
 use Rattle.std.proofs.lemmas.Bool.{eq-eqb, eqb-true}
 use Rattle.msvc_rules.specs.Rules.{after, lookup}
-use Rattle.msvc_full_grammar.specs.Letters.{encoding_texts, function_texts, operator_texts}
+use Rattle.msvc_full_grammar.specs.Letters.{code_texts, encoding_texts, function_texts, operator_texts}
 use Rattle.msvc_cursor.specs.Parser.{at_rest, this_or, text_at}
 use Rattle.msvc_full_letters.specs.Texts.{dollar, encoding_at, encoding_dollar_texts, encoding_letters, function_at}
 use Rattle.msvc_full_letters.specs.Texts.{function_dollar_texts, function_letters, operator_at, operator_letters}
-use Rattle.msvc_full_letters.specs.Texts.{text_by, under_operator_texts, underscore}
+use Rattle.msvc_full_letters.specs.Texts.{code_at, code_dollar_texts, code_letters, text_by, under_operator_texts}
+use Rattle.msvc_full_letters.specs.Texts.{underscore}
 
 -- what one table has, or what others have
 abbrev first_of : {A : Type 0} → Option A → Option A → Option A
@@ -92,6 +93,10 @@ encoding_by_letter left = by_letter dollar encoding_dollar_texts encoding_letter
 pub function_by_letter : (left : List ℕ) → text_at function_texts left ≡ function_at left
 unfolding function_at
 function_by_letter left = by_letter dollar function_dollar_texts function_letters left refl
+
+pub code_by_letter : (left : List ℕ) → text_at code_texts left ≡ code_at left
+unfolding code_at
+code_by_letter left = by_letter dollar code_dollar_texts code_letters left refl
 
 pub operator_by_letter : (left : List ℕ) → text_at operator_texts left ≡ operator_at left
 unfolding operator_at

@@ -3,7 +3,7 @@ use Rattle.std.specs.Prelude.{◌%◌, ◌^◌}
 use Rattle.msvc_rules.specs.Rules.{Rule, call, give, ◌>>=◌}
 use Rattle.msvc_rules.specs.Sorts.{bits}
 use Rattle.msvc_rules.specs.Sorts as sort
-use Rattle.msvc_full_grammar.specs.Grammar.{signed_number, unsigned_number}
+use Rattle.msvc_full_grammar.specs.Fragments.{signed_number, unsigned_number}
 use Rattle.msvc_full_grammar.specs.Productions.{Production, letters, small_number}
 
 -- the letters of a count, of whose value the low 64 bits are kept

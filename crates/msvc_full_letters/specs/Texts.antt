@@ -5,7 +5,7 @@ use Rattle.msvc_full_grammar.specs.Forms.{EncodingForm, TypeForm}
 use Rattle.msvc_full_grammar.specs.declared.forms.ArgumentForm.{ArgumentForm}
 use Rattle.msvc_full_grammar.specs.declared.forms.OperatorForm.{OperatorForm}
 use Rattle.msvc_full_grammar.specs.Letters.{argument_texts, encoding_texts, function_texts, operator_texts}
-use Rattle.msvc_full_grammar.specs.Letters.{type_texts}
+use Rattle.msvc_full_grammar.specs.Letters.{code_texts, funclet_texts, type_texts}
 use Rattle.msvc_rules.specs.Rules.{lookup}
 use Rattle.msvc_cursor.specs.Parser.{at_rest, one_less, text_at}
 
@@ -56,12 +56,36 @@ function_letters = letters_in function_texts
 abbrev pub function_dollar_texts : List (List ℕ × EncodingForm)
 function_dollar_texts = one_less dollar function_texts
 
+-- the same of functions that may be of C or of managed code
+abbrev pub code_letters : List (ℕ × EncodingForm)
+code_letters = letters_in code_texts
+
+abbrev pub code_dollar_texts : List (List ℕ × EncodingForm)
+code_dollar_texts = one_less dollar code_texts
+
 -- the encoding and the function that the bytes begin with
 unfoldable pub encoding_at : List ℕ → Option (EncodingForm × List ℕ)
 encoding_at left = text_by dollar encoding_dollar_texts encoding_letters left
 
 unfoldable pub function_at : List ℕ → Option (EncodingForm × List ℕ)
 function_at left = text_by dollar function_dollar_texts function_letters left
+
+unfoldable pub code_at : List ℕ → Option (EncodingForm × List ℕ)
+code_at left = text_by dollar code_dollar_texts code_letters left
+
+-- what follows the ? of funclets
+abbrev pub funclet_mark_texts : List (List ℕ × ℕ)
+funclet_mark_texts = one_less (code "?") funclet_texts
+
+-- the same of the funclets that begin with c, with d and with f
+abbrev pub funclet_c_texts : List (List ℕ × ℕ)
+funclet_c_texts = one_less (code "c") funclet_mark_texts
+
+abbrev pub funclet_d_texts : List (List ℕ × ℕ)
+funclet_d_texts = one_less (code "d") funclet_mark_texts
+
+abbrev pub funclet_f_texts : List (List ℕ × ℕ)
+funclet_f_texts = one_less (code "f") funclet_mark_texts
 
 -- the operators whose code is one letter, and what follows the _ of the others
 abbrev pub operator_letters : List (ℕ × OperatorForm)

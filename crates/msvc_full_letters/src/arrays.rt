@@ -5,7 +5,7 @@ ghost use Rattle.msvc_full_grammar.specs.Productions as production;
 ghost use Rattle.msvc_full_grammar.specs.Reading.{read_name};
 ghost use Rattle.msvc_cursor.specs.Parser.{Consumes, MayConsume, ReadsAs};
 
-use crate::numbers::count;
+use crate::numbers::{count, plain};
 use bumpalo::collections::into_bump_slice;
 use msvc_cursor::budget::NodeBudget;
 use msvc_cursor::failure::{Failed, Message};
@@ -38,11 +38,7 @@ pub fn lengths<'a, 'b, L: NodeBudget, A: Allocator>(
     let mut lengths = Vec::new(parser.arena);
     for _ in 0..levels {
         let value = count(parser)?;
-        let length = Number {
-            is_negative: false,
-            value,
-        };
-        if lengths.push(length).is_err() {
+        if lengths.push(plain(value)).is_err() {
             return Err(parser.no_memory());
         }
     }

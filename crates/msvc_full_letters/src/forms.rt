@@ -17,12 +17,16 @@ pub enum EncodingForm {
     Thunk(Adjustment, FuncClass),
     /// A function of C, whose class follows.
     CFunction,
+    /// A function of managed code, whose class follows.
+    ManagedFunction,
     /// A table of a class, and what it is for follows.
     Table,
     /// Nothing, after the names of run-time type information.
     TypeInformation,
     /// A call of a virtual function by its place in a table.
     VirtualCall,
+    /// A map of displacements, and the class that it is for follows.
+    Displacement,
 }
 
 /// Tells what a type begins with, but for the base types of one letter.
@@ -34,6 +38,8 @@ pub enum TypeForm {
     Pointer(StorageClass),
     /// A reference of this kind.
     Reference(PointerAffinity),
+    /// A reference that is volatile itself.
+    VolatileReference,
     /// Arrays.
     Arrays,
     /// A function.

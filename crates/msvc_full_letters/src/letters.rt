@@ -5,7 +5,8 @@ ghost use Rattle.std.specs.Prelude.{◌≡◌, bit_or};
 ghost use Rattle.msvc_rules.specs.Rules.{lookup};
 ghost use Rattle.msvc_full_grammar.specs.Forms.{thunk_of};
 ghost use Rattle.msvc_full_grammar.specs.declared.forms.Adjustment.TheVariants as adjustments;
-ghost use Rattle.msvc_full_grammar.specs.Letters.{conventions, member_qualifiers, thunk, virtual};
+ghost use Rattle.msvc_full_grammar.specs.Letters.{conventions, deduced_types, managed_rows, member_qualifiers, thunk};
+ghost use Rattle.msvc_full_grammar.specs.Letters.{virtual};
 ghost use Rattle.msvc_full_letters.specs.Texts.{encoding_letters, function_letters};
 ghost use Rattle.msvc_full_letters.specs.Views.{encoding_form_of};
 
@@ -14,6 +15,7 @@ use bitflags::Flags;
 use msvc_full_grammar::forms::{Adjustment, TypeRow};
 use msvc_nodes::flags::{FuncClass, StorageClass};
 use msvc_nodes::kinds::Convention;
+use msvc_shapes::rows;
 
 /// Returns how a function is called.
 pub fn convention(letter: u8) -> Option<Convention>
@@ -50,6 +52,29 @@ pub fn member_qualifier(letter: u8) -> Option<StorageClass>
         _ => return None,
     };
     Some(qualifier)
+}
+
+/// Returns the row of a pointer or a reference of managed code. `own_row` is that of the pointer's or reference's own.
+pub fn managed_row(own_row: u8, letter: u8) -> Option<u8>
+    ensures { result ≡ lookup letter (managed_rows own_row) }
+{
+    match letter {
+        b'A' => Some(own_row),
+        b'B' => Some(rows::PIN),
+        b'C' => Some(rows::TRACKING),
+        _ => None,
+    }
+}
+
+/// Returns the row of a type that is deduced.
+pub fn deduced_row(letter: u8) -> Option<u8>
+    ensures { result ≡ lookup letter deduced_types }
+{
+    match letter {
+        b'P' => Some(rows::AUTO),
+        b'T' => Some(rows::DECLTYPE_AUTO),
+        _ => None,
+    }
 }
 
 /// Returns what the type of a symbol is that begins with a letter.

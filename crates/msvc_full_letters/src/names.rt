@@ -2,7 +2,7 @@
 #![tactic(auto)]
 
 ghost use Rattle.msvc_nodes.specs.NodeView.{name_at};
-ghost use Rattle.msvc_full_grammar.specs.Grammar.{new_source_name};
+ghost use Rattle.msvc_full_grammar.specs.Fragments.{new_source_name};
 ghost use Rattle.msvc_full_grammar.specs.Productions as production;
 ghost use Rattle.msvc_full_grammar.specs.Reading.{read, read_name};
 ghost use Rattle.msvc_cursor.specs.Parser.{Consumes, ReadsAs};

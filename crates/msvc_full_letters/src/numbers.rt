@@ -2,7 +2,7 @@
 #![tactic(auto, using(crate::proofs::NumberSteps::steps, crate::proofs::WrappedLetters::letters_go_on), unfolding(crate::proofs::WrappedLetters::letters_at))]
 
 ghost use Rattle.std.specs.Prelude.{◌≡◌};
-ghost use Rattle.msvc_full_grammar.specs.Grammar.{small};
+ghost use Rattle.msvc_full_grammar.specs.Fragments.{plain, small};
 ghost use Rattle.msvc_full_grammar.specs.Productions as production;
 ghost use Rattle.msvc_full_grammar.specs.Reading.{read, read_name};
 ghost use Rattle.msvc_cursor.specs.Parser.{Consumes, ReadsAs};
@@ -31,10 +31,7 @@ pub fn number<'a, 'b, L: NodeBudget, A: Allocator>(
 {
     if !parser.consume(b"?") {
         let value = count(parser)?;
-        return Ok(Number {
-            is_negative: false,
-            value,
-        });
+        return Ok(plain(value));
     }
     let value = count(parser)?;
     Ok(Number {
@@ -43,7 +40,18 @@ pub fn number<'a, 'b, L: NodeBudget, A: Allocator>(
     })
 }
 
-/// Reads `SMALL_NUMBER = NUMBER`, of which the low 32 bits count.
+/// Returns a number without a sign.
+#[inline(always)]
+pub fn plain(value: u64) -> Number
+    ensures { result ≡ plain value }
+{
+    Number {
+        is_negative: false,
+        value,
+    }
+}
+
+/// Reads `SMALL_NUMBER = NUMBER` and drops the bits of the number above the low 32.
 pub fn small_number<'a, 'b, L: NodeBudget, A: Allocator>(
     parser: &mut Parser<'a, 'b, L, A>,
 ) -> Result<i32, Failed>

@@ -3,13 +3,13 @@
 
 ghost use Rattle.std.specs.Prelude.{◌≡◌, ◌<◌, IfOk, length};
 ghost use Rattle.msvc_rules.specs.Readers.{with_value};
-ghost use Rattle.msvc_full_grammar.specs.Grammar as spec;
+ghost use Rattle.msvc_full_grammar.specs.Fragments as spec;
 ghost use Rattle.msvc_full_grammar.specs.Productions as production;
 ghost use Rattle.msvc_full_grammar.specs.Reading.{read, read_name};
 ghost use Rattle.msvc_cursor.specs.Parser.{Consumes, MayConsume, ReadsAs, Stays};
 ghost use Rattle.msvc_full_letters.specs.Numbers.{signed_offset, unsigned_offset};
 
-use crate::numbers::{number, small_number};
+use crate::numbers::{number, plain, small_number};
 use bumpalo::collections::into_bump_slice;
 use msvc_cursor::budget::NodeBudget;
 use msvc_cursor::failure::{Failed, Message};
@@ -97,10 +97,7 @@ fn signed_number(number: i32) -> Number
 fn unsigned_number(number: i32) -> Number
     ensures { result ≡ spec.unsigned_number number }
 {
-    Number {
-        is_negative: false,
-        value: u64::from(number.cast_unsigned()),
-    }
+    plain(u64::from(number.cast_unsigned()))
 }
 
 /// Reads exactly `count` numbers.

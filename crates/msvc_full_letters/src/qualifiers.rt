@@ -4,10 +4,10 @@
 ghost use Rattle.std.specs.Option.{option_map};
 ghost use Rattle.std.specs.Prelude.{◌≡◌, ◌≤◌, ◌<◌, IfSome, length, MatchOption, None, Some};
 ghost use Rattle.msvc_rules.specs.Readers.{letter_here};
-ghost use Rattle.msvc_full_grammar.specs.Grammar.{own_of_class};
+ghost use Rattle.msvc_full_grammar.specs.Fragments.{managed_mark, own_of_class};
 ghost use Rattle.msvc_full_grammar.specs.Letters.{conventions, qualifiers};
 ghost use Rattle.msvc_full_grammar.specs.Productions as production;
-ghost use Rattle.msvc_full_grammar.specs.Reading.{read_name};
+ghost use Rattle.msvc_full_grammar.specs.Reading.{read, read_name};
 ghost use Rattle.msvc_cursor.specs.Parser.{Consumes, frame_of, MayConsume, ReadsAs, state_of};
 
 use crate::letters;
@@ -130,7 +130,19 @@ pub fn marks<'a, 'b, L: NodeBudget, A: Allocator>(parser: &mut Parser<'a, 'b, L,
     size.union(restrict.union(alignment))
 }
 
-/// Reads `OWN_QUALIFIERS = MARKS ["G" | "H"] qualifier`, or nothing where a function has none.
+/// Reads `["$A"]`, the mark of a function of managed code, which has no meaning.
+fn managed_mark<'a, 'b, L: NodeBudget, A: Allocator>(parser: &mut Parser<'a, 'b, L, A>)
+    ensures value { read managed_mark parser.old.rest.now (state_of parser.old)
+        ≡ Some (tt, parser.new.rest.now, state_of parser.new) }
+    ensures shorter { length parser.new.rest.now ≤ length parser.old.rest.now }
+    ensures kept { frame_of parser.new ≡ frame_of parser.old }
+{
+    if parser.consume(b"$A") {
+        return;
+    }
+}
+
+/// Reads `OWN_QUALIFIERS = MARKS ["$A"] ["G" | "H"] qualifier`, or nothing where a function has none.
 pub fn own_qualifiers<'a, 'b, L: NodeBudget, A: Allocator>(
     parser: &mut Parser<'a, 'b, L, A>,
     own: OwnQualifiers,
@@ -143,6 +155,7 @@ pub fn own_qualifiers<'a, 'b, L: NodeBudget, A: Allocator>(
         OwnQualifiers::Absent => Ok(StorageClass::empty()),
         OwnQualifiers::Present => {
             let before = marks(parser);
+            managed_mark(parser);
             let reference = parser.optional(OptionalLetters::ReferenceQualifiers);
             let class = qualifier(parser)?;
             Ok(before.union(reference.union(class)))

@@ -2,17 +2,17 @@
 #![tactic(auto, using(msvc_cursor::proofs::Choices::letter_step, crate::proofs::StringSteps::steps))]
 
 ghost use Rattle.std.specs.Option.{option_map};
-ghost use Rattle.std.specs.Prelude.{◌≡◌, ◌≤◌, ◌<◌, ◌∷◌, IfSome, length, None};
+ghost use Rattle.std.specs.Prelude.{ℕ, List, ◌≡◌, ◌≤◌, ◌<◌, ◌∷◌, IfSome, length, None};
 ghost use Rattle.msvc_rules.specs.Readers.{letter_here, with_value};
 ghost use Rattle.msvc_rules.specs.Rules.{lookup};
-ghost use Rattle.msvc_full_grammar.specs.Grammar.{each_plain, plain};
+ghost use Rattle.msvc_full_grammar.specs.Fragments.{each_plain};
 ghost use Rattle.msvc_full_grammar.specs.Letters.{hexadecimal, hexadecimal_base, widths};
 ghost use Rattle.msvc_full_grammar.specs.Reading.{read};
 ghost use Rattle.msvc_full_grammar.specs.Strings.{decoded, escaped, in_digits};
 ghost use Rattle.msvc_cursor.specs.Parser.{Consumes, ReadsAs, Stays};
 ghost use Rattle.msvc_full_letters.specs.Strings.{encoded_string, escape_of, from_first};
 
-use crate::numbers::count;
+use crate::numbers::{count, plain};
 use bumpalo::collections::into_bump_slice;
 use msvc_cursor::budget::NodeBudget;
 use msvc_cursor::failure::{Failed, Message};
@@ -52,12 +52,46 @@ pub fn encoded_string<'a, 'b, L: NodeBudget, A: Allocator>(
     let width = width(parser)?;
     let length = count(parser)?;
     parser.source_name()?;
-    let encoded = parser.source_name()?;
+    let Ok(encoded) = parser.source_name() else {
+        return no_end(parser);
+    };
     Ok(EncodedString {
         width,
         length,
         encoded,
     })
+}
+
+/// Records that no `@` ends the bytes of a string: after a byte that stands for none, or else at the end of the text.
+#[cold]
+#[inline(never)]
+fn no_end<'a, 'b, L: NodeBudget, A: Allocator>(
+    parser: &mut Parser<'a, 'b, L, A>,
+) -> Result<EncodedString<'a>, Failed>
+    ensures value { ReadsAs {Y = ℕ × (ℕ × List ℕ)} (λ s. (s.width, (s.length, s.encoded.now))) parser.old parser.new
+        result (λ left s. None) }
+    ensures consumes { Consumes parser.old parser.new result }
+{
+    if let Some(escaped) = at_unknown(parser.rest) {
+        if let Some((byte, left)) = unknown_byte(escaped) {
+            return Err(parser.reject_at(Message::UnknownCharacter(byte), left));
+        }
+    }
+    Err(parser.reject_at(Message::EndOfInput, 0))
+}
+
+/// Returns the encoded bytes behind the first `?` that stands for no byte, if there is one.
+fn at_unknown<'a>(encoded: &'a [u8]) -> Option<&'a [u8]>
+    ensures { IfSome result (λ escaped. length escaped.now ≤ length encoded.now) }
+{
+    let mut left = encoded;
+    while let [first, rest @ ..] = left {
+        let Some((_, behind)) = string_byte(*first, rest) else {
+            return Some(rest);
+        };
+        left = behind;
+    }
+    None
 }
 
 /// Reads the width of characters. Fails after any other byte, and at the end of the text.
@@ -102,18 +136,8 @@ pub fn string_bytes<'a, 'b, L: NodeBudget, A: Allocator>(
     Ok(into_bump_slice(numbers))
 }
 
-/// Returns a number without a sign.
-fn plain(value: u64) -> Number
-    ensures { result ≡ plain value }
-{
-    Number {
-        is_negative: false,
-        value,
-    }
-}
-
-/// Returns the byte that encoded bytes begin with, of which `first` is the first, and those after it, which borrow from
-/// `rest`. Returns `None` if they stand for no byte.
+/// Decodes the byte that `first` and `rest` encode at their start. Returns it and the bytes after its encoding, which
+/// borrow from `rest`, or `None` if these bytes stand for no byte.
 #[tactic(auto, unfolding(msvc_full_grammar::specs::Strings::decoded))]
 #[inline(always)]
 fn string_byte(first: u8, rest: &[u8]) -> Option<(u8, &[u8])>
@@ -169,20 +193,31 @@ fn no_byte<'a, 'b, L: NodeBudget, A: Allocator>(
     ensures value { ReadsAs (λ zs. zs.now) parser.old parser.new result (λ left s. None) }
     ensures stays { Stays parser.old parser.new result }
 {
+    let left = parser.rest.len();
+    let failed = match unknown_byte(escaped) {
+        Some((byte, behind)) => parser.reject_at(
+            Message::UnknownCharacter(byte),
+            left.saturating_add(behind).saturating_add(1),
+        ),
+        None => parser.reject_at(Message::UnknownCharacter(b'@'), left),
+    };
+    Err(failed)
+}
+
+/// Returns the byte that no table has, of encoded bytes behind a `?` that stand for none, and how many bytes follow
+/// it. Returns `None` if the bytes end before it.
+fn unknown_byte(escaped: &[u8]) -> Option<(u8, usize)>
+    ensures { IfSome result (λ x. x.1 < length escaped.now) }
+{
     let unknown = match escaped {
         [b'$', high, others @ ..] if digit(*high).is_some() => others,
         [b'$', others @ ..] => others,
         [..] => escaped,
     };
-    let left = parser.rest.len();
-    let failed = match unknown {
-        [byte, others @ ..] => parser.reject_at(
-            Message::UnknownCharacter(*byte),
-            left.saturating_add(others.len()).saturating_add(1),
-        ),
-        [] => parser.reject_at(Message::UnknownCharacter(b'@'), left),
-    };
-    Err(failed)
+    match unknown {
+        [byte, others @ ..] => Some((*byte, others.len())),
+        [] => None,
+    }
 }
 
 /// Returns the value of a base 16 digit, written `A` to `P`.

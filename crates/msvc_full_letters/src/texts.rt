@@ -3,11 +3,14 @@
 
 ghost use Rattle.std.specs.Option.{option_map};
 ghost use Rattle.std.specs.Prelude.{◌≡◌, ◌<◌, ◌≤◌, bit_or, IfSome, length, None};
-ghost use Rattle.msvc_full_grammar.specs.Letters.{argument_texts, far, symbol_texts, type_texts};
+ghost use Rattle.msvc_full_grammar.specs.Letters.{argument_texts, far, funclet_texts, member_texts, symbol_texts};
+ghost use Rattle.msvc_full_grammar.specs.Letters.{type_texts};
 ghost use Rattle.msvc_full_grammar.specs.Letters.{value_texts, variable_texts};
 ghost use Rattle.msvc_cursor.specs.Messages.{limit_of_message};
 ghost use Rattle.msvc_cursor.specs.Parser.{at_rest, text_at};
-ghost use Rattle.msvc_full_letters.specs.Texts.{argument_dollar_texts, argument_double_dollar_texts, encoding_at};
+ghost use Rattle.msvc_full_letters.specs.Texts.{argument_dollar_texts, argument_double_dollar_texts, code_at};
+ghost use Rattle.msvc_full_letters.specs.Texts.{code_dollar_texts, encoding_at, funclet_c_texts, funclet_d_texts};
+ghost use Rattle.msvc_full_letters.specs.Texts.{funclet_f_texts, funclet_mark_texts};
 ghost use Rattle.msvc_full_letters.specs.Texts.{encoding_dollar_texts, function_at, function_dollar_texts};
 ghost use Rattle.msvc_full_letters.specs.Texts.{type_dollar_texts, type_double_dollar_texts};
 ghost use Rattle.msvc_full_letters.specs.Views.{encoding_form_of, type_form_of};
@@ -17,7 +20,7 @@ use crate::letters::{encoding, function, moved};
 use bitflags::Flags;
 use msvc_cursor::failure::Message;
 use msvc_full_grammar::forms::{
-    Adjustment, ArgumentForm, OwnQualifiers, SymbolForm, TypeRow, ValueForm,
+    Adjustment, ArgumentForm, OwnQualifiers, Stub, SymbolForm, TypeRow, ValueForm,
 };
 use msvc_nodes::flags::{FuncClass, StorageClass};
 use msvc_nodes::kinds::{Guard, PointerAffinity, TagKind, VarStorageKind};
@@ -43,6 +46,7 @@ pub fn type_form<'a>(left: &'a [u8]) -> Option<(TypeForm, &'a [u8])>
             rest,
         )),
         [b'A', rest @ ..] => Some((TypeForm::Reference(PointerAffinity::Reference), rest)),
+        [b'B', rest @ ..] => Some((TypeForm::VolatileReference, rest)),
         [b'Y', rest @ ..] => Some((TypeForm::Arrays, rest)),
         [b'?', rest @ ..] => Some((TypeForm::Row(TypeRow::Custom), rest)),
         [b'_', rest @ ..] => Some((TypeForm::Extended, rest)),
@@ -113,6 +117,23 @@ fn argument_form_after_dollar<'a>(left: &'a [u8]) -> Option<(ArgumentForm, &'a [
         [b'H', rest @ ..] => Some((ArgumentForm::Value(ValueForm::MemberOffsets(1)), rest)),
         [b'I', rest @ ..] => Some((ArgumentForm::Value(ValueForm::MemberOffsets(2)), rest)),
         [b'J', rest @ ..] => Some((ArgumentForm::Value(ValueForm::MemberOffsets(3)), rest)),
+        [b'A', rest @ ..] => Some((ArgumentForm::Value(ValueForm::Bits(rows::FLOAT)), rest)),
+        [b'B', rest @ ..] => Some((ArgumentForm::Value(ValueForm::Bits(rows::DOUBLE)), rest)),
+        [b'V', rest @ ..] => Some((ArgumentForm::Value(ValueForm::Bits(rows::FLOAT16)), rest)),
+        [b'W', rest @ ..] => Some((ArgumentForm::Value(ValueForm::Bits(rows::BFLOAT16)), rest)),
+        [b'X', rest @ ..] => Some((ArgumentForm::Value(ValueForm::Bits(rows::FLOAT80)), rest)),
+        [b'Y', rest @ ..] => Some((ArgumentForm::Value(ValueForm::Bits(rows::FLOAT128)), rest)),
+        [b'Z', rest @ ..] => Some((ArgumentForm::Value(ValueForm::Bits(rows::IBM128)), rest)),
+        [b'N', rest @ ..] => Some((
+            ArgumentForm::Value(ValueForm::Word(rows::NULL_MEMBER)),
+            rest,
+        )),
+        [b'2', rest @ ..] => Some((ArgumentForm::Value(ValueForm::Aggregate), rest)),
+        [b'3', rest @ ..] => Some((ArgumentForm::Value(ValueForm::Elements), rest)),
+        [b'5', rest @ ..] => Some((ArgumentForm::Value(ValueForm::Subobject), rest)),
+        [b'6', rest @ ..] => Some((ArgumentForm::Value(ValueForm::Member), rest)),
+        [b'C', rest @ ..] => Some((ArgumentForm::Value(ValueForm::Element), rest)),
+        [b'7', rest @ ..] => Some((ArgumentForm::Value(ValueForm::Union), rest)),
         _ => None,
     }
 }
@@ -146,6 +167,35 @@ pub fn value_form<'a>(left: &'a [u8]) -> Option<(ValueForm, &'a [u8])>
         [b'H', rest @ ..] => Some((ValueForm::MemberOffsets(1), rest)),
         [b'I', rest @ ..] => Some((ValueForm::MemberOffsets(2), rest)),
         [b'J', rest @ ..] => Some((ValueForm::MemberOffsets(3), rest)),
+        [b'A', rest @ ..] => Some((ValueForm::Bits(rows::FLOAT), rest)),
+        [b'B', rest @ ..] => Some((ValueForm::Bits(rows::DOUBLE), rest)),
+        [b'V', rest @ ..] => Some((ValueForm::Bits(rows::FLOAT16), rest)),
+        [b'W', rest @ ..] => Some((ValueForm::Bits(rows::BFLOAT16), rest)),
+        [b'X', rest @ ..] => Some((ValueForm::Bits(rows::FLOAT80), rest)),
+        [b'Y', rest @ ..] => Some((ValueForm::Bits(rows::FLOAT128), rest)),
+        [b'Z', rest @ ..] => Some((ValueForm::Bits(rows::IBM128), rest)),
+        [b'N', rest @ ..] => Some((ValueForm::Word(rows::NULL_MEMBER), rest)),
+        [b'2', rest @ ..] => Some((ValueForm::Aggregate, rest)),
+        [b'3', rest @ ..] => Some((ValueForm::Elements, rest)),
+        [b'5', rest @ ..] => Some((ValueForm::Subobject, rest)),
+        [b'6', rest @ ..] => Some((ValueForm::Member, rest)),
+        [b'C', rest @ ..] => Some((ValueForm::Element, rest)),
+        [b'7', rest @ ..] => Some((ValueForm::Union, rest)),
+        _ => None,
+    }
+}
+
+/// Returns the form of value without a type, among the members of a class, whose text `left` begins with, and the bytes
+/// after that text.
+pub fn member_form<'a>(left: &'a [u8]) -> Option<(ValueForm, &'a [u8])>
+    ensures value { option_map (λ x. (x.0, x.1.now)) result ≡ text_at member_texts left.now }
+    ensures shorter { IfSome result (λ x. length x.1.now < length left.now) }
+{
+    match left {
+        [b'0', rest @ ..] => Some((ValueForm::Row(TypeRow::Integer), rest)),
+        [b'2', rest @ ..] => Some((ValueForm::Aggregate, rest)),
+        [b'3', rest @ ..] => Some((ValueForm::Elements, rest)),
+        [b'7', rest @ ..] => Some((ValueForm::Union, rest)),
         _ => None,
     }
 }
@@ -163,6 +213,72 @@ pub fn symbol_form<'a>(left: &'a [u8]) -> Option<(SymbolForm, &'a [u8])>
         [b'_', b'R', b'0', rest @ ..] => Some((SymbolForm::Descriptor, rest)),
         [b'_', b'B', rest @ ..] => Some((SymbolForm::Guard(Guard::Static), rest)),
         [b'_', b'_', b'J', rest @ ..] => Some((SymbolForm::Guard(Guard::Thread), rest)),
+        [b'_', b'_', b'E', rest @ ..] => Some((SymbolForm::Stub(Stub::Initializer), rest)),
+        [b'_', b'_', b'F', rest @ ..] => Some((SymbolForm::Stub(Stub::Destructor), rest)),
+        [b'_', b'_', b'N', rest @ ..] => Some((SymbolForm::Object, rest)),
+        _ => None,
+    }
+}
+
+/// Returns the row of the funclet whose text `left` begins with, and the bytes after that text.
+#[inline(always)]
+pub fn funclet_row<'a>(left: &'a [u8]) -> Option<(u8, &'a [u8])>
+    ensures value { option_map (λ x. (x.0, x.1.now)) result ≡ text_at funclet_texts left.now }
+    ensures shorter { IfSome result (λ x. length x.1.now < length left.now) }
+{
+    match left {
+        [b'?', rest @ ..] => funclet_row_after_mark(rest),
+        _ => None,
+    }
+}
+
+/// Returns the same after a `?`.
+#[inline(always)]
+fn funclet_row_after_mark<'a>(left: &'a [u8]) -> Option<(u8, &'a [u8])>
+    ensures value { option_map (λ x. (x.0, x.1.now)) result ≡ text_at funclet_mark_texts left.now }
+    ensures shorter { IfSome result (λ x. length x.1.now ≤ length left.now) }
+{
+    match left {
+        [b'c', rest @ ..] => funclet_row_after_c(rest),
+        [b'd', rest @ ..] => funclet_row_after_d(rest),
+        [b'f', rest @ ..] => funclet_row_after_f(rest),
+        _ => None,
+    }
+}
+
+/// Returns the same after `?c`.
+#[inline(always)]
+fn funclet_row_after_c<'a>(left: &'a [u8]) -> Option<(u8, &'a [u8])>
+    ensures value { option_map (λ x. (x.0, x.1.now)) result ≡ text_at funclet_c_texts left.now }
+    ensures shorter { IfSome result (λ x. length x.1.now ≤ length left.now) }
+{
+    match left {
+        [b'a', b't', b'c', b'h', b'$', rest @ ..] => Some((rows::CATCH_FUNCLET, rest)),
+        _ => None,
+    }
+}
+
+/// Returns the same after `?d`.
+#[inline(always)]
+fn funclet_row_after_d<'a>(left: &'a [u8]) -> Option<(u8, &'a [u8])>
+    ensures value { option_map (λ x. (x.0, x.1.now)) result ≡ text_at funclet_d_texts left.now }
+    ensures shorter { IfSome result (λ x. length x.1.now ≤ length left.now) }
+{
+    match left {
+        [b't', b'o', b'r', b'$', rest @ ..] => Some((rows::DESTRUCTOR_FUNCLET, rest)),
+        _ => None,
+    }
+}
+
+/// Returns the same after `?f`.
+#[inline(always)]
+fn funclet_row_after_f<'a>(left: &'a [u8]) -> Option<(u8, &'a [u8])>
+    ensures value { option_map (λ x. (x.0, x.1.now)) result ≡ text_at funclet_f_texts left.now }
+    ensures shorter { IfSome result (λ x. length x.1.now ≤ length left.now) }
+{
+    match left {
+        [b'i', b'l', b't', b'$', rest @ ..] => Some((rows::FILTER_FUNCLET, rest)),
+        [b'i', b'n', b'$', rest @ ..] => Some((rows::FINALLY_FUNCLET, rest)),
         _ => None,
     }
 }
@@ -206,7 +322,33 @@ fn encoding_form_after_dollar<'a>(left: &'a [u8]) -> Option<(EncodingForm, &'a [
 {
     match left {
         [b'B', rest @ ..] => Some((EncodingForm::VirtualCall, rest)),
+        [b'C', rest @ ..] => Some((EncodingForm::Displacement, rest)),
+        _ => code_form_after_dollar(left),
+    }
+}
+
+/// Returns what a function is that may be of C or of managed code, whose text `left` begins with, and the bytes after
+/// that text.
+#[tactic(auto, unfolding(crate::specs::Texts::code_at))]
+pub fn code_form<'a>(left: &'a [u8]) -> Option<(EncodingForm, &'a [u8])>
+    ensures value { option_map (λ x. (encoding_form_of x.0, x.1.now)) result ≡ code_at left.now }
+    ensures shorter { IfSome result (λ x. length x.1.now < length left.now) }
+{
+    match left {
+        [b'$', rest @ ..] => code_form_after_dollar(rest),
+        [letter, rest @ ..] => with_rest(function(*letter), rest),
+        [] => None,
+    }
+}
+
+/// Returns the same after a `$`.
+fn code_form_after_dollar<'a>(left: &'a [u8]) -> Option<(EncodingForm, &'a [u8])>
+    ensures value { option_map (λ x. (encoding_form_of x.0, x.1.now)) result ≡ text_at code_dollar_texts left.now }
+    ensures shorter { IfSome result (λ x. length x.1.now ≤ length left.now) }
+{
+    match left {
         [b'$', b'J', b'0', rest @ ..] => Some((EncodingForm::CFunction, rest)),
+        [b'$', b'F' | b'H' | b'h', rest @ ..] => Some((EncodingForm::ManagedFunction, rest)),
         _ => function_form_after_dollar(left),
     }
 }

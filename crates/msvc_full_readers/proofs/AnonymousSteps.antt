@@ -10,7 +10,8 @@ use Rattle.msvc_rules.specs.Rules.{after, call, give, letter, literal, some_of, 
 use Rattle.msvc_rules.specs.Sorts.{bits, list}
 use Rattle.msvc_rules.specs.State.{State, remember_name}
 use Rattle.msvc_grammar.specs.Reading.{read as crate_read}
-use Rattle.msvc_full_grammar.specs.Grammar.{anonymous_namespace, grammar, has_capital}
+use Rattle.msvc_full_grammar.specs.Grammar.{grammar}
+use Rattle.msvc_full_grammar.specs.Fragments.{anonymous_namespace, has_capital}
 use Rattle.msvc_full_grammar.specs.Letters.{hexadecimal_codes}
 use Rattle.msvc_full_grammar.specs.Productions.{anonymous_digits, anonymous_kept, hexadecimal_digits}
 use Rattle.msvc_full_grammar.specs.Reading.{read_name, read}

@@ -1,15 +1,15 @@
 -- Step lemmas of what stands after the type of a variable.
-use Rattle.std.proofs.Common.{ℕ, List, Option, Some, None, false, cond, ◌≡◌, ◌==◌, refl, ap, ◌∙◌}
+use Rattle.std.proofs.Common.{ℕ, List, Option, Some, None, true, false, cond, ◌≡◌, ◌==◌, refl, ap, ◌∙◌}
 use Rattle.std.specs.Prelude.{codes}
-use Rattle.msvc_nodes.specs.Trees.{NameTrees, TypeTrees, anonymous, shape, spelled}
-use Rattle.msvc_nodes.specs.declared.nodes.Number.{Number}
+use Rattle.msvc_nodes.specs.Trees.{anonymous, spelled}
 use Rattle.msvc_nodes.specs.declared.kinds.Spelling.TheVariants as spelling_kind
 use Rattle.msvc_rules.specs.Readers.{Found, and_then, letter_here, read_by}
-use Rattle.msvc_rules.specs.Rules.{Rule, after, call, give, literal_or, remember, ◌>>=◌, ◌>>◌}
+use Rattle.msvc_rules.specs.Rules.{Rule, after, call, give, literal_or, remember, some_of, ◌>>=◌, ◌>>◌}
 use Rattle.msvc_rules.specs.Sorts.{nothing}
 use Rattle.msvc_rules.specs.State.{State, remember_name}
 use Rattle.msvc_full_grammar.specs.Forms.{of_member_pointer, of_pointer, of_value}
-use Rattle.msvc_full_grammar.specs.Grammar.{end_of, grammar}
+use Rattle.msvc_full_grammar.specs.Grammar.{grammar}
+use Rattle.msvc_full_grammar.specs.Fragments.{end_of_row, pointer_rows}
 use Rattle.msvc_full_grammar.specs.Rows.{member_pointer_row}
 use Rattle.msvc_full_grammar.specs.Letters.{digits, qualifiers}
 use Rattle.msvc_full_grammar.specs.Productions.{Production, anonymous_digits, marks, repeated_class, repeated_name}
@@ -106,10 +106,22 @@ repeated_name_step left s =
     go None = refl
     go (Some x) = refl
 
--- a shape that is no pointer to a member is a value
-pub end_of_other : (row q : ℕ) (zs : List Number) (bytes : List ℕ) (ns : NameTrees) (ts : TypeTrees)
-    → (row == member_pointer_row) ≡ false → end_of (shape row q zs bytes ns ts) ≡ of_value
-end_of_other row q zs bytes ns ts e = ap (λ t. cond t of_member_pointer of_value) e
+-- what stands after a shape, by its row
+pub end_of_member_row : (row : ℕ) → (row == member_pointer_row) ≡ true → end_of_row row ≡ of_member_pointer
+end_of_member_row row e =
+    ap (λ t. cond t of_member_pointer (cond (some_of (λ r. row == r) pointer_rows) of_pointer of_value)) e
+
+pub end_of_pointer_row : (row : ℕ) → (row == member_pointer_row) ≡ false → some_of (λ r. row == r) pointer_rows ≡ true
+    → end_of_row row ≡ of_pointer
+end_of_pointer_row row e h =
+    ap (λ t. cond t of_member_pointer (cond (some_of (λ r. row == r) pointer_rows) of_pointer of_value)) e
+    ∙ ap (λ t. cond t of_pointer of_value) h
+
+pub end_of_other_row : (row : ℕ) → (row == member_pointer_row) ≡ false → some_of (λ r. row == r) pointer_rows ≡ false
+    → end_of_row row ≡ of_value
+end_of_other_row row e h =
+    ap (λ t. cond t of_member_pointer (cond (some_of (λ r. row == r) pointer_rows) of_pointer of_value)) e
+    ∙ ap (λ t. cond t of_pointer of_value) h
 
 pub ruleset steps = (
   end_of_pointer,

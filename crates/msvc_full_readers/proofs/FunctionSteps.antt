@@ -8,7 +8,7 @@ use Rattle.msvc_nodes.specs.declared.kinds.PlainType.TheVariants as plain_kind
 use Rattle.msvc_nodes.specs.declared.kinds.PrimitiveKind.TheVariants as base_kind
 use Rattle.msvc_rules.specs.Readers.{Found, after_literal, and_then, entered_by, in_node, letter_here, noted_by}
 use Rattle.msvc_rules.specs.Readers.{or_else, read_by, type_noted, with_value}
-use Rattle.msvc_rules.specs.Rules.{Rule, after, begins_of, call, give, holds, letter, literal, literal_or, lookup, node}
+use Rattle.msvc_rules.specs.Rules.{after, begins_of, call, give, holds, letter, literal, lookup, node}
 use Rattle.msvc_rules.specs.Rules.{none_of, ◌>>=◌}
 use Rattle.msvc_rules.specs.Sorts.{bits, list, type_tree}
 use Rattle.msvc_rules.specs.State.{State}
@@ -16,10 +16,12 @@ use Rattle.msvc_grammar.specs.Reading.{read as crate_read}
 use Rattle.msvc_grammar.specs.declared.forms.Ellipsis.{Ellipsis}
 use Rattle.msvc_grammar.specs.declared.forms.Ellipsis.TheVariants.{Absent, Present}
 use Rattle.msvc_full_grammar.specs.Forms.{function_of}
-use Rattle.msvc_full_grammar.specs.Grammar.{grammar, no_type, own_of_class}
+use Rattle.msvc_full_grammar.specs.Grammar.{grammar}
+use Rattle.msvc_full_grammar.specs.Fragments.{no_type, own_of_class}
 use Rattle.msvc_full_grammar.specs.Letters.{at_sign, conventions, digits, noexcept, qualifiers}
-use Rattle.msvc_full_grammar.specs.Productions.{Production, encoding_after, function_parameters, function_type}
-use Rattle.msvc_full_grammar.specs.Productions.{own_qualifiers, parameter, parameters, result_type, returned, signature, type_}
+use Rattle.msvc_full_grammar.specs.Productions.{encoding_after, function_parameters, function_type}
+use Rattle.msvc_full_grammar.specs.Productions.{own_qualifiers, parameter, parameters, result_type, returned, signature}
+use Rattle.msvc_full_grammar.specs.Productions.{type_}
 use Rattle.msvc_full_grammar.specs.Reading.{read_name, read}
 use Rattle.msvc_full_grammar.specs.declared.forms.OwnQualifiers.{OwnQualifiers}
 use Rattle.msvc_full_grammar.proofs.Laws.{read_name-is}

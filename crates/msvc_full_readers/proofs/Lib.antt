@@ -1,5 +1,6 @@
 pub mod AnonymousSteps
 pub mod Counts
+pub mod EncodingSteps
 pub mod EndSteps
 pub mod Founds
 pub mod FunctionSteps

@@ -1,24 +1,32 @@
 -- Step lemmas of names, scopes and templates.
-use Rattle.std.proofs.Common.{ℕ, ℤ, List, [], ◌∷◌, ◌++◌, Option, Some, None, false, ◌≡◌, refl, ap, ◌∙◌, append-nil}
-use Rattle.std.specs.Prelude.{slice_get, codes}
-use Rattle.msvc_nodes.specs.Trees.{NameTree, name_trees, names, nested, no_names, no_types, operator, plain, shaped}
+use Rattle.std.proofs.Common.{ℕ, ℤ, List, [], ◌∷◌, ◌++◌, Option, Some, None, Bool, true, false, ◌≡◌, refl, ap, ◌∙◌}
+use Rattle.std.proofs.Common.{append-nil, cond, not, true≢false}
+use Rattle.std.specs.Prelude.{slice_get, codes, is_some}
+use Rattle.msvc_nodes.specs.Trees.{NameTree, SymbolTree, name_trees, names, nested, no_names, no_types, operator, plain}
+use Rattle.msvc_nodes.specs.Trees.{shaped}
 use Rattle.msvc_nodes.specs.Trees.{base_class_descriptor, template, type_trees}
 use Rattle.msvc_nodes.specs.declared.kinds.PlainOperator.{PlainOperator}
 use Rattle.msvc_nodes.specs.declared.kinds.PlainType.TheVariants as plain_kind
-use Rattle.msvc_rules.specs.Readers.{Found, and_then, counting, in_node, letter_here, name_known, put_apart, read_by}
+use Rattle.msvc_rules.specs.Readers.{Found, after_literal, and_then, counting, in_node, letter_here, name_known}
+use Rattle.msvc_rules.specs.Readers.{only_if, or_else, put_apart, read_by}
 use Rattle.msvc_rules.specs.Reads.{emptied}
-use Rattle.msvc_rules.specs.Rules.{Rule, after, call, give, known_name, literal, literal_or, ◌>>=◌}
+use Rattle.msvc_rules.specs.Rules.{Rule, after, begins, call, give, here, known_name, literal, literal_or, none_of}
+use Rattle.msvc_rules.specs.Rules.{◌>>=◌}
+use Rattle.msvc_rules.specs.Rules.{◌or◌}
 use Rattle.msvc_rules.specs.Sorts.{list, name_tree}
-use Rattle.msvc_rules.specs.State.{State, remember_name}
+use Rattle.msvc_rules.specs.State.{State, counted, is_allowed, more, remember_name}
 use Rattle.msvc_grammar.specs.Reading.{read as crate_read}
-use Rattle.msvc_full_grammar.specs.Grammar.{anonymous_namespace, grammar, nested_symbol, new_source_name, new_template}
-use Rattle.msvc_full_grammar.specs.Grammar.{template_inside}
+use Rattle.msvc_full_grammar.specs.Grammar.{grammar}
+use Rattle.msvc_full_grammar.specs.Fragments.{anonymous_namespace, nested_symbol, new_source_name, new_template}
+use Rattle.msvc_full_grammar.specs.Fragments.{interface_name, name_alone, template_inside}
 use Rattle.msvc_full_grammar.specs.Letters.{digits}
-use Rattle.msvc_full_grammar.specs.Productions.{Production, arguments, class_symbol, count, name_row, nested_name}
+use Rattle.msvc_full_grammar.specs.Productions.{Production, class_symbol, count, listed, marked_scope, name_row}
+use Rattle.msvc_full_grammar.specs.Productions.{nested_name}
 use Rattle.msvc_full_grammar.specs.Productions.{operator_after, operator_name, scope, symbol, symbol_name}
 use Rattle.msvc_full_grammar.specs.Productions.{small_number, targets, template_name, type_name, type_symbol}
 use Rattle.msvc_full_grammar.specs.Reading.{read_name, read}
-use Rattle.msvc_full_grammar.specs.Rows.{frame_row, literal_operator_row}
+use Rattle.msvc_full_grammar.specs.Rows.{frame_row, interface_row, literal_operator_row}
+use Rattle.msvc_full_grammar.specs.declared.forms.Listed.TheVariants as kinds
 use Rattle.msvc_full_grammar.specs.declared.forms.NameRow.{NameRow}
 use Rattle.msvc_full_grammar.specs.declared.forms.NameRow.TheVariants.{Frame, LiteralOperator}
 use Rattle.msvc_full_grammar.specs.declared.forms.OperatorForm.TheVariants as operators
@@ -26,7 +34,7 @@ use Rattle.msvc_full_grammar.proofs.Laws.{read_name-is}
 use Rattle.msvc_cursor.proofs.Choices.{choose, chosen}
 use Rattle.msvc_cursor.proofs.RowSteps.{front_none, row_by, row_ends, row_more, row_rejected, scope_stop, with_front}
 use Rattle.msvc_full_letters.proofs.Choices.{letter_or-is, literal_or-is}
-use Rattle.msvc_full_readers.specs.Readings.{name_in_scope}
+use Rattle.msvc_full_readers.specs.Readings.{name_in_scope, symbol_body}
 use Rattle.msvc_full_readers.proofs.Founds.{then_then}
 
 pub symbol_name_step : (left : List ℕ) (s : State) → read_name symbol_name left s
@@ -143,7 +151,7 @@ template_name_step left s = read_name-is template_name left s
 
 pub template_inside_step : (left : List ℕ) (s : State) → read template_inside left s
     ≡ in_node left s (λ j a. and_then (read_name symbol_name j a)
-    (λ n l t. and_then (read_name arguments l t) (λ ts k u. Some (template n (type_trees ts), k, u))))
+    (λ n l t. and_then (read_name (listed kinds.Argument) l t) (λ ts k u. Some (template n (type_trees ts), k, u))))
 unfolding read read_by
 template_inside_step left s = refl
 
@@ -151,7 +159,7 @@ pub nested_name_step : (left : List ℕ) (s : State) → read_name nested_name l
     ≡ choose (letter_here digits left s) (λ i l t. name_known (slice_get t.names i) l t)
     (chosen (after (codes "?$") left) (λ rest. read new_template rest s)
     (chosen (after (codes "?A") left) (λ rest. read anonymous_namespace rest s)
-    (chosen (after (codes "?") left) (λ rest. read_name (name_row Frame) rest s) (read new_source_name left s))))
+    (chosen (after (codes "?") left) (λ rest. read_name marked_scope rest s) (read new_source_name left s))))
 unfolding grammar read read_by
 nested_name_step left s =
     read_name-is nested_name left s
@@ -161,13 +169,97 @@ nested_name_step left s =
     ∙ ap (chosen (after (codes "?$") left) (λ rest. read new_template rest s))
     (literal_or-is {a = name_tree} (codes "?A") anonymous_namespace frame_or_new left s
     ∙ ap (chosen (after (codes "?A") left) (λ rest. read anonymous_namespace rest s))
-    (literal_or-is {a = name_tree} (codes "?") (call (name_row Frame)) new_source_name left s)))
+    (literal_or-is {a = name_tree} (codes "?") (call marked_scope) new_source_name left s)))
   where
     frame_or_new : Rule Production name_tree
-    frame_or_new = literal_or (codes "?") (call (name_row Frame)) new_source_name
+    frame_or_new = literal_or (codes "?") (call marked_scope) new_source_name
 
     anonymous_or_other : Rule Production name_tree
     anonymous_or_other = literal_or (codes "?A") anonymous_namespace frame_or_new
+
+-- no symbol is read where no ? stands
+pub symbol_rejected : (l : List ℕ) (t : State) → begins l (codes "?") ≡ false → read_name symbol l t ≡ None
+unfolding grammar read read_by
+symbol_rejected l t e = read_name-is symbol l t ∙ at (after (codes "?") l) e
+  where
+    at : (o : Option (List ℕ)) → is_some o ≡ false
+        → and_then (after_literal o t) (λ _ h v. read symbol_body h v) ≡ None
+    at None h = refl
+    at (Some rest) h = absurd (true≢false h)
+
+-- nor a node around one
+pub around_rejected : {A : Type 0} (P : List ℕ → State → Found SymbolTree) (f : SymbolTree → List ℕ → State → Found A)
+    (l : List ℕ) (t : State) → ((u : State) → P l u ≡ None) → in_node l t (λ k u. and_then (P k u) f) ≡ None
+unfolding counting
+around_rejected P f l t none = go (is_allowed (more t.count.weight t.count)) (counted t.count.weight t)
+  where
+    go : (b : Bool) (u : State) → and_then (only_if b l u) (λ _ k v. and_then (P k v) f) ≡ None
+    go true u = ap (λ o. and_then o f) (none u)
+    go false u = refl
+
+pub marked_scope_step : (left : List ℕ) (s : State) → read_name marked_scope left s
+    ≡ chosen (after (codes "Q") left) (λ rest. read interface_name rest s)
+    (cond (begins left (codes "?")) (read nested_symbol left s) (read_name (name_row Frame) left s))
+unfolding grammar read read_by
+marked_scope_step left s =
+    read_name-is marked_scope left s
+    ∙ literal_or-is {a = name_tree} (codes "Q") interface_name frame_or_symbol left s
+    ∙ ap (chosen (after (codes "Q") left) (λ rest. read interface_name rest s)) (go (begins left (codes "?")) refl)
+  where
+    frame_or_symbol : Rule Production name_tree
+    frame_or_symbol = here (none_of (codes "?" ∷ [])) (call (name_row Frame)) or nested_symbol
+
+    or_nothing : (o : Found NameTree) → or_else o None ≡ o
+    or_nothing None = refl
+    or_nothing (Some x) = refl
+
+    rejected : begins left (codes "?") ≡ false → read nested_symbol left s ≡ None
+    rejected e = around_rejected (λ k u. read_name symbol k u)
+        (λ x k u. Some (nested x.name x.scope x.symbol_type, k, u)) left s (λ u. symbol_rejected left u e)
+
+    go : (b : Bool) → begins left (codes "?") ≡ b
+        → or_else (cond (not (cond b true false)) (read_name (name_row Frame) left s) None) (read nested_symbol left s)
+        ≡ cond b (read nested_symbol left s) (read_name (name_row Frame) left s)
+    go true e = refl
+    go false e = ap (or_else (read_name (name_row Frame) left s)) (rejected e)
+        ∙ or_nothing (read_name (name_row Frame) left s)
+
+pub interface_name_step : (left : List ℕ) (s : State) → read interface_name left s
+    ≡ in_node left s (λ j a. and_then (read_name class_symbol j a)
+    (λ x l t. Some (shaped interface_row 0 [] [] (names x no_names) no_types, l, t)))
+unfolding read read_by
+interface_name_step left s = refl
+
+pub name_alone_step : (left : List ℕ) (s : State) → read name_alone left s
+    ≡ in_node left s (λ j a. and_then (read name_in_scope j a)
+    (λ x l t. in_node l t (λ k u. Some (nested x.0 (name_trees x.1) (plain plain_kind.None), k, u))))
+unfolding read read_by
+name_alone_step left s = λ i. in_node left s (λ j a. inside (read_name symbol_name j a) i)
+  where
+    pair : NameTree → List NameTree → List ℕ → State → Found (NameTree × List NameTree)
+    pair n ns k u = Some ((n, ns), k, u)
+
+    alone : NameTree × List NameTree → List ℕ → State → Found NameTree
+    alone x l t = in_node l t (λ k u. Some (nested x.0 (name_trees x.1) (plain plain_kind.None), k, u))
+
+    ended : NameTree → List NameTree → List ℕ → State → Found NameTree
+    ended n ns l t = and_then (in_node l t (λ k u. Some (plain plain_kind.None, k, u)))
+        (λ y k u. Some (nested n (name_trees ns) y, k, u))
+
+    one : (n : NameTree) (ns : List NameTree) (l : List ℕ) (t : State) → ended n ns l t ≡ alone (n, ns) l t
+    one n ns l t = then_then (counting t.count.weight l t) (λ _ k u. Some (plain plain_kind.None, k, u))
+        (λ y k u. Some (nested n (name_trees ns) y, k, u))
+
+    scoped : (n : NameTree) (p : Found (List NameTree))
+        → and_then p (λ ns l t. ended n ns l t) ≡ and_then (and_then p (pair n)) alone
+    scoped n None = refl
+    scoped n (Some y) = one n y.0 y.1 y.2
+
+    inside : (o : Found NameTree)
+        → and_then o (λ n l t. and_then (read_name scope l t) (λ ns k u. ended n ns k u))
+        ≡ and_then (and_then o (λ n l t. and_then (read_name scope l t) (pair n))) alone
+    inside None = refl
+    inside (Some x) = scoped x.0 (read_name scope x.1 x.2)
 
 -- names up to an @, of a scope, and the classes that a table is for
 
@@ -261,6 +353,9 @@ pub ruleset steps = (
   template_name_step,
   template_inside_step,
   nested_name_step,
+  marked_scope_step,
+  interface_name_step,
+  name_alone_step,
   scope_starts,
   scope_ends,
   scope_rejected,

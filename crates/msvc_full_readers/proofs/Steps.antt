@@ -3,6 +3,7 @@ use Rattle.msvc_cursor.proofs.Choices.{letter_step}
 use Rattle.msvc_cursor.proofs.Nodes.{map_last, views}
 use Rattle.msvc_full_letters.proofs.TextSteps as texts
 use Rattle.msvc_full_readers.proofs.AnonymousSteps as anonymous
+use Rattle.msvc_full_readers.proofs.EncodingSteps as encodings
 use Rattle.msvc_full_readers.proofs.EndSteps as ends
 use Rattle.msvc_full_readers.proofs.FunctionSteps as functions
 use Rattle.msvc_full_readers.proofs.NameSteps as names
@@ -19,5 +20,6 @@ pub ruleset steps = (
   functions.steps,
   names.steps,
   symbols.steps,
+  encodings.steps,
   types.steps,
 )

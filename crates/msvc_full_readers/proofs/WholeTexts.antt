@@ -4,11 +4,10 @@ use Rattle.std.proofs.Common.{refl}
 use Rattle.std.specs.Prelude.{codes, IfErr, IfOk, length}
 use Rattle.std.specs.Str.{IsUtf8}
 use Rattle.msvc_nodes.specs.Trees.{SymbolTree}
-use Rattle.msvc_rules.specs.Rejections.{begins_with}
 use Rattle.msvc_rules.specs.Rules.{after}
 use Rattle.msvc_rules.specs.State.{Note, beginning_with}
 use Rattle.msvc_rules.proofs.Soundness.{after-is}
-use Rattle.msvc_full_grammar.specs.Parsed.{full_dialect}
+use Rattle.msvc_full_grammar.specs.Parsed.{BeginsSymbol, a_symbol, a_type_name, full_dialect}
 use Rattle.msvc_full_grammar.specs.Productions.{whole_text}
 use Rattle.msvc_full_grammar.specs.Reading.{read_name}
 use Rattle.msvc_full_grammar.proofs.Dialects.{full_lawful}
@@ -34,21 +33,24 @@ pub result-read : {A : Type 0} (nodes : Option ℕ) (text : List ℕ) (view : A 
 unfolding read_name
 result-read nodes text view result utf8 is = whole.result-read full_lawful nodes text view result utf8 is
 
--- where no question mark stands, a reader fails at once
+-- where neither a full stop nor a question mark stands, a reader fails at once
 at-once : {A : Type 0} (text : List ℕ) (result : Result A Failure)
-    → (after (codes "?") text ≡ None → result ≡ Err (failure.Rejected message.NoQuestionMark (length text)))
-    → (begins_with (codes "?") text → ⊥) → result ≡ Err (failure.Rejected message.NoQuestionMark (length text))
-at-once text result start never = go (after (codes "?") text) refl
+    → (after (codes ".") text ≡ None → after (codes "?") text ≡ None
+    → result ≡ Err (failure.Rejected message.NoQuestionMark (length text)))
+    → (BeginsSymbol text → ⊥) → result ≡ Err (failure.Rejected message.NoQuestionMark (length text))
+at-once text result start never = go (after (codes ".") text) refl (after (codes "?") text) refl
   where
-    go : (o : Option (List ℕ)) → after (codes "?") text ≡ o
+    go : (o : Option (List ℕ)) → after (codes ".") text ≡ o → (p : Option (List ℕ)) → after (codes "?") text ≡ p
         → result ≡ Err (failure.Rejected message.NoQuestionMark (length text))
-    go None k = start k
-    go (Some rest) k = absurd (never (rest, after-is (codes "?") text rest k))
+    go None k None h = start k h
+    go None k (Some rest) h = absurd (never (a_symbol (rest, after-is (codes "?") text rest h)))
+    go (Some rest) k p h = absurd (never (a_type_name (rest, after-is (codes ".") text rest k)))
 
 -- seen as the result of a reader that fails
 pub result-fails : {A : Type 0} (nodes : Option ℕ) (text : List ℕ) (view : A → SymbolTree × ℕ × List Note)
     (result : Result A Failure) → IsRead view result (symbol_under nodes text)
-    → (after (codes "?") text ≡ None → result ≡ Err (failure.Rejected message.NoQuestionMark (length text)))
+    → (after (codes ".") text ≡ None → after (codes "?") text ≡ None
+    → result ≡ Err (failure.Rejected message.NoQuestionMark (length text)))
     → (nodes ≡ None → IfErr result (λ reason. limit_of_failure reason ≡ None))
     → IfErr result (λ reason. FailsIn full_dialect nodes text reason)
 unfolding read_name

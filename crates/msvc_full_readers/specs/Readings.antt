@@ -1,30 +1,41 @@
 -- Parts of productions that readers read by themselves.
-use Rattle.std.specs.Prelude.{ℕ, List, [], ◌∷◌, Option, Some, None, Bool, bit_or, codes, ◌==◌, if◌then◌else◌}
+use Rattle.std.specs.Prelude.{ℕ, List, [], ◌∷◌, Option, Some, None, Bool, true, false, bit_or, codes, ◌==◌}
+use Rattle.std.specs.Prelude.{if◌then◌else◌}
 use Rattle.std.specs.Borrow.{Bor}
 use Rattle.std.specs.Prelude.{map}
 use Prim.Native.Char.{code}
-use Rattle.msvc_nodes.specs.NodeView.{type_at}
+use Rattle.msvc_nodes.specs.NodeView.{name_at, type_at}
 use Rattle.msvc_nodes.specs.Trees.{NameTree, TypeTree, anonymous, name_trees, names, no_names, no_types}
-use Rattle.msvc_nodes.specs.Trees.{SymbolTree, pointing, shape, shaped, tagged, types, variable}
+use Rattle.msvc_nodes.specs.Trees.{SymbolTree, base, nested, pointing, shape, shaped, spelled, tagged, types, variable}
 use Rattle.msvc_nodes.specs.declared.kinds.VarStorageKind.TheVariants as storage_kind
 use Rattle.msvc_nodes.specs.declared.nodes.Function.{Function}
 use Rattle.msvc_nodes.specs.declared.nodes.Number.{Number}
 use Rattle.msvc_nodes.specs.declared.kinds.Convention.{Convention}
 use Rattle.msvc_nodes.specs.declared.kinds.PointerAffinity.{PointerAffinity}
 use Rattle.msvc_nodes.specs.declared.kinds.TagKind.{TagKind}
-use Rattle.msvc_rules.specs.Rules.{Rule, call, give, letter, literal, literal_or, node, some_of, ◌>>=◌, ◌>>◌, ◌or◌}
+use Rattle.msvc_rules.specs.Rules.{Rule, call, give, letter, letter_or, literal, literal_or, node, some_of, text_or}
+use Rattle.msvc_rules.specs.Rules.{◌>>=◌, ◌>>◌}
+use Rattle.msvc_rules.specs.Rules.{◌or◌}
 use Rattle.msvc_rules.specs.Sorts.{bits, both, list, name_tree, symbol_tree, type_tree}
 use Rattle.msvc_rules.specs.Sorts as sort
 use Rattle.msvc_rules.specs.Readers.{Found}
 use Rattle.msvc_rules.specs.State.{State, remember_name}
-use Rattle.msvc_full_grammar.specs.Forms.{TypeForm}
+use Rattle.msvc_full_grammar.specs.Forms.{TypeForm, VariableEnd, of_pointer, of_value}
 use Rattle.msvc_full_grammar.specs.declared.forms.OwnQualifiers.TheVariants.{Absent as absent, Present as present}
-use Rattle.msvc_full_grammar.specs.Letters.{at_sign, base_types, capitals, noexcept, qualifiers}
-use Rattle.msvc_full_grammar.specs.Productions.{Production, anonymous_digits, class_symbol, dimensions}
-use Rattle.msvc_full_grammar.specs.Productions.{function_type, lengths, marked_symbol, named_symbol, scope, symbol_name, template_symbol, type_, type_after, type_symbol}
+use Rattle.msvc_full_grammar.specs.Letters.{at_sign, base_types, capitals, funclet_texts, managed_rows, noexcept}
+use Rattle.msvc_full_grammar.specs.Letters.{qualifiers}
+use Rattle.msvc_full_grammar.specs.Productions.{Production, anonymous_digits, class_symbol, dimensions, funclet}
+use Rattle.msvc_full_grammar.specs.Productions.{funclet_or_symbol, source_name, symbol, whole_hash}
+use Rattle.msvc_full_grammar.specs.Productions.{function_type, lengths, marked_symbol, named_symbol, scope, symbol_name}
+use Rattle.msvc_full_grammar.specs.Productions.{template_symbol, type_, type_after, type_symbol}
 use Rattle.msvc_full_grammar.specs.Reading.{read_name}
 use Rattle.msvc_full_letters.proofs.TextSteps.{base_by}
-use Rattle.msvc_full_grammar.specs.Rows.{arrays_row, member_pointer_row, type_descriptor_row}
+use Rattle.msvc_full_grammar.specs.Rows.{arrays_row, block_row, member_pointer_row}
+use Rattle.msvc_full_grammar.specs.declared.forms.Stub.{Stub}
+use Rattle.msvc_full_grammar.specs.Fragments.{made_name, managed_array, managed_type, no_type, pointer_rows, stub_row}
+use Rattle.msvc_full_readers.specs.declared.store.FuncletHome.{FuncletHome}
+use Rattle.msvc_nodes.specs.declared.kinds.PrimitiveKind.TheVariants as base_kind
+use Rattle.msvc_nodes.specs.declared.kinds.Spelling.TheVariants as spelling_kind
 use Rattle.msvc_grammar.specs.declared.forms.Ellipsis.{Ellipsis}
 use Rattle.msvc_grammar.specs.declared.forms.Ellipsis.TheVariants as ellipsis
 
@@ -45,10 +56,75 @@ symbol_body =
 abbrev pub guard_marker : Rule Production sort.nothing
 guard_marker = literal (codes "4IA") or literal (codes "5")
 
--- the descriptor of a type
-abbrev pub descriptor_of : TypeTree → SymbolTree
-descriptor_of t = record {
-  name = shaped type_descriptor_row 0 [] [] no_names no_types;
+-- a text that begins with a ?
+abbrev pub marked_text : Rule Production symbol_tree
+marked_text =
+    text_or funclet_texts (λ row. call (funclet row)) (literal_or (codes "??@") (call whole_hash) (call symbol))
+
+-- the function of C that a funclet is a part of
+abbrev pub c_function_name : Rule Production name_tree
+c_function_name = node (do
+  x ← call source_name
+  n ← made_name (spelled spelling_kind.Source x)
+  t ← no_type
+  literal (codes "4HA")
+  give (nested n no_names t))
+
+-- the function that a funclet is a part of, in other cases
+abbrev pub whole_function_name : Rule Production name_tree
+whole_function_name = node (do
+  s ← call funclet_or_symbol
+  literal (codes "@4HA")
+  give (nested s.name s.scope s.symbol_type))
+
+-- what a funclet has beside its name
+abbrev pub home_at : FuncletHome → NameTree × TypeTree
+home_at h = (name_at h.scope, type_at h.symbol_type)
+
+-- a funclet, by the rest of its name
+abbrev pub funclet_of : ℕ → List ℕ → NameTree × TypeTree → SymbolTree
+funclet_of row label home = record {
+  name = shaped row 0 [] label no_names no_types;
+  scope = names home.0 no_names;
+  symbol_type = home.1;
+}
+
+-- the type of a funclet that is written as a static variable
+abbrev pub funclet_variable : TypeTree
+funclet_variable = variable (base base_kind.Int 0) storage_kind.FunctionLocalStatic 0
+
+-- what stands after a variable whose type is a shape but no pointer to a member, by its row
+abbrev pub end_of_other : ℕ → VariableEnd
+end_of_other row = if some_of (λ r. row == r) pointer_rows then of_pointer else of_value
+
+-- the name of a stub
+abbrev pub stub_name_of : Stub → SymbolTree → NameTree
+stub_name_of stub s =
+    shaped (stub_row stub s.symbol_type) 0 [] [] (names (nested s.name s.scope s.symbol_type) no_names) no_types
+
+-- the text behind the variable of a stub
+abbrev pub end_of_stub : (required : Bool) → List ℕ
+end_of_stub true = codes "@@"
+end_of_stub false = codes "@"
+
+-- an array of managed code, behind its $
+abbrev pub numbered_managed : ℕ → Rule Production type_tree
+numbered_managed q = literal (codes "0") >> managed_array q
+
+-- what a pointer or a reference of managed code refers to, behind its $
+abbrev pub managed : ℕ → ℕ → Rule Production type_tree
+managed own_row q = letter_or (managed_rows own_row) (λ row. managed_type row q) (numbered_managed q)
+
+-- the function that a pointer to a block refers to
+abbrev pub block : ℕ → Rule Production type_tree
+block q = do
+  f ← call (function_type absent)
+  give (shape block_row q [] [] no_names (types f no_types))
+
+-- the descriptor or the name of a type, by its row
+abbrev pub descriptor_of : ℕ → TypeTree → SymbolTree
+descriptor_of row t = record {
+  name = shaped row 0 [] [] no_names no_types;
   scope = no_names;
   symbol_type = variable t storage_kind.Global 0;
 }
@@ -76,13 +152,6 @@ abbrev pub pointed_function : PointerAffinity → ℕ → Rule Production type_t
 pointed_function mark q = do
   f ← call (function_type absent)
   give (pointing mark f q)
-
--- what any other pointer or reference holds
-abbrev pub pointed_type : PointerAffinity → ℕ → Rule Production type_tree
-pointed_type mark q = do
-  s ← letter bits qualifiers
-  t ← call (type_ s)
-  give (pointing mark t q)
 
 -- a pointer to a member of this class and this type
 abbrev pub member_pointer : NameTree → TypeTree → ℕ → TypeTree
@@ -146,10 +215,6 @@ parameters_stop [] = None
 parameters_stop (b ∷ bs) =
     if b == at_sign then Some (ellipsis.Absent, bs)
     else (if b == ellipsis_letter then Some (ellipsis.Present, bs) else None)
-
--- whether a label is next, after its ?
-abbrev pub label_endings : List (List ℕ)
-label_endings = codes "catch$" ∷ codes "dtor$" ∷ codes "filt$" ∷ codes "fin$" ∷ []
 
 -- the state after the name of a template, which is memorized where the text of a variable is found
 abbrev pub entered : {A : Type 0} → Option A → NameTree → State → State

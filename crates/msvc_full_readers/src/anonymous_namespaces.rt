@@ -4,7 +4,7 @@ ghost use Rattle.std.specs.Prelude.{◌≡◌, ◌<◌, ◌++◌, codes, IfOk, S
 ghost use Rattle.std.specs.Prelude.{string_bytes};
 ghost use Rattle.msvc_nodes.specs.NodeView.{name_at};
 ghost use Rattle.msvc_rules.specs.Readers.{and_then, letter_here};
-ghost use Rattle.msvc_full_grammar.specs.Grammar.{anonymous_namespace, has_capital};
+ghost use Rattle.msvc_full_grammar.specs.Fragments.{anonymous_namespace, has_capital};
 ghost use Rattle.msvc_full_grammar.specs.Letters.{hexadecimal_codes};
 ghost use Rattle.msvc_full_grammar.specs.Productions as production;
 ghost use Rattle.msvc_full_grammar.specs.Reading.{read, read_name};

@@ -1,67 +1,89 @@
 //! Arguments of templates.
 
-ghost use Rattle.std.specs.Prelude.{◌≡◌, ◌<◌, codes, IfOk, length, map, None};
-ghost use Rattle.msvc_nodes.specs.NodeView.{type_at};
+ghost use Rattle.std.specs.Prelude.{◌≡◌, ◌<◌, [], codes, IfOk, length, map, None, Some};
+ghost use Rattle.msvc_nodes.specs.NodeView.{name_at, type_at};
+ghost use Rattle.msvc_nodes.specs.Trees.{no_names, no_types, shape};
+ghost use Rattle.msvc_rules.specs.Readers.{in_node};
 ghost use Rattle.msvc_rules.specs.Rules.{begins};
 ghost use Rattle.msvc_full_grammar.specs.Productions as production;
-ghost use Rattle.msvc_full_grammar.specs.Reading.{read_name};
+ghost use Rattle.msvc_full_grammar.specs.Fragments.{values_of};
+ghost use Rattle.msvc_full_grammar.specs.Reading.{read, read_name};
+ghost use Rattle.msvc_full_grammar.specs.Rows.{absent_row};
 ghost use Rattle.msvc_full_grammar.specs.declared.forms.ArgumentForm.TheVariants as argument_forms;
-ghost use Rattle.msvc_full_grammar.specs.declared.forms.ValueForm.TheVariants as values;
-ghost use Rattle.msvc_cursor.specs.Parser.{Consumes, MayConsume, ReadsAs};
+ghost use Rattle.msvc_full_grammar.specs.declared.forms.ValueForm.TheVariants as value_forms;
+ghost use Rattle.msvc_cursor.specs.Parser.{Consumes, MayConsume, ReadsAs, Stays};
 ghost use Rattle.msvc_cursor.specs.Rows.{ListsTypes};
 ghost use Rattle.msvc_cursor.specs.NestedList.{current};
 
-use crate::names::nested_symbol;
-use crate::store::{put_named_type, put_numbers_type, put_symbol_offsets, put_typed};
+use crate::names::{nested_symbol, type_name};
+use crate::store::{
+    put_empty_type, put_named_outer, put_named_type, put_number_type, put_numbered_outer,
+    put_numbers_type, put_outer_type, put_pair, put_symbol_offsets, put_union_value, put_values,
+};
 use crate::types::{tagged_type, type_, type_row};
 use bitflags::Flags;
 use msvc_cursor::budget::NodeBudget;
 use msvc_cursor::failure::{Failed, Message};
 use msvc_cursor::nested_list::Checkpoint;
 use msvc_cursor::parser::Parser;
-use msvc_full_grammar::forms::{ArgumentForm, ValueForm};
+use msvc_full_grammar::forms::{ArgumentForm, Listed, ValueForm};
+use msvc_full_letters::numbers::{count, number, plain};
 use msvc_full_letters::offsets::numbers;
-use msvc_full_letters::texts::{argument_form, value_form};
+use msvc_full_letters::texts::{argument_form, member_form, value_form};
 use msvc_nodes::flags::StorageClass;
 use msvc_nodes::kinds::{PlainType, TagKind};
 use msvc_nodes::nodes::Type;
 use msvc_shapes::rows;
 use std::alloc::Allocator;
 
-/// Reads `ARGUMENTS = {ARGUMENT} "@"`. The arguments are on a new part of the parser's list of types, and the result
-/// ends that part.
+/// Reads `LISTED = {ONE_LISTED} "@"`: arguments of a template, members of a class or elements of an array. They are on
+/// a new part of the parser's list of types, and the result ends that part.
 #[cycle(readers)]
-pub fn arguments<'a, 'b, L: NodeBudget, A: Allocator>(
+#[inline(always)]
+pub fn listed<'a, 'b, L: NodeBudget, A: Allocator>(
     parser: &mut Parser<'a, 'b, L, A>,
+    kind: Listed,
 ) -> Result<Checkpoint, Failed>
     ensures value { ReadsAs (λ _. map type_at (current parser.new.listed_types)) parser.old parser.new result
-        (read_name production.arguments) }
+        (read_name (production.listed kind)) }
     ensures shorter { IfOk result (λ _. length parser.new.rest.now < length parser.old.rest.now) }
     ensures lists { ListsTypes parser.old parser.new result }
 {
     let checkpoint = parser.listed_types.begin();
-    'arguments: loop {
+    'listed: loop {
         if parser.consume(b"@") {
             return Ok(checkpoint);
         }
-        let argument = argument(parser)?;
-        parser.list_type(argument)?;
+        let one = one_listed(parser, kind)?;
+        parser.list_type(one)?;
     }
 }
 
-/// Reads `ARGUMENT = text of arguments ARGUMENT_AFTER | TYPE`.
+/// Reads `ONE_LISTED = text of arguments ARGUMENT_AFTER | TYPE | MEMBER | TEMPLATE_VALUE "@"`.
 #[cycle(readers)]
-fn argument<'a, 'b, L: NodeBudget, A: Allocator>(
+#[inline(always)]
+fn one_listed<'a, 'b, L: NodeBudget, A: Allocator>(
     parser: &mut Parser<'a, 'b, L, A>,
+    kind: Listed,
 ) -> Result<&'b Type<'a, 'b>, Failed>
-    ensures value { ReadsAs type_at parser.old parser.new result (read_name production.argument) }
+    ensures value { ReadsAs type_at parser.old parser.new result (read_name (production.one_listed kind)) }
     ensures consumes { Consumes parser.old parser.new result }
 {
-    if let Some((form, rest)) = argument_form(parser.rest) {
-        parser.rest = rest;
-        return argument_after(parser, form);
+    match kind {
+        Listed::Argument => {
+            if let Some((form, rest)) = argument_form(parser.rest) {
+                parser.rest = rest;
+                return argument_after(parser, form);
+            }
+            type_(parser, StorageClass::empty())
+        }
+        Listed::Member => member(parser),
+        Listed::Element => {
+            let value = template_value(parser)?;
+            parser.expect(b"@", Message::AtExpected)?;
+            Ok(value)
+        }
     }
-    type_(parser, StorageClass::empty())
 }
 
 /// Reads what follows the text of an argument.
@@ -88,19 +110,20 @@ fn argument_after<'a, 'b, L: NodeBudget, A: Allocator>(
 fn typed_value<'a, 'b, L: NodeBudget, A: Allocator>(
     parser: &mut Parser<'a, 'b, L, A>,
 ) -> Result<&'b Type<'a, 'b>, Failed>
-    ensures value { ReadsAs type_at parser.old parser.new result (read_name (production.argument_after argument_forms.Typed)) }
+    ensures value { ReadsAs type_at parser.old parser.new result
+        (read_name (production.argument_after argument_forms.Typed)) }
     ensures consumes { Consumes parser.old parser.new result }
 {
     parser.count_node()?;
     let value_type = type_(parser, StorageClass::empty())?;
     let value = template_value(parser)?;
-    put_typed(parser, value, value_type)
+    put_pair(parser, rows::TYPED, value, value_type)
 }
 
 /// Reads `TEMPLATE_VALUE = text of values VALUE_AFTER`.
 #[cycle(readers)]
 #[inline(never)]
-fn template_value<'a, 'b, L: NodeBudget, A: Allocator>(
+pub fn template_value<'a, 'b, L: NodeBudget, A: Allocator>(
     parser: &mut Parser<'a, 'b, L, A>,
 ) -> Result<&'b Type<'a, 'b>, Failed>
     ensures value { ReadsAs type_at parser.old parser.new result (read_name production.template_value) }
@@ -140,7 +163,213 @@ fn value_after<'a, 'b, L: NodeBudget, A: Allocator>(
         ValueForm::Symbol(row) => symbol_value(parser, row),
         ValueForm::Offsets(count) => offsets(parser, count),
         ValueForm::MemberOffsets(count) => member_offsets(parser, count),
+        ValueForm::Bits(row) => bits(parser, row),
+        ValueForm::Word(row) => value_word(parser, row),
+        ValueForm::Aggregate => aggregate(parser),
+        ValueForm::Elements => elements(parser),
+        ValueForm::Subobject => subobject(parser),
+        ValueForm::Member => member_of_value(parser),
+        ValueForm::Element => element_of_value(parser),
+        ValueForm::Union => union_value(parser),
     }
+}
+
+/// Reads `MEMBER = text of members VALUE_AFTER | TYPE MEMBER_VALUE`.
+#[cycle(readers)]
+#[inline(never)]
+fn member<'a, 'b, L: NodeBudget, A: Allocator>(
+    parser: &mut Parser<'a, 'b, L, A>,
+) -> Result<&'b Type<'a, 'b>, Failed>
+    ensures value { ReadsAs type_at parser.old parser.new result (read_name production.member) }
+    ensures consumes { Consumes parser.old parser.new result }
+{
+    if let Some((form, rest)) = member_form(parser.rest) {
+        parser.rest = rest;
+        return value_after(parser, form);
+    }
+    parser.count_node()?;
+    let value_type = type_(parser, StorageClass::empty())?;
+    let value = member_value(parser)?;
+    put_pair(parser, rows::TYPED, value, value_type)
+}
+
+/// Reads `MEMBER_VALUE = "@" | TEMPLATE_VALUE`.
+#[cycle(readers)]
+fn member_value<'a, 'b, L: NodeBudget, A: Allocator>(
+    parser: &mut Parser<'a, 'b, L, A>,
+) -> Result<&'b Type<'a, 'b>, Failed>
+    ensures value { ReadsAs type_at parser.old parser.new result (read_name production.member_value) }
+    ensures consumes { Consumes parser.old parser.new result }
+{
+    if parser.consume(b"@") {
+        return absent(parser);
+    }
+    template_value(parser)
+}
+
+/// Stores that a member has no value.
+fn absent<'a, 'b, L: NodeBudget, A: Allocator>(
+    parser: &mut Parser<'a, 'b, L, A>,
+) -> Result<&'b Type<'a, 'b>, Failed>
+    ensures value { ReadsAs type_at parser.old parser.new result
+        (λ left s. in_node left s (λ l t. Some (shape absent_row 0 [] [] no_names no_types, l, t))) }
+    ensures stays { Stays parser.old parser.new result }
+{
+    parser.count_node()?;
+    put_empty_type(parser, rows::ABSENT, StorageClass::empty())
+}
+
+/// Reads the values of members or elements, in braces.
+#[cycle(readers)]
+fn values<'a, 'b, L: NodeBudget, A: Allocator>(
+    parser: &mut Parser<'a, 'b, L, A>,
+    kind: Listed,
+) -> Result<&'b Type<'a, 'b>, Failed>
+    ensures value { ReadsAs type_at parser.old parser.new result (read (values_of kind)) }
+    ensures consumes { Consumes parser.old parser.new result }
+{
+    parser.count_node()?;
+    let checkpoint = listed(parser, kind)?;
+    put_values(parser, checkpoint)
+}
+
+/// Reads a class and the values of its members.
+#[cycle(readers)]
+#[inline(never)]
+fn aggregate<'a, 'b, L: NodeBudget, A: Allocator>(
+    parser: &mut Parser<'a, 'b, L, A>,
+) -> Result<&'b Type<'a, 'b>, Failed>
+    ensures value { ReadsAs type_at parser.old parser.new result
+        (read_name (production.value_after value_forms.Aggregate)) }
+    ensures consumes { Consumes parser.old parser.new result }
+{
+    parser.count_node()?;
+    let class = type_(parser, StorageClass::empty())?;
+    let members = values(parser, Listed::Member)?;
+    put_pair(parser, rows::AGGREGATE, class, members)
+}
+
+/// Reads the type of the elements of an array and their values.
+#[cycle(readers)]
+#[inline(never)]
+fn elements<'a, 'b, L: NodeBudget, A: Allocator>(
+    parser: &mut Parser<'a, 'b, L, A>,
+) -> Result<&'b Type<'a, 'b>, Failed>
+    ensures value { ReadsAs type_at parser.old parser.new result
+        (read_name (production.value_after value_forms.Elements)) }
+    ensures consumes { Consumes parser.old parser.new result }
+{
+    parser.count_node()?;
+    let of_elements = type_(parser, StorageClass::empty())?;
+    let elements = values(parser, Listed::Element)?;
+    put_pair(parser, rows::TYPED, elements, of_elements)
+}
+
+/// Reads `TEMPLATE_VALUE "@"`: a part of another value.
+#[cycle(readers)]
+#[inline(never)]
+fn subobject<'a, 'b, L: NodeBudget, A: Allocator>(
+    parser: &mut Parser<'a, 'b, L, A>,
+) -> Result<&'b Type<'a, 'b>, Failed>
+    ensures value { ReadsAs type_at parser.old parser.new result
+        (read_name (production.value_after value_forms.Subobject)) }
+    ensures consumes { Consumes parser.old parser.new result }
+{
+    parser.count_node()?;
+    let value = template_value(parser)?;
+    parser.expect(b"@", Message::AtExpected)?;
+    put_outer_type(parser, rows::SUBOBJECT, &[], value, StorageClass::empty())
+}
+
+/// Reads `TEMPLATE_VALUE TYPE_NAME "@"`: a member of a value.
+#[cycle(readers)]
+#[inline(never)]
+fn member_of_value<'a, 'b, L: NodeBudget, A: Allocator>(
+    parser: &mut Parser<'a, 'b, L, A>,
+) -> Result<&'b Type<'a, 'b>, Failed>
+    ensures value { ReadsAs type_at parser.old parser.new result
+        (read_name (production.value_after value_forms.Member)) }
+    ensures consumes { Consumes parser.old parser.new result }
+{
+    parser.count_node()?;
+    let value = template_value(parser)?;
+    let name = type_name(parser)?;
+    parser.expect(b"@", Message::AtExpected)?;
+    put_named_outer(parser, rows::MEMBER, name, value, StorageClass::empty())
+}
+
+/// Reads `TEMPLATE_VALUE "0" NUMBER "@"`: an element of a value.
+#[cycle(readers)]
+#[inline(never)]
+fn element_of_value<'a, 'b, L: NodeBudget, A: Allocator>(
+    parser: &mut Parser<'a, 'b, L, A>,
+) -> Result<&'b Type<'a, 'b>, Failed>
+    ensures value { ReadsAs type_at parser.old parser.new result
+        (read_name (production.value_after value_forms.Element)) }
+    ensures consumes { Consumes parser.old parser.new result }
+{
+    parser.count_node()?;
+    let value = template_value(parser)?;
+    parser.expect(b"0", Message::ZeroExpected)?;
+    let place = number(parser)?;
+    parser.expect(b"@", Message::AtExpected)?;
+    put_numbered_outer(parser, rows::ELEMENT, place, value, StorageClass::empty())
+}
+
+/// Reads the type of a union, and the name and the value of its member, if it has one.
+#[cycle(readers)]
+#[inline(never)]
+fn union_value<'a, 'b, L: NodeBudget, A: Allocator>(
+    parser: &mut Parser<'a, 'b, L, A>,
+) -> Result<&'b Type<'a, 'b>, Failed>
+    ensures value { ReadsAs type_at parser.old parser.new result
+        (read_name (production.value_after value_forms.Union)) }
+    ensures consumes { Consumes parser.old parser.new result }
+{
+    parser.count_node()?;
+    let union_type = type_(parser, StorageClass::empty())?;
+    if parser.consume(b"@") {
+        return put_outer_type(
+            parser,
+            rows::EMPTY_UNION,
+            &[],
+            union_type,
+            StorageClass::empty(),
+        );
+    }
+    let name = type_name(parser)?;
+    let value = template_value(parser)?;
+    parser.expect(b"@", Message::AtExpected)?;
+    put_union_value(parser, name, union_type, value)
+}
+
+/// Reads the bits of a number, of the type that the row says.
+#[inline(never)]
+fn bits<'a, 'b, L: NodeBudget, A: Allocator>(
+    parser: &mut Parser<'a, 'b, L, A>,
+    row: u8,
+) -> Result<&'b Type<'a, 'b>, Failed>
+    ensures value { ReadsAs type_at parser.old parser.new result
+        (read_name (production.value_after (value_forms.Bits row))) }
+    ensures consumes { Consumes parser.old parser.new result }
+{
+    parser.count_node()?;
+    let value = count(parser)?;
+    put_number_type(parser, row, StorageClass::empty(), plain(value))
+}
+
+/// Stores a value that has nothing in it, by its row.
+#[inline(never)]
+fn value_word<'a, 'b, L: NodeBudget, A: Allocator>(
+    parser: &mut Parser<'a, 'b, L, A>,
+    row: u8,
+) -> Result<&'b Type<'a, 'b>, Failed>
+    ensures value { ReadsAs type_at parser.old parser.new result
+        (read_name (production.value_after (value_forms.Word row))) }
+    ensures consumes { MayConsume parser.old parser.new result }
+{
+    parser.count_node()?;
+    put_empty_type(parser, row, StorageClass::empty())
 }
 
 /// Reads a symbol as a value.
@@ -151,7 +380,7 @@ fn symbol_value<'a, 'b, L: NodeBudget, A: Allocator>(
     row: u8,
 ) -> Result<&'b Type<'a, 'b>, Failed>
     ensures value { ReadsAs type_at parser.old parser.new result
-        (read_name (production.value_after (values.Symbol row))) }
+        (read_name (production.value_after (value_forms.Symbol row))) }
     ensures consumes { Consumes parser.old parser.new result }
 {
     parser.count_node()?;
@@ -166,7 +395,7 @@ fn offsets<'a, 'b, L: NodeBudget, A: Allocator>(
     count: u64,
 ) -> Result<&'b Type<'a, 'b>, Failed>
     ensures value { ReadsAs type_at parser.old parser.new result
-        (read_name (production.value_after (values.Offsets count))) }
+        (read_name (production.value_after (value_forms.Offsets count))) }
     ensures consumes { MayConsume parser.old parser.new result }
 {
     parser.count_node()?;
@@ -182,7 +411,7 @@ fn member_offsets<'a, 'b, L: NodeBudget, A: Allocator>(
     count: u64,
 ) -> Result<&'b Type<'a, 'b>, Failed>
     ensures value { ReadsAs type_at parser.old parser.new result
-        (read_name (production.value_after (values.MemberOffsets count))) }
+        (read_name (production.value_after (value_forms.MemberOffsets count))) }
     ensures consumes { MayConsume parser.old parser.new result }
 {
     parser.count_node()?;

@@ -2,7 +2,7 @@
 
 ghost use Rattle.std.specs.Prelude.{◌<◌, IfOk, length, map, None};
 ghost use Rattle.msvc_nodes.specs.NodeView.{name_at};
-ghost use Rattle.msvc_full_grammar.specs.Grammar.{nested_symbol, new_template, template_inside};
+ghost use Rattle.msvc_full_grammar.specs.Fragments.{nested_symbol, new_template, template_inside};
 ghost use Rattle.msvc_full_grammar.specs.Productions as production;
 ghost use Rattle.msvc_full_grammar.specs.Reading.{read, read_name};
 ghost use Rattle.msvc_full_grammar.specs.declared.forms.NameRow.TheVariants as rows_of;
@@ -12,20 +12,20 @@ ghost use Rattle.msvc_cursor.specs.Rows.{ListsNames, named_at};
 ghost use Rattle.msvc_cursor.specs.NestedList.{current};
 
 use crate::anonymous_namespaces::anonymous_namespace;
-use crate::arguments::arguments;
+use crate::arguments::listed;
 use crate::store::{
     new_operator, put_base_class, put_class, put_empty_name, put_frame, put_named_name,
 };
-use crate::symbols::symbol;
+use crate::symbols::{begins, symbol_body};
 use msvc_cursor::budget::NodeBudget;
 use msvc_cursor::failure::{Failed, Message};
 use msvc_cursor::nested_list::Checkpoint;
 use msvc_cursor::parser::Parser;
-use msvc_full_grammar::forms::{NameRow, OperatorForm};
+use msvc_full_grammar::forms::{Listed, NameRow, OperatorForm};
 use msvc_full_letters::names::new_source_name;
-use msvc_full_letters::numbers::{count, small_number};
+use msvc_full_letters::numbers::{count, plain, small_number};
 use msvc_full_letters::operators::{operator_form, unknown_operator};
-use msvc_nodes::nodes::{BaseClass, Name, Number, Symbol};
+use msvc_nodes::nodes::{BaseClass, Name, Symbol};
 use msvc_shapes::rows;
 use std::alloc::Allocator;
 
@@ -49,7 +49,7 @@ pub fn symbol_name<'a, 'b, L: NodeBudget, A: Allocator>(
     new_source_name(parser)
 }
 
-/// Reads `OPERATOR_NAME = code of operators OPERATOR_AFTER`.
+/// Reads the code of an operator, and what this code says to stand behind it.
 #[cycle(readers)]
 pub fn operator_name<'a, 'b, L: NodeBudget, A: Allocator>(
     parser: &mut Parser<'a, 'b, L, A>,
@@ -61,7 +61,13 @@ pub fn operator_name<'a, 'b, L: NodeBudget, A: Allocator>(
         return no_operator(parser);
     };
     parser.rest = rest;
-    operator_after(parser, form)
+    match form {
+        OperatorForm::Plain(kind) => new_operator(parser, kind),
+        OperatorForm::Word(row) => operator_word(parser, row),
+        OperatorForm::Row(NameRow::Frame) => frame(parser),
+        OperatorForm::Row(NameRow::LiteralOperator) => literal_operator(parser),
+        OperatorForm::BaseClass => base_class_descriptor(parser),
+    }
 }
 
 /// Records that the text continues with no code of an operator.
@@ -76,38 +82,6 @@ fn no_operator<'a, 'b, L: NodeBudget, A: Allocator>(
     Err(parser.reject_at(message, left))
 }
 
-/// Reads what follows the code of an operator.
-#[cycle(readers)]
-fn operator_after<'a, 'b, L: NodeBudget, A: Allocator>(
-    parser: &mut Parser<'a, 'b, L, A>,
-    form: OperatorForm,
-) -> Result<&'b Name<'a, 'b>, Failed>
-    ensures value { ReadsAs name_at parser.old parser.new result (read_name (production.operator_after form)) }
-    ensures consumes { MayConsume parser.old parser.new result }
-{
-    match form {
-        OperatorForm::Plain(kind) => new_operator(parser, kind),
-        OperatorForm::Word(row) => operator_word(parser, row),
-        OperatorForm::Row(row) => name_row(parser, row),
-        OperatorForm::BaseClass => base_class_descriptor(parser),
-    }
-}
-
-/// Reads `NAME_ROW = fields of the row`.
-#[cycle(readers)]
-fn name_row<'a, 'b, L: NodeBudget, A: Allocator>(
-    parser: &mut Parser<'a, 'b, L, A>,
-    row: NameRow,
-) -> Result<&'b Name<'a, 'b>, Failed>
-    ensures value { ReadsAs name_at parser.old parser.new result (read_name (production.name_row row)) }
-    ensures consumes { MayConsume parser.old parser.new result }
-{
-    match row {
-        NameRow::Frame => frame(parser),
-        NameRow::LiteralOperator => literal_operator(parser),
-    }
-}
-
 /// Reads `FRAME = COUNT "?" SYMBOL`: a scope inside a function.
 #[cycle(readers)]
 fn frame<'a, 'b, L: NodeBudget, A: Allocator>(
@@ -120,11 +94,7 @@ fn frame<'a, 'b, L: NodeBudget, A: Allocator>(
     let value = count(parser)?;
     parser.expect(b"?", Message::QuestionMarkExpected)?;
     let function = nested_symbol(parser)?;
-    let number = Number {
-        is_negative: false,
-        value,
-    };
-    put_frame(parser, number, function)
+    put_frame(parser, plain(value), function)
 }
 
 /// Reads a symbol as a name.
@@ -136,7 +106,8 @@ pub fn nested_symbol<'a, 'b, L: NodeBudget, A: Allocator>(
     ensures consumes { Consumes parser.old parser.new result }
 {
     parser.count_node()?;
-    let symbol = symbol(parser)?;
+    parser.expect(b"?", Message::NoQuestionMark)?;
+    let symbol = symbol_body(parser)?;
     parser.put_nested(symbol)
 }
 
@@ -277,7 +248,7 @@ fn template<'a, 'b, L: NodeBudget, A: Allocator>(
 {
     parser.count_node()?;
     let name = symbol_name(parser)?;
-    let checkpoint = arguments(parser)?;
+    let checkpoint = listed(parser, Listed::Argument)?;
     parser.put_template(name, checkpoint)
 }
 
@@ -329,7 +300,7 @@ pub fn targets<'a, 'b, L: NodeBudget, A: Allocator>(
     }
 }
 
-/// Reads `NESTED_NAME = digit | "?$" TEMPLATE_NAME | "?A" ANONYMOUS_NAMESPACE | "?" FRAME | SOURCE_NAME`.
+/// Reads `NESTED_NAME = digit | "?$" TEMPLATE_NAME | "?A" ANONYMOUS_NAMESPACE | "?" MARKED_SCOPE | SOURCE_NAME`.
 #[cycle(readers)]
 #[inline(always)]
 fn nested_name<'a, 'b, L: NodeBudget, A: Allocator>(
@@ -348,7 +319,27 @@ fn nested_name<'a, 'b, L: NodeBudget, A: Allocator>(
         return anonymous_namespace(parser);
     }
     if parser.consume(b"?") {
-        return frame(parser);
+        return marked_scope(parser);
     }
     new_source_name(parser)
+}
+
+/// Reads `MARKED_SCOPE = "Q" CLASS_SYMBOL | FRAME | SYMBOL`: an interface, a scope inside a function, or a symbol.
+#[cycle(readers)]
+#[inline(never)]
+fn marked_scope<'a, 'b, L: NodeBudget, A: Allocator>(
+    parser: &mut Parser<'a, 'b, L, A>,
+) -> Result<&'b Name<'a, 'b>, Failed>
+    ensures value { ReadsAs name_at parser.old parser.new result (read_name production.marked_scope) }
+    ensures consumes { Consumes parser.old parser.new result }
+{
+    if parser.consume(b"Q") {
+        parser.count_node()?;
+        let class = class_symbol(parser)?;
+        return put_named_name(parser, rows::INTERFACE, class);
+    }
+    if begins(parser.rest, b"?") {
+        return nested_symbol(parser);
+    }
+    frame(parser)
 }

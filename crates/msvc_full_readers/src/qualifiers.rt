@@ -3,7 +3,7 @@
 ghost use Rattle.std.specs.Option.{option_map};
 ghost use Rattle.std.specs.Prelude.{◌≡◌, ◌<◌, IfSome, length, MatchOption};
 ghost use Rattle.msvc_rules.specs.Readers.{letter_here};
-ghost use Rattle.msvc_full_grammar.specs.Grammar.{adjusted_row, of_c, own_of_class};
+ghost use Rattle.msvc_full_grammar.specs.Fragments.{adjusted_row, of_c, own_of_class};
 ghost use Rattle.msvc_full_letters.specs.Views.{encoding_form_of};
 ghost use Rattle.msvc_full_grammar.specs.Letters as letters_of;
 ghost use Rattle.msvc_cursor.specs.Parser.{frame_of, state_of};
@@ -33,6 +33,28 @@ pub fn member_qualifier<'a, 'b, L: NodeBudget, A: Allocator>(
         if let Some(qualifier) = letters::member_qualifier(*first) {
             parser.rest = rest;
             return Some(qualifier);
+        }
+    }
+    None
+}
+
+/// Reads the letter of a pointer or a reference of managed code, if it is next, and returns its row. `own_row` is the
+/// row of its `A`.
+pub fn managed_row_here<'a, 'b, L: NodeBudget, A: Allocator>(
+    parser: &mut Parser<'a, 'b, L, A>,
+    own_row: u8,
+) -> Option<u8>
+    ensures value { option_map (λ row. (row, parser.new.rest.now, state_of parser.new)) result
+        ≡ letter_here (letters_of.managed_rows own_row) parser.old.rest.now (state_of parser.old) }
+    ensures shorter { IfSome result (λ q. length parser.new.rest.now < length parser.old.rest.now) }
+    ensures still { MatchOption result (parser.new.rest.now ≡ parser.old.rest.now) (λ q. Unit {0}) }
+    ensures state { state_of parser.new ≡ state_of parser.old }
+    ensures kept { frame_of parser.new ≡ frame_of parser.old }
+{
+    if let [first, rest @ ..] = parser.rest {
+        if let Some(row) = letters::managed_row(own_row, *first) {
+            parser.rest = rest;
+            return Some(row);
         }
     }
     None

@@ -59,7 +59,7 @@ fn read_counted<'a, 'b, L: NodeBudget, A: Allocator>(
           used = L.used budget;
           max = L.max budget;
         }) input.now))) }
-    ensures start { after (codes "?") input.now ≡ None
+    ensures start { after (codes ".") input.now ≡ None → after (codes "?") input.now ≡ None
         → result ≡ Err (Failure.Rejected Message.NoQuestionMark (length input.now)) }
     ensures counted { IfErr result (λ reason. may_fail_for L.weight reason ≡ true) }
 {

@@ -2,7 +2,10 @@
 
 ghost use Rattle.msvc_nodes.specs.NodeView.{type_of};
 ghost use Rattle.msvc_full_grammar.specs.Forms.{of_member_pointer, of_pointer};
-ghost use Rattle.msvc_full_grammar.specs.Grammar.{end_of};
+ghost use Rattle.std.specs.Prelude.{◌≡◌, ◌==◌};
+ghost use Rattle.msvc_rules.specs.Rules.{some_of};
+ghost use Rattle.msvc_full_grammar.specs.Fragments.{end_of, end_of_row, pointer_rows};
+ghost use Rattle.msvc_full_readers.specs.Readings.{end_of_other};
 ghost use Rattle.msvc_full_grammar.specs.Productions as production;
 ghost use Rattle.msvc_full_grammar.specs.Reading.{read_name};
 ghost use Rattle.msvc_cursor.specs.Parser.{Consumes, ReadsAs};
@@ -32,12 +35,7 @@ pub fn variable_end<'a, 'b, L: NodeBudget, A: Allocator>(
 {
     match variable {
         Type::Pointing(_, _, _) => end_of_pointer(parser),
-        Type::Shape(shape) => {
-            if shape.row == rows::MEMBER_POINTER {
-                return end_of_member_pointer(parser);
-            }
-            qualifier(parser)
-        }
+        Type::Shape(shape) => end_of_shape(parser, shape.row),
         Type::Plain(_) => qualifier(parser),
         Type::Base(_, _) => qualifier(parser),
         Type::Tagged(_, _, _) => qualifier(parser),
@@ -51,6 +49,46 @@ pub fn variable_end<'a, 'b, L: NodeBudget, A: Allocator>(
         Type::Table(_, _, _) => qualifier(parser),
         Type::VcallThunk(_, _) => qualifier(parser),
     }
+}
+
+/// Reads what stands after a shape of this row.
+fn end_of_shape<'a, 'b, L: NodeBudget, A: Allocator>(
+    parser: &mut Parser<'a, 'b, L, A>,
+    row: u8,
+) -> Result<StorageClass, Failed>
+    ensures value { ReadsAs (λ (q : StorageClass). q.0) parser.old parser.new result
+        (read_name (production.variable_end (end_of_row row))) }
+    ensures consumes { Consumes parser.old parser.new result }
+{
+    if row == rows::MEMBER_POINTER {
+        return end_of_member_pointer(parser);
+    }
+    end_of_other_shape(parser, row)
+}
+
+/// Reads what stands after a shape of this row that is no pointer to a member.
+fn end_of_other_shape<'a, 'b, L: NodeBudget, A: Allocator>(
+    parser: &mut Parser<'a, 'b, L, A>,
+    row: u8,
+) -> Result<StorageClass, Failed>
+    ensures value { ReadsAs (λ (q : StorageClass). q.0) parser.old parser.new result
+        (read_name (production.variable_end (end_of_other row))) }
+    ensures consumes { Consumes parser.old parser.new result }
+{
+    if is_pointer_row(row) {
+        return end_of_pointer(parser);
+    }
+    qualifier(parser)
+}
+
+/// Returns whether a row is that of a pointer or a reference of managed code or of a block.
+fn is_pointer_row(row: u8) -> bool
+    ensures { result ≡ some_of (λ r. row == r) pointer_rows }
+{
+    matches!(
+        row,
+        rows::BLOCK | rows::HANDLE | rows::TRACKING | rows::PIN | rows::CLI_ARRAY
+    )
 }
 
 /// Reads what stands after a pointer or a reference.

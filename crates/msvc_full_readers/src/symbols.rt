@@ -1,9 +1,9 @@
 //! Symbols, and the encodings after their names.
 
 ghost use Rattle.std.specs.Prelude.{◌≡◌, codes, IfOk, length, None, Some};
-ghost use Rattle.msvc_nodes.specs.NodeView.{name_of, type_at, typed_symbol_of};
+ghost use Rattle.msvc_nodes.specs.NodeView.{name_at, name_of, type_at, typed_symbol_of};
 ghost use Rattle.msvc_rules.specs.Counts.{name_count};
-ghost use Rattle.msvc_rules.specs.Rules.{after, begins, some_of};
+ghost use Rattle.msvc_rules.specs.Rules.{after, begins};
 ghost use Rattle.msvc_full_grammar.specs.Forms as forms_of;
 ghost use Rattle.msvc_full_grammar.specs.Letters.{variable_texts};
 ghost use Rattle.msvc_full_grammar.specs.Productions as production;
@@ -12,69 +12,194 @@ ghost use Rattle.msvc_full_grammar.specs.declared.forms.SymbolForm.TheVariants a
 ghost use Rattle.msvc_cursor.specs.Parser.{Consumes, MayConsume, ReadsAs, Stays, text_at};
 ghost use Rattle.msvc_cursor.specs.Rows.{named_at, typed_symbol_at};
 ghost use Rattle.msvc_full_letters.specs.Views.{encoding_form_of};
-ghost use Rattle.msvc_full_readers.specs.Readings.{entered, label_endings, name_in_scope, symbol_body};
+ghost use Rattle.msvc_full_grammar.specs.Fragments.{funclet_frame, name_alone};
+ghost use Rattle.msvc_full_readers.specs.Readings.{entered, home_at, marked_text, name_in_scope, symbol_body};
 
+use crate::arguments::template_value;
 use crate::functions::{function_type, member_function, result_type};
 use crate::made_symbols::{
-    described_symbol, guard_name, hashed_symbol, string_symbol, virtual_call, whole_hash,
+    c_function_name, described_symbol, guard_name, hashed_symbol, named_home, no_variable,
+    string_symbol, stub_end, variable_home, virtual_call, whole_hash,
 };
-use crate::names::{operator_name, scope, symbol_name, targets, template_name};
+use crate::names::{class_symbol, operator_name, scope, symbol_name, targets, template_name};
 use crate::qualifiers::{adjusted_row, of_c};
 use crate::repeated_classes::variable_end;
-use crate::store::{put_outer_type, put_table};
+use crate::store::{
+    FuncletHome, put_class, put_frame, put_funclet, put_named_type, put_outer_type, put_stub,
+    put_table, put_typed_name, put_unscoped,
+};
 use crate::types::{type_, type_row};
 use bitflags::Flags;
 use msvc_cursor::budget::NodeBudget;
 use msvc_cursor::failure::{Failed, Failure, Message};
 use msvc_cursor::parser::Parser;
-use msvc_full_grammar::forms::{Adjustment, OwnQualifiers, SymbolForm};
+use msvc_full_grammar::forms::{Adjustment, OwnQualifiers, Stub, SymbolForm};
 use msvc_full_letters::forms::EncodingForm;
+use msvc_full_letters::numbers::plain;
 use msvc_full_letters::offsets::offsets_of;
 use msvc_full_letters::qualifiers::qualifier;
 use msvc_full_letters::texts::{
-    encoding_form, function_form, symbol_form, unknown_encoding, variable_kind,
+    code_form, encoding_form, funclet_row, function_form, symbol_form, unknown_encoding,
+    variable_kind,
 };
 use msvc_nodes::flags::{FuncClass, StorageClass};
 use msvc_nodes::kinds::{Guard, PlainType, VarStorageKind};
 use msvc_nodes::nodes::{Name, Symbol, Type, TypedSymbol};
+use msvc_shapes::rows;
 use std::alloc::Allocator;
 
-/// Reads `WHOLE_TEXT = "??@" WHOLE_HASH | SYMBOL`, which is no label of exception handling.
+/// Reads `WHOLE_TEXT = "." NAMED_TYPE | text of funclets FUNCLET | "??@" WHOLE_HASH | SYMBOL`.
 pub fn whole_text<'a, 'b, L: NodeBudget, A: Allocator>(
     parser: &mut Parser<'a, 'b, L, A>,
 ) -> Result<TypedSymbol<'a, 'b>, Failed>
     ensures value { ReadsAs typed_symbol_of parser.old parser.new result (read_name production.whole_text) }
-    ensures start { after (codes "?") parser.old.rest.now ≡ None
+    ensures start { after (codes ".") parser.old.rest.now ≡ None → after (codes "?") parser.old.rest.now ≡ None
         → (IfOk result (λ _. ⊥))
         × (parser.new.last_error.reason ≡ Failure.Rejected Message.NoQuestionMark (length parser.old.rest.now)) }
 {
-    if !parser.consume(b"?") {
+    if parser.consume(b".") {
+        let named = named_type(parser)?;
+        return Ok(*named);
+    }
+    if !begins(parser.rest, b"?") {
         return Err(parser.reject(Message::NoQuestionMark));
     }
-    if is_label(parser.rest) {
-        return Err(parser.reject(Message::NameExpected));
-    }
-    if parser.consume(b"?@") {
-        let hash = whole_hash(parser)?;
-        return Ok(*hash);
-    }
-    let symbol = symbol_body(parser)?;
+    let symbol = marked_text(parser)?;
     Ok(*symbol)
 }
 
-/// Returns whether a label of exception handling is next, after its `?`.
-#[inline(always)]
-fn is_label(left: &[u8]) -> bool
-    ensures { result ≡ some_of (begins left.now) label_endings }
+/// Reads a text that begins with a `?`.
+fn marked_text<'a, 'b, L: NodeBudget, A: Allocator>(
+    parser: &mut Parser<'a, 'b, L, A>,
+) -> Result<&'b TypedSymbol<'a, 'b>, Failed>
+    ensures value { ReadsAs typed_symbol_at parser.old parser.new result (read marked_text) }
+    ensures consumes { Consumes parser.old parser.new result }
 {
-    begins(left, b"catch$")
-        || begins(left, b"dtor$")
-        || begins(left, b"filt$")
-        || begins(left, b"fin$")
+    if let Some((row, rest)) = funclet_row(parser.rest) {
+        let left = parser.rest.len();
+        parser.rest = rest;
+        return funclet(parser, row, left);
+    }
+    if !parser.consume(b"?") {
+        return Err(parser.reject(Message::NoQuestionMark));
+    }
+    if parser.consume(b"?@") {
+        return whole_hash(parser);
+    }
+    symbol_body(parser)
+}
+
+/// Reads `NAMED_TYPE = RESULT_TYPE`: the name of a type.
+#[inline(never)]
+fn named_type<'a, 'b, L: NodeBudget, A: Allocator>(
+    parser: &mut Parser<'a, 'b, L, A>,
+) -> Result<&'b TypedSymbol<'a, 'b>, Failed>
+    ensures value { ReadsAs typed_symbol_at parser.old parser.new result (read_name production.named_type) }
+    ensures consumes { Consumes parser.old parser.new result }
+{
+    parser.count_node()?;
+    parser.count_node()?;
+    let named = result_type(parser)?;
+    described_symbol(parser, rows::TYPE_DESCRIPTOR_NAME, named)
+}
+
+/// Reads `FUNCLET = bytes "@" FUNCLET_HOME`: the rest of the name of a funclet, and the function that it is a part of.
+/// Fails at the first byte of the name, behind the `?`, if no `@` ends it. `left` is the number of unread bytes there.
+#[cycle(funclets)]
+#[inline(never)]
+fn funclet<'a, 'b, L: NodeBudget, A: Allocator>(
+    parser: &mut Parser<'a, 'b, L, A>,
+    row: u8,
+    left: usize,
+) -> Result<&'b TypedSymbol<'a, 'b>, Failed>
+    ensures value { ReadsAs typed_symbol_at parser.old parser.new result (read_name (production.funclet row)) }
+    ensures consumes { Consumes parser.old parser.new result }
+{
+    let Ok(label) = parser.source_name() else {
+        return Err(parser.reject_at(Message::MissingAt, left.saturating_sub(1)));
+    };
+    parser.count_node()?;
+    let home = funclet_home(parser)?;
+    put_funclet(parser, row, label, home)
+}
+
+/// Reads `FUNCLET_HOME = "0@" SYMBOL_NAME SCOPE | "?0?" FUNCLET_FUNCTION`.
+#[cycle(funclets)]
+fn funclet_home<'a, 'b, L: NodeBudget, A: Allocator>(
+    parser: &mut Parser<'a, 'b, L, A>,
+) -> Result<FuncletHome<'a, 'b>, Failed>
+    ensures value { ReadsAs home_at parser.old parser.new result (read_name production.funclet_home) }
+    ensures consumes { Consumes parser.old parser.new result }
+{
+    if parser.consume(b"0@") {
+        let function = name_alone(parser)?;
+        return named_home(parser, function);
+    }
+    parser.expect(b"?0?", Message::FuncletScopeExpected)?;
+    let function = funclet_frame(parser)?;
+    variable_home(parser, function)
+}
+
+/// Reads `SYMBOL_NAME SCOPE` as a symbol without a type.
+fn name_alone<'a, 'b, L: NodeBudget, A: Allocator>(
+    parser: &mut Parser<'a, 'b, L, A>,
+) -> Result<&'b Name<'a, 'b>, Failed>
+    ensures value { ReadsAs name_at parser.old parser.new result (read name_alone) }
+    ensures consumes { Consumes parser.old parser.new result }
+{
+    parser.count_node()?;
+    let symbol = name_in_scope(parser)?;
+    put_class(parser, symbol)
+}
+
+/// Reads `FUNCLET_FUNCTION` as a scope inside that function.
+#[cycle(funclets)]
+fn funclet_frame<'a, 'b, L: NodeBudget, A: Allocator>(
+    parser: &mut Parser<'a, 'b, L, A>,
+) -> Result<&'b Name<'a, 'b>, Failed>
+    ensures value { ReadsAs name_at parser.old parser.new result (read funclet_frame) }
+    ensures consumes { Consumes parser.old parser.new result }
+{
+    parser.count_node()?;
+    let function = funclet_function(parser)?;
+    put_frame(parser, plain(1), function)
+}
+
+/// Reads `FUNCLET_FUNCTION = SOURCE_NAME "4HA" | FUNCLET_OR_SYMBOL "@4HA"`.
+#[cycle(funclets)]
+fn funclet_function<'a, 'b, L: NodeBudget, A: Allocator>(
+    parser: &mut Parser<'a, 'b, L, A>,
+) -> Result<&'b Name<'a, 'b>, Failed>
+    ensures value { ReadsAs name_at parser.old parser.new result (read_name production.funclet_function) }
+    ensures consumes { Consumes parser.old parser.new result }
+{
+    if !begins(parser.rest, b"?") {
+        return c_function_name(parser);
+    }
+    parser.count_node()?;
+    let function = funclet_or_symbol(parser)?;
+    parser.expect(b"@4HA", Message::FuncletEndExpected)?;
+    parser.put_nested(function)
+}
+
+/// Reads `FUNCLET_OR_SYMBOL = text of funclets FUNCLET | SYMBOL`.
+#[cycle(funclets)]
+fn funclet_or_symbol<'a, 'b, L: NodeBudget, A: Allocator>(
+    parser: &mut Parser<'a, 'b, L, A>,
+) -> Result<&'b TypedSymbol<'a, 'b>, Failed>
+    ensures value { ReadsAs typed_symbol_at parser.old parser.new result (read_name production.funclet_or_symbol) }
+    ensures consumes { Consumes parser.old parser.new result }
+{
+    if let Some((row, rest)) = funclet_row(parser.rest) {
+        let left = parser.rest.len();
+        parser.rest = rest;
+        return funclet(parser, row, left);
+    }
+    symbol(parser)
 }
 
 /// Returns whether `bytes` begins with a literal.
-fn begins(bytes: &[u8], literal: &[u8]) -> bool
+pub fn begins(bytes: &[u8], literal: &[u8]) -> bool
     ensures { result ≡ begins bytes.now literal.now }
 {
     let [expected, others @ ..] = literal else {
@@ -88,8 +213,7 @@ fn begins(bytes: &[u8], literal: &[u8]) -> bool
 }
 
 /// Reads `SYMBOL = "?" SYMBOL_BODY`.
-#[cycle(readers)]
-pub fn symbol<'a, 'b, L: NodeBudget, A: Allocator>(
+fn symbol<'a, 'b, L: NodeBudget, A: Allocator>(
     parser: &mut Parser<'a, 'b, L, A>,
 ) -> Result<&'b TypedSymbol<'a, 'b>, Failed>
     ensures value { ReadsAs typed_symbol_at parser.old parser.new result (read_name production.symbol) }
@@ -101,7 +225,7 @@ pub fn symbol<'a, 'b, L: NodeBudget, A: Allocator>(
 
 /// Reads `SYMBOL_BODY = "?$" TEMPLATE_SYMBOL | "?" MARKED_SYMBOL | NAMED_SYMBOL`.
 #[cycle(readers)]
-fn symbol_body<'a, 'b, L: NodeBudget, A: Allocator>(
+pub fn symbol_body<'a, 'b, L: NodeBudget, A: Allocator>(
     parser: &mut Parser<'a, 'b, L, A>,
 ) -> Result<&'b TypedSymbol<'a, 'b>, Failed>
     ensures value { ReadsAs typed_symbol_at parser.old parser.new result (read symbol_body) }
@@ -162,6 +286,8 @@ fn symbol_after<'a, 'b, L: NodeBudget, A: Allocator>(
         SymbolForm::String => string_symbol(parser),
         SymbolForm::Descriptor => descriptor_symbol(parser),
         SymbolForm::Guard(guard) => guard_symbol(parser, guard),
+        SymbolForm::Stub(stub) => stub_symbol(parser, stub),
+        SymbolForm::Object => object_symbol(parser),
     }
 }
 
@@ -178,10 +304,11 @@ fn descriptor_symbol<'a, 'b, L: NodeBudget, A: Allocator>(
     parser.count_node()?;
     parser.count_node()?;
     let described = result_type(parser)?;
-    described_symbol(parser, described)
+    parser.expect(b"@8", Message::DescriptorEndExpected)?;
+    described_symbol(parser, rows::TYPE_DESCRIPTOR, described)
 }
 
-/// Reads `SCOPE GUARD_NAME ENCODING`: a guard of static variables.
+/// Reads `SCOPE GUARD_NAME`: a guard of static variables.
 #[cycle(readers)]
 #[inline(never)]
 fn guard_symbol<'a, 'b, L: NodeBudget, A: Allocator>(
@@ -195,8 +322,136 @@ fn guard_symbol<'a, 'b, L: NodeBudget, A: Allocator>(
     let checkpoint = scope(parser)?;
     let name = guard_name(parser, guard)?;
     let symbol = parser.put_symbol(name, checkpoint)?;
-    let symbol_type = encoding(parser)?;
+    let symbol_type = parser.new_plain(PlainType::None)?;
     parser.put_typed_symbol(symbol, symbol_type)
+}
+
+/// Reads `TEMPLATE_VALUE "@"`: an object that is an argument of a template.
+#[cycle(readers)]
+#[inline(never)]
+fn object_symbol<'a, 'b, L: NodeBudget, A: Allocator>(
+    parser: &mut Parser<'a, 'b, L, A>,
+) -> Result<&'b TypedSymbol<'a, 'b>, Failed>
+    ensures value { ReadsAs typed_symbol_at parser.old parser.new result
+        (read_name (production.symbol_after symbol_forms.Object)) }
+    ensures consumes { Consumes parser.old parser.new result }
+{
+    parser.count_node()?;
+    let value = template_value(parser)?;
+    parser.expect(b"@", Message::AtExpected)?;
+    let name = put_typed_name(parser, rows::TEMPLATE_OBJECT, value)?;
+    parser.count_node()?;
+    parser.untyped_symbol(name)
+}
+
+/// Reads `STUBBED FUNCTION_CODE`: a function that begins or ends the life of a variable.
+#[cycle(readers)]
+#[inline(never)]
+fn stub_symbol<'a, 'b, L: NodeBudget, A: Allocator>(
+    parser: &mut Parser<'a, 'b, L, A>,
+    stub: Stub,
+) -> Result<&'b TypedSymbol<'a, 'b>, Failed>
+    ensures value { ReadsAs typed_symbol_at parser.old parser.new result
+        (read_name (production.symbol_after (symbol_forms.Stub stub))) }
+    ensures consumes { Consumes parser.old parser.new result }
+{
+    parser.count_node()?;
+    parser.count_node()?;
+    let stubbed = stubbed(parser)?;
+    let name = put_stub(parser, stub, stubbed)?;
+    let symbol_type = function_code(parser)?;
+    put_unscoped(parser, name, symbol_type)
+}
+
+/// Reads `STUBBED = ["?"] ("?$" STUBBED_TEMPLATE | STUBBED_NAME)`: what a stub is of, a variable behind a `?`.
+#[cycle(readers)]
+fn stubbed<'a, 'b, L: NodeBudget, A: Allocator>(
+    parser: &mut Parser<'a, 'b, L, A>,
+) -> Result<&'b TypedSymbol<'a, 'b>, Failed>
+    ensures value { ReadsAs typed_symbol_at parser.old parser.new result (read_name production.stubbed) }
+    ensures consumes { Consumes parser.old parser.new result }
+{
+    if parser.consume(b"?$") {
+        return stubbed_template(parser, false);
+    }
+    if !parser.consume(b"?") {
+        return stubbed_name(parser, false);
+    }
+    if parser.consume(b"?$") {
+        return stubbed_template(parser, true);
+    }
+    stubbed_name(parser, true)
+}
+
+/// Reads `STUBBED_TEMPLATE = TEMPLATE_NAME SCOPE VARIABLE_OR_NONE`: the template's name is memorized where a variable
+/// follows.
+#[cycle(readers)]
+#[inline(never)]
+fn stubbed_template<'a, 'b, L: NodeBudget, A: Allocator>(
+    parser: &mut Parser<'a, 'b, L, A>,
+    required: bool,
+) -> Result<&'b TypedSymbol<'a, 'b>, Failed>
+    ensures value { ReadsAs typed_symbol_at parser.old parser.new result
+        (read_name (production.stubbed_template required)) }
+    ensures consumes { Consumes parser.old parser.new result }
+{
+    let before = parser.limit;
+    let name = template_name(parser)?;
+    let nodes = parser.limit.since(before);
+    let checkpoint = scope(parser)?;
+    let symbol = parser.put_symbol(name, checkpoint)?;
+    add_variable_name(parser, name, nodes)?;
+    let symbol_type = variable_or_none(parser, required)?;
+    parser.put_typed_symbol(symbol, symbol_type)
+}
+
+/// Reads `STUBBED_NAME = SYMBOL_NAME SCOPE VARIABLE_OR_NONE`.
+#[cycle(readers)]
+fn stubbed_name<'a, 'b, L: NodeBudget, A: Allocator>(
+    parser: &mut Parser<'a, 'b, L, A>,
+    required: bool,
+) -> Result<&'b TypedSymbol<'a, 'b>, Failed>
+    ensures value { ReadsAs typed_symbol_at parser.old parser.new result
+        (read_name (production.stubbed_name required)) }
+    ensures consumes { Consumes parser.old parser.new result }
+{
+    let symbol = name_in_scope(parser)?;
+    let symbol_type = variable_or_none(parser, required)?;
+    parser.put_typed_symbol(symbol, symbol_type)
+}
+
+/// Reads `VARIABLE_OR_NONE = text of variables VARIABLE ("@@" | "@") | NO_VARIABLE`: the longer end if the variable is
+/// required.
+#[cycle(readers)]
+fn variable_or_none<'a, 'b, L: NodeBudget, A: Allocator>(
+    parser: &mut Parser<'a, 'b, L, A>,
+    required: bool,
+) -> Result<&'b Type<'a, 'b>, Failed>
+    ensures value { ReadsAs type_at parser.old parser.new result (read_name (production.variable_or_none required)) }
+    ensures consumes { MayConsume parser.old parser.new result }
+{
+    if let Some((kind, rest)) = variable_kind(parser.rest) {
+        parser.rest = rest;
+        let variable = variable(parser, kind)?;
+        stub_end(parser, required)?;
+        return Ok(variable);
+    }
+    no_variable(parser, required)
+}
+
+/// Reads `FUNCTION_CODE = text of functions ENCODING_AFTER`: the signature of a function.
+#[cycle(readers)]
+fn function_code<'a, 'b, L: NodeBudget, A: Allocator>(
+    parser: &mut Parser<'a, 'b, L, A>,
+) -> Result<&'b Type<'a, 'b>, Failed>
+    ensures value { ReadsAs type_at parser.old parser.new result (read_name production.function_code) }
+    ensures consumes { Consumes parser.old parser.new result }
+{
+    let Some((form, rest)) = code_form(parser.rest) else {
+        return no_encoding(parser);
+    };
+    parser.rest = rest;
+    encoding_after(parser, form)
 }
 
 /// Reads `TEMPLATE_SYMBOL = TEMPLATE_NAME SCOPE ENCODING`: the template's name is memorized where a variable follows.
@@ -252,6 +507,7 @@ fn named_symbol<'a, 'b, L: NodeBudget, A: Allocator>(
 
 /// Reads `SYMBOL_NAME SCOPE`.
 #[cycle(readers)]
+#[inline(always)]
 fn name_in_scope<'a, 'b, L: NodeBudget, A: Allocator>(
     parser: &mut Parser<'a, 'b, L, A>,
 ) -> Result<&'b Symbol<'a, 'b>, Failed>
@@ -263,7 +519,7 @@ fn name_in_scope<'a, 'b, L: NodeBudget, A: Allocator>(
     parser.put_symbol(name, checkpoint)
 }
 
-/// Reads `ENCODING = text of variables VARIABLE | OTHER_ENCODING`.
+/// Reads `ENCODING = text of variables VARIABLE | end | text of encodings ENCODING_AFTER`.
 #[cycle(readers)]
 fn encoding<'a, 'b, L: NodeBudget, A: Allocator>(
     parser: &mut Parser<'a, 'b, L, A>,
@@ -275,17 +531,6 @@ fn encoding<'a, 'b, L: NodeBudget, A: Allocator>(
         parser.rest = rest;
         return variable(parser, kind);
     }
-    other_encoding(parser)
-}
-
-/// Reads `OTHER_ENCODING = end | text of encodings ENCODING_AFTER`.
-#[cycle(readers)]
-fn other_encoding<'a, 'b, L: NodeBudget, A: Allocator>(
-    parser: &mut Parser<'a, 'b, L, A>,
-) -> Result<&'b Type<'a, 'b>, Failed>
-    ensures value { ReadsAs type_at parser.old parser.new result (read_name production.other_encoding) }
-    ensures consumes { MayConsume parser.old parser.new result }
-{
     if parser.rest.is_empty() {
         return parser.new_plain(PlainType::None);
     }
@@ -325,10 +570,44 @@ fn encoding_after<'a, 'b, L: NodeBudget, A: Allocator>(
         EncodingForm::Function(class) => member_function(parser, class),
         EncodingForm::Thunk(adjustment, class) => thunk(parser, adjustment, class),
         EncodingForm::CFunction => c_function(parser),
+        EncodingForm::ManagedFunction => managed_function(parser),
         EncodingForm::Table => table(parser),
         EncodingForm::TypeInformation => parser.new_plain(PlainType::Rtti),
         EncodingForm::VirtualCall => virtual_call(parser),
+        EncodingForm::Displacement => displacement(parser),
     }
+}
+
+/// Reads a function of managed code, after its `$$F`, `$$H` or `$$h`.
+#[cycle(readers)]
+#[inline(never)]
+fn managed_function<'a, 'b, L: NodeBudget, A: Allocator>(
+    parser: &mut Parser<'a, 'b, L, A>,
+) -> Result<&'b Type<'a, 'b>, Failed>
+    ensures value { ReadsAs type_at parser.old parser.new result
+        (read_name (production.encoding_after forms_of.managed_function)) }
+    ensures consumes { Consumes parser.old parser.new result }
+{
+    let Some((form, rest)) = function_form(parser.rest) else {
+        return no_encoding(parser);
+    };
+    parser.rest = rest;
+    encoding_after(parser, form)
+}
+
+/// Reads the class that a map of displacements is for.
+#[cycle(readers)]
+#[inline(never)]
+fn displacement<'a, 'b, L: NodeBudget, A: Allocator>(
+    parser: &mut Parser<'a, 'b, L, A>,
+) -> Result<&'b Type<'a, 'b>, Failed>
+    ensures value { ReadsAs type_at parser.old parser.new result
+        (read_name (production.encoding_after forms_of.displaced)) }
+    ensures consumes { Consumes parser.old parser.new result }
+{
+    parser.count_node()?;
+    let class = class_symbol(parser)?;
+    put_named_type(parser, rows::DISPLACEMENT, StorageClass::empty(), class)
 }
 
 /// Reads a function of C, after its `$$J0`.

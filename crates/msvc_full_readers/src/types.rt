@@ -27,7 +27,7 @@ use msvc_full_letters::numbers::number;
 use msvc_full_letters::qualifiers::{qualifier, qualifier_here};
 use msvc_full_letters::texts::type_form;
 use msvc_nodes::flags::StorageClass;
-use msvc_nodes::kinds::TagKind;
+use msvc_nodes::kinds::{PointerAffinity, TagKind};
 use msvc_nodes::nodes::{Number, Type};
 use msvc_shapes::rows;
 use std::alloc::Allocator;
@@ -49,9 +49,9 @@ pub fn type_<'a, 'b, L: NodeBudget, A: Allocator>(
     }
 }
 
-/// Reads the marks before a type, `{"$$B" | "$$C" qualifier}`, and the text of the type, if it has one. Returns the form
-/// of that text, and the qualifiers of the marks beside those given. Marks make no node, so a loop reads them, which takes
-/// no stack. Where no qualifier follows a `$$C`, its form is returned.
+/// Reads the marks before a type, `{"$$B" | "$$C" qualifier}`, and the text of the type, if it has one. Returns the
+/// form of that text, and the qualifiers of the marks beside those given; the form of a `$$C` if no qualifier follows
+/// it. Marks make no node, so a loop reads them, which takes no stack.
 #[inline(always)]
 fn type_start<'a, 'b, L: NodeBudget, A: Allocator>(
     parser: &mut Parser<'a, 'b, L, A>,
@@ -98,6 +98,11 @@ fn type_after<'a, 'b, L: NodeBudget, A: Allocator>(
         TypeForm::Named(tag) => tagged_type(parser, tag, qualifiers),
         TypeForm::Pointer(more) => pointer(parser, qualifiers.union(more)),
         TypeForm::Reference(affinity) => reference(parser, affinity, qualifiers),
+        TypeForm::VolatileReference => reference(
+            parser,
+            PointerAffinity::Reference,
+            qualifiers.union(StorageClass::VOLATILE),
+        ),
         TypeForm::Arrays => arrays(parser, qualifiers),
         TypeForm::Function(own) => function_type(parser, own),
         TypeForm::Same => type_(parser, qualifiers),
@@ -149,7 +154,12 @@ pub fn type_row<'a, 'b, L: NodeBudget, A: Allocator>(
 {
     match row {
         TypeRow::Integer => integer(parser, qualifiers),
-        TypeRow::Custom => custom(parser, qualifiers),
+        TypeRow::Custom => {
+            parser.count_node()?;
+            let name = type_name(parser)?;
+            parser.expect(b"@", Message::AtExpected)?;
+            put_named_type(parser, rows::CUSTOM, qualifiers, name)
+        }
         TypeRow::Nullptr => nullptr(parser, qualifiers),
         TypeRow::ExternC => extern_c(parser, qualifiers),
     }
@@ -168,22 +178,6 @@ fn integer<'a, 'b, L: NodeBudget, A: Allocator>(
     parser.count_node()?;
     let number = number(parser)?;
     put_number_type(parser, rows::INTEGER, qualifiers, number)
-}
-
-/// Reads `TYPE_NAME "@"`: a type known by its name alone.
-#[cycle(readers)]
-fn custom<'a, 'b, L: NodeBudget, A: Allocator>(
-    parser: &mut Parser<'a, 'b, L, A>,
-    qualifiers: StorageClass,
-) -> Result<&'b Type<'a, 'b>, Failed>
-    ensures value { ReadsAs type_at parser.old parser.new result
-        (read_name (production.type_row qualifiers.0 rows_of.Custom)) }
-    ensures consumes { Consumes parser.old parser.new result }
-{
-    parser.count_node()?;
-    let name = type_name(parser)?;
-    parser.expect(b"@", Message::AtExpected)?;
-    put_named_type(parser, rows::CUSTOM, qualifiers, name)
 }
 
 /// Stores the type of the null pointer.
@@ -229,8 +223,8 @@ fn arrays<'a, 'b, L: NodeBudget, A: Allocator>(
     elements(parser, lengths, qualifiers)
 }
 
-/// Reads `DIMENSIONS LENGTHS`: the lengths of arrays, the outermost first. It is a call, so that its frame is gone while
-/// the elements are read.
+/// Reads `DIMENSIONS LENGTHS`: the lengths of arrays, the outermost first. It is a call, so that its frame is gone
+/// while the elements are read.
 #[inline(never)]
 fn array_lengths<'a, 'b, L: NodeBudget, A: Allocator>(
     parser: &mut Parser<'a, 'b, L, A>,

@@ -6,18 +6,27 @@
 /// The tables of Full.
 pub const TABLES: &str = "
 # Symbols. Only a whole text can end after a scope. The name of a template is memorized if a variable follows.
-text = ? symbol | ? symbol_at_the_end | ??@ key @ | ??@ key @??_R4@
-symbol = named scope encoding | unnamed | ?$ template scope function_or_c | ?$ template scope variable_kind name_done variable
+text = ? symbol | ? symbol_at_the_end | ??@ key @ | ??@ key @??_R4@ | . result_type | funclet
+funclet = funclet_letters rest @ funclet_home
+funclet_letters = ?catch$ | ?dtor$ | ?filt$ | ?fin$
+funclet_home = ?0? funclet_function | 0@ named scope
+funclet_function = start rest @4HA | ? symbol @4HA | funclet @4HA
+symbol = named scope encoding | unnamed | ?$ template scope function_or_c \
+    | ?$ template scope variable_kind name_done variable
 symbol_at_the_end = named scope | ?$ template scope
 named = known_name | ? operator
-encoding = 9 | variable_kind variable | function | table | 8 | $B number A convention
+encoding = 9 | variable_kind variable | function | table | 8 | $B number A convention | $C type_symbol
 function_or_c = 9 | function
-table = table_letter qualifier @ | table_letter qualifier type_symbol @ | table_letter qualifier type_symbol type_symbol @
+table = table_letter qualifier @ | table_letter qualifier type_symbol @ \
+    | table_letter qualifier type_symbol type_symbol @
 table_letter = 6 | 7
 
 # Symbols without a name of the source. Inside another symbol a guard has an index.
-unnamed = ?@ key @ | ?_C@_ width count key @ string_bytes @ | ?_R0 result_type @8 | ?_B scope marker count encoding \
-    | ?__J scope marker count encoding
+unnamed = ?@ key @ | ?_C@_ width count key @ string_bytes @ | ?_R0 result_type @8 | ?_B scope marker count \
+    | ?__J scope marker count | ?__E stubbed function | ?__F stubbed function | ?__N value @
+stubbed = known_name scope | known_name scope variable_kind variable @ | ? named scope variable_kind variable @@ \
+    | ?$ template scope | ?$ template scope variable_kind name_done variable @ \
+    | ??$ template scope variable_kind name_done variable @@
 width = 0 | 1
 string_bytes = | string_byte string_bytes | string_byte string_byte string_bytes
 string_byte = a | 0 | _ | ?0 | ?9 | ?a | ?Z | ?$AA | ?$HP | ?$OB | \u{E9}
@@ -31,7 +40,7 @@ repeated_scope = @ | repeated_name repeated_scope
 repeated_name = known_name | ?A@ | ?A0x key @ name_done | ?A0x key capital key @
 
 # Functions.
-function = any_function | $$J0 any_function
+function = any_function | $$J0 any_function | $$F any_function | $$H any_function | $$h any_function
 any_function = Y function_type | free_class function_type | member_class own_qualifiers function_type \
     | moved own_qualifiers function_type
 moved = adjustor_class number | $ moved_class number number | $R moved_class number number number number
@@ -44,7 +53,7 @@ convention = A | B | C | D | E | F | G | H | I | J | M | N | O | P | Q | S | U |
 returned = @ | result_type
 result_type = certain_type | ? qualifier type
 throws = Z | _E
-own_qualifiers = marks own_reference qualifier
+own_qualifiers = marks own_reference qualifier | marks $A own_reference qualifier
 own_reference = | G | H
 marks = mark_e mark_i mark_f
 mark_e = | E
@@ -75,7 +84,7 @@ plain = letter | X | certain_plain_long | custom
 certain_plain_long = _ extended | tag type_symbol | Y lengths element | $$A6 function_type \
     | $$A8@@ own_qualifiers function_type | $$T | $$B plain | $$C qualifier plain
 letter = C | D | E | F | G | H | I | J | K | M | N | O
-extended = N | W | Q | S | U | J | K | L | M
+extended = N | W | Q | S | U | J | K | L | M | P | T
 tag = T | U | V | W4
 custom = ? type_name @
 lengths = 0 count | B@ count | 1 count count | C@ count count | 2 count count count
@@ -83,9 +92,12 @@ element = type | $$C qualifier type
 
 # Pointers. Only pointers by these letters point to members.
 pointer = pointer_letter marks qualifier_of_data type | reference marks qualifier type \
-    | pointer_letter 6 function_type | reference 6 function_type | $$B pointer | $$C qualifier pointer
+    | pointer_letter 6 function_type | reference 6 function_type | $$B pointer | $$C qualifier pointer \
+    | pointer_letter _E function_type | pointer_letter marks managed qualifier type \
+    | reference marks managed qualifier type
+managed = $A | $B | $C | $0 digit
 pointer_letter = P | Q | R | S
-reference = A | $$Q
+reference = A | B | $$Q
 member_pointer = pointer_letter marks qualifier_of_members type_symbol type \
     | pointer_letter 8 type_symbol own_qualifiers function_type | $$B member_pointer | $$C qualifier member_pointer
 
@@ -93,7 +105,8 @@ member_pointer = pointer_letter marks qualifier_of_members type_symbol type \
 type_symbol = type_name scope
 type_name = known_name | ?$ template name_done
 scope = @ | nested_name @ | nested_name scope | ten_names known_name scope
-nested_name = type_name | ?A@ | ?A0x key @ name_done | ?A0x key capital key @ | ? frame_count ?? symbol
+nested_name = type_name | ?A@ | ?A0x key @ name_done | ?A0x key capital key @ | ? frame_count ?? symbol \
+    | ?Q type_symbol | ?? symbol
 key = | hexadecimal | hexadecimal hexadecimal hexadecimal
 hexadecimal = 0 | 1 | 2 | 3 | 4 | 5 | 6 | 7 | 8 | 9 | a | b | c | d | e | f
 capital = A | B | C | D | E | F
@@ -120,7 +133,12 @@ template_name = named | ?$ template
 arguments = @ | argument arguments | argument argument arguments
 argument = type | $S | $$V | $$$V | $$Z | $$Y type_symbol | $ value | $M type value
 value = 0 number | 1? symbol | E? symbol | F number number | G number number number | H member_offsets \
-    | I member_offsets number | J member_offsets number number
+    | I member_offsets number | J member_offsets number number | bits count | N | 2 type members | 3 type elements \
+    | 5 value @ | 6 value type_name @ | C value 0 number @ | 7 type @ | 7 type type_name value @
+bits = A | B | V | W | X | Y | Z
+members = @ | member members | member member members
+member = 0 number | type @ | type value | 2 type members | 3 type elements | 7 type @ | 7 type type_name value @
+elements = @ | value @ elements
 member_offsets = count | ? symbol number
 
 # Numbers. They stay below 2^31, also with letters before the last sixteen, which don't count.

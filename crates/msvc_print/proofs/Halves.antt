@@ -121,9 +121,10 @@ grown-halves (plain plain_kind.Variadic) pointed inside flags = refl
 grown-halves (plain plain_kind.Nullptr) pointed inside flags = refl
 grown-halves (shape row set zs bytes ns no_types) pointed inside flags = refl
 grown-halves (shape row set zs bytes ns (types t ts)) pointed inside flags =
-    around_shape-halves (layout_of row).around t ts (laid (slots row side.Left) pointed (shape_parts set zs bytes ns flags)
+    around_shape-halves (layout_of row).around t ts
+    (laid (slots row side.Left) pointed (shape_parts set zs bytes ns (types t ts) flags)
     flags)
-    (laid (slots row side.Right) pointed (shape_parts set zs bytes ns flags) flags) inside flags
+    (laid (slots row side.Right) pointed (shape_parts set zs bytes ns (types t ts) flags) flags) inside flags
     (λ p s. grown-halves t p s flags)
 grown-halves _ pointed inside flags = between-nothing inside
 

@@ -1,6 +1,6 @@
 -- What flags do not change: bits that no definition asks for, and under NAME_ONLY the type of a symbol.
 use Rattle.std.proofs.Common.{◌≡◌, ℕ, ℤ, List, [], ◌∷◌, ◌++◌, Bool, true, false, cond, refl, ap, sym, ◌∙◌, bit_and}
-use Rattle.std.proofs.Common.{◌==◌, ◌<◌, append_assoc, arith, codes, Option, Some, None}
+use Rattle.std.proofs.Common.{◌==◌, ◌<◌, append_assoc, arith, codes, drop, zero, suc, Option, Some, None}
 use Rattle.std.proofs.lemmas.Bool.{ne_eqb}
 use Rattle.std.proofs.lemmas.Nat.{and_assoc, and_le_l}
 use Rattle.std.specs.Fmt.{signed_decimal}
@@ -40,7 +40,9 @@ use Rattle.msvc_nodes.specs.declared.kinds.PlainOperator.{PlainOperator}
 use Rattle.msvc_print.specs.Operators.{base_class_pieces, name_kind, operator_pieces, unqualified_name, scoped}
 use Rattle.msvc_print.specs.Operators.{template_kind}
 use Rattle.msvc_print.specs.Pieces.{Piece, resolve, settle_all, space, text}
-use Rattle.msvc_print.specs.Shapes.{Parts, each_number, laid, number_pieces, parts, slot_pieces}
+use Rattle.msvc_print.specs.Shapes.{Parts, each_number, laid, number_pieces, parted, parts, rank_at, slot_pieces}
+use Rattle.msvc_print.specs.Declaration.{each_type}
+use Rattle.msvc_print.specs.Functions.{comma}
 use Rattle.msvc_print.specs.Sides.{Sides, alone, around, between, kept, kept_left, kept_right}
 use Rattle.msvc_print.specs.Words.{base_word, base_words, chosen_word, closing, kind_word, mark_space, mark_word}
 use Rattle.msvc_print.specs.Words.{marked, name_space, opening, qualifier, qualifier_space, qualifiers, tag_word}
@@ -341,6 +343,15 @@ each_number-same [] first a b e = refl
 each_number-same (n ∷ ns) first a b e = same-append _ _ _ _ (separator-same first a b e)
     (ap (λ x. number_pieces n ++ x) (each_number-same ns false a b e))
 
+comma-same : (a b : ℕ) → Same a b → comma a ≡ comma b
+comma-same a b e = ap (λ c. cond c (codes ", ") (codes ",")) e.comma
+
+rank_at-same : (ns : List Number) (i a b : ℕ) → Same a b → rank_at ns i a ≡ rank_at ns i b
+rank_at-same [] i a b e = refl
+rank_at-same (n ∷ ns) zero a b e =
+    ap (λ w. cond (n.value == 1) [] (text w ∷ number_pieces n)) (comma-same a b e)
+rank_at-same (n ∷ ns) (suc i) a b e = rank_at-same ns i a b e
+
 slot_pieces-same : (s : Slot) (pointed : Bool) (p : Parts) (a b : ℕ) → Same a b →
     slot_pieces s pointed p a ≡ slot_pieces s pointed p b
 unfolding slot_pieces
@@ -349,8 +360,14 @@ slot_pieces-same (slot.kind_word w) pointed p a b e =
 slot_pieces-same slot.qualifiers pointed p a b e = qualifiers-same p.set a b e
 slot_pieces-same slot.pointer_qualifiers pointed p a b e =
     ap (λ s. mark_qualifiers s p.set) (full_space-same a b e)
+slot_pieces-same slot.unaligned pointed p a b e =
+    ap (λ s. qualifier s 16 (codes "__unaligned ") p.set) (full_space-same a b e)
+slot_pieces-same (slot.mark w) pointed p a b e = marked-same w p.set a b e
 slot_pieces-same slot.opening pointed p a b e = opening-same pointed a b e
 slot_pieces-same slot.numbers pointed p a b e = each_number-same p.numbers true a b e
+slot_pieces-same (slot.rank i) pointed p a b e = rank_at-same p.numbers i a b e
+slot_pieces-same (slot.types_from i) pointed p a b e =
+    ap (λ w. parted w (drop i p.types) true) (comma-same a b e)
 slot_pieces-same slot.comma pointed p a b e = separator-same false a b e
 slot_pieces-same _ pointed p a b e = refl
 
@@ -365,10 +382,10 @@ laid-same : (ss : List Slot) (pointed : Bool) (p p' : Parts) (a b : ℕ) → p �
     laid ss pointed p a ≡ laid ss pointed p' b
 laid-same ss pointed p p' a b h e = ap (λ z. laid ss pointed z a) h ∙ laid-flags ss pointed p' a b e
 
-parts-same : (set : ℕ) (zs : List Number) (bytes : List ℕ) (ns ns' os os' : List (List Piece)) → ns ≡ ns' →
-    os ≡ os' → parts set zs bytes ns os ≡ parts set zs bytes ns' os'
-parts-same set zs bytes ns ns' os os' h h' =
-    ap (λ z. parts set zs bytes z os) h ∙ ap (λ z. parts set zs bytes ns' z) h'
+parts-same : (set : ℕ) (zs : List Number) (bytes : List ℕ) (ns ns' os os' ts ts' : List (List Piece)) → ns ≡ ns' →
+    os ≡ os' → ts ≡ ts' → parts set zs bytes ns os ts ≡ parts set zs bytes ns' os' ts'
+parts-same set zs bytes ns ns' os os' ts ts' h h' h'' = ap (λ z. parts set zs bytes z os ts) h
+    ∙ ap (λ z. parts set zs bytes ns' z ts) h' ∙ ap (λ z. parts set zs bytes ns' os' z) h''
 
 same-cons : (x x' : List Piece) (xs xs' : List (List Piece)) → x ≡ x' → xs ≡ xs' →
     Path (List (List Piece)) (x ∷ xs) (x' ∷ xs')
@@ -376,7 +393,7 @@ same-cons x x' xs xs' h hs = ap (λ z. z ∷ xs) h ∙ ap (λ z. x' ∷ z) hs
 
 -- names, scopes, types and their lists
 mutual
-  unfolding name_pieces scope_pieces arguments conversion grown grown_around each_name parameters
+  unfolding name_pieces scope_pieces arguments conversion grown grown_around each_name each_type parameters
 
   name_pieces-same : (n : NameTree) (of_symbol : Bool) (a b : ℕ) → Same a b →
       name_pieces n of_symbol a ≡ name_pieces n of_symbol b
@@ -399,7 +416,8 @@ mutual
       (grown-same t false alone alone a b refl e)
   name_pieces-same (base_class_descriptor k l m n) of_symbol a b e = base_class-same k l m n a b e
   name_pieces-same (shaped row set zs bytes ns ts) of_symbol a b e = laid-same (slots row side.Left) false _ _ a b
-      (parts-same set zs bytes _ _ _ _ (each_name-same ns true a b e) (each_name-same ns false a b e)) e
+      (parts-same set zs bytes _ _ _ _ _ _ (each_name-same ns true a b e) (each_name-same ns false a b e)
+      (each_type-same ts a b e)) e
 
   each_name-same : (ns : NameTrees) (of_symbol : Bool) (a b : ℕ) → Same a b →
       each_name ns of_symbol a ≡ each_name ns of_symbol b
@@ -478,10 +496,17 @@ mutual
   grown-same (plain plain_kind.Nullptr) pointed s s' a b h e =
       ap (λ x. between (text (codes "std::nullptr_t") ∷ []) x []) h
   grown-same (shape row set zs bytes ns ts) pointed s s' a b h e =
-      let p = parts-same set zs bytes _ _ _ _ (each_name-same ns true a b e) (each_name-same ns false a b e) in
+      let p = parts-same set zs bytes _ _ _ _ _ _ (each_name-same ns true a b e) (each_name-same ns false a b e)
+      (each_type-same ts a b e) in
       grown_around-same ts (layout_of row).around _ _ a b (between-same _ _ s s' _ _
       (laid-same (slots row side.Left) pointed _ _ a b p e) h (laid-same (slots row side.Right) pointed _ _ a b p e)) e
   grown-same _ pointed s s' a b h e = h
+
+  each_type-same : (ts : TypeTrees) (a b : ℕ) → Same a b → each_type ts a ≡ each_type ts b
+  each_type-same no_types a b e = refl
+  each_type-same (types t ts) a b e =
+      same-cons _ _ _ _ (ap (λ s. around s []) (grown-same t false alone alone a b refl e))
+      (each_type-same ts a b e)
 
   grown_around-same : (ts : TypeTrees) (w : Option Bool) (s s' : Sides) (a b : ℕ) → s ≡ s' → Same a b →
       grown_around ts w s a ≡ grown_around ts w s' b

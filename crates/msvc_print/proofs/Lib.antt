@@ -5,6 +5,7 @@ pub mod Stack
 pub mod ShapePieces
 pub mod StringBytes
 pub mod StringExamples
+pub mod HexDigits
 pub mod Dropped
 pub mod SimpleTypes
 pub mod Longer
@@ -14,4 +15,6 @@ pub mod OperatorNames
 pub mod Parameters
 pub mod PrinterLoop
 pub mod Laws
+pub mod PieceTexts
+pub mod ShapeTexts
 pub mod Texts

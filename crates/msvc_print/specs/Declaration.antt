@@ -137,7 +137,7 @@ unfoldable mutual
       space AfterPointer ∷ ((grown t false alone flags).left ++ text (codes "::`RTTI Type Descriptor'") ∷ [])
   name_pieces (base_class_descriptor a b c d) of_symbol flags = base_class_pieces a b c d flags
   name_pieces (shaped row set zs bytes ns ts) of_symbol flags = laid (slots row side.Left) false
-      (parts set zs bytes (each_name ns true flags) (each_name ns false flags)) flags
+      (parts set zs bytes (each_name ns true flags) (each_name ns false flags) (each_type ts flags)) flags
 
   -- the pieces of each name of a list, with `of_symbol` for each
   pub each_name : NameTrees → Bool → ℕ → List (List Piece)
@@ -209,9 +209,11 @@ unfoldable mutual
   grown (plain plain_kind.Nullptr) pointed sides flags = between (text (codes "std::nullptr_t") ∷ []) sides []
   -- A shape has what its row prints on both sides, and around these the first of its types, if its layout says so.
   grown (shape row set zs bytes ns ts) pointed sides flags = grown_around ts (layout_of row).around (between
-      (laid (slots row side.Left) pointed (parts set zs bytes (each_name ns true flags) (each_name ns false flags)) flags)
+      (laid (slots row side.Left) pointed
+      (parts set zs bytes (each_name ns true flags) (each_name ns false flags) (each_type ts flags)) flags)
       sides
-      (laid (slots row side.Right) pointed (parts set zs bytes (each_name ns true flags) (each_name ns false flags)) flags))
+      (laid (slots row side.Right) pointed
+      (parts set zs bytes (each_name ns true flags) (each_name ns false flags) (each_type ts flags)) flags))
       flags
   grown _ pointed sides flags = sides
 
@@ -220,6 +222,11 @@ unfoldable mutual
   pub grown_around : TypeTrees → Option Bool → Sides → ℕ → Sides
   grown_around (types t ts) (Some pointed) sides flags = grown t pointed sides flags
   grown_around _ _ sides flags = sides
+
+  -- the pieces of each type of a list, on both sides of no name
+  pub each_type : TypeTrees → ℕ → List (List Piece)
+  each_type no_types flags = []
+  each_type (types t ts) flags = around (grown t false alone flags) [] ∷ each_type ts flags
 
   -- The types of a list, each on both sides of no name, with a comma before each but the first. `first` says whether
   -- none of the list was printed before.

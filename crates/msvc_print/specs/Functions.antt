@@ -136,6 +136,10 @@ abbrev pub parameter_list : Bool → List Piece → ℕ → ℕ → List Piece
 parameter_list pointed parameters set flags = closing pointed
     ++ (text (codes "(") ∷ (parameters ++ (text (codes ")") ∷ function_qualifiers set flags)))
 
+-- the comma between two parameters
+abbrev pub comma : ℕ → List ℕ
+comma flags = cond (has flags space_after_comma) (codes ", ") (codes ",")
+
 -- the comma before a parameter that is not the first
 unfoldable pub separator : Bool → ℕ → List Piece
-separator first flags = cond first [] (text (cond (has flags space_after_comma) (codes ", ") (codes ",")) ∷ [])
+separator first flags = cond first [] (text (comma flags) ∷ [])

@@ -6,12 +6,13 @@ use Rattle.std.specs.Prelude.{ℕ, List, [], ◌∷◌, ◌++◌, Bool, true, fa
 use Rattle.std.specs.Fmt.{signed_decimal}
 use Rattle.msvc_nodes.specs.declared.kinds.NumberedType.TheVariants as number_kind
 use Rattle.msvc_nodes.specs.declared.kinds.PlainType.TheVariants as plain_kind
-use Rattle.msvc_nodes.specs.Trees.{NameTree, NameTrees, TypeTree, plain, base, tagged, numbered, pointing, array}
+use Rattle.msvc_nodes.specs.Trees.{NameTree, NameTrees, TypeTree, TypeTrees, plain, base, tagged, numbered, pointing}
+use Rattle.msvc_nodes.specs.Trees.{array}
 use Rattle.msvc_nodes.specs.Trees.{function, member_function, member_pointer, variable, table, vcall_thunk}
 use Rattle.msvc_nodes.specs.Trees.{shape, no_types, types}
 use Rattle.msvc_nodes.specs.declared.nodes.Number.{Number}
 use Rattle.msvc_print.specs.Declaration.{length_pieces, parameters, pointed_class, scope_path, symbol_name, table_end}
-use Rattle.msvc_print.specs.Declaration.{each_name, thunk_end, returned_end}
+use Rattle.msvc_print.specs.Declaration.{each_name, each_type, thunk_end, returned_end}
 use Rattle.msvc_print.specs.Functions.{calling, member_start, function_qualifier, function_qualifiers}
 use Rattle.msvc_print.specs.Pieces.{Piece, text}
 use Rattle.msvc_print.specs.Shapes.{Parts, laid, parts}
@@ -40,9 +41,10 @@ unfoldable pub member_pointer_end : List Piece → ℕ → List Piece → List P
 member_pointer_end parameters set returned = text (codes ")(") ∷ (parameters
     ++ (text (codes ")") ∷ (returned ++ function_qualifier 1 (codes "const") set)))
 
--- the parts of a shape, by its qualifiers, its numbers, its bytes and its names
-abbrev pub shape_parts : ℕ → List Number → List ℕ → NameTrees → ℕ → Parts
-shape_parts set zs bytes ns flags = parts set zs bytes (each_name ns true flags) (each_name ns false flags)
+-- the parts of a shape, by its qualifiers, its numbers, its bytes, its names and its types
+abbrev pub shape_parts : ℕ → List Number → List ℕ → NameTrees → TypeTrees → ℕ → Parts
+shape_parts set zs bytes ns ts flags =
+    parts set zs bytes (each_name ns true flags) (each_name ns false flags) (each_type ts flags)
 
 -- the pieces of the type around a shape, which is told whether the shape stands under it as the mark of a pointer does
 abbrev pub pieces_around : Option Bool → (Bool → List Piece) → List Piece
@@ -72,10 +74,10 @@ before (table k scope set) pointed flags = qualifiers set flags
 before (vcall_thunk n convention) pointed flags = text (codes "[thunk]: ") ∷ calling false convention flags
 before (variable t kind set) pointed flags = text (variable_word kind) ∷ (before t false flags ++ qualifiers set flags)
 before (shape row set zs bytes ns no_types) pointed flags =
-    laid (slots row side.Left) pointed (shape_parts set zs bytes ns flags) flags
+    laid (slots row side.Left) pointed (shape_parts set zs bytes ns no_types flags) flags
 before (shape row set zs bytes ns (types t ts)) pointed flags =
     pieces_around (layout_of row).around (λ p. before t p flags)
-    ++ laid (slots row side.Left) pointed (shape_parts set zs bytes ns flags) flags
+    ++ laid (slots row side.Left) pointed (shape_parts set zs bytes ns (types t ts) flags) flags
 before _ pointed flags = []
 
 -- the pieces of a type after the name
@@ -92,8 +94,8 @@ after (variable t kind set) pointed flags = after t false flags
 after (table k scope set) pointed flags = table_end k scope (scope_path scope flags)
 after (vcall_thunk n convention) pointed flags = thunk_end n flags
 after (shape row set zs bytes ns no_types) pointed flags =
-    laid (slots row side.Right) pointed (shape_parts set zs bytes ns flags) flags
+    laid (slots row side.Right) pointed (shape_parts set zs bytes ns no_types flags) flags
 after (shape row set zs bytes ns (types t ts)) pointed flags =
-    laid (slots row side.Right) pointed (shape_parts set zs bytes ns flags) flags
+    laid (slots row side.Right) pointed (shape_parts set zs bytes ns (types t ts) flags) flags
     ++ pieces_around (layout_of row).around (λ p. after t p flags)
 after _ pointed flags = []

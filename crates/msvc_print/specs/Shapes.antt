@@ -1,38 +1,44 @@
 -- The pieces that the layouts of the table of shapes stand for, by the parts of a shape.
-use Rattle.std.specs.Prelude.{ℕ, zero, suc, ◌+◌, List, [], ◌∷◌, ◌++◌, Bool, true, false, cond, codes, ◌==◌}
-use Rattle.std.specs.Fmt.{decimal}
+use Rattle.std.specs.Prelude.{ℕ, zero, suc, ◌+◌, List, [], ◌∷◌, ◌++◌, Bool, true, false, cond, codes, drop, ◌==◌}
+use Rattle.std.specs.Fmt.{decimal, digits}
 use Rattle.msvc_nodes.specs.declared.nodes.Number.{Number}
 use Rattle.msvc_print.specs.Flags.{has, no_member_type}
-use Rattle.msvc_print.specs.Functions.{separator}
+use Rattle.msvc_print.specs.Functions.{comma, separator}
 use Rattle.msvc_print.specs.Pieces.{Piece, text}
 use Rattle.msvc_print.specs.Strings.{literal_pieces}
-use Rattle.msvc_print.specs.Words.{closing, full_space, mark_qualifiers, opening, qualifiers, table_qualifiers}
+use Rattle.msvc_print.specs.Words.{closing, full_space, mark_qualifiers, marked, opening, qualifiers}
+use Rattle.msvc_print.specs.Words.{table_qualifiers, unaligned}
 use Rattle.msvc_shapes.specs.Layouts.{Slot}
 use Rattle.msvc_shapes.specs.Layouts as slot
 
--- the parts of a shape: its qualifiers, its numbers, its bytes, and the pieces of each of its names, as that of a
--- symbol itself and as in a scope
+-- the parts of a shape: its qualifiers, its numbers, its bytes, the pieces of each of its names, as that of a symbol
+-- itself and as in a scope, and the pieces of each of its types around nothing
 pub record Parts : Type 0 where
   pub set : ℕ
   pub numbers : List Number
   pub bytes : List ℕ
   pub symbols : List (List Piece)
   pub names : List (List Piece)
+  pub types : List (List Piece)
 
--- the parts of a shape, by its qualifiers, its numbers, its bytes and the pieces of its names
-abbrev pub parts : ℕ → List Number → List ℕ → List (List Piece) → List (List Piece) → Parts
-parts set numbers bytes symbols names =
-    record { set = set; numbers = numbers; bytes = bytes; symbols = symbols; names = names }
+-- the parts of a shape, by its qualifiers, its numbers, its bytes and the pieces of its names and types
+abbrev pub parts : ℕ → List Number → List ℕ → List (List Piece) → List (List Piece) → List (List Piece) → Parts
+parts set numbers bytes symbols names types =
+    record { set = set; numbers = numbers; bytes = bytes; symbols = symbols; names = names; types = types }
 
 -- a number in decimal, after a minus if it has one
 abbrev pub number_pieces : Number → List Piece
 number_pieces n = cond n.is_negative (text (codes "-") ∷ []) [] ++ text (decimal n.value) ∷ []
 
--- the number at a place of a list, and nothing behind the end
+-- what is printed of the number at a place of a list, and nothing behind the end
+abbrev pub of_number_at : (Number → List Piece) → List Number → ℕ → List Piece
+of_number_at pieces [] i = []
+of_number_at pieces (n ∷ ns) zero = pieces n
+of_number_at pieces (n ∷ ns) (suc i) = of_number_at pieces ns i
+
+-- the number at a place
 abbrev pub number_at : List Number → ℕ → List Piece
-number_at [] i = []
-number_at (n ∷ ns) zero = number_pieces n
-number_at (n ∷ ns) (suc i) = number_at ns i
+number_at ns i = of_number_at number_pieces ns i
 
 -- the length of a level of an array in brackets, which are empty where it is 0
 abbrev pub level_pieces : Number → List Piece
@@ -52,11 +58,25 @@ each_number (n ∷ ns) first flags = separator first flags ++ (number_pieces n +
 abbrev pub index_pieces : Number → List Piece
 index_pieces n = cond (n.value == 0) [] (text (codes "{") ∷ (number_pieces n ++ text (codes "}") ∷ []))
 
--- the number at a place of a list in braces, and nothing behind the end
+-- the number at a place in braces
 abbrev pub index_at : List Number → ℕ → List Piece
-index_at [] i = []
-index_at (n ∷ ns) zero = index_pieces n
-index_at (n ∷ ns) (suc i) = index_at ns i
+index_at ns i = of_number_at index_pieces ns i
+
+-- a comma and a number, and nothing where it is 1
+abbrev pub rank_pieces : Number → ℕ → List Piece
+rank_pieces n flags = cond (n.value == 1) [] (text (comma flags) ∷ number_pieces n)
+
+-- the number at a place after a comma
+abbrev pub rank_at : List Number → ℕ → ℕ → List Piece
+rank_at ns i flags = of_number_at (λ n. rank_pieces n flags) ns i
+
+-- a number in hexadecimal, in capital letters and without its sign
+abbrev pub hexadecimal_pieces : Number → List Piece
+hexadecimal_pieces n = text (digits 16 true n.value) ∷ []
+
+-- the number at a place in hexadecimal
+abbrev pub hexadecimal_at : List Number → ℕ → List Piece
+hexadecimal_at ns i = of_number_at hexadecimal_pieces ns i
 
 -- the pieces at a place of a list, and none behind the end
 abbrev pub pieces_at : List (List Piece) → ℕ → List Piece
@@ -64,14 +84,19 @@ pieces_at [] i = []
 pieces_at (x ∷ xs) zero = x
 pieces_at (x ∷ xs) (suc i) = pieces_at xs i
 
--- what stands before a class that a table is for
-abbrev pub target_start : Bool → List Piece
-target_start first = text (cond first (codes "{for ") (codes "s ")) ∷ []
+-- a word, unless there are no names
+abbrev pub names_word_pieces : {A : Type 0} → List ℕ → List A → List Piece
+names_word_pieces w [] = []
+names_word_pieces w (x ∷ xs) = text w ∷ []
 
--- the classes that a table is for, and nothing if there are none; `first` says whether none of them was printed before
-abbrev pub target_pieces : List (List Piece) → Bool → List Piece
-target_pieces [] first = cond first [] (text (codes "}") ∷ [])
-target_pieces (x ∷ xs) first = target_start first ++ (x ++ target_pieces xs false)
+-- the word before a name or a type, unless it is the first
+abbrev pub parting : List ℕ → Bool → List Piece
+parting w first = cond first [] (text w ∷ [])
+
+-- names or types parted by a word; `first` says whether none of them was printed before
+abbrev pub parted : List ℕ → List (List Piece) → Bool → List Piece
+parted w [] first = []
+parted w (x ∷ xs) first = parting w first ++ (x ++ parted w xs false)
 
 -- a word that NO_MEMBER_TYPE drops
 abbrev pub kind_word_pieces : List ℕ → ℕ → List Piece
@@ -85,6 +110,8 @@ slot_pieces (slot.number i) pointed p flags = number_at p.numbers i
 slot_pieces slot.lengths pointed p flags = each_level p.numbers
 slot_pieces slot.qualifiers pointed p flags = qualifiers p.set flags
 slot_pieces slot.pointer_qualifiers pointed p flags = mark_qualifiers (full_space flags) p.set
+slot_pieces slot.unaligned pointed p flags = unaligned p.set flags
+slot_pieces (slot.mark w) pointed p flags = marked w p.set flags
 slot_pieces slot.opening pointed p flags = opening pointed flags
 slot_pieces slot.closing pointed p flags = closing pointed
 slot_pieces (slot.symbol i) pointed p flags = pieces_at p.symbols i
@@ -92,9 +119,14 @@ slot_pieces (slot.name i) pointed p flags = pieces_at p.names i
 slot_pieces slot.numbers pointed p flags = each_number p.numbers true flags
 slot_pieces slot.comma pointed p flags = separator false flags
 slot_pieces (slot.index i) pointed p flags = index_at p.numbers i
+slot_pieces (slot.rank i) pointed p flags = rank_at p.numbers i flags
+slot_pieces (slot.hexadecimal i) pointed p flags = hexadecimal_at p.numbers i
 slot_pieces slot.bytes pointed p flags = text p.bytes ∷ []
 slot_pieces slot.table_qualifiers pointed p flags = table_qualifiers p.set
-slot_pieces slot.targets pointed p flags = target_pieces p.names true
+slot_pieces (slot.names_word w) pointed p flags = names_word_pieces w p.names
+slot_pieces (slot.names w) pointed p flags = parted w p.names true
+slot_pieces (slot.type_at i) pointed p flags = pieces_at p.types i
+slot_pieces (slot.types_from i) pointed p flags = parted (comma flags) (drop i p.types) true
 slot_pieces (slot.literal is_wide) pointed p flags = literal_pieces is_wide p.numbers
 
 -- the pieces of slots, in their order
@@ -102,7 +134,7 @@ unfoldable pub laid : List Slot → Bool → Parts → ℕ → List Piece
 laid [] pointed p flags = []
 laid (s ∷ ss) pointed p flags = slot_pieces s pointed p flags ++ laid ss pointed p flags
 
--- the weight of slots, each of which prints names that weigh at most `names`
+-- the weight of slots, each of which prints names and types that weigh at most `parts`
 unfoldable pub slots_weight : List Slot → ℕ → ℕ
-slots_weight [] names = 1
-slots_weight (s ∷ ss) names = 1 + names + slots_weight ss names
+slots_weight [] parts = 1
+slots_weight (s ∷ ss) parts = 1 + parts + slots_weight ss parts

@@ -28,8 +28,8 @@ count_zero at_end zeros b = cond (b == 0) (zeros + 1) (cond at_end 0 zeros)
 abbrev pub zeros_of : Bool → List ℕ → ℕ
 zeros_of at_end bytes = fold (count_zero at_end) 0 bytes
 
--- the width that zero bytes let guess: four bytes from `four` zero bytes on, if the length allows it, and two from `two`
--- on
+-- the width that zero bytes let guess: four bytes from `four` zero bytes on, if the length allows it, and two bytes
+-- from `two` zero bytes on
 abbrev pub guessed : ℕ → ℕ → ℕ → ℕ → Width
 guessed four two zeros len = cond (leb four zeros && len % 4 == 0) Four (cond (leb two zeros) Two One)
 

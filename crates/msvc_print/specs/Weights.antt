@@ -23,7 +23,8 @@ unfoldable mutual
   name_weight (nested n ns t) = 3 + typed_symbol_weight
       (scoped_weight (name_weight n) (scope_weight ns) (type_weight t)) (type_weight t)
   name_weight (type_descriptor set t) = 3 + type_weight t
-  name_weight (shaped row set zs bytes ns ts) = slots_weight (slots row side.Left) (scope_weight ns)
+  name_weight (shaped row set zs bytes ns ts) =
+      slots_weight (slots row side.Left) (scope_weight ns + types_weight ts)
   name_weight _ = 1
 
   -- the weight of the names of a scope
@@ -42,8 +43,9 @@ unfoldable mutual
       6 + types_weight ts + type_weight t + scoped_weight (name_weight n) (scope_weight scope) 1
   type_weight (variable t kind set) = 3 + type_weight t
   type_weight (table k scope set) = 3 + scope_weight scope
-  type_weight (shape row set zs bytes ns ts) = slots_weight (slots row side.Left) (scope_weight ns)
-      + slots_weight (slots row side.Right) (scope_weight ns) + types_weight ts
+  type_weight (shape row set zs bytes ns ts) =
+      slots_weight (slots row side.Left) (scope_weight ns + types_weight ts)
+      + slots_weight (slots row side.Right) (scope_weight ns + types_weight ts) + types_weight ts
   type_weight _ = 1
 
   -- the weight of a list of types, each of which is printed on both sides of no name

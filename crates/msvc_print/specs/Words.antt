@@ -112,10 +112,14 @@ unfoldable pub mark_qualifiers : Space → ℕ → List Piece
 mark_qualifiers s set = qualifier s 1 (codes "const") set
     ++ (qualifier s 2 (codes "volatile") set ++ qualifier s 32 (codes "__restrict") set)
 
+-- the `__unaligned` of a pointer, before its mark
+abbrev pub unaligned : ℕ → ℕ → List Piece
+unaligned set flags = qualifier (full_space flags) 16 (codes "__unaligned ") set
+
 -- the mark of a pointer or a reference in the second grammar's style, with its qualifiers: `__unaligned` before the
 -- mark, the others after it
 unfoldable pub full_marked : List ℕ → ℕ → ℕ → List Piece
-full_marked word set flags = qualifier (full_space flags) 16 (codes "__unaligned ") set
+full_marked word set flags = unaligned set flags
     ++ (full_mark_space flags ++ (text word ∷ mark_qualifiers (full_space flags) set))
 
 -- the mark of a pointer or a reference, with its qualifiers

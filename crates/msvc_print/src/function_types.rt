@@ -335,6 +335,16 @@ pub fn write_list_end<W: Wording, A: Allocator>(
     }
 }
 
+/// Returns the comma between two parameters.
+pub fn comma<W: Wording>(flags: Style<W>) -> &'static [u8]
+    ensures { result.now ≡ spec.comma flags.bits }
+{
+    if !flags.contains(DemangleFlags::SPACE_AFTER_COMMA) {
+        return b",";
+    }
+    b", "
+}
+
 /// Writes the comma before a parameter that is not the first. Each word is a constant, which is stored without a call.
 pub fn write_separator<W: Wording, A: Allocator>(
     out: &mut Text<A>,

@@ -14,6 +14,7 @@
 #![tactic(auto, using(crate::proofs::Stack::pushes))]
 
 mod function_types;
+mod hexadecimal;
 mod item;
 mod operators;
 mod printer;

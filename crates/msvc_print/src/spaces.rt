@@ -230,6 +230,25 @@ pub fn write_pointer_qualifiers<W: Wording, A: Allocator>(
     write_mark_qualifiers(out, kind, qualifiers)
 }
 
+/// Writes the `__unaligned` of a pointer in the second grammar's style.
+#[inline(always)]
+pub fn write_unaligned<W: Wording, A: Allocator>(
+    out: &mut Text<A>,
+    qualifiers: StorageClass,
+    flags: Style<W>,
+) -> Result<(), AllocError>
+    ensures { OnOk result (Writes (spec.unaligned qualifiers.0 flags.bits) out.old out.new) }
+{
+    let kind = chosen_space(flags, Space::AfterFullWord, Space::AfterFullPointer);
+    write_qualifier(
+        out,
+        kind,
+        StorageClass::UNALIGNED,
+        b"__unaligned ",
+        qualifiers,
+    )
+}
+
 /// Writes the space before the mark of a pointer or a reference in the second grammar's style.
 fn write_full_mark_space<W: Wording, A: Allocator>(
     out: &mut Text<A>,
@@ -257,13 +276,7 @@ fn write_full_mark<W: Wording, A: Allocator>(
     ensures { OnOk result (Writes (spec.full_marked word.now qualifiers.0 flags.bits) out.old out.new) }
 {
     let kind = chosen_space(flags, Space::AfterFullWord, Space::AfterFullPointer);
-    write_qualifier(
-        out,
-        kind,
-        StorageClass::UNALIGNED,
-        b"__unaligned ",
-        qualifiers,
-    )?;
+    write_unaligned(out, qualifiers, flags)?;
     write_full_mark_space(out, flags)?;
     write_text(out, word)?;
     write_mark_qualifiers(out, kind, qualifiers)

@@ -158,7 +158,7 @@ fn escape(character: u32) -> Option<u8>
 }
 
 /// Returns a hex digit.
-fn hex_digit(digit: u8) -> u8
+pub fn hex_digit(digit: u8) -> u8
     requires { digit < 16 }
     ensures { result ≡ spec.hex_digit digit }
 {
@@ -245,7 +245,7 @@ fn write_characters<A: Allocator>(
     Ok(())
 }
 
-/// Writes what stands after the characters of a string, of which some are missing if it is cut.
+/// Writes the end of a string, behind its characters: a quotation mark, and `...` after it if characters were cut off.
 fn write_end<A: Allocator>(out: &mut Text<A>, is_cut: bool) -> Result<(), AllocError>
     ensures { OnOk result (Writes (spec.end is_cut) out.old out.new) }
 {

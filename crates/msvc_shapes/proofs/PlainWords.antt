@@ -4,7 +4,8 @@ use Rattle.std.proofs.Common.{leb-true, true≢false}
 use Rattle.std.proofs.lemmas.Str.Ascii.{IsAscii-cons, IsAscii-nil}
 use Rattle.std.specs.Prelude.{◌&&◌, ◌==◌, leb}
 use Rattle.std.specs.Str.{IsAscii}
-use Rattle.msvc_shapes.specs.Layouts.{Layout, Slot, kind_word, layout_in, layout_of, slots, table, word}
+use Rattle.msvc_shapes.specs.Layouts.{Layout, Slot, kind_word, layout_in, layout_of, mark, names, names_word, slots}
+use Rattle.msvc_shapes.specs.Layouts.{table, word}
 use Rattle.msvc_shapes.specs.declared.layouts.Side.{Side}
 use Rattle.msvc_shapes.specs.declared.layouts.Side.TheVariants as side
 
@@ -12,6 +13,9 @@ use Rattle.msvc_shapes.specs.declared.layouts.Side.TheVariants as side
 abbrev pub WordOfSlot : (List ℕ → Type 0) → Slot → Type 0
 WordOfSlot P (word w) = P w
 WordOfSlot P (kind_word w) = P w
+WordOfSlot P (mark w) = P w
+WordOfSlot P (names_word w) = P w
+WordOfSlot P (names w) = P w
 WordOfSlot P _ = Unit {0}
 
 -- P holds of each word
@@ -27,6 +31,9 @@ is_plain (x ∷ xs) = leb x 127 && is_plain xs
 abbrev is_plain_slot : Slot → Bool
 is_plain_slot (word w) = is_plain w
 is_plain_slot (kind_word w) = is_plain w
+is_plain_slot (mark w) = is_plain w
+is_plain_slot (names_word w) = is_plain w
+is_plain_slot (names w) = is_plain w
 is_plain_slot _ = true
 
 abbrev are_plain : List Slot → Bool
@@ -44,7 +51,7 @@ table-plain : is_plain_table table ≡ true
 table-plain = refl
 
 -- what it says
-both : (a b : Bool) → (a && b) ≡ true → (a ≡ true) × (b ≡ true)
+pub both : (a b : Bool) → (a && b) ≡ true → (a ≡ true) × (b ≡ true)
 both true b e = (refl, e)
 both false b e = absurd (true≢false (sym e))
 
@@ -72,6 +79,9 @@ is_plain-ascii (x ∷ xs) e =
 is_plain_slot-ascii : (s : Slot) → is_plain_slot s ≡ true → WordOfSlot IsAscii s
 is_plain_slot-ascii (word w) e = is_plain-ascii w e
 is_plain_slot-ascii (kind_word w) e = is_plain-ascii w e
+is_plain_slot-ascii (mark w) e = is_plain-ascii w e
+is_plain_slot-ascii (names_word w) e = is_plain-ascii w e
+is_plain_slot-ascii (names w) e = is_plain-ascii w e
 is_plain_slot-ascii _ e = tt
 
 are_plain-ascii : (ss : List Slot) → are_plain ss ≡ true → EachWord IsAscii ss

@@ -19,6 +19,10 @@ pub data Slot : Type 0 where
   -- the qualifiers of a type that is no pointer, and those of a pointer
   qualifiers : Slot
   pointer_qualifiers : Slot
+  -- the `__unaligned` of a pointer, before its mark
+  unaligned : Slot
+  -- the mark of a pointer, with the space before it and the qualifiers of the pointer
+  mark : List ℕ → Slot
   -- the parentheses round the mark of a pointer to the shape
   opening : Slot
   closing : Slot
@@ -30,12 +34,20 @@ pub data Slot : Type 0 where
   comma : Slot
   -- the number at a place in braces; nothing if it is 0
   index : ℕ → Slot
+  -- a comma and the number at a place; nothing if it is 1
+  rank : ℕ → Slot
+  -- the number at a place in hexadecimal, in capital letters and without its sign
+  hexadecimal : ℕ → Slot
   -- the bytes of the shape
   bytes : Slot
   -- the qualifiers of a table
   table_qualifiers : Slot
-  -- the names as in a scope, as the classes that a table is for
-  targets : Slot
+  -- a word that is left out if the shape has no names, and all names as in a scope, parted by a word
+  names_word : List ℕ → Slot
+  names : List ℕ → Slot
+  -- the type at a place, and all types from a place on, parted by commas, each around nothing
+  type_at : ℕ → Slot
+  types_from : ℕ → Slot
   -- a string by the numbers, its length and the bytes that were read; whether its characters are wide
   literal : Bool → Slot
 
@@ -54,6 +66,10 @@ before left = record { around = None; left = left; right = [] }
 abbrev pub inside : List Slot → List Slot → Layout
 inside left right = record { around = Some false; left = left; right = right }
 
+-- the layout of a row that stands under type 0 of the shape as the mark of a pointer does
+abbrev pub pointer : List Slot → Layout
+pointer left = record { around = Some true; left = left; right = [] }
+
 -- the layout of a row that prints one word
 abbrev pub only : List ℕ → Layout
 only w = before (word w ∷ [])
@@ -66,6 +82,10 @@ moved w = inside [] (word w ∷ numbers ∷ word (codes "}'") ∷ [])
 abbrev pub stub : List ℕ → Layout
 stub w = before (word w ∷ symbol 0 ∷ word (codes "''") ∷ [])
 
+-- a number of floating point by its bits, behind the word of its type
+abbrev pub bits_of : List ℕ → Layout
+bits_of w = before (word w ∷ hexadecimal 0 ∷ word (codes "}") ∷ [])
+
 -- the table: each row by its number
 abbrev pub table : List (ℕ × Layout)
 table =
@@ -75,11 +95,7 @@ table =
     ∷ (rows.arrays, inside (qualifiers ∷ opening ∷ []) (closing ∷ lengths ∷ []))
     ∷ (
       rows.member_pointer,
-      record {
-        around = Some true;
-        left = symbol 0 ∷ word (codes "::*") ∷ pointer_qualifiers ∷ [];
-        right = [];
-      },
+      pointer (unaligned ∷ symbol 0 ∷ word (codes "::*") ∷ pointer_qualifiers ∷ []),
     )
     ∷ (rows.extern_c, before (kind_word (codes "extern \"C\" ") ∷ []))
     ∷ (
@@ -100,7 +116,14 @@ table =
     ∷ (rows.adjustor, moved (codes "`adjustor{"))
     ∷ (rows.vtordisp, moved (codes "`vtordisp{"))
     ∷ (rows.vtordispex, moved (codes "`vtordispex{"))
-    ∷ (rows.tables, record { around = None; left = table_qualifiers ∷ []; right = targets ∷ [] })
+    ∷ (
+      rows.tables,
+      record {
+        around = None;
+        left = table_qualifiers ∷ [];
+        right = names_word (codes "{for ") ∷ names (codes "s ") ∷ names_word (codes "}") ∷ [];
+      },
+    )
     ∷ (rows.type_descriptor, only (codes "`RTTI Type Descriptor'"))
     ∷ (rows.md5_locator, before (word (codes "??@") ∷ bytes ∷ word (codes "@??_R4@") ∷ []))
     ∷ (rows.initializer_of_name, stub (codes "`dynamic initializer for '"))
@@ -118,6 +141,48 @@ table =
     ∷ (rows.vector_copy_ctor_iterator, only (codes "`vector copy ctor iterator'"))
     ∷ (rows.vector_vbase_copy_ctor_iterator, only (codes "`vector vbase copy constructor iterator'"))
     ∷ (rows.managed_vector_vbase_copy_ctor_iterator, only (codes "`managed vector vbase copy constructor iterator'"))
+    ∷ (rows.type_descriptor_name, only (codes "`RTTI Type Descriptor Name'"))
+    ∷ (
+      rows.displacement,
+      record { around = None; left = []; right = word (codes "{for ") ∷ name 0 ∷ word (codes "}") ∷ [] },
+    )
+    ∷ (rows.auto, before (word (codes "auto") ∷ qualifiers ∷ []))
+    ∷ (rows.decltype_auto, before (word (codes "decltype(auto)") ∷ qualifiers ∷ []))
+    ∷ (rows.block, pointer (mark (codes "^") ∷ []))
+    ∷ (rows.handle, pointer (mark (codes "^") ∷ []))
+    ∷ (rows.tracking, pointer (mark (codes "%") ∷ []))
+    ∷ (rows.interface, before (word (codes "[") ∷ symbol 0 ∷ word (codes "]") ∷ []))
+    ∷ (rows.null_member, only (codes "nullptr"))
+    ∷ (rows.absent, only (codes "{}"))
+    ∷ (rows.member_of, before (word (codes "&") ∷ names (codes "::") ∷ []))
+    ∷ (rows.float, bits_of (codes "float{0x"))
+    ∷ (rows.double, bits_of (codes "double{0x"))
+    ∷ (rows.float16, bits_of (codes "_Float16{0x"))
+    ∷ (rows.bfloat16, bits_of (codes "__bf16{0x"))
+    ∷ (rows.float80, bits_of (codes "__float80{0x"))
+    ∷ (rows.float128, bits_of (codes "__float128{0x"))
+    ∷ (rows.ibm128, bits_of (codes "__ibm128{0x"))
+    ∷ (rows.pin, before (word (codes "cli::pin_ptr<") ∷ type_at 0 ∷ word (codes ">") ∷ qualifiers ∷ []))
+    ∷ (
+      rows.cli_array,
+      before (word (codes "cli::array<") ∷ type_at 0 ∷ rank 0 ∷ word (codes ">^") ∷ qualifiers ∷ []),
+    )
+    ∷ (rows.template_object, before (type_at 0 ∷ []))
+    ∷ (rows.subobject, before (word (codes "&") ∷ type_at 0 ∷ []))
+    ∷ (rows.member, before (type_at 0 ∷ word (codes ".") ∷ name 0 ∷ []))
+    ∷ (rows.element, before (type_at 0 ∷ word (codes "[") ∷ number 0 ∷ word (codes "]") ∷ []))
+    ∷ (rows.aggregate, before (type_at 0 ∷ type_at 1 ∷ []))
+    ∷ (rows.values, before (word (codes "{") ∷ types_from 0 ∷ word (codes "}") ∷ []))
+    ∷ (rows.empty_union, before (type_at 0 ∷ word (codes "{}") ∷ []))
+    ∷ (
+      rows.union_value,
+      before
+          (type_at 0 ∷ word (codes "{.") ∷ name 0 ∷ word (codes " = ") ∷ type_at 1 ∷ word (codes "}") ∷ []),
+    )
+    ∷ (rows.catch_funclet, before (word (codes "catch$") ∷ bytes ∷ []))
+    ∷ (rows.destructor_funclet, before (word (codes "dtor$") ∷ bytes ∷ []))
+    ∷ (rows.filter_funclet, before (word (codes "filt$") ∷ bytes ∷ []))
+    ∷ (rows.finally_funclet, before (word (codes "fin$") ∷ bytes ∷ []))
     ∷ []
 
 -- the layout of a row of a table, an empty one if there is no such row
@@ -142,6 +207,8 @@ slot_seen (slot_code.Number i) = number i
 slot_seen slot_code.Lengths = lengths
 slot_seen slot_code.Qualifiers = qualifiers
 slot_seen slot_code.PointerQualifiers = pointer_qualifiers
+slot_seen slot_code.Unaligned = unaligned
+slot_seen (slot_code.Mark w) = mark w.now
 slot_seen slot_code.Opening = opening
 slot_seen slot_code.Closing = closing
 slot_seen (slot_code.Symbol i) = symbol i
@@ -149,9 +216,14 @@ slot_seen (slot_code.Name i) = name i
 slot_seen slot_code.Numbers = numbers
 slot_seen slot_code.Comma = comma
 slot_seen (slot_code.Index i) = index i
+slot_seen (slot_code.Rank i) = rank i
+slot_seen (slot_code.Hexadecimal i) = hexadecimal i
 slot_seen slot_code.Bytes = bytes
 slot_seen slot_code.TableQualifiers = table_qualifiers
-slot_seen slot_code.Targets = targets
+slot_seen (slot_code.NamesWord w) = names_word w.now
+slot_seen (slot_code.Names w) = names w.now
+slot_seen (slot_code.Type i) = type_at i
+slot_seen (slot_code.Types i) = types_from i
 slot_seen (slot_code.Literal is_wide) = literal is_wide
 
 abbrev pub slots_seen : List SlotCode → List Slot

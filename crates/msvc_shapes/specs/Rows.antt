@@ -105,3 +105,99 @@ vector_vbase_copy_ctor_iterator = 33
 
 abbrev pub managed_vector_vbase_copy_ctor_iterator : ℕ
 managed_vector_vbase_copy_ctor_iterator = 34
+
+abbrev pub type_descriptor_name : ℕ
+type_descriptor_name = 35
+
+abbrev pub displacement : ℕ
+displacement = 36
+
+abbrev pub auto : ℕ
+auto = 37
+
+abbrev pub decltype_auto : ℕ
+decltype_auto = 38
+
+abbrev pub block : ℕ
+block = 39
+
+abbrev pub handle : ℕ
+handle = 40
+
+abbrev pub tracking : ℕ
+tracking = 41
+
+abbrev pub interface : ℕ
+interface = 42
+
+abbrev pub null_member : ℕ
+null_member = 43
+
+abbrev pub absent : ℕ
+absent = 44
+
+abbrev pub member_of : ℕ
+member_of = 45
+
+abbrev pub float : ℕ
+float = 46
+
+abbrev pub double : ℕ
+double = 47
+
+abbrev pub float16 : ℕ
+float16 = 48
+
+abbrev pub bfloat16 : ℕ
+bfloat16 = 49
+
+abbrev pub float80 : ℕ
+float80 = 50
+
+abbrev pub float128 : ℕ
+float128 = 51
+
+abbrev pub ibm128 : ℕ
+ibm128 = 52
+
+abbrev pub pin : ℕ
+pin = 53
+
+abbrev pub cli_array : ℕ
+cli_array = 54
+
+abbrev pub catch_funclet : ℕ
+catch_funclet = 55
+
+abbrev pub template_object : ℕ
+template_object = 56
+
+abbrev pub subobject : ℕ
+subobject = 57
+
+abbrev pub member : ℕ
+member = 58
+
+abbrev pub element : ℕ
+element = 59
+
+abbrev pub aggregate : ℕ
+aggregate = 60
+
+abbrev pub values : ℕ
+values = 61
+
+abbrev pub empty_union : ℕ
+empty_union = 62
+
+abbrev pub union_value : ℕ
+union_value = 63
+
+abbrev pub destructor_funclet : ℕ
+destructor_funclet = 64
+
+abbrev pub filter_funclet : ℕ
+filter_funclet = 65
+
+abbrev pub finally_funclet : ℕ
+finally_funclet = 66

@@ -30,6 +30,10 @@ pub enum Slot<'t> {
     Qualifiers,
     /// Prints the qualifiers of a pointer, after its mark.
     PointerQualifiers,
+    /// Prints the `__unaligned` of a pointer, before its mark.
+    Unaligned,
+    /// Prints this mark of a pointer, with the space before it and the qualifiers of the pointer.
+    Mark(&'t [u8]),
     /// Prints the parenthesis before the mark of a pointer to the shape.
     Opening,
     /// Prints the parenthesis that closes it.
@@ -44,12 +48,22 @@ pub enum Slot<'t> {
     Comma,
     /// Prints the number at this place in braces; nothing if it is 0.
     Index(usize),
+    /// Prints a comma and the number at this place; nothing if it is 1.
+    Rank(usize),
+    /// Prints the number at this place in hexadecimal, in capital letters and without its sign.
+    Hexadecimal(usize),
     /// Prints the bytes of the shape.
     Bytes,
     /// Prints the qualifiers of a table, with no space before them.
     TableQualifiers,
-    /// Prints the names as in a scope, as the classes that a table is for.
-    Targets,
+    /// Prints fixed bytes if the shape has names.
+    NamesWord(&'t [u8]),
+    /// Prints all names as in a scope, parted by these bytes.
+    Names(&'t [u8]),
+    /// Prints the type at this place, around nothing.
+    Type(usize),
+    /// Prints all types from this place on, each around nothing, parted by commas.
+    Types(usize),
     /// Prints a string by the numbers: its length, and the bytes that were read. The flag says whether its characters
     /// are wide.
     Literal(bool),
@@ -89,6 +103,17 @@ fn inside<'t>(left: &'t [Slot<'t>], right: &'t [Slot<'t>]) -> Layout<'t>
     }
 }
 
+/// Returns the layout of a row that stands under type 0 as the mark of a pointer does.
+fn pointer<'t>(left: &'t [Slot<'t>]) -> Layout<'t>
+    ensures { spec.layout_seen result ≡ spec.pointer (spec.slots_seen left.now) }
+{
+    Layout {
+        around: Some(true),
+        left,
+        right: &[],
+    }
+}
+
 /// Returns the layout of a row, an empty one if there is no such row.
 #[inline(always)]
 fn layout_of<'t>(row: u8) -> Layout<'t>
@@ -102,11 +127,12 @@ fn layout_of<'t>(row: u8) -> Layout<'t>
             &[Slot::Qualifiers, Slot::Opening],
             &[Slot::Closing, Slot::Lengths],
         ),
-        MEMBER_POINTER => Layout {
-            around: Some(true),
-            left: &[Slot::Symbol(0), Slot::Word(b"::*"), Slot::PointerQualifiers],
-            right: &[],
-        },
+        MEMBER_POINTER => pointer(&[
+            Slot::Unaligned,
+            Slot::Symbol(0),
+            Slot::Word(b"::*"),
+            Slot::PointerQualifiers,
+        ]),
         EXTERN_C => before(&[Slot::KindWord(b"extern \"C\" ")]),
         FRAME => before(&[
             Slot::Word(b"`"),
@@ -147,7 +173,11 @@ fn layout_of<'t>(row: u8) -> Layout<'t>
         TABLES => Layout {
             around: None,
             left: &[Slot::TableQualifiers],
-            right: &[Slot::Targets],
+            right: &[
+                Slot::NamesWord(b"{for "),
+                Slot::Names(b"s "),
+                Slot::NamesWord(b"}"),
+            ],
         },
         TYPE_DESCRIPTOR => before(&[Slot::Word(b"`RTTI Type Descriptor'")]),
         MD5_LOCATOR => before(&[Slot::Word(b"??@"), Slot::Bytes, Slot::Word(b"@??_R4@")]),
@@ -188,6 +218,93 @@ fn layout_of<'t>(row: u8) -> Layout<'t>
         MANAGED_VECTOR_VBASE_COPY_CTOR_ITERATOR => before(&[Slot::Word(
             b"`managed vector vbase copy constructor iterator'",
         )]),
+        TYPE_DESCRIPTOR_NAME => before(&[Slot::Word(b"`RTTI Type Descriptor Name'")]),
+        DISPLACEMENT => Layout {
+            around: None,
+            left: &[],
+            right: &[Slot::Word(b"{for "), Slot::Name(0), Slot::Word(b"}")],
+        },
+        AUTO => before(&[Slot::Word(b"auto"), Slot::Qualifiers]),
+        DECLTYPE_AUTO => before(&[Slot::Word(b"decltype(auto)"), Slot::Qualifiers]),
+        BLOCK => pointer(&[Slot::Mark(b"^")]),
+        HANDLE => pointer(&[Slot::Mark(b"^")]),
+        TRACKING => pointer(&[Slot::Mark(b"%")]),
+        INTERFACE => before(&[Slot::Word(b"["), Slot::Symbol(0), Slot::Word(b"]")]),
+        NULL_MEMBER => before(&[Slot::Word(b"nullptr")]),
+        ABSENT => before(&[Slot::Word(b"{}")]),
+        MEMBER_OF => before(&[Slot::Word(b"&"), Slot::Names(b"::")]),
+        FLOAT => before(&[
+            Slot::Word(b"float{0x"),
+            Slot::Hexadecimal(0),
+            Slot::Word(b"}"),
+        ]),
+        DOUBLE => before(&[
+            Slot::Word(b"double{0x"),
+            Slot::Hexadecimal(0),
+            Slot::Word(b"}"),
+        ]),
+        FLOAT16 => before(&[
+            Slot::Word(b"_Float16{0x"),
+            Slot::Hexadecimal(0),
+            Slot::Word(b"}"),
+        ]),
+        BFLOAT16 => before(&[
+            Slot::Word(b"__bf16{0x"),
+            Slot::Hexadecimal(0),
+            Slot::Word(b"}"),
+        ]),
+        FLOAT80 => before(&[
+            Slot::Word(b"__float80{0x"),
+            Slot::Hexadecimal(0),
+            Slot::Word(b"}"),
+        ]),
+        FLOAT128 => before(&[
+            Slot::Word(b"__float128{0x"),
+            Slot::Hexadecimal(0),
+            Slot::Word(b"}"),
+        ]),
+        IBM128 => before(&[
+            Slot::Word(b"__ibm128{0x"),
+            Slot::Hexadecimal(0),
+            Slot::Word(b"}"),
+        ]),
+        PIN => before(&[
+            Slot::Word(b"cli::pin_ptr<"),
+            Slot::Type(0),
+            Slot::Word(b">"),
+            Slot::Qualifiers,
+        ]),
+        CLI_ARRAY => before(&[
+            Slot::Word(b"cli::array<"),
+            Slot::Type(0),
+            Slot::Rank(0),
+            Slot::Word(b">^"),
+            Slot::Qualifiers,
+        ]),
+        TEMPLATE_OBJECT => before(&[Slot::Type(0)]),
+        SUBOBJECT => before(&[Slot::Word(b"&"), Slot::Type(0)]),
+        MEMBER => before(&[Slot::Type(0), Slot::Word(b"."), Slot::Name(0)]),
+        ELEMENT => before(&[
+            Slot::Type(0),
+            Slot::Word(b"["),
+            Slot::Number(0),
+            Slot::Word(b"]"),
+        ]),
+        AGGREGATE => before(&[Slot::Type(0), Slot::Type(1)]),
+        VALUES => before(&[Slot::Word(b"{"), Slot::Types(0), Slot::Word(b"}")]),
+        EMPTY_UNION => before(&[Slot::Type(0), Slot::Word(b"{}")]),
+        UNION_VALUE => before(&[
+            Slot::Type(0),
+            Slot::Word(b"{."),
+            Slot::Name(0),
+            Slot::Word(b" = "),
+            Slot::Type(1),
+            Slot::Word(b"}"),
+        ]),
+        CATCH_FUNCLET => before(&[Slot::Word(b"catch$"), Slot::Bytes]),
+        DESTRUCTOR_FUNCLET => before(&[Slot::Word(b"dtor$"), Slot::Bytes]),
+        FILTER_FUNCLET => before(&[Slot::Word(b"filt$"), Slot::Bytes]),
+        FINALLY_FUNCLET => before(&[Slot::Word(b"fin$"), Slot::Bytes]),
         _ => before(&[]),
     }
 }

@@ -73,3 +73,67 @@ pub const VECTOR_COPY_CTOR_ITERATOR: u8 = 32;
 pub const VECTOR_VBASE_COPY_CTOR_ITERATOR: u8 = 33;
 /// `` `managed vector vbase copy constructor iterator' ``.
 pub const MANAGED_VECTOR_VBASE_COPY_CTOR_ITERATOR: u8 = 34;
+/// The name of the descriptor of a type at run time.
+pub const TYPE_DESCRIPTOR_NAME: u8 = 35;
+/// A map of displacements of virtual bases: name 0 is the class that it is for, a symbol.
+pub const DISPLACEMENT: u8 = 36;
+/// `auto`, with qualifiers.
+pub const AUTO: u8 = 37;
+/// `decltype(auto)`, with qualifiers.
+pub const DECLTYPE_AUTO: u8 = 38;
+/// A pointer to a block: type 0 is what it points to; with the qualifiers of the pointer.
+pub const BLOCK: u8 = 39;
+/// A handle of C++/CLI: type 0 is what it points to; with the qualifiers of the pointer.
+pub const HANDLE: u8 = 40;
+/// A tracking reference of C++/CLI: type 0 is what it refers to; with the qualifiers of the pointer.
+pub const TRACKING: u8 = 41;
+/// A symbol in brackets in a scope: name 0 is the symbol, without a type.
+pub const INTERFACE: u8 = 42;
+/// A null pointer to a member among the arguments of a template.
+pub const NULL_MEMBER: u8 = 43;
+/// A member without a value in a value of a class.
+pub const ABSENT: u8 = 44;
+/// A pointer to a member by its name: the names are those of its scope, the outermost first, and the member's.
+pub const MEMBER_OF: u8 = 45;
+/// A `float` among the arguments of a template: number 0 has its bits.
+pub const FLOAT: u8 = 46;
+/// The same of `double`.
+pub const DOUBLE: u8 = 47;
+/// The same of `_Float16`.
+pub const FLOAT16: u8 = 48;
+/// The same of `__bf16`.
+pub const BFLOAT16: u8 = 49;
+/// The same of `__float80`.
+pub const FLOAT80: u8 = 50;
+/// The same of `__float128`.
+pub const FLOAT128: u8 = 51;
+/// The same of `__ibm128`.
+pub const IBM128: u8 = 52;
+/// A pinning pointer of C++/CLI: type 0 is what it points to; with qualifiers.
+pub const PIN: u8 = 53;
+/// An array of C++/CLI: type 0 is that of the elements, number 0 its rank; with qualifiers.
+pub const CLI_ARRAY: u8 = 54;
+/// The name of a part of a function that catches an exception: the bytes are those after `catch$`.
+pub const CATCH_FUNCLET: u8 = 55;
+/// An object that a template was given: type 0 is its value.
+pub const TEMPLATE_OBJECT: u8 = 56;
+/// The address of a part of an object among the arguments of a template: type 0 is the part.
+pub const SUBOBJECT: u8 = 57;
+/// A member of an object: type 0 is the object, name 0 the member.
+pub const MEMBER: u8 = 58;
+/// An element of an array: type 0 is the array, number 0 the place of the element.
+pub const ELEMENT: u8 = 59;
+/// A value of a class: type 0 is the class, type 1 the values of its members.
+pub const AGGREGATE: u8 = 60;
+/// Values in braces, of the members of a class or of the elements of an array: the types.
+pub const VALUES: u8 = 61;
+/// A value of a union that has no member: type 0 is the union.
+pub const EMPTY_UNION: u8 = 62;
+/// A value of a union: type 0 is the union, name 0 the member, type 1 its value.
+pub const UNION_VALUE: u8 = 63;
+/// The name of a part that destroys what an exception leaves: the bytes after `dtor$`.
+pub const DESTRUCTOR_FUNCLET: u8 = 64;
+/// The same of a filter of exceptions: the bytes after `filt$`.
+pub const FILTER_FUNCLET: u8 = 65;
+/// The same of a part that runs whether or not there is an exception: the bytes after `fin$`.
+pub const FINALLY_FUNCLET: u8 = 66;

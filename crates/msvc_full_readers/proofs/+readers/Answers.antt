@@ -10,8 +10,8 @@ use Rattle.msvc_rules.specs.Readers.{in_node, put_apart}
 use Rattle.msvc_rules.specs.Reads.{emptied, put_back}
 use Rattle.msvc_rules.specs.Rules.{after}
 use Rattle.msvc_rules.specs.State.{State}
-use Rattle.msvc_full_grammar.specs.Grammar.{template_inside}
-use Rattle.msvc_full_grammar.specs.Productions.{argument, arguments, nested_name, other_encoding, parameter, parameters}
+use Rattle.msvc_full_grammar.specs.Fragments.{template_inside}
+use Rattle.msvc_full_grammar.specs.Productions.{encoding, listed, nested_name, one_listed, parameter, parameters}
 use Rattle.msvc_full_grammar.specs.Productions.{class_symbol, scope, targets, template_name}
 use Rattle.msvc_full_grammar.specs.Reading.{read, read_name}
 use Rattle.msvc_full_grammar.proofs.Laws.{type_made}
@@ -25,8 +25,8 @@ use Rattle.msvc_full_readers.specs.Readings.{parameters_stop}
 use Rattle.msvc_full_readers.proofs.Counts.{template_name_made}
 use Rattle.msvc_full_readers.proofs.FunctionSteps.{parameters_ended, parameters_more}
 use Rattle.msvc_full_readers.proofs.NameSteps.{scope_ends, scope_more, targets_ends, targets_more, template_name_step}
-use Rattle.msvc_full_readers.proofs.SymbolSteps.{encoding_at_end}
-use Rattle.msvc_full_readers.proofs.TypeSteps.{arguments_end, arguments_more}
+use Rattle.msvc_full_readers.proofs.EncodingSteps.{encoding_at_end}
+use Rattle.msvc_full_readers.proofs.TypeSteps.{listed_end, listed_more}
 use Rattle.msvc_full_readers.proofs.+readers.Goals as goal
 
 -- the new one goes after those so far
@@ -179,55 +179,55 @@ parameters::parameters-parameters-preserved g t c =
 
 -- the same of arguments
 
-pub arguments::arguments-returns-then-consume-clause-value : goal.arguments::arguments-returns-then-consume-clause-value
-arguments::arguments-returns-then-consume-clause-value g t c =
+pub arguments::listed-returns-then-consume-clause-value : goal.arguments::listed-returns-then-consume-clause-value
+arguments::listed-returns-then-consume-clause-value g t c =
     let end = c.consume.new.self in
-    let ends : after (codes "@") c.arguments.parser.rest.now ≡ Some end.rest.now = search rules in
-    let same : current c.arguments.parser.listed_types ≡ current end.listed_types =
+    let ends : after (codes "@") c.listed.parser.rest.now ≡ Some end.rest.now = search rules in
+    let same : current c.listed.parser.listed_types ≡ current end.listed_types =
     ap (λ (f : Frame _ _). f.listed_types) (sym c.consume.ensures.kept) in
-    let state : state_of c.arguments.parser ≡ state_of end = sym c.consume.ensures.state in
-    sym c.arguments.invariant.0
-    ∙ arguments_end (map type_at (current c.arguments.parser.listed_types)) c.arguments.parser.rest.now end.rest.now
-    (state_of c.arguments.parser) ends
-    ∙ ap (λ ts. Some (map type_at ts, end.rest.now, state_of c.arguments.parser)) same
+    let state : state_of c.listed.parser ≡ state_of end = sym c.consume.ensures.state in
+    sym c.listed.invariant.0
+    ∙ listed_end c.args.kind (map type_at (current c.listed.parser.listed_types)) c.listed.parser.rest.now end.rest.now
+    (state_of c.listed.parser) ends
+    ∙ ap (λ ts. Some (map type_at ts, end.rest.now, state_of c.listed.parser)) same
     ∙ ap (λ s. Some (map type_at (current end.listed_types), end.rest.now, s)) state
 
-pub arguments::arguments-arguments-preserved : goal.arguments::arguments-arguments-preserved
-arguments::arguments-arguments-preserved g t c =
-    let kept : frame_of c.argument.new.parser ≡ frame_of c.arguments.parser =
-    c.in_ok-argument.ensures.consumes.1 ∙ c.consume.ensures.kept in
-    let shorter : length c.argument.new.parser.rest.now < length c.arguments.parser.rest.now = search rules in
-    let items : current c.list_type.new.self.listed_types ≡ current c.arguments.parser.listed_types
-    ++ c.in_ok-argument.argument ∷ [] =
+pub arguments::listed-listed-preserved : goal.arguments::listed-listed-preserved
+arguments::listed-listed-preserved g t c =
+    let kept : frame_of c.one_listed.new.parser ≡ frame_of c.listed.parser =
+    c.in_ok-one.ensures.consumes.1 ∙ c.consume.ensures.kept in
+    let shorter : length c.one_listed.new.parser.rest.now < length c.listed.parser.rest.now = search rules in
+    let items : current c.list_type.new.self.listed_types ≡ current c.listed.parser.listed_types
+    ++ c.in_ok-one.one ∷ [] =
     ap (λ (f : Frame _ _). f.listed_types) c.in_ok-list_type.ensures.kept
-    ∙ ap (λ (f : Frame _ _). f.listed_types ++ c.in_ok-argument.argument ∷ []) kept in
+    ∙ ap (λ (f : Frame _ _). f.listed_types ++ c.in_ok-one.one ∷ []) kept in
     let seen : map type_at (current c.list_type.new.self.listed_types)
-    ≡ map type_at (current c.arguments.parser.listed_types) ++ type_at c.in_ok-argument.argument ∷ [] =
-    ap (map type_at) items ∙ map_last type_at (current c.arguments.parser.listed_types) c.in_ok-argument.argument in
-    let none : after (codes "@") c.arguments.parser.rest.now ≡ None = search rules in
-    let read : read_name argument c.arguments.parser.rest.now (state_of c.arguments.parser)
-    ≡ Some (type_at c.in_ok-argument.argument, c.argument.new.parser.rest.now, state_of c.argument.new.parser) =
+    ≡ map type_at (current c.listed.parser.listed_types) ++ type_at c.in_ok-one.one ∷ [] =
+    ap (map type_at) items ∙ map_last type_at (current c.listed.parser.listed_types) c.in_ok-one.one in
+    let none : after (codes "@") c.listed.parser.rest.now ≡ None = search rules in
+    let read : read_name (one_listed c.args.kind) c.listed.parser.rest.now (state_of c.listed.parser)
+    ≡ Some (type_at c.in_ok-one.one, c.one_listed.new.parser.rest.now, state_of c.one_listed.new.parser) =
     search rules in
-    let rest : c.list_type.new.self.rest.now ≡ c.argument.new.parser.rest.now = c.in_ok-list_type.ensures.rest in
-    let state : state_of c.list_type.new.self ≡ state_of c.argument.new.parser = c.in_ok-list_type.ensures.state in (
-      ap (λ (ns : List TypeTree). with_front ns (read_name arguments c.list_type.new.self.rest.now
+    let rest : c.list_type.new.self.rest.now ≡ c.one_listed.new.parser.rest.now = c.in_ok-list_type.ensures.rest in
+    let state : state_of c.list_type.new.self ≡ state_of c.one_listed.new.parser = c.in_ok-list_type.ensures.state in (
+      ap (λ (ns : List TypeTree). with_front ns (read_name (listed c.args.kind) c.list_type.new.self.rest.now
           (state_of c.list_type.new.self)))
           seen
-          ∙ ap (λ l. with_front (map type_at (current c.arguments.parser.listed_types)
-          ++ type_at c.in_ok-argument.argument ∷ [])
-          (read_name arguments l (state_of c.list_type.new.self))) rest
-          ∙ ap (λ (s : State). with_front (map type_at (current c.arguments.parser.listed_types)
-          ++ type_at c.in_ok-argument.argument ∷ [])
-          (read_name arguments c.argument.new.parser.rest.now s)) state
-          ∙ sym (arguments_more (map type_at (current c.arguments.parser.listed_types)) c.arguments.parser.rest.now
-          c.argument.new.parser.rest.now (state_of c.arguments.parser) (state_of c.argument.new.parser)
-          (type_at c.in_ok-argument.argument) none read)
-          ∙ c.arguments.invariant.0,
-      omega (arith, shorter, ap length rest, c.arguments.invariant.1),
-      c.arguments.invariant.2,
-      frame_types _ _ _ _ (frame_of c.arguments.parser) (frame_of c.argument.new.parser)
-          (frame_of c.list_type.new.self) c.in_ok-argument.argument _
-          c.arguments.invariant.3 kept c.in_ok-list_type.ensures.kept,
+          ∙ ap (λ l. with_front (map type_at (current c.listed.parser.listed_types)
+          ++ type_at c.in_ok-one.one ∷ [])
+          (read_name (listed c.args.kind) l (state_of c.list_type.new.self))) rest
+          ∙ ap (λ (s : State). with_front (map type_at (current c.listed.parser.listed_types)
+          ++ type_at c.in_ok-one.one ∷ [])
+          (read_name (listed c.args.kind) c.one_listed.new.parser.rest.now s)) state
+          ∙ sym (listed_more c.args.kind (map type_at (current c.listed.parser.listed_types)) c.listed.parser.rest.now
+          c.one_listed.new.parser.rest.now (state_of c.listed.parser) (state_of c.one_listed.new.parser)
+          (type_at c.in_ok-one.one) none read)
+          ∙ c.listed.invariant.0,
+      omega (arith, shorter, ap length rest, c.listed.invariant.1),
+      c.listed.invariant.2,
+      frame_types _ _ _ _ (frame_of c.listed.parser) (frame_of c.one_listed.new.parser)
+          (frame_of c.list_type.new.self) c.in_ok-one.one _
+          c.listed.invariant.3 kept c.in_ok-list_type.ensures.kept,
     )
 
 -- the tables in use before are in use again after a template
@@ -327,12 +327,26 @@ symbols::template_symbol-add_variable_name-requires g t c =
     template_name_made _ _ _ _ (state_of c.template_name.new.parser) c.in_ok-name.ensures.value in
     omega (arith, made, c.since-nodes.ensures)
 
+pub symbols::stubbed_template-since-nodes-requires : goal.symbols::stubbed_template-since-nodes-requires
+symbols::stubbed_template-since-nodes-requires g t c =
+    let made : g.L.NodeBudget.used c.template_name.new.parser.limit ≡ g.L.NodeBudget.used c.args.parser.now.limit
+    + name_count g.L.NodeBudget.weight (name_at c.in_ok-name.name) =
+    template_name_made _ _ _ _ (state_of c.template_name.new.parser) c.in_ok-name.ensures.value in
+    omega (arith, made)
+
+pub symbols::stubbed_template-add_variable_name-requires :
+    goal.symbols::stubbed_template-add_variable_name-requires
+symbols::stubbed_template-add_variable_name-requires g t c =
+    let made : g.L.NodeBudget.used c.template_name.new.parser.limit ≡ g.L.NodeBudget.used c.args.parser.now.limit
+    + name_count g.L.NodeBudget.weight (name_at c.in_ok-name.name) =
+    template_name_made _ _ _ _ (state_of c.template_name.new.parser) c.in_ok-name.ensures.value in
+    omega (arith, made, c.since-nodes.ensures)
+
 -- at the end of the text there is no type
-pub symbols::other_encoding-returns-then-is_empty-clause-value :
-    goal.symbols::other_encoding-returns-then-is_empty-clause-value
-symbols::other_encoding-returns-then-is_empty-clause-value g t c =
+pub symbols::encoding-returns-then-is_empty-clause-value : goal.symbols::encoding-returns-then-is_empty-clause-value
+symbols::encoding-returns-then-is_empty-clause-value g t c =
     let empty : (length c.args.parser.now.rest.now == 0) ≡ true = sym c.if-is_empty.ensures in
-    let read : read_name other_encoding c.args.parser.now.rest.now (state_of c.args.parser.now)
+    let read : read_name encoding c.args.parser.now.rest.now (state_of c.args.parser.now)
     ≡ in_node c.args.parser.now.rest.now (state_of c.args.parser.now) (λ l u. Some (plain plain_kind.None, l, u)) =
     encoding_at_end c.args.parser.now.rest.now (state_of c.args.parser.now) empty in
     rw read c.new_plain.ensures.value

@@ -1,7 +1,7 @@
 use Rattle.std.proofs.Common.{ℕ, List, ◌≡◌, ◌≤◌, ◌+◌, ◌*◌, ◌++◌, length}
 use Rattle.std.specs.Prelude.{map}
 use Rattle.msvc_nodes.specs.NodeView.{name_at, type_at}
-use Rattle.msvc_full_grammar.specs.Productions.{arguments, parameters, scope, targets}
+use Rattle.msvc_full_grammar.specs.Productions.{listed, parameters, scope, targets}
 use Rattle.msvc_full_grammar.specs.Reading.{read_name}
 use Rattle.msvc_cursor.specs.Parser.{frame_of, state_of}
 use Rattle.msvc_cursor.specs.NestedList.{current, enclosing}
@@ -11,7 +11,7 @@ use Rattle.msvc_full_readers.proofs.+readers.Given as goal
 -- Where as many bytes are left, a reader calls only those with a smaller number.
 
 abbrev level : List ℕ → ℕ → ℕ
-level left n = 6 * length left + n
+level left n = 8 * length left + n
 
 abbrev pub decreases-types::type_ : goal.decreases-types::type_
 decreases-types::type_ g l = level l.parser.now.rest.now 1
@@ -28,9 +28,6 @@ decreases-types::qualified_type g l = level l.parser.now.rest.now 0
 abbrev pub decreases-types::type_row : goal.decreases-types::type_row
 decreases-types::type_row g l = level l.parser.now.rest.now 3
 
-abbrev pub decreases-types::custom : goal.decreases-types::custom
-decreases-types::custom g l = level l.parser.now.rest.now 1
-
 abbrev pub decreases-types::arrays : goal.decreases-types::arrays
 decreases-types::arrays g l = level l.parser.now.rest.now 0
 
@@ -38,10 +35,10 @@ abbrev pub decreases-types::elements : goal.decreases-types::elements
 decreases-types::elements g l = level l.parser.now.rest.now 2
 
 abbrev pub decreases-pointers::pointer : goal.decreases-pointers::pointer
-decreases-pointers::pointer g l = level l.parser.now.rest.now 1
+decreases-pointers::pointer g l = level l.parser.now.rest.now 2
 
 abbrev pub decreases-pointers::reference : goal.decreases-pointers::reference
-decreases-pointers::reference g l = level l.parser.now.rest.now 1
+decreases-pointers::reference g l = level l.parser.now.rest.now 2
 
 abbrev pub decreases-pointers::pointed_function : goal.decreases-pointers::pointed_function
 decreases-pointers::pointed_function g l = level l.parser.now.rest.now 2
@@ -76,11 +73,8 @@ decreases-parameters::parameters g l = level l.parser.now.rest.now 3
 abbrev pub decreases-parameters::parameter : goal.decreases-parameters::parameter
 decreases-parameters::parameter g l = level l.parser.now.rest.now 2
 
-abbrev pub decreases-arguments::arguments : goal.decreases-arguments::arguments
-decreases-arguments::arguments g l = level l.parser.now.rest.now 3
-
-abbrev pub decreases-arguments::argument : goal.decreases-arguments::argument
-decreases-arguments::argument g l = level l.parser.now.rest.now 2
+abbrev pub decreases-arguments::listed : goal.decreases-arguments::listed
+decreases-arguments::listed g l = level l.parser.now.rest.now 5
 
 abbrev pub decreases-arguments::argument_after : goal.decreases-arguments::argument_after
 decreases-arguments::argument_after g l = level l.parser.now.rest.now 5
@@ -90,12 +84,6 @@ decreases-names::symbol_name g l = level l.parser.now.rest.now 0
 
 abbrev pub decreases-names::operator_name : goal.decreases-names::operator_name
 decreases-names::operator_name g l = level l.parser.now.rest.now 0
-
-abbrev pub decreases-names::operator_after : goal.decreases-names::operator_after
-decreases-names::operator_after g l = level l.parser.now.rest.now 2
-
-abbrev pub decreases-names::name_row : goal.decreases-names::name_row
-decreases-names::name_row g l = level l.parser.now.rest.now 1
 
 abbrev pub decreases-names::frame : goal.decreases-names::frame
 decreases-names::frame g l = level l.parser.now.rest.now 0
@@ -127,9 +115,6 @@ decreases-names::scope g l = level l.parser.now.rest.now 1
 abbrev pub decreases-names::nested_name : goal.decreases-names::nested_name
 decreases-names::nested_name g l = level l.parser.now.rest.now 0
 
-abbrev pub decreases-symbols::symbol : goal.decreases-symbols::symbol
-decreases-symbols::symbol g l = level l.parser.now.rest.now 0
-
 abbrev pub decreases-symbols::symbol_body : goal.decreases-symbols::symbol_body
 decreases-symbols::symbol_body g l = level l.parser.now.rest.now 3
 
@@ -144,9 +129,6 @@ decreases-symbols::name_in_scope g l = level l.parser.now.rest.now 1
 
 abbrev pub decreases-symbols::encoding : goal.decreases-symbols::encoding
 decreases-symbols::encoding g l = level l.parser.now.rest.now 1
-
-abbrev pub decreases-symbols::other_encoding : goal.decreases-symbols::other_encoding
-decreases-symbols::other_encoding g l = level l.parser.now.rest.now 0
 
 abbrev pub decreases-symbols::encoding_after : goal.decreases-symbols::encoding_after
 decreases-symbols::encoding_after g l = level l.parser.now.rest.now 4
@@ -182,7 +164,7 @@ abbrev pub decreases-symbols::operator_symbol : goal.decreases-symbols::operator
 decreases-symbols::operator_symbol g l = level l.parser.now.rest.now 1
 
 abbrev pub decreases-symbols::symbol_after : goal.decreases-symbols::symbol_after
-decreases-symbols::symbol_after g l = level l.parser.now.rest.now 4
+decreases-symbols::symbol_after g l = level l.parser.now.rest.now 6
 
 abbrev pub decreases-symbols::descriptor_symbol : goal.decreases-symbols::descriptor_symbol
 decreases-symbols::descriptor_symbol g l = level l.parser.now.rest.now 3
@@ -198,6 +180,81 @@ decreases-symbols::thunk g l = level l.parser.now.rest.now 0
 
 abbrev pub decreases-symbols::table : goal.decreases-symbols::table
 decreases-symbols::table g l = level l.parser.now.rest.now 0
+
+abbrev pub decreases-names::marked_scope : goal.decreases-names::marked_scope
+decreases-names::marked_scope g l = level l.parser.now.rest.now 2
+
+abbrev pub decreases-pointers::pointed : goal.decreases-pointers::pointed
+decreases-pointers::pointed g l = level l.parser.now.rest.now 1
+
+abbrev pub decreases-pointers::managed : goal.decreases-pointers::managed
+decreases-pointers::managed g l = level l.parser.now.rest.now 2
+
+abbrev pub decreases-pointers::numbered_managed : goal.decreases-pointers::numbered_managed
+decreases-pointers::numbered_managed g l = level l.parser.now.rest.now 1
+
+abbrev pub decreases-pointers::managed_type : goal.decreases-pointers::managed_type
+decreases-pointers::managed_type g l = level l.parser.now.rest.now 0
+
+abbrev pub decreases-pointers::block : goal.decreases-pointers::block
+decreases-pointers::block g l = level l.parser.now.rest.now 2
+
+abbrev pub decreases-symbols::stub_symbol : goal.decreases-symbols::stub_symbol
+decreases-symbols::stub_symbol g l = level l.parser.now.rest.now 5
+
+abbrev pub decreases-symbols::stubbed : goal.decreases-symbols::stubbed
+decreases-symbols::stubbed g l = level l.parser.now.rest.now 3
+
+abbrev pub decreases-symbols::stubbed_template : goal.decreases-symbols::stubbed_template
+decreases-symbols::stubbed_template g l = level l.parser.now.rest.now 3
+
+abbrev pub decreases-symbols::stubbed_name : goal.decreases-symbols::stubbed_name
+decreases-symbols::stubbed_name g l = level l.parser.now.rest.now 2
+
+abbrev pub decreases-symbols::variable_or_none : goal.decreases-symbols::variable_or_none
+decreases-symbols::variable_or_none g l = level l.parser.now.rest.now 0
+
+abbrev pub decreases-symbols::function_code : goal.decreases-symbols::function_code
+decreases-symbols::function_code g l = level l.parser.now.rest.now 0
+
+abbrev pub decreases-symbols::managed_function : goal.decreases-symbols::managed_function
+decreases-symbols::managed_function g l = level l.parser.now.rest.now 0
+
+abbrev pub decreases-symbols::displacement : goal.decreases-symbols::displacement
+decreases-symbols::displacement g l = level l.parser.now.rest.now 3
+
+abbrev pub decreases-symbols::object_symbol : goal.decreases-symbols::object_symbol
+decreases-symbols::object_symbol g l = level l.parser.now.rest.now 2
+
+abbrev pub decreases-arguments::one_listed : goal.decreases-arguments::one_listed
+decreases-arguments::one_listed g l = level l.parser.now.rest.now 4
+
+abbrev pub decreases-arguments::member : goal.decreases-arguments::member
+decreases-arguments::member g l = level l.parser.now.rest.now 3
+
+abbrev pub decreases-arguments::member_value : goal.decreases-arguments::member_value
+decreases-arguments::member_value g l = level l.parser.now.rest.now 1
+
+abbrev pub decreases-arguments::values : goal.decreases-arguments::values
+decreases-arguments::values g l = level l.parser.now.rest.now 6
+
+abbrev pub decreases-arguments::aggregate : goal.decreases-arguments::aggregate
+decreases-arguments::aggregate g l = level l.parser.now.rest.now 2
+
+abbrev pub decreases-arguments::elements : goal.decreases-arguments::elements
+decreases-arguments::elements g l = level l.parser.now.rest.now 2
+
+abbrev pub decreases-arguments::subobject : goal.decreases-arguments::subobject
+decreases-arguments::subobject g l = level l.parser.now.rest.now 1
+
+abbrev pub decreases-arguments::member_of_value : goal.decreases-arguments::member_of_value
+decreases-arguments::member_of_value g l = level l.parser.now.rest.now 1
+
+abbrev pub decreases-arguments::element_of_value : goal.decreases-arguments::element_of_value
+decreases-arguments::element_of_value g l = level l.parser.now.rest.now 1
+
+abbrev pub decreases-arguments::union_value : goal.decreases-arguments::union_value
+decreases-arguments::union_value g l = level l.parser.now.rest.now 2
 
 -- the names so far, before what is read of the rest, are what is read of all; those that others gather stay
 abbrev pub invariant-names::scope-names : goal.invariant-names::scope-names
@@ -248,12 +305,12 @@ invariant-parameters::parameters-parameters g l =
 abbrev pub decreases-parameters::parameters-parameters : goal.decreases-parameters::parameters-parameters
 decreases-parameters::parameters-parameters g l = length l.parser.rest.now
 
--- and the arguments
-abbrev pub invariant-arguments::arguments-arguments : goal.invariant-arguments::arguments-arguments
-invariant-arguments::arguments-arguments g l =
+-- and the arguments, the members and the elements
+abbrev pub invariant-arguments::listed-listed : goal.invariant-arguments::listed-listed
+invariant-arguments::listed-listed g l =
     (with_front (map type_at (current l.parser.listed_types))
-    (read_name arguments l.parser.rest.now (state_of l.parser))
-    ≡ read_name arguments l.fn.parser.rest.now (state_of l.fn.parser))
+    (read_name (listed l.fn.kind) l.parser.rest.now (state_of l.parser))
+    ≡ read_name (listed l.fn.kind) l.fn.parser.rest.now (state_of l.fn.parser))
     × (length l.parser.rest.now ≤ length l.fn.parser.rest.now)
     × (l.checkpoint.from ≡ length (enclosing l.fn.parser.listed_types))
     × (frame_of l.parser
@@ -262,5 +319,5 @@ invariant-arguments::arguments-arguments g l =
       types_before = enclosing l.fn.parser.listed_types ++ current l.fn.parser.listed_types;
     })
 
-abbrev pub decreases-arguments::arguments-arguments : goal.decreases-arguments::arguments-arguments
-decreases-arguments::arguments-arguments g l = length l.parser.rest.now
+abbrev pub decreases-arguments::listed-listed : goal.decreases-arguments::listed-listed
+decreases-arguments::listed-listed g l = length l.parser.rest.now

@@ -1,7 +1,7 @@
 use Rattle.std.proofs.Common.{rules, Some, ◌≡◌, ap, sym, ◌∙◌, to_z, of_z, w32}
 use Rattle.std.proofs.lemmas.Int.{to_z-of_z}
 use Rattle.msvc_rules.specs.Readers.{and_then}
-use Rattle.msvc_full_grammar.specs.Grammar.{small}
+use Rattle.msvc_full_grammar.specs.Fragments.{small}
 use Rattle.msvc_cursor.specs.Parser.{state_of}
 use Rattle.msvc_full_letters.proofs.NumberSteps.{small_number_step}
 use Rattle.msvc_full_letters.proofs.numbers.small_number.Goals as goal

@@ -22,5 +22,7 @@ returns-in_ok-last-in-VtorDispEx-clause-value g c =
     Gives (λ (x : Bor (List Number)). (x.now, after.rest.now, state_of after)) after.last_error.reason
     c.put_numbers-in-VtorDispEx.result found in
     rw c.in-VtorDispEx.is (subst Is
-    (sym (four_read _ _ _ _ _ _ _ _ _ _ _ _ _ _ c.in_ok-first-in-VtorDispEx.ensures.value c.in_ok-second-in-VtorDispEx.ensures.value c.in_ok-third-in-VtorDispEx.ensures.value c.in_ok-last-in-VtorDispEx.ensures.value))
+    (sym (four_read _ _ _ _ _ _ _ _ _ _ _ _ _ _
+    c.in_ok-first-in-VtorDispEx.ensures.value c.in_ok-second-in-VtorDispEx.ensures.value
+    c.in_ok-third-in-VtorDispEx.ensures.value c.in_ok-last-in-VtorDispEx.ensures.value))
     (search rules))

@@ -1,6 +1,6 @@
 use Rattle.std.proofs.Common.{◌≡◌, ◌∷◌, length}
 use Rattle.std.specs.Option.{option_map}
-use Rattle.msvc_full_grammar.specs.Grammar.{each_plain}
+use Rattle.msvc_full_grammar.specs.Fragments.{each_plain}
 use Rattle.msvc_full_grammar.specs.Strings.{decoded}
 use Rattle.msvc_cursor.specs.Parser.{frame_of, state_of}
 use Rattle.msvc_full_letters.proofs.StringSteps.{numbers_before}

@@ -12,7 +12,7 @@ use Rattle.msvc_full_grammar.specs.Letters.{conventions}
 use Rattle.msvc_full_grammar.specs.Productions.{encoding_after, small_number}
 use Rattle.msvc_full_grammar.specs.Reading.{read_name}
 use Rattle.msvc_cursor.specs.Parser.{Gives, state_of}
-use Rattle.msvc_full_readers.proofs.SymbolSteps.{virtual_call_step}
+use Rattle.msvc_full_readers.proofs.EncodingSteps.{virtual_call_step}
 use Rattle.msvc_full_readers.proofs.made_symbols.virtual_call.Goals as goal
 
 -- what the production reads, by what its parts read
