@@ -3,7 +3,10 @@
 #[cfg(test)]
 mod tests {
     use crate::streams::{Failing, Reader, Writer};
-    use msvc_demangler::{DemangleFlags, Fault, Flags, Watched, filter_slice, filter_text};
+    use msvc_demangler::{
+        DemangleFlags, Demangler, Fault, Flags, Grammar, Watched, filter_slice, filter_slice_in,
+        filter_text, filter_text_in,
+    };
     use std::alloc::{AllocError, Global};
     use std::io::ErrorKind;
     use std::test::Fail;
@@ -85,6 +88,53 @@ mod tests {
             assert_eq!(rt; done, Ok(()));
             assert_eq!(rt; out.as_slice(), text);
         }
+    }
+
+    /// Texts and their forms where the symbols of Full are replaced.
+    const TEXTS_OF_FULL: [(&[u8], &[u8]); 7] = [
+        (b"f!?f@@YAXXZ+0x5", b"f!void __cdecl f(void)+0x5"),
+        // The name of a type starts at a full stop that follows no word.
+        (
+            b".?AVfoo@@ a .?AVfoo@@\r\n..?AVfoo@@",
+            b"class foo `RTTI Type Descriptor Name' a class foo `RTTI Type Descriptor Name'\r\n.class foo `RTTI Type Descriptor Name'",
+        ),
+        (
+            b"a.?AVfoo@@ 1.?AVfoo@@ _.?AVfoo@@ @.?AVfoo@@ $.?AVfoo@@",
+            b"a.?AVfoo@@ 1.?AVfoo@@ _.?AVfoo@@ @.?AVfoo@@ $.?AVfoo@@",
+        ),
+        (b"end. See a.b, ...", b"end. See a.b, ..."),
+        // A funclet starts a word, and no other byte of one.
+        (
+            b"?dtor$12@?0??u@@YAXXZ@4HA+1 ?fin$1@0@m@C@ns@@",
+            b"int `void __cdecl u(void)'::`1'::dtor$12+1 `ns::C::m'::fin$1",
+        ),
+        (
+            b"_?catch$0@?0?main@4HA $?dtor$0@?0?main@4HA @?filt$0@0@main@@ _?fin$0@0@main@@",
+            b"_?catch$0@?0?main@4HA $?dtor$0@?0?main@4HA @?filt$0@0@main@@ _?fin$0@0@main@@",
+        ),
+        // No byte is taken that was not read.
+        (
+            b"?f@@YAXXZB ?f@@YAXXZ@ _?f@@YAXXZ$filt$0",
+            b"?f@@YAXXZB ?f@@YAXXZ@ _void __cdecl f(void)$filt$0",
+        ),
+    ];
+
+    #[test]
+    fn texts_of_full(rt: HostRuntime) -> Result<(), Fail> {
+        let mut demangler = Demangler::with_grammar(rt.alloc(), Grammar::Full);
+        let flags = DemangleFlags::llvm();
+        for (bytes, text) in TEXTS_OF_FULL {
+            let mut input = Watched::new(bytes);
+            let mut out = Watched::new(Vec::new(rt.alloc()));
+            let done = filter_text_in(&mut demangler, &mut input, &mut out, flags);
+            assert_eq!(rt; done, Ok(()));
+            assert_eq!(rt; out.into_inner().as_slice(), text);
+            let mut slice = Vec::from_elem(rt.alloc(), 0u8, text.len())?;
+            let filtered = filter_slice_in(&mut demangler, bytes, flags, &mut slice)?;
+            assert_eq!(rt; filtered.length, text.len());
+            assert_eq!(rt; slice.as_slice(), text);
+        }
+        Ok(())
     }
 
     /// Tests that a slice of any size gets a beginning of the text, and that no byte after it changes.

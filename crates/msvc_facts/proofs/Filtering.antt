@@ -30,7 +30,7 @@ declared_as bytes text left =
     if_fits (nat_le (length text) max_declared) (continues (drop bytes left)) bytes text
 
 abbrev extent_of : List ℕ → Reading → ℕ
-extent_of left x = symbol_extent left (length (candidate left) - length x.1)
+extent_of left x = symbol_extent Crate left (length (candidate left) - length x.1)
 
 abbrev if_few : (few : Bool) (flags : ℕ) (left : List ℕ) → Reading → Found
 if_few true flags left x = declared_as (extent_of left x) (declaration x.0 flags) left
@@ -106,7 +106,7 @@ unfoldable pub parts_from : (most flags : ℕ) → Following
 parts_from zero flags last passed left = []
 parts_from (suc most) flags last passed [] = []
 parts_from (suc most) flags last passed (b ∷ left) =
-    part_after (is_start last passed b) flags (parts_from most flags) last b passed left
+    part_after (is_start Crate last passed (b ∷ left)) flags (parts_from most flags) last b passed left
 
 abbrev AreFollowing : (most flags : ℕ) → Following → Type 0
 AreFollowing most flags go =
@@ -114,7 +114,7 @@ AreFollowing most flags go =
     (go last passed left)
 
 part_at-is : (most flags : ℕ) (go : Following) → AreFollowing most flags go → (last b : ℕ) (passed left : List ℕ)
-    → length left ≤ most → is_start last passed b ≡ true → (s : Found) → IsFound flags (b ∷ left) s
+    → length left ≤ most → is_start Crate last passed (b ∷ left) ≡ true → (s : Found) → IsFound flags (b ∷ left) s
     → IsFilteredFrom (under Crate flags) last passed (b ∷ left) (part_at s go last b passed left)
 part_at-is most flags go goes last b passed left short start None none =
     stays (λ _. none) (goes last (b ∷ passed) left short)
@@ -124,7 +124,7 @@ part_at-is most flags go goes last b passed left short start (Some s) is =
     (goes (slice_index (b ∷ left) (s.0 - 1)) [] (drop s.0 (b ∷ left)) (omega (arith, length-drop s.0 (b ∷ left))))
 
 part_after-is : (most flags : ℕ) (go : Following) → AreFollowing most flags go → (last b : ℕ) (passed left : List ℕ)
-    → length left ≤ most → (start : Bool) → is_start last passed b ≡ start
+    → length left ≤ most → (start : Bool) → is_start Crate last passed (b ∷ left) ≡ start
     → IsFilteredFrom (under Crate flags) last passed (b ∷ left) (part_after start flags go last b passed left)
 part_after-is most flags go goes last b passed left short true start =
     part_at-is most flags go goes last b passed left short start (symbol_at flags (b ∷ left))
@@ -139,7 +139,7 @@ parts_from-are zero flags last passed (b ∷ left) short = absurd (omega arith)
 parts_from-are (suc most) flags last passed [] short = nothing
 parts_from-are (suc most) flags last passed (b ∷ left) short =
     part_after-is most flags (parts_from most flags) (parts_from-are most flags) last b passed left (omega arith)
-    (is_start last passed b) refl
+    (is_start Crate last passed (b ∷ left)) refl
 
 abbrev pub parts_of : (flags : ℕ) (bytes : List ℕ) → List Part
 parts_of flags bytes = parts_from (length bytes) flags 10 [] bytes

@@ -15,14 +15,14 @@ use Rattle.msvc_print.specs.Pieces.{settle_all}
 use Rattle.msvc_print.specs.Sides.{kept_left, kept_right}
 use Rattle.msvc_print.specs.Words.{angle_end, base_word, closing, full_marked, full_qualifiers, mark_qualifiers}
 use Rattle.msvc_print.specs.Words.{marked, opening, qualifiers, table_qualifiers}
-use Rattle.msvc_print.specs.Declaration.{each_name, grown_around}
+use Rattle.msvc_print.specs.Declaration.{each_name, each_type, grown_around}
 use Rattle.msvc_print.specs.Shapes.{laid, slot_pieces}
 use Rattle.msvc_print.specs.Strings.{character, character_at, escape, hex, literal, narrow_width}
 use Rattle.msvc_shapes.specs.Layouts.{layout_of, slots}
 use Rattle.msvc_facts.specs.FullTexts.{AreFullTexts}
 
 unfoldable full_printing : ⊤
-unfolding access_words angle_end arguments base_class_pieces base_word calling closing conversion convention_pieces declaration digits each_function_qualifier extern_words full_calling full_conversion full_function_qualifiers full_marked full_operator_word full_qualifiers full_reference_words full_this_words full_wide_word function_qualifiers grown guard_number guard_pieces is_empty_pack is_none kept_left kept_right kind_words mark_qualifiers marked member_start member_words name_kind name_pieces opening operator_pieces operator_word parameters qualifiers quoted_unless returned_end scope_pieces scoped separator settle_all table_end template_kind wide_qualifier each_name grown_around laid layout_of
+unfolding access_words angle_end arguments base_class_pieces base_word calling closing conversion convention_pieces declaration digits each_function_qualifier extern_words full_calling full_conversion full_function_qualifiers full_marked full_operator_word full_qualifiers full_reference_words full_this_words full_wide_word function_qualifiers grown guard_number guard_pieces is_empty_pack is_none kept_left kept_right kind_words mark_qualifiers marked member_start member_words name_kind name_pieces opening operator_pieces operator_word parameters qualifiers quoted_unless returned_end scope_pieces scoped separator settle_all table_end template_kind wide_qualifier each_name each_type grown_around laid layout_of
     slot_pieces slots table_qualifiers literal narrow_width character character_at escape hex
 full_printing = tt
 
@@ -89,4 +89,32 @@ full-texts =
       guard = refl;
       first_guard = refl;
       string = refl;
+      member_pointer_unaligned = refl;
+      descriptor_name = refl;
+      displacement = refl;
+      auto = refl;
+      decltype_auto = refl;
+      handle = refl;
+      unaligned_handle = refl;
+      handle_to_array = refl;
+      block = refl;
+      tracking_reference = refl;
+      interface = refl;
+      null_member = refl;
+      absent = refl;
+      member_of = refl;
+      member_of_none = refl;
+      bits = refl;
+      bits_of_nothing = refl;
+      all_bits = refl;
+      pin = refl;
+      vector = refl;
+      matrix = refl;
+      template_object = refl;
+      subobject = refl;
+      aggregate = refl;
+      spaced_aggregate = refl;
+      empty_aggregate = refl;
+      empty_union = refl;
+      union_value = refl;
     }

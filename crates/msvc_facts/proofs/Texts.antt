@@ -3,7 +3,7 @@ use Rattle.std.proofs.Common.{refl}
 use Rattle.msvc_demangler.specs.Lines.{pieces}
 use Rattle.msvc_facts.proofs.Answering.{is_answered, text_of}
 use Rattle.msvc_facts.proofs.OnLiterals.{filtering}
-use Rattle.msvc_facts.specs.Texts.{AreAnswered, AreArguments, AreLines, AreWords}
+use Rattle.msvc_facts.specs.Texts.{AreAnswered, AreArguments, AreLines, AreWords, AreWordsInFull}
 
 pub lines : AreLines
 unfolding pieces
@@ -64,4 +64,28 @@ words = record {
   goes_on_with_an_at_sign = refl;
   ends_at_a_dollar = refl;
   ends_at_a_question_mark = refl;
+}
+
+pub words_in_full : AreWordsInFull
+unfolding filtering
+words_in_full = record {
+  at_the_start = refl;
+  after_a_dollar = refl;
+  after_a_letter = refl;
+  second = refl;
+  type_name = refl;
+  type_name_after_a_space = refl;
+  type_name_after_a_full_stop = refl;
+  type_name_after_a_letter = refl;
+  type_name_after_a_digit = refl;
+  type_name_after_an_underscore = refl;
+  type_name_after_an_at_sign = refl;
+  type_name_in_the_other_grammar = refl;
+  inside_a_type_name = refl;
+  funclet = refl;
+  each_funclet = (refl, refl, refl, refl);
+  no_funclet = refl;
+  funclet_in_the_other_grammar = refl;
+  class_left = refl;
+  at_sign_left = refl;
 }

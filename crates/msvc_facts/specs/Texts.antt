@@ -5,6 +5,8 @@ use Prim.Native.String.{String}
 use Rattle.msvc_demangler.specs.Answers.{IsFilterText}
 use Rattle.msvc_demangler.specs.Arguments.{symbols_of}
 use Rattle.msvc_demangler.specs.Lines.{lines_of}
+use Rattle.msvc_demangler.specs.GrammarNames.{Grammar}
+use Rattle.msvc_demangler.specs.GrammarNames.TheVariants.{Crate, Full}
 use Rattle.msvc_demangler.specs.SymbolBounds.{continues, is_start, is_visible, max_bytes, symbol_extent}
 
 -- the lines of some bytes
@@ -57,13 +59,20 @@ pub record AreArguments : Type 0 where
   pub longer : AreSymbolsOf ("-vv" ∷ []) ("-vv" ∷ [])
   pub empty : AreSymbolsOf ("" ∷ []) ("" ∷ [])
 
--- a ? may begin a symbol after these bytes, which stand after a line feed
-abbrev Begins : String → Type 0
-Begins before = is_start 10 (reverse (codes before)) 63 ≡ true
+-- a symbol of a grammar may begin with some bytes after others, which stand after a line feed
+abbrev BeginsIn : Grammar → String → String → Type 0
+BeginsIn g before left = is_start g 10 (reverse (codes before)) (codes left) ≡ true
 
--- a ? begins no symbol after these bytes, which stand after a line feed
+-- no symbol of a grammar begins with some bytes after others, which stand after a line feed
+abbrev BeginsNotIn : Grammar → String → String → Type 0
+BeginsNotIn g before left = is_start g 10 (reverse (codes before)) (codes left) ≡ false
+
+-- the same of a ? in the crate's grammar
+abbrev Begins : String → Type 0
+Begins before = BeginsIn Crate before "?"
+
 abbrev BeginsNot : String → Type 0
-BeginsNot before = is_start 10 (reverse (codes before)) 63 ≡ false
+BeginsNot before = BeginsNotIn Crate before "?"
 
 pub record AreWords : Type 0 where
   pub at_the_start : Begins ""
@@ -82,11 +91,37 @@ pub record AreWords : Type 0 where
       ≡ false ∷ false ∷ false ∷ true ∷ true ∷ false ∷ true ∷ true ∷ []
   pub longest : max_bytes ≡ 4096
   -- a storage class or an @ that was not read belongs to the symbol if it ends its word
-  pub class_left : symbol_extent (codes "?x@@3PEBHEB\", <") 10 ≡ 11
-  pub at_sign_left : symbol_extent (codes "?x@@3HA@") 7 ≡ 8
-  pub small_letter_left : symbol_extent (codes "?x@@3HAb") 7 ≡ 7
-  pub two_left : symbol_extent (codes "?x@@3HABC") 7 ≡ 7
+  pub class_left : symbol_extent Crate (codes "?x@@3PEBHEB\", <") 10 ≡ 11
+  pub at_sign_left : symbol_extent Crate (codes "?x@@3HA@") 7 ≡ 8
+  pub small_letter_left : symbol_extent Crate (codes "?x@@3HAb") 7 ≡ 7
+  pub two_left : symbol_extent Crate (codes "?x@@3HABC") 7 ≡ 7
   pub goes_on : continues (codes "b") ≡ true
   pub goes_on_with_an_at_sign : continues (codes "@") ≡ true
   pub ends_at_a_dollar : continues (codes "$filt$0") ≡ false
   pub ends_at_a_question_mark : continues (codes "?") ≡ false
+
+pub record AreWordsInFull : Type 0 where
+  pub at_the_start : BeginsIn Full "" "?x@@3HA"
+  pub after_a_dollar : BeginsIn Full "$pdata$" "?x@@3HA"
+  pub after_a_letter : BeginsNotIn Full "a" "?x@@3HA"
+  pub second : BeginsNotIn Full "?a@" "?x@@3HA"
+  -- the name of a type begins at its full stop, unless a byte of a word precedes it
+  pub type_name : BeginsIn Full "" ".?AVA@@"
+  pub type_name_after_a_space : BeginsIn Full "a " ".?AVA@@"
+  pub type_name_after_a_full_stop : BeginsIn Full "." ".?AVA@@"
+  pub type_name_after_a_letter : BeginsNotIn Full "a" ".?AVA@@"
+  pub type_name_after_a_digit : BeginsNotIn Full "1" ".?AVA@@"
+  pub type_name_after_an_underscore : BeginsNotIn Full "_" ".?AVA@@"
+  pub type_name_after_an_at_sign : BeginsNotIn Full "@" ".?AVA@@"
+  pub type_name_in_the_other_grammar : BeginsNotIn Crate "" ".?AVA@@"
+  -- its ? begins none
+  pub inside_a_type_name : BeginsNotIn Full "." "?AVA@@"
+  -- a funclet begins at the start of a word alone
+  pub funclet : BeginsIn Full "a " "?dtor$0@?0??f@@YAXXZ@4HA"
+  pub each_funclet : (BeginsNotIn Full "_" "?catch$") × (BeginsNotIn Full "$" "?dtor$")
+      × (BeginsNotIn Full "@" "?filt$") × (BeginsNotIn Full "_" "?fin$")
+  pub no_funclet : BeginsIn Full "_" "?dtor@@YAXXZ"
+  pub funclet_in_the_other_grammar : BeginsIn Crate "_" "?dtor$0@"
+  -- a symbol takes the bytes that were read
+  pub class_left : symbol_extent Full (codes "?x@@3PEBHEB\", <") 10 ≡ 10
+  pub at_sign_left : symbol_extent Full (codes "?x@@3HA@") 7 ≡ 7

@@ -20,7 +20,7 @@ ghost use Rattle.msvc_facts.specs.Filtered.{AreCandidates, AreFiltered, AreFitti
 ghost use Rattle.msvc_facts.specs.FullTexts.{AreFullTexts};
 ghost use Rattle.msvc_facts.specs.Letters.{AreTables};
 ghost use Rattle.msvc_facts.specs.Runs.{AreFaults, AreLineRuns};
-ghost use Rattle.msvc_facts.specs.Texts.{AreAnswered, AreArguments, AreLines, AreWords};
+ghost use Rattle.msvc_facts.specs.Texts.{AreAnswered, AreArguments, AreLines, AreWords, AreWordsInFull};
 ghost use Rattle.msvc_facts.specs.Trees.{AreCounted, AreRefused, AreTrees};
 
 /// Does nothing. Each clause is a record of facts, which hold of the definitions alone; a fact that no clause names
@@ -45,6 +45,7 @@ pub fn facts()
     ensures answers { AreAnswered }
     ensures arguments { AreArguments }
     ensures words { AreWords }
+    ensures words_in_full { AreWordsInFull }
     ensures candidates { AreCandidates }
     ensures filtered { AreFiltered }
     ensures fitted { AreFitting }

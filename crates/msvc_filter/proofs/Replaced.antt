@@ -19,11 +19,11 @@ use Rattle.msvc_filter.specs.Filtered.{AreParts, DerivesUnder, IsFilteredFrom, I
 use Rattle.msvc_filter.specs.Filtered.{Part, declaration_under, declared}
 use Rattle.msvc_filter.specs.Filtered.{kept, max_declared, max_nodes, nothing, replaced, stays, text_of_parts}
 use Rattle.msvc_streams.specs.Runs.{IsLines}
-use Rattle.msvc_filter.specs.WordStates.{AreRest, Keeps}
-use Rattle.msvc_filter.specs.SymbolBounds.{blocks_start, candidate, continues, is_word_byte, is_visible}
+use Rattle.msvc_filter.specs.WordStates.{AreRest, Keeps, may_start}
+use Rattle.msvc_filter.specs.SymbolBounds.{candidate, continues, is_word_byte, is_visible}
 use Rattle.msvc_filter.specs.SymbolBounds.{symbol_extent}
 use Rattle.msvc_filter.specs.declared.symbol_bounds.WordState.{WordState}
-use Rattle.msvc_filter.proofs.SymbolLookahead.{AreEnough, no_symbol-more, symbol-inside, symbol-more}
+use Rattle.msvc_filter.proofs.SymbolLookahead.{AreEnough, no_symbol-more, start-more, symbol-inside, symbol-more}
 use Rattle.msvc_filter.proofs.Starts.{Keeps-more, parts-kept, start-kept}
 use Rattle.msvc_filter.proofs.Symbols.{symbol-consumed, symbol-of, symbol-only}
 
@@ -58,11 +58,12 @@ symbol-decided how left =
   where
     by-end : (tree : SymbolTree) (rest : List ℕ) (s : State) → DerivesUnder how (candidate left) tree rest s.notes
         → node_count tree ≤ max_nodes → length (declaration_under how tree) ≤ max_declared
-        → (on : Bool) → continues (drop (symbol_extent left (length (candidate left) - length rest)) left) ≡ on
+        → (on : Bool)
+        → continues (drop (symbol_extent how.grammar left (length (candidate left) - length rest)) left) ≡ on
         → ((bytes : ℕ) × (text : List ℕ) × IsSymbol how left bytes text) ⊎ IsNoStart how left
     by-end tree rest s d few short false ends =
         inl (
-          symbol_extent left (length (candidate left) - length rest),
+          symbol_extent how.grammar left (length (candidate left) - length rest),
           declaration_under how tree,
           record {
             tree = tree;
@@ -126,20 +127,20 @@ pub rest-exists : (how : Choice) (most : ℕ) (scan : WordState) (left : List �
 rest-exists how most scan [] short = ([], λ last passed so. nothing)
 rest-exists how zero scan (b ∷ left) short = absurd (omega arith)
 rest-exists how (suc most) scan (b ∷ left) short =
-    at (b == 63 && not (scan.seen_question_mark || blocks_start scan.last)) refl
+    at (may_start how.grammar scan (b ∷ left)) refl
     (rest-exists how most (next scan b) left (omega arith)) (λ last l h. rest-exists how most (fresh last) l h)
   where
-    keep : (b == 63 && not (scan.seen_question_mark || blocks_start scan.last) ≡ true → IsNoStart how (b ∷ left))
+    keep : (may_start how.grammar scan (b ∷ left) ≡ true → IsNoStart how (b ∷ left))
         → (parts : List Part) × AreRest how (next scan b) left parts
         → (parts : List Part) × AreRest how scan (b ∷ left) parts
     keep none rest = (
       kept b ∷ rest.0,
       λ last passed so.
-          stays (λ start. none (start-kept scan b last passed so ∙ start))
+          stays (λ start. none (start-kept how.grammar scan (b ∷ left) last passed so ∙ start))
           (rest.1 last (b ∷ passed) (Keeps-next scan b last passed so)),
     )
 
-    decided : b == 63 && not (scan.seen_question_mark || blocks_start scan.last) ≡ true
+    decided : may_start how.grammar scan (b ∷ left) ≡ true
         → ((bytes : ℕ) × (text : List ℕ) × IsSymbol how (b ∷ left) bytes text) ⊎ IsNoStart how (b ∷ left)
         → (parts : List Part) × AreRest how (next scan b) left parts
         → ((last : ℕ) (l : List ℕ) → length l ≤ most → (parts : List Part) × AreRest how (fresh last) l parts)
@@ -150,12 +151,12 @@ rest-exists how (suc most) scan (b ∷ left) short =
         (omega (arith, short, consumed, length-drop s.0 (b ∷ left))) in (
           declared s.1 ∷ more.0,
           λ last passed so.
-              replaced (sym (start-kept scan b last passed so) ∙ start) s.2
+              replaced (sym (start-kept how.grammar scan (b ∷ left) last passed so) ∙ start) s.2
               (more.1 _ [] (Keeps-fresh (slice_index (b ∷ left) (s.0 - 1)))),
         )
     decided start (inr none) rest after = keep (λ again. none) rest
 
-    at : (start : Bool) → b == 63 && not (scan.seen_question_mark || blocks_start scan.last) ≡ start
+    at : (start : Bool) → may_start how.grammar scan (b ∷ left) ≡ start
         → (parts : List Part) × AreRest how (next scan b) left parts
         → ((last : ℕ) (l : List ℕ) → length l ≤ most → (parts : List Part) × AreRest how (fresh last) l parts)
         → (parts : List Part) × AreRest how scan (b ∷ left) parts
@@ -222,7 +223,9 @@ parts-joined how part more h nothing front e = absurd (no front e)
     no (x ∷ xs) e = cc
 parts-joined how part more h {last = last} {passed = passed} (stays {b = b} {left = left} {parts = parts} none t)
     front e =
-    stays (λ start. no_symbol-more how (b ∷ left) part (ended-enough (b ∷ left) front e) (none start))
+    let enough = ended-enough (b ∷ left) front e in
+    stays (λ start. no_symbol-more how (b ∷ left) part enough
+    (none (sym (start-more how.grammar last passed (b ∷ left) part enough) ∙ start)))
     (joined-stays how last b passed left front part parts more e h t
     (λ rest is. parts-joined how part more h t rest is))
 parts-joined how part more h {last = last} {passed = passed}
@@ -238,7 +241,8 @@ parts-joined how part more h {last = last} {passed = passed}
     let consumed = symbol-consumed how (b ∷ left) bytes text is in
     let end : slice_index (b ∷ left) (bytes - 1) ≡ slice_index (b ∷ (left ++ part)) (bytes - 1) =
     sym (get_or_append_left (b ∷ left) part 0 (bytes - 1) (omega (arith, consumed, inside))) in
-    replaced start (symbol-more how (b ∷ left) part bytes text enough is)
+    replaced (start-more how.grammar last passed (b ∷ left) part enough ∙ start)
+    (symbol-more how (b ∷ left) part bytes text enough is)
     (subst (λ n. IsFilteredFrom how n [] (drop bytes (b ∷ (left ++ part))) (parts ++ more)) end
     (subst (λ l. IsFilteredFrom how (slice_index (b ∷ left) (bytes - 1)) [] l (parts ++ more)) past
     (parts-joined how part more h t (drop bytes front) rest)))

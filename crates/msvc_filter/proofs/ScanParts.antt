@@ -1,8 +1,8 @@
 -- The parts of some bytes, on their way.
-use Rattle.std.proofs.Common.{◌≡◌, ◌≤◌, ◌<◌, ◌+◌, ◌-◌, ◌++◌, ◌∷◌, [], ◌∙◌, inl, inr, ℕ, List, true, false, Option, map}
+use Rattle.std.proofs.Common.{◌≡◌, ◌≤◌, ◌<◌, ◌+◌, ◌-◌, ◌++◌, ◌∷◌, [], ◌∙◌, inl, inr, ℕ, List}
+use Rattle.std.proofs.Common.{Bool, true, false, cond, Option, map}
 use Rattle.std.proofs.Common.{length, take, drop, get_or, refl, sym, ap, subst, arith, add-one}
 use Rattle.std.proofs.Common.{append_assoc, append-nil, drop-cons, length-drop, length-take}
-use Rattle.std.proofs.Common.{◌≢◌, ne_eqb}
 use Rattle.std.proofs.Math.Seq.{take-add}
 use Rattle.std.proofs.lemmas.Bool.{or_parts}
 use Rattle.std.proofs.lemmas.List.{drop-append-le, drop-drop, get_or-drop, get_or_append_left, map-append, take-take}
@@ -12,13 +12,16 @@ use Rattle.std.proofs.lemmas.Simd.{chunk-drop}
 use Rattle.std.specs.List.{list_any}
 use Rattle.std.specs.Prelude.{◌==◌, ◌&&◌, ◌||◌, not}
 use Rattle.msvc_symbol.specs.Grammars.{Choice}
+use Rattle.msvc_symbol.specs.declared.grammar.Grammar.{Grammar}
+use Rattle.msvc_symbol.specs.declared.grammar.Grammar.TheVariants.{Crate, Full}
 use Rattle.msvc_filter.specs.Filtered.{IsFilteredFrom, IsNoStart, IsSymbol, Part, declared, kept}
 use Rattle.msvc_filter.specs.Filtered.{nothing, replaced, stays, text_of_parts}
-use Rattle.msvc_filter.specs.WordStates.{ArePartsUpTo, AreRest, IsDecided, IsFound, IsPlain, IsSymbolShown, Keeps}
+use Rattle.msvc_filter.specs.WordStates.{ArePartsUpTo, AreRest, IsDecided, IsFound, IsSymbolShown, IsUnmarked, Keeps}
 use Rattle.msvc_filter.specs.WordStates.{max_looked_at, past}
-use Rattle.msvc_filter.specs.SymbolBounds.{blocks_start, byte_before, has_question_mark, is_start, word_before}
+use Rattle.msvc_filter.specs.SymbolBounds.{begins_funclet, candidate, follows_word, is_free, is_mark, is_start}
+use Rattle.msvc_filter.specs.SymbolBounds.{starts_at}
 use Rattle.msvc_filter.specs.declared.symbol_bounds.WordState.{WordState}
-use Rattle.msvc_filter.proofs.SymbolLookahead.{no_symbol-more, symbol-more}
+use Rattle.msvc_filter.proofs.SymbolLookahead.{no_symbol-more, start-more, symbol-more}
 use Rattle.msvc_filter.proofs.Replaced.{text-append}
 
 -- bytes after these that decide a symbol change nothing
@@ -43,6 +46,14 @@ symbol-decided how left at until more bytes text below (inl e) is =
 symbol-decided how left at until more bytes text below (inr far) is =
     symbol-more how (drop at left) more bytes text (inl (enough left at until below far)) is
 
+start-decided : (g : Grammar) (last : ℕ) (passed left : List ℕ) (at until : ℕ) (more : List ℕ) → at < until
+    → IsDecided left until more
+    → is_start g last passed (drop at left ++ more) ≡ is_start g last passed (drop at left)
+start-decided g last passed left at until more below (inl e) =
+    ap (is_start g last passed) (ap (λ l. drop at left ++ l) e ∙ append-nil (drop at left))
+start-decided g last passed left at until more below (inr far) =
+    start-more g last passed (drop at left) more (inl (enough left at until below far))
+
 -- before the first byte
 pub parts-start : (how : Choice) (scan : WordState) (left : List ℕ) (until : ℕ) → ArePartsUpTo how scan left until [] 0
     scan
@@ -62,29 +73,46 @@ kept-more left at rest inside =
     ∙ ap (λ l. l ++ rest) (sym (map-append kept (take at left) (get_or left at 0 ∷ []))
     ∙ ap (map kept) (sym (take_more left at 0 inside)))
 
--- where no `?` is, no symbol starts
-no_start : (last : ℕ) (passed : List ℕ) (b : ℕ) → (b == 63) ≡ false → is_start last passed b ≡ true → ⊥
-no_start last passed b is starts =
-    let blocked = has_question_mark (word_before passed) || blocks_start (byte_before last passed) in
-    let no : false && not blocked ≡ true = subst (λ t. t && not blocked ≡ true) is starts in cc
+-- a symbol starts with none but some bytes
+no_start : (g : Grammar) (last : ℕ) (passed : List ℕ) (b : ℕ) (left : List ℕ) → is_mark g b ≡ false
+    → is_start g last passed (b ∷ left) ≡ true → ⊥
+no_start g last passed b left none starts =
+    go g b (is_free last passed) (follows_word last passed) (candidate (b ∷ left)) none starts
+  where
+    unmarked : (q dot free follows funclet : Bool) → q || dot ≡ false
+        → cond dot (not follows) (q && (free && not (follows && funclet))) ≡ true → ⊥
+    unmarked true dot free follows funclet none starts = cc
+    unmarked false true free follows funclet none starts = cc
+    unmarked false false free follows funclet none starts = cc
 
-plain-parts : (how : Choice) (last : ℕ) (passed run left : List ℕ) (rest : List Part) → IsPlain run
+    marked : (q free : Bool) → q || q ≡ false → q && free ≡ true → ⊥
+    marked true free none starts = cc
+    marked false free none starts = cc
+
+    go : (g : Grammar) (b : ℕ) (free follows : Bool) (text : List ℕ) → is_mark g b ≡ false
+        → starts_at g b free follows text ≡ true → ⊥
+    go Crate b free follows text none starts = marked (b == 63) free none starts
+    go Full b free follows text none starts =
+        unmarked (b == 63) (b == 46) free follows (begins_funclet text) none starts
+
+unmarked-parts : (how : Choice) (last : ℕ) (passed run left : List ℕ) (rest : List Part) → IsUnmarked how.grammar run
     → IsFilteredFrom how last (past run passed) left rest
     → IsFilteredFrom how last passed (run ++ left) (map kept run ++ rest)
-plain-parts how last passed [] left rest plain h = h
-plain-parts how last passed (b ∷ run) left rest plain h =
-    let none = ne_eqb b 63 (All-head (λ b. b ≢ 63) b run plain) in
-    stays (λ starts. absurd (no_start last passed b none starts))
-    (plain-parts how last (b ∷ passed) run left rest (All-tail (λ b. b ≢ 63) b run plain) h)
+unmarked-parts how last passed [] left rest unmarked h = h
+unmarked-parts how last passed (b ∷ run) left rest unmarked h =
+    let none = All-head (λ b. is_mark how.grammar b ≡ false) b run unmarked in
+    stays (λ starts. absurd (no_start how.grammar last passed b (run ++ left) none starts))
+    (unmarked-parts how last (b ∷ passed) run left rest (All-tail (λ b. is_mark how.grammar b ≡ false) b run unmarked)
+    h)
 
--- bytes without a `?` stay
-pub parts-plain : (how : Choice) (scan now after : WordState) (left : List ℕ) (until at end : ℕ)
+-- bytes with which no symbol starts stay
+pub parts-unmarked : (how : Choice) (scan now after : WordState) (left : List ℕ) (until at end : ℕ)
     → ArePartsUpTo how scan left until (map kept (take at left)) at now → at ≤ end → end ≤ length left
-    → IsPlain (take (end - at) (drop at left))
+    → IsUnmarked how.grammar (take (end - at) (drop at left))
     → ((last : ℕ) (passed : List ℕ) → Keeps now last passed
     → Keeps after last (past (take (end - at) (drop at left)) passed))
     → ArePartsUpTo how scan left until (map kept (take end left)) end after
-parts-plain how scan now after left until at end so order within plain keeps more rest decided h =
+parts-unmarked how scan now after left until at end so order within unmarked keeps more rest decided h =
     let run = take (end - at) (drop at left) in
     let count : at + (end - at) ≡ end = omega arith in
     let front : take at left ++ run ≡ take end left =
@@ -98,23 +126,25 @@ parts-plain how scan now after left until at end so order within plain keeps mor
     subst (AreRest how scan (left ++ more)) parts
     (so more (map kept run ++ rest) decided (λ last passed k.
     subst (λ l. IsFilteredFrom how last passed l (map kept run ++ rest)) (sym past_run)
-    (plain-parts how last passed run (drop end left ++ more) rest plain (h last (past run passed)
+    (unmarked-parts how last passed run (drop end left ++ more) rest unmarked (h last (past run passed)
     (keeps last passed k)))))
 
--- the bytes before the first `?` of a part
-pub plain-run : (left : List ℕ) (at count until : ℕ) → count ≤ length (take (until - at) (drop at left))
-    → IsPlain (take count (take (until - at) (drop at left))) → IsPlain (take (at + count - at) (drop at left))
-plain-run left at count until within plain =
+-- the bytes of a part before the first with which a symbol may start
+pub unmarked-run : (g : Grammar) (left : List ℕ) (at count until : ℕ)
+    → count ≤ length (take (until - at) (drop at left))
+    → IsUnmarked g (take count (take (until - at) (drop at left)))
+    → IsUnmarked g (take (at + count - at) (drop at left))
+unmarked-run g left at count until within unmarked =
     let here : at + count - at ≡ count = omega arith in
     let long = length-take (until - at) (drop at left) in
     let enough : count ≤ until - at = omega (arith, long, within) in
     let same = take-take count (until - at) (drop at left) enough ∙ ap (λ n. take n (drop at left)) (sym here) in
-    subst IsPlain same plain
+    subst (IsUnmarked g) same unmarked
 
 -- a byte stays
 pub parts-stays : (how : Choice) (scan now after : WordState) (left : List ℕ) (until at : ℕ)
     → ArePartsUpTo how scan left until (map kept (take at left)) at now → at < until → until ≤ length left
-    → ((last : ℕ) (passed : List ℕ) → Keeps now last passed → is_start last passed (get_or left at 0) ≡ true
+    → ((last : ℕ) (passed : List ℕ) → Keeps now last passed → is_start how.grammar last passed (drop at left) ≡ true
     → IsNoStart how (drop at left))
     → ((last : ℕ) (passed : List ℕ) → Keeps now last passed → Keeps after last (get_or left at 0 ∷ passed))
     → ArePartsUpTo how scan left until (map kept (take (at + 1) left)) (at + 1) after
@@ -126,14 +156,16 @@ parts-stays how scan now after left until at so below within none keeps more res
     (so more (kept b ∷ rest) decided (λ last passed k.
     subst (λ l. IsFilteredFrom how last passed l (kept b ∷ rest)) (sym whole)
     (stays (λ start. subst (IsNoStart how) whole
-    (no_symbol-decided how left at until more below decided (none last passed k start)))
+    (no_symbol-decided how left at until more below decided (none last passed k
+    (sym (start-decided how.grammar last passed left at until more below decided)
+    ∙ ap (is_start how.grammar last passed) whole ∙ start))))
     (h last (b ∷ passed) (keeps last passed k)))))
 
 -- a symbol is found
 pub parts-found : (how : Choice) (scan now after : WordState) (left : List ℕ) (until at bytes : ℕ) (shown : Option (List
     ℕ))
     → ArePartsUpTo how scan left until (map kept (take at left)) at now → at < until → until ≤ length left
-    → ((last : ℕ) (passed : List ℕ) → Keeps now last passed → is_start last passed (get_or left at 0) ≡ true)
+    → ((last : ℕ) (passed : List ℕ) → Keeps now last passed → is_start how.grammar last passed (drop at left) ≡ true)
     → IsSymbolShown how (drop at left) bytes shown → Keeps after (get_or left (at + bytes - 1) 0) []
     → IsFound how scan left until at bytes shown after
 parts-found how scan now after left until at bytes shown so below within start is keeps = record {
@@ -155,7 +187,8 @@ parts-found how scan now after left until at bytes shown so below within start i
       (sym (append_assoc (map kept (take at left)) (declared is.0 ∷ []) rest))
       (so more (declared is.0 ∷ rest) decided (λ last passed k.
       subst (λ l. IsFilteredFrom how last passed l (declared is.0 ∷ rest)) (sym whole)
-      (replaced (start last passed k)
+      (replaced (ap (is_start how.grammar last passed) (sym whole)
+      ∙ start-decided how.grammar last passed left at until more below decided ∙ start last passed k)
       (subst (λ l. IsSymbol how l bytes is.0) whole
       (symbol-decided how left at until more bytes is.0 below decided is.2))
       (subst (λ l. IsFilteredFrom how (get_or l (bytes - 1) 0) [] (drop bytes l) rest) whole
@@ -198,17 +231,14 @@ parts-all how scan after left until at parts so end =
     empty [] e = refl
     empty (x ∷ xs) e = absurd (omega arith)
 
--- what has no `?` stays as it is
-pub without_question_mark : (how : Choice) (last : ℕ) (passed left : List ℕ) → list_any (λ b. b == 63) left ≡ false
+-- what has no byte with which a symbol may start stays as it is
+pub without_mark : (how : Choice) (last : ℕ) (passed left : List ℕ) → list_any (λ b. is_mark how.grammar b) left ≡ false
     → IsFilteredFrom how last passed left (map kept left)
-without_question_mark how last passed [] none = nothing
-without_question_mark how last passed (b ∷ bs) none =
-    let parts = or_parts (b == 63) (list_any (λ c. c == 63) bs) none in
-    stays (λ starts. absurd (no_start last passed b parts.0 starts))
-    (without_question_mark how last (b ∷ passed) bs parts.1)
-
-pub first-of : (left : List ℕ) (at : ℕ) → get_or (drop at left) 0 0 ≡ get_or left at 0
-first-of left at = get_or-drop at left 0 0 ∙ ap (λ i. get_or left i 0) (let e : at + 0 ≡ at = omega arith in e)
+without_mark how last passed [] none = nothing
+without_mark how last passed (b ∷ bs) none =
+    let parts = or_parts (is_mark how.grammar b) (list_any (λ c. is_mark how.grammar c) bs) none in
+    stays (λ starts. absurd (no_start how.grammar last passed b bs parts.0 starts))
+    (without_mark how last (b ∷ passed) bs parts.1)
 
 -- what is appended for a symbol
 pub text-further : (text shown : List ℕ) (parts : List Part) (bytes : List ℕ) → text ≡ text_of_parts parts

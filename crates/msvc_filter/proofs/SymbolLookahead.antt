@@ -12,10 +12,12 @@ use Rattle.std.proofs.lemmas.Bool.Decides.{nat_tests}
 use Rattle.std.proofs.lemmas.List.{drop-append-le, take-append-le, take-take}
 use Rattle.std.proofs.lemmas.List.Sums.{prefix_len_stops}
 use Rattle.msvc_symbol.specs.Grammars.{Choice}
+use Rattle.msvc_symbol.specs.declared.grammar.Grammar.{Grammar}
+use Rattle.msvc_symbol.specs.declared.grammar.Grammar.TheVariants.{Crate, Full}
 use Rattle.msvc_filter.specs.Filtered.{DerivesUnder, IsNoStart, IsSymbol}
 use Rattle.msvc_filter.specs.WordStates.{max_looked_at}
 use Rattle.msvc_filter.specs.SymbolBounds.{candidate, continues, ends_word, is_trailing_byte, is_visible, max_bytes}
-use Rattle.msvc_filter.specs.SymbolBounds.{symbol_extent, utf8_front}
+use Rattle.msvc_filter.specs.SymbolBounds.{follows_word, is_free, is_start, starts_at, symbol_extent, utf8_front}
 use Rattle.msvc_filter.proofs.Symbols.{candidate-within}
 
 -- there are as many bytes as are looked at, or one of them is not visible
@@ -67,6 +69,17 @@ visible-more left more enough = at (nat_lt (prefix_len is_visible left) (length 
 
 pub candidate-more : (left more : List ℕ) → AreEnough left → candidate (left ++ more) ≡ candidate left
 candidate-more left more enough = ap utf8_front (visible-more left more enough)
+
+-- so bytes after these change no start
+pub start-more : (g : Grammar) (last : ℕ) (passed left more : List ℕ) → AreEnough left
+    → is_start g last passed (left ++ more) ≡ is_start g last passed left
+start-more g last passed [] more enough = absurd (none enough)
+  where
+    none : AreEnough [] → ⊥
+    none (inl h) = omega arith
+    none (inr h) = omega arith
+start-more g last passed (b ∷ left) more enough =
+    ap (starts_at g b (is_free last passed) (follows_word last passed)) (candidate-more (b ∷ left) more enough)
 
 -- What stands after a candidate, or a part of it
 
@@ -122,18 +135,25 @@ left_over-more left more (inr (b, bs, e, h)) =
 left_over-hidden : (b : ℕ) (bs : List ℕ) → is_visible b ≡ false → is_trailing_byte (b ∷ bs) ≡ false
 left_over-hidden b bs h = ap (λ t. t && ends_word bs) (hidden b h)
 
-pub extent-more : (left more : List ℕ) (read : ℕ) → AreEnough left → read ≤ length (candidate left)
-    → symbol_extent (left ++ more) read ≡ symbol_extent left read
-extent-more left more read enough within =
+pub extent-more : (g : Grammar) (left more : List ℕ) (read : ℕ) → AreEnough left → read ≤ length (candidate left)
+    → symbol_extent g (left ++ more) read ≡ symbol_extent g left read
+extent-more Full left more read enough within = refl
+extent-more Crate left more read enough within =
     let here = looked_at left read enough within in
     let long = candidate-within left in
     ap (λ t. cond t (read + 1) read)
     (ap is_trailing_byte (drop-append-le read left more (omega arith)) ∙ left_over-more (drop read left) more here)
 
 -- a symbol ends before the last byte that is looked at
-pub extent-inside : (left : List ℕ) (read : ℕ) → AreEnough left → read ≤ length (candidate left)
-    → symbol_extent left read < length left
-extent-inside left read enough within = at (looked_at left read enough within) (is_trailing_byte (drop read left)) refl
+pub extent-inside : (g : Grammar) (left : List ℕ) (read : ℕ) → AreEnough left → read ≤ length (candidate left)
+    → symbol_extent g left read < length left
+extent-inside Full left read enough within = at (looked_at left read enough within)
+  where
+    at : AreLookedAt (drop read left) → read < length left
+    at (inl (b, c, bs, e)) = let n = ap length e in omega (arith, length-drop read left)
+    at (inr (b, bs, e, h)) = let n = ap length e in omega (arith, length-drop read left)
+extent-inside Crate left read enough within =
+    at (looked_at left read enough within) (is_trailing_byte (drop read left)) refl
   where
     at : AreLookedAt (drop read left) → (o : Bool) → is_trailing_byte (drop read left) ≡ o
         → cond o (read + 1) read < length left
@@ -157,8 +177,8 @@ symbol-more how left more bytes text enough s =
     let same = candidate-more left more enough in
     let read = length (candidate left) - length s.rest in
     let within : read ≤ length (candidate left) = omega arith in
-    let extent = extent-more left more read enough within in
-    let inside : bytes < length left = rw s.takes (extent-inside left read enough within) in
+    let extent = extent-more how.grammar left more read enough within in
+    let inside : bytes < length left = rw s.takes (extent-inside how.grammar left read enough within) in
     record {
       tree = s.tree;
       rest = s.rest;
@@ -167,7 +187,8 @@ symbol-more how left more bytes text enough s =
       nodes = s.nodes;
       declared = s.declared;
       short = s.short;
-      takes = s.takes ∙ sym extent ∙ ap (λ l. symbol_extent (left ++ more) (length l - length s.rest)) (sym same);
+      takes = s.takes ∙ sym extent
+          ∙ ap (λ l. symbol_extent how.grammar (left ++ more) (length l - length s.rest)) (sym same);
       ends = continues-some left more bytes inside ∙ s.ends;
     }
 
@@ -177,10 +198,10 @@ symbol-less how left more bytes text enough s =
     let same = candidate-more left more enough in
     let read = length (candidate left) - length s.rest in
     let within : read ≤ length (candidate left) = omega arith in
-    let extent = extent-more left more read enough within in
-    let takes : bytes ≡ symbol_extent left read =
-    s.takes ∙ ap (λ l. symbol_extent (left ++ more) (length l - length s.rest)) same ∙ extent in
-    let inside : bytes < length left = rw takes (extent-inside left read enough within) in
+    let extent = extent-more how.grammar left more read enough within in
+    let takes : bytes ≡ symbol_extent how.grammar left read =
+    s.takes ∙ ap (λ l. symbol_extent how.grammar (left ++ more) (length l - length s.rest)) same ∙ extent in
+    let inside : bytes < length left = rw takes (extent-inside how.grammar left read enough within) in
     record {
       tree = s.tree;
       rest = s.rest;
@@ -202,4 +223,4 @@ no_symbol-more how left more enough none bytes text s =
 pub symbol-inside : (how : Choice) (left : List ℕ) (bytes : ℕ) (text : List ℕ) → AreEnough left
     → IsSymbol how left bytes text → bytes < length left
 symbol-inside how left bytes text enough s =
-    rw s.takes (extent-inside left (length (candidate left) - length s.rest) enough (omega arith))
+    rw s.takes (extent-inside how.grammar left (length (candidate left) - length s.rest) enough (omega arith))

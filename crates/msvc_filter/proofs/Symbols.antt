@@ -63,18 +63,19 @@ derived-one how text tree other rest remaining notes others d e =
 -- symbols at one start take as many bytes
 as-many : (how : Choice) (left : List ℕ) (tree other : SymbolTree) (rest remaining : List ℕ) (notes others : List Note)
     → DerivesUnder how (candidate left) tree rest notes → DerivesUnder how (candidate left) other remaining others
-    → symbol_extent left (length (candidate left) - length rest)
-    ≡ symbol_extent left (length (candidate left) - length remaining)
+    → symbol_extent how.grammar left (length (candidate left) - length rest)
+    ≡ symbol_extent how.grammar left (length (candidate left) - length remaining)
 as-many how left tree other rest remaining notes others d e =
-    ap (λ l. symbol_extent left (length (candidate left) - length l))
+    ap (λ l. symbol_extent how.grammar left (length (candidate left) - length l))
     (derived-one how (candidate left) tree other rest remaining notes others d e).1
 
 -- a symbol that was read
 pub symbol-read : (how : Choice) (read : ℕ) (left input : List ℕ) → input ≡ candidate left → (tree : SymbolTree)
     → IsParsedIn (dialect_of how.grammar) input tree → node_count tree ≤ max_nodes
     → IsSymbolLengthIn (dialect_of how.grammar) read input
-    → length (declaration_under how tree) ≤ max_declared → continues (drop (symbol_extent left read) left) ≡ false
-    → IsSymbol how left (symbol_extent left read) (declaration_under how tree)
+    → length (declaration_under how tree) ≤ max_declared
+    → continues (drop (symbol_extent how.grammar left read) left) ≡ false
+    → IsSymbol how left (symbol_extent how.grammar left read) (declaration_under how tree)
 symbol-read how read left input same tree is nodes read_length short ends =
     let to = (read_length.read_to tree is.rest is.notes is.derived).0 in
     let so_many : read ≡ length (candidate left) - length is.rest = omega (arith, to, ap length same) in
@@ -86,21 +87,21 @@ symbol-read how read left input same tree is nodes read_length short ends =
       nodes = nodes;
       declared = refl;
       short = short;
-      takes = ap (symbol_extent left) so_many;
+      takes = ap (symbol_extent how.grammar left) so_many;
       ends = ends;
     }
 
 -- no symbol where it continues after what was read
 pub no_symbol-continues : (how : Choice) (read : ℕ) (left input : List ℕ) → input ≡ candidate left → (tree : SymbolTree)
     → IsParsedIn (dialect_of how.grammar) input tree → IsSymbolLengthIn (dialect_of how.grammar) read input
-    → continues (drop (symbol_extent left read) left) ≡ true → IsNoStart how left
+    → continues (drop (symbol_extent how.grammar left read) left) ≡ true → IsNoStart how left
 no_symbol-continues how read left input same tree is read_length on bytes other s =
     let here = subst (λ l. DerivesUnder how l tree is.rest is.notes) same is.derived in
     let to = (read_length.read_to tree is.rest is.notes is.derived).0 in
     let so_many : read ≡ length (candidate left) - length is.rest = omega (arith, to, ap length same) in
-    let equal : bytes ≡ symbol_extent left read =
+    let equal : bytes ≡ symbol_extent how.grammar left read =
     s.takes ∙ as-many how left s.tree tree s.rest is.rest s.notes is.notes s.derived here
-    ∙ sym (ap (symbol_extent left) so_many) in
+    ∙ sym (ap (symbol_extent how.grammar left) so_many) in
     let no : true ≡ false = sym on ∙ sym (ap (λ n. continues (drop n left)) equal) ∙ s.ends in cc
 
 -- no symbol where the declaration is too long
@@ -155,7 +156,8 @@ symbol-only how left bytes others text other s t =
 pub symbol-of : (how : Choice) (left : List ℕ) (bytes : ℕ) (text : List ℕ) (tree : SymbolTree) (rest : List ℕ)
     (notes : List Note) → DerivesUnder how (candidate left) tree rest notes → IsSymbol how left bytes text
     → (s : SymbolTree) × (s ≡ tree) × (node_count s ≤ max_nodes)
-    × (bytes ≡ symbol_extent left (length (candidate left) - length rest)) × (text ≡ declaration_under how tree)
+    × (bytes ≡ symbol_extent how.grammar left (length (candidate left) - length rest))
+    × (text ≡ declaration_under how tree)
 symbol-of how left bytes text tree rest notes d s =
     let one = derived-one how (candidate left) s.tree tree s.rest rest s.notes notes s.derived d in (
       s.tree,
@@ -165,14 +167,19 @@ symbol-of how left bytes text tree rest notes d s =
       s.declared ∙ ap (declaration_under how) one.0,
     )
 
+-- a symbol takes the bytes that were read
+extent-least : (g : Grammar) (left : List ℕ) (read : ℕ) → read ≤ symbol_extent g left read
+extent-least Full left read = omega arith
+extent-least Crate left read = at (is_trailing_byte (drop read left))
+  where
+    at : (o : Bool) → read ≤ cond o (read + 1) read
+    at true = omega arith
+    at false = omega arith
+
 -- a symbol takes some byte
 pub symbol-consumed : (how : Choice) (left : List ℕ) (bytes : ℕ) (text : List ℕ) → IsSymbol how left bytes text
     → 0 < bytes
 symbol-consumed how left bytes text s =
     let some = symbol-consumes how.grammar (candidate left) s.tree s.rest s.notes s.derived in
-    at (is_trailing_byte (drop (length (candidate left) - length s.rest) left)) s.takes some
-  where
-    at : (o : Bool) → bytes ≡ cond o ((length (candidate left) - length s.rest) + 1)
-        (length (candidate left) - length s.rest) → length s.rest + 1 ≤ length (candidate left) → 0 < bytes
-    at true e some = omega arith
-    at false e some = omega arith
+    let read = length (candidate left) - length s.rest in
+    omega (arith, some, s.takes, extent-least how.grammar left read)

@@ -37,7 +37,7 @@ pub record IsSymbol (how : Choice) (left : List ℕ) (bytes : ℕ) (text : List 
   pub nodes : node_count tree ≤ max_nodes
   pub declared : text ≡ declaration_under how tree
   pub short : length text ≤ max_declared
-  pub takes : bytes ≡ symbol_extent left (length (candidate left) - length rest)
+  pub takes : bytes ≡ symbol_extent how.grammar left (length (candidate left) - length rest)
   pub ends : continues (drop bytes left) ≡ false
 
 -- the bytes `left` begin with no symbol
@@ -69,11 +69,11 @@ text_of_parts (declared text ∷ parts) = text ++ text_of_parts parts
 pub data IsFilteredFrom (how : Choice) : (last : ℕ) (passed left : List ℕ) → List Part → Type 0 where
   nothing : {last : ℕ} {passed : List ℕ} → IsFilteredFrom how last passed [] []
   stays : {last b : ℕ} {passed left : List ℕ} {parts : List Part}
-      → (is_start last passed b ≡ true → IsNoStart how (b ∷ left))
+      → (is_start how.grammar last passed (b ∷ left) ≡ true → IsNoStart how (b ∷ left))
       → IsFilteredFrom how last (b ∷ passed) left parts
       → IsFilteredFrom how last passed (b ∷ left) (kept b ∷ parts)
   replaced : {last b bytes : ℕ} {passed left text : List ℕ} {parts : List Part}
-      → is_start last passed b ≡ true
+      → is_start how.grammar last passed (b ∷ left) ≡ true
       → IsSymbol how (b ∷ left) bytes text
       → IsFilteredFrom how (slice_index (b ∷ left) (bytes - 1)) [] (drop bytes (b ∷ left)) parts
       → IsFilteredFrom how last passed (b ∷ left) (declared text ∷ parts)

@@ -4,12 +4,16 @@ use Rattle.std.specs.Prelude.{if◌then◌else◌}
 use Rattle.std.specs.Char.{is_ascii_alphanumeric, is_ascii_uppercase}
 use Rattle.std.specs.List.{list_any, take_while}
 use Rattle.std.specs.Str.Lossy.{utf8_valid_len}
+use Rattle.msvc_rules.specs.Rules.{begins}
+use Rattle.msvc_full_grammar.specs.Letters.{funclet_texts}
+use Rattle.msvc_symbol.specs.declared.grammar.Grammar.{Grammar}
+use Rattle.msvc_symbol.specs.declared.grammar.Grammar.TheVariants.{Crate, Full}
 
 -- whether a byte is part of a word: a word is an unbroken row of letters, digits, `_`, `$`, `@` and `?`
 abbrev pub is_word_byte : ℕ → Bool
 is_word_byte b = is_ascii_alphanumeric b || (b == 95 || (b == 36 || (b == 64 || b == 63)))
 
--- whether a byte is one after which no symbol begins: a letter, a digit or a full stop
+-- whether a byte is one after which no symbol begins with a `?`: a letter, a digit or a full stop
 abbrev pub blocks_start : ℕ → Bool
 blocks_start b = is_ascii_alphanumeric b || b == 46
 
@@ -26,11 +30,14 @@ abbrev pub byte_before : (last : ℕ) (passed : List ℕ) → ℕ
 byte_before last [] = last
 byte_before last (b ∷ passed) = b
 
--- Whether a symbol may start at the byte `b`: whether this is the first `?` of its word, and the byte before it is none
+-- Whether a `?` at a place may start a symbol: whether it is the first `?` of its word, and the byte before it is none
 -- after which no symbol begins.
-abbrev pub is_start : (last : ℕ) (passed : List ℕ) (b : ℕ) → Bool
-is_start last passed b =
-    b == 63 && not (has_question_mark (word_before passed) || blocks_start (byte_before last passed))
+abbrev pub is_free : (last : ℕ) (passed : List ℕ) → Bool
+is_free last passed = not (has_question_mark (word_before passed) || blocks_start (byte_before last passed))
+
+-- whether the byte before a place is part of a word
+abbrev pub follows_word : (last : ℕ) (passed : List ℕ) → Bool
+follows_word last passed = is_word_byte (byte_before last passed)
 
 -- whether a byte is neither a space nor a control character
 abbrev pub is_visible : ℕ → Bool
@@ -49,6 +56,33 @@ utf8_front bytes = take (utf8_valid_len bytes) bytes
 abbrev pub candidate : List ℕ → List ℕ
 candidate left = utf8_front (take max_bytes (take_while is_visible left))
 
+-- whether some bytes begin as the name of a funclet
+abbrev pub begins_funclet : List ℕ → Bool
+begins_funclet bytes = list_any (λ row. begins bytes row.0) funclet_texts
+
+-- Whether a symbol of a grammar may start at the byte `b` with this candidate, from whether a `?` may start one there
+-- and whether a byte of a word precedes it. In Full the name of a type starts at a full stop that follows no word, and
+-- a funclet at a `?` that follows none.
+abbrev pub starts_at : Grammar → (b : ℕ) (free follows : Bool) (text : List ℕ) → Bool
+starts_at Crate b free follows text = b == 63 && free
+starts_at Full b free follows text =
+    if b == 46 then not follows else (b == 63 && (free && not (follows && begins_funclet text)))
+
+-- whether a symbol of a grammar may start at the first of the bytes `left`
+abbrev pub is_start : Grammar → (last : ℕ) (passed left : List ℕ) → Bool
+is_start g last passed [] = false
+is_start g last passed (b ∷ left) =
+    starts_at g b (is_free last passed) (follows_word last passed) (candidate (b ∷ left))
+
+-- the byte beside `?` with which symbols of a grammar may start; `?` too if there is none
+abbrev pub other_mark : Grammar → ℕ
+other_mark Crate = 63
+other_mark Full = 46
+
+-- whether symbols of a grammar may start with a byte
+abbrev pub is_mark : Grammar → ℕ → Bool
+is_mark g b = b == 63 || b == other_mark g
+
 -- whether a word ends before these bytes: the first of them is not part of a word
 abbrev pub ends_word : List ℕ → Bool
 ends_word [] = true
@@ -65,7 +99,8 @@ abbrev pub continues : List ℕ → Bool
 continues [] = false
 continues (b ∷ bs) = is_ascii_alphanumeric b || (b == 95 || b == 64)
 
--- The number of bytes that a symbol takes of which `read` bytes were read. Of real names at most one byte stays unread,
--- an `@` or a storage class.
-abbrev pub symbol_extent : List ℕ → ℕ → ℕ
-symbol_extent left read = if is_trailing_byte (drop read left) then read + 1 else read
+-- The number of bytes that a symbol takes of which `read` bytes were read: these. Of real names the crate's grammar
+-- leaves at most one byte unread, an `@` or a storage class, and the symbol takes it too.
+abbrev pub symbol_extent : Grammar → List ℕ → ℕ → ℕ
+symbol_extent Crate left read = if is_trailing_byte (drop read left) then read + 1 else read
+symbol_extent Full left read = read

@@ -1,10 +1,12 @@
 -- What the filter's scan knows of the bytes before a place, and what it has found.
-use Rattle.std.specs.Prelude.{ℕ, List, [], ◌∷◌, ◌+◌, ◌++◌, ◌≡◌, ◌≢◌, ◌≤◌, ◌<◌, ◌⊎◌, All, Option, Some}
-use Rattle.std.specs.Prelude.{drop, length, map, take}
+use Rattle.std.specs.Prelude.{ℕ, List, [], ◌∷◌, ◌+◌, ◌++◌, ◌≡◌, ◌≢◌, ◌≤◌, ◌<◌, ◌⊎◌, All, Option, Some, false}
+use Rattle.std.specs.Prelude.{Bool, ◌||◌, not, drop, length, map, take}
 use Rattle.msvc_symbol.specs.Grammars.{Choice}
+use Rattle.msvc_symbol.specs.declared.grammar.Grammar.{Grammar}
 use Rattle.msvc_filter.specs.Filtered.{IsFilteredFrom, IsSymbol, Part, declared, kept, text_of_parts}
 use Rattle.msvc_filter.specs.FilterRuns.{max_held}
-use Rattle.msvc_filter.specs.SymbolBounds.{byte_before, has_question_mark, word_before}
+use Rattle.msvc_filter.specs.SymbolBounds.{blocks_start, byte_before, candidate, has_question_mark, is_mark}
+use Rattle.msvc_filter.specs.SymbolBounds.{is_word_byte, starts_at, word_before}
 use Rattle.msvc_filter.specs.declared.symbol_bounds.WordState.{WordState}
 
 -- the scan knows of the bytes passed whether the word that ends with them has a `?`, and which byte is the last
@@ -12,9 +14,20 @@ pub record Keeps (scan : WordState) (last : ℕ) (passed : List ℕ) : Type 0 wh
   pub seen : scan.seen_question_mark ≡ has_question_mark (word_before passed)
   pub before : scan.last ≡ byte_before last passed
 
+-- whether a symbol of a grammar may start at the first of the bytes `left`, by what the scan knows
+abbrev pub may_start : Grammar → WordState → (left : List ℕ) → Bool
+may_start g scan [] = false
+may_start g scan (b ∷ left) =
+    starts_at g b (not (scan.seen_question_mark || blocks_start scan.last)) (is_word_byte scan.last)
+    (candidate (b ∷ left))
+
 -- no byte is a `?`
 abbrev pub IsPlain : List ℕ → Type 0
 IsPlain bytes = All (λ b. b ≢ 63) bytes
+
+-- no symbol of a grammar starts with one of the bytes
+abbrev pub IsUnmarked : Grammar → List ℕ → Type 0
+IsUnmarked g bytes = All (λ b. is_mark g b ≡ false) bytes
 
 -- the bytes passed, last byte first, once some more bytes are passed
 abbrev pub past : (bytes passed : List ℕ) → List ℕ

@@ -20,7 +20,8 @@ ghost use Rattle.msvc_filter.specs.WordStates.{IsSymbolShown, Keeps};
 ghost use Rattle.msvc_filter.specs.SymbolBounds.{is_start};
 
 use crate::symbol_bounds::{
-    MAX_LOOKED_AT, WordState, candidate, continues, plain_len, symbol_extent, utf8_front,
+    MAX_LOOKED_AT, WordState, candidate, continues, has_mark, is_mark, symbol_extent, unmarked_len,
+    utf8_front,
 };
 use msvc_cursor::limits::{DEFAULT_BYTE_LIMIT, DEFAULT_NODE_LIMIT, Limits};
 use msvc_nodes::flags::DemangleFlags;
@@ -224,7 +225,7 @@ fn write_rest<W: Write>(
     ensures sets_failed { SetsFailureFlag result no_stream (failure_flag out.old out.new) no_stream }
 {
     // Most lines have no symbol, and stay as they are.
-    if !piece.contains(&b'?') {
+    if !has_mark(grammar, piece) {
         return write_all(out, piece);
     }
     write_filtered(demangler, grammar, text, piece, scan, out, flags)
@@ -517,9 +518,8 @@ fn next_symbol<A: Allocator + Copy>(
 {
     let mut at = 0;
     'bytes: while at < until {
-        if left[at] != b'?' {
-            // No symbol starts before the next `?`.
-            let end = at + plain_len(&left[at..until]);
+        if !is_mark(grammar, left[at]) {
+            let end = at + unmarked_len(grammar, &left[at..until]);
             *scan = scan.pass(&left[at..end]);
             at = end;
             continue;
@@ -548,15 +548,15 @@ fn symbol_at<A: Allocator + Copy>(
     flags: DemangleFlags,
 ) -> Result<Option<usize>, AllocError>
     ensures none { IfOk result (λ found. IfNone found ((last : ℕ) (passed : List ℕ) → Keeps scan last passed
-        → is_start last passed (slice_index left.now 0) ≡ true → IsNoStart (under grammar flags.0) left.now)) }
+        → is_start grammar last passed left.now ≡ true → IsNoStart (under grammar flags.0) left.now)) }
     ensures some { IfOk result (λ found. IfSome found (λ bytes. ((last : ℕ) (passed : List ℕ) → Keeps scan last passed
-        → is_start last passed (slice_index left.now 0) ≡ true)
+        → is_start grammar last passed left.now ≡ true)
         × IsSymbolShown (under grammar flags.0) left.now bytes demangler.new.text)) }
 {
-    match left {
-        [byte, ..] if scan.is_start(*byte) => match_symbol(demangler, grammar, left, flags),
-        _ => Ok(None),
+    if !scan.is_start(grammar, left) {
+        return Ok(None);
     }
+    match_symbol(demangler, grammar, left, flags)
 }
 
 /// Returns the length in bytes of the symbol that begins at a start, if one does, with its declaration as the
@@ -573,7 +573,7 @@ fn match_symbol<A: Allocator + Copy>(
 {
     match demangle_candidate(demangler, grammar, candidate(left), flags)? {
         Some(read) => {
-            let bytes = symbol_extent(left, read);
+            let bytes = symbol_extent(grammar, left, read);
             if continues(left, bytes) {
                 return Ok(None);
             }

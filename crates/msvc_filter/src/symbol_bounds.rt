@@ -1,14 +1,16 @@
 //! Places where a symbol may be in a text: words, their starts, and the candidates that begin there.
 
-ghost use Rattle.std.specs.Prelude.{◌&&◌, ◌∷◌, ◌==◌, ◌||◌, ◌≡◌, ◌≤◌, ◌<◌, ℕ, List, [], drop, length, take};
-ghost use Rattle.std.specs.Prelude.{slice_index};
-ghost use Rattle.std.specs.List.{list_all, take_while};
-ghost use Rattle.msvc_filter.specs.SymbolBounds.{blocks_start, candidate, continues, ends_word, is_trailing_byte};
-ghost use Rattle.msvc_filter.specs.WordStates.{IsPlain, Keeps, past};
-ghost use Rattle.msvc_filter.specs.SymbolBounds.{is_word_byte, is_start, is_visible};
-ghost use Rattle.msvc_filter.specs.SymbolBounds.{max_bytes, symbol_extent, utf8_front};
+ghost use Rattle.std.specs.Prelude.{◌&&◌, ◌∷◌, ◌==◌, ◌||◌, ◌≡◌, ◌≤◌, ◌<◌, ℕ, List, [], drop, length, not, take};
+ghost use Rattle.std.specs.Prelude.{slice_index, true};
+ghost use Rattle.std.specs.List.{list_all, list_any, take_while};
+ghost use Rattle.msvc_symbol.specs.declared.grammar.Grammar.TheVariants.{Crate, Full};
+ghost use Rattle.msvc_filter.specs.SymbolBounds.{begins_funclet, blocks_start, candidate, continues, ends_word};
+ghost use Rattle.msvc_filter.specs.SymbolBounds.{is_mark, is_start, is_trailing_byte, is_visible, is_word_byte};
+ghost use Rattle.msvc_filter.specs.SymbolBounds.{max_bytes, other_mark, symbol_extent, utf8_front};
+ghost use Rattle.msvc_filter.specs.WordStates.{IsPlain, IsUnmarked, Keeps, may_start, past};
 
 use memchr::memchr;
+use msvc_symbol::Grammar;
 use std::str::from_utf8;
 
 /// The most bytes of a candidate: the longest name that Microsoft's compiler gives.
@@ -24,7 +26,7 @@ fn is_word_byte(byte: u8) -> bool
     byte.is_ascii_alphanumeric() || matches!(byte, b'_' | b'$' | b'@' | b'?')
 }
 
-/// Returns whether no symbol begins after a byte.
+/// Returns whether no symbol begins with a `?` after a byte.
 fn blocks_start(byte: u8) -> bool
     ensures { result ≡ blocks_start byte }
 {
@@ -51,11 +53,46 @@ impl WordState {
         }
     }
 
-    /// Returns whether a symbol may start at a byte.
-    pub(crate) fn is_start(self, byte: u8) -> bool
-        ensures { (last : ℕ) (passed : List ℕ) → Keeps self last passed → result ≡ is_start last passed byte }
+    /// Returns whether a symbol of a grammar may start at the first of the bytes `left`.
+    #[inline(always)]
+    pub(crate) fn is_start(self, grammar: Grammar, left: &[u8]) -> bool
+        ensures { (last : ℕ) (passed : List ℕ) → Keeps self last passed
+            → result ≡ is_start grammar last passed left.now }
     {
-        byte == b'?' && !(self.seen_question_mark || blocks_start(self.last))
+        match grammar {
+            Grammar::Crate => self.may_start(left),
+            Grammar::Full => self.may_start_in_full(left),
+        }
+    }
+
+    /// Returns whether a symbol of the crate's grammar may start at the first of the bytes `left`.
+    fn may_start(self, left: &[u8]) -> bool
+        ensures { result ≡ may_start Crate self left.now }
+    {
+        match left {
+            [b'?', ..] => self.is_free(),
+            _ => false,
+        }
+    }
+
+    /// Returns whether a symbol of Full may start at the first of the bytes `left`.
+    fn may_start_in_full(self, left: &[u8]) -> bool
+        ensures { result ≡ may_start Full self left.now }
+    {
+        match left {
+            [b'?', ..] => {
+                self.is_free() && !(is_word_byte(self.last) && begins_funclet(candidate(left)))
+            }
+            [b'.', ..] => !is_word_byte(self.last),
+            _ => false,
+        }
+    }
+
+    /// Returns whether a `?` may start a symbol here.
+    fn is_free(self) -> bool
+        ensures { result ≡ not (self.seen_question_mark || blocks_start self.last) }
+    {
+        !(self.seen_question_mark || blocks_start(self.last))
     }
 
     /// Moves past a byte that stays.
@@ -81,6 +118,19 @@ impl WordState {
     }
 }
 
+/// Returns whether a text begins as the name of a funclet.
+fn begins_funclet(text: &str) -> bool
+    ensures { result ≡ begins_funclet text.now }
+{
+    matches!(
+        text.as_bytes(),
+        [b'?', b'c', b'a', b't', b'c', b'h', b'$', ..]
+            | [b'?', b'd', b't', b'o', b'r', b'$', ..]
+            | [b'?', b'f', b'i', b'l', b't', b'$', ..]
+            | [b'?', b'f', b'i', b'n', b'$', ..]
+    )
+}
+
 /// Returns whether the word that continues after a byte has had a `?`.
 fn sees_question_mark(seen_question_mark: bool, byte: u8) -> bool
     ensures { result ≡ (seen_question_mark || byte == 63) && is_word_byte byte }
@@ -100,10 +150,68 @@ fn all_word_bytes(bytes: &[u8]) -> bool
     true
 }
 
-/// Counts the bytes before the first `?`, or all if there is none.
-pub(crate) fn plain_len(bytes: &[u8]) -> usize
+/// Returns whether symbols of a grammar may start with a byte.
+#[inline(always)]
+pub(crate) fn is_mark(grammar: Grammar, byte: u8) -> bool
+    ensures { result ≡ is_mark grammar byte }
+{
+    byte == b'?' || byte == other_mark(grammar)
+}
+
+/// Returns the byte beside `?` with which symbols of a grammar may start; `?` too if there is none.
+#[inline(always)]
+fn other_mark(grammar: Grammar) -> u8
+    ensures { result ≡ other_mark grammar }
+{
+    match grammar {
+        Grammar::Crate => b'?',
+        Grammar::Full => b'.',
+    }
+}
+
+/// Returns whether symbols of a grammar may start with one of the bytes.
+#[inline(always)]
+pub(crate) fn has_mark(grammar: Grammar, bytes: &[u8]) -> bool
+    ensures { result ≡ list_any (λ b. is_mark grammar b) bytes.now }
+{
+    match grammar {
+        Grammar::Crate => bytes.contains(&b'?'),
+        Grammar::Full => unmarked_len(grammar, bytes) < bytes.len(),
+    }
+}
+
+/// Counts the bytes before the first with which a symbol of a grammar may start, or all if there is none.
+#[inline(always)]
+pub(crate) fn unmarked_len(grammar: Grammar, bytes: &[u8]) -> usize
     ensures bound { result ≤ length bytes.now }
-    ensures plain { IsPlain (take result bytes.now) }
+    ensures unmarked { IsUnmarked grammar (take result bytes.now) }
+    ensures end { result < length bytes.now → is_mark grammar (slice_index bytes.now result) ≡ true }
+{
+    match grammar {
+        Grammar::Crate => plain_len(bytes),
+        Grammar::Full => unmarked_len_in_full(bytes),
+    }
+}
+
+/// Counts the bytes before the first `?` or full stop, or all if there is none.
+#[inline(never)]
+fn unmarked_len_in_full(bytes: &[u8]) -> usize
+    ensures bound { result ≤ length bytes.now }
+    ensures unmarked { IsUnmarked Full (take result bytes.now) }
+    ensures end { result < length bytes.now → is_mark Full (slice_index bytes.now result) ≡ true }
+{
+    let mut len = 0;
+    'unmarked: while len < bytes.len() && !is_mark(Grammar::Full, bytes[len]) {
+        len += 1;
+    }
+    len
+}
+
+/// Counts the bytes before the first `?`, or all if there is none.
+#[inline(always)]
+fn plain_len(bytes: &[u8]) -> usize
+    ensures bound { result ≤ length bytes.now }
+    ensures plain { IsUnmarked Crate (take result bytes.now) }
     ensures end { result < length bytes.now → slice_index bytes.now result ≡ 63 }
 {
     match bytes {
@@ -150,18 +258,17 @@ pub(crate) fn utf8_front(bytes: &[u8]) -> &str
     }
 }
 
-/// Returns how many bytes a symbol takes of which `read` bytes were read: one more if that byte is an `@` or a capital,
-/// and ends its word.
-pub(crate) fn symbol_extent(left: &[u8], read: usize) -> usize
+/// Returns the number of bytes that a symbol takes: the `read` bytes that were read of it, and in the crate's grammar
+/// one more if that byte is an `@` or a capital that ends its word.
+pub(crate) fn symbol_extent(grammar: Grammar, left: &[u8], read: usize) -> usize
     requires { read ≤ length left.now }
-    ensures extent { result ≡ symbol_extent left.now read }
+    ensures extent { result ≡ symbol_extent grammar left.now read }
     ensures bound { result ≤ length left.now }
     ensures least { read ≤ result }
 {
-    if is_trailing_byte(&left[read..]) {
-        read + 1
-    } else {
-        read
+    match grammar {
+        Grammar::Crate if is_trailing_byte(&left[read..]) => read + 1,
+        _ => read,
     }
 }
 

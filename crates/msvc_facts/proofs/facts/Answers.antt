@@ -6,7 +6,7 @@ use Rattle.msvc_facts.proofs.Errors.{errors}
 use Rattle.msvc_facts.proofs.Filtered.{candidates, filtered, fitted}
 use Rattle.msvc_facts.proofs.Letters.{tables}
 use Rattle.msvc_facts.proofs.Runs.{faults, line_runs}
-use Rattle.msvc_facts.proofs.Texts.{answers, arguments, lines, words}
+use Rattle.msvc_facts.proofs.Texts.{answers, arguments, lines, words, words_in_full}
 use Rattle.msvc_facts.proofs.Trees.{counts, refusals, trees}
 use Rattle.msvc_facts.proofs.FullTexts.{full-texts}
 use Rattle.msvc_facts.proofs.facts.Goals as goal
@@ -67,6 +67,9 @@ returns-clause-arguments c = arguments
 
 pub returns-clause-words : goal.returns-clause-words
 returns-clause-words c = words
+
+pub returns-clause-words_in_full : goal.returns-clause-words_in_full
+returns-clause-words_in_full c = words_in_full
 
 pub returns-clause-candidates : goal.returns-clause-candidates
 returns-clause-candidates c = candidates

@@ -2,7 +2,8 @@ use Rattle.std.proofs.Common.{◌+◌, ◌-◌, ◌≡◌, arith, drop, length-t
 use Rattle.msvc_symbol.specs.Grammars.{under}
 use Rattle.msvc_filter.specs.Filtered.{kept}
 use Rattle.msvc_filter.specs.WordStates.{ArePartsUpTo}
-use Rattle.msvc_filter.proofs.ScanParts.{first-of, parts-found, parts-plain, parts-stays, parts-start, plain-run}
+use Rattle.msvc_filter.proofs.ScanParts.{parts-found, parts-stays, parts-start, parts-unmarked, unmarked-run}
+use Rattle.msvc_filter.proofs.Starts.{unmarked-plain}
 use Rattle.msvc_streams.proofs.CallSequence.{to_end}
 use Rattle.msvc_filter.proofs.filter.next_symbol.Goals as goal
 
@@ -12,28 +13,29 @@ bytes-init g c =
 
 pub pass-requires-clause-plain : goal.pass-requires-clause-plain
 pass-requires-clause-plain g c =
-    let run = c.plain_len.ensures in
-    plain-run c.args.left.now c.bytes.at c.plain_len.result c.args.until run.bound run.plain
+    let run = c.unmarked_len.ensures in
+    unmarked-plain c.args.grammar _ (unmarked-run c.args.grammar c.args.left.now c.bytes.at c.unmarked_len.result
+    c.args.until run.bound run.unmarked)
 
-pub bytes-preserved-then-left-at-ne63 : goal.bytes-preserved-then-left-at-ne63
-bytes-preserved-then-left-at-ne63 g c =
+pub bytes-preserved-then-not-is_mark : goal.bytes-preserved-then-not-is_mark
+bytes-preserved-then-not-is_mark g c =
     let left = c.args.left.now in
     let at = c.bytes.at in
-    let count = c.plain_len.result in
-    let run = c.plain_len.ensures in
-    let plain = plain-run left at count c.args.until run.bound run.plain in
+    let count = c.unmarked_len.result in
+    let run = c.unmarked_len.ensures in
+    let unmarked = unmarked-run c.args.grammar left at count c.args.until run.bound run.unmarked in
     let long = length-take (c.args.until - at) (drop at left) in (
       omega (arith, run.bound, long),
-      parts-plain (under c.args.grammar c.args.flags.0) _ c.bytes.scan _ left c.args.until at (at + count)
+      parts-unmarked (under c.args.grammar c.args.flags.0) _ c.bytes.scan _ left c.args.until at (at + count)
           c.bytes.invariant.1 (omega arith)
-          (omega (arith, run.bound, long)) plain c.pass.ensures,
+          (omega (arith, run.bound, long)) unmarked c.pass.ensures,
     )
 
 pub bytes-preserved : goal.bytes-preserved
 bytes-preserved g c =
     let left = c.args.left.now in
     let at = c.bytes.at in
-    let none = rw (c.in-None.is, to_end left at, first-of left at) at c.in_ok-bytes.ensures.none in (
+    let none = rw (c.in-None.is, to_end left at) at c.in_ok-bytes.ensures.none in (
       omega arith,
       parts-stays (under c.args.grammar c.args.flags.0) _ c.bytes.scan _ left c.args.until at c.bytes.invariant.1
           (omega arith) (omega arith)
@@ -44,7 +46,7 @@ pub returns-in-Some-clause-some : goal.returns-in-Some-clause-some
 returns-in-Some-clause-some g c =
     let left = c.args.left.now in
     let at = c.bytes.at in
-    let some = rw (c.in-Some.is, to_end left at, first-of left at) at c.in_ok-bytes.ensures.some in
+    let some = rw (c.in-Some.is, to_end left at) at c.in_ok-bytes.ensures.some in
     parts-found (under c.args.grammar c.args.flags.0) _ c.bytes.scan _ left c.args.until at c.in-Some.bytes _
     c.bytes.invariant.1 (omega arith)
     (omega arith) some.0 some.1 c.new.ensures
