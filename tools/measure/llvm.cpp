@@ -6,6 +6,7 @@
 #include <cstdlib>
 #include <cstring>
 #include <iostream>
+#include <llvm/Config/llvm-config.h>
 #include <llvm/Demangle/Demangle.h>
 #include <string>
 #include <vector>
@@ -15,7 +16,11 @@ using Names = std::vector<std::string>;
 // Returns the text of a name, which the caller frees, or null.
 static char *demangle(const std::string &name) {
   int status;
+#if LLVM_VERSION_MAJOR < 17
   return llvm::microsoftDemangle(name.c_str(), nullptr, nullptr, nullptr, &status);
+#else
+  return llvm::microsoftDemangle(name, nullptr, &status);
+#endif
 }
 
 // Prints the names that have a text, a line each: the name, a tab, and the text.
