@@ -533,13 +533,6 @@ async function run() {
     assert.equal(await page.value('typeof hurt'), 'undefined');
   });
 
-  await see('the ES module on the thread of a page', async () => {
-    const module = readFileSync(join(dirname(resolve(file)), 'msvc-demangler/index.mjs'), 'base64');
-    await page.send('Page.navigate', { url: 'about:blank' });
-    assert.equal(await page.value(`import('data:text/javascript;base64,${module}').then(
-      ({ demangle }) => demangle('?x@ns@@3HA'))`), 'int ns::x');
-  });
-
   await see('long tasks', async () => {
     const tasks = (await traced()).sort((one, other) => other - one);
     assert.ok(tasks.length > 100);
@@ -549,6 +542,14 @@ async function run() {
     const times = tasks.slice(0, 5).map((time) => time.toFixed(0)).join(', ');
     console.log(`${tasks.length} tasks of the page, the longest of ${times} ms, limit ${limit.toFixed(0)} ms`);
     if (tasks[0] > limit) process.exitCode = 3;
+  });
+
+  // Behind the end of the trace, since the module compiles the library in one task of this other page.
+  await see('the ES module on the thread of a page', async () => {
+    const module = readFileSync(join(dirname(resolve(file)), 'msvc-demangler/index.mjs'), 'base64');
+    await page.send('Page.navigate', { url: 'about:blank' });
+    assert.equal(await page.value(`import('data:text/javascript;base64,${module}').then(
+      ({ demangle }) => demangle('?x@ns@@3HA'))`), 'int ns::x');
   });
 }
 
