@@ -4,9 +4,9 @@
 //     node .ci/web-page.mjs PAGE MAP WANTED [FOLDER]
 //
 // PAGE is the page's file. MAP is a large file to drop, WANTED what msvcfilt writes for it. Fails if the page makes a
-// request. Ends with status 3 if all tests pass but a task of the page's thread takes more than LONGEST milliseconds of
-// the processor (default 100, twice what the longest takes if nothing runs beside), and as much more as tasks that are
-// equal differ. Writes screenshots to FOLDER: light.png, dark.png, phone.png, phone_dark.png, and web.png for docs.
+// request. Ends with status 3 if all tests pass but a task of the page's thread takes more of the processor than LONGEST
+// equal tasks of three million steps (default 56; the longest takes 16 to 35 if nothing runs beside), and as much more
+// as these differ. Writes screenshots to FOLDER: light.png, dark.png, phone.png, phone_dark.png, and web.png for docs.
 import assert from 'node:assert/strict';
 import { mkdirSync, mkdtempSync, readFileSync, rmSync, writeFileSync } from 'node:fs';
 import { tmpdir } from 'node:os';
@@ -15,7 +15,7 @@ import { pathToFileURL } from 'node:url';
 import { openPage } from './web-chromium.mjs';
 
 const [file, map, wanted, folder] = process.argv.slice(2);
-const longest = Number(process.env.LONGEST ?? 100);
+const longest = Number(process.env.LONGEST ?? 56);
 const address = pathToFileURL(resolve(file)).href;
 const downloads = mkdtempSync(join(tmpdir(), 'downloads-'));
 const page = await openPage();
@@ -538,7 +538,7 @@ async function run() {
     assert.ok(tasks.length > 100);
     const spans = await page.value(SPANS);
     const [quickest, usual, slowest] = [spans[0], spans[spans.length / 2], spans.at(-1)];
-    const limit = longest * usual / quickest + slowest - quickest;
+    const limit = longest * usual + slowest - quickest;
     const times = tasks.slice(0, 5).map((time) => time.toFixed(0)).join(', ');
     console.log(`${tasks.length} tasks of the page, the longest of ${times} ms, limit ${limit.toFixed(0)} ms`);
     if (tasks[0] > limit) process.exitCode = 3;
