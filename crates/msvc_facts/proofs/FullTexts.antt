@@ -12,6 +12,7 @@ use Rattle.msvc_print.specs.Functions.{separator, wide_qualifier}
 use Rattle.msvc_print.specs.Operators.{base_class_pieces, full_operator_word, guard_number, guard_pieces, name_kind}
 use Rattle.msvc_print.specs.Operators.{operator_pieces, operator_word, scoped, template_kind}
 use Rattle.msvc_print.specs.Pieces.{settle_all}
+use Rattle.msvc_print.specs.Pointed.{opens, some_opening, unaligned_shape}
 use Rattle.msvc_print.specs.Sides.{kept_left, kept_right}
 use Rattle.msvc_print.specs.Words.{angle_end, base_word, closing, full_marked, full_qualifiers, mark_qualifiers}
 use Rattle.msvc_print.specs.Words.{marked, opening, qualifiers, table_qualifiers}
@@ -23,7 +24,8 @@ use Rattle.msvc_facts.specs.FullTexts.{AreFullTexts}
 
 unfoldable full_printing : ⊤
 unfolding access_words angle_end arguments base_class_pieces base_word calling closing conversion convention_pieces declaration digits each_function_qualifier extern_words full_calling full_conversion full_function_qualifiers full_marked full_operator_word full_qualifiers full_reference_words full_this_words full_wide_word function_qualifiers grown guard_number guard_pieces is_empty_pack is_none kept_left kept_right kind_words mark_qualifiers marked member_start member_words name_kind name_pieces opening operator_pieces operator_word parameters qualifiers quoted_unless returned_end scope_pieces scoped separator settle_all table_end template_kind wide_qualifier each_name each_type grown_around laid layout_of
-    slot_pieces slots table_qualifiers literal narrow_width character character_at escape hex
+    slot_pieces slots opens some_opening unaligned_shape table_qualifiers literal narrow_width character
+    character_at escape hex
 full_printing = tt
 
 pub full-texts : AreFullTexts
@@ -76,6 +78,7 @@ full-texts =
       frame = refl;
       operators_of_shapes = refl;
       adjustor = refl;
+      conversion_of_thunk = refl;
       vtordispex = refl;
       table_of_none = refl;
       table_of_two = refl;
@@ -90,6 +93,9 @@ full-texts =
       first_guard = refl;
       string = refl;
       member_pointer_unaligned = refl;
+      unaligned_to_array = refl;
+      unaligned_to_function = refl;
+      unaligned_member_to_array = refl;
       descriptor_name = refl;
       displacement = refl;
       auto = refl;
@@ -104,6 +110,7 @@ full-texts =
       absent = refl;
       member_of = refl;
       member_of_none = refl;
+      explicit_this = refl;
       bits = refl;
       bits_of_nothing = refl;
       all_bits = refl;

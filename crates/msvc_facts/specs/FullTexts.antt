@@ -199,6 +199,9 @@ pub record AreFullTexts : Type 0 where
       "operator \"\"_a operator<=>::x"
   pub adjustor : IsFullText 0xe00400 (source "f") (names (source "C") no_names)
       (around_function rows.adjustor 161 (plus 4 ∷ [])) "[thunk]: public: virtual int __cdecl C::f`adjustor{4}'(void)"
+  pub conversion_of_thunk : IsFullText 0xe00400 (operator op.Conversion) (names (source "C") no_names)
+      (around_function rows.adjustor 161 (plus 4 ∷ []))
+      "[thunk]: public: virtual int __cdecl C::operator int`adjustor{4}'(void)"
   pub vtordispex : IsFullText 0 (source "f") no_names
       (around_function rows.vtordispex 128 (plus 8 ∷ minus 4 ∷ plus 8 ∷ plus 0 ∷ []))
       "[thunk]: int __cdecl f`vtordispex{8,-4,8,0}'(void)"
@@ -236,6 +239,13 @@ pub record AreFullTexts : Type 0 where
   pub member_pointer_unaligned : IsFullText 0x600000 (source "x") no_names
       (variable (shape rows.member_pointer 16 [] [] (names class_c no_names) (types int no_types)) Global 0)
       "int __unaligned C::*x"
+  pub unaligned_to_array : IsFullText 0xe00400 (source "x") no_names
+      (variable (pointer (levels (plus 14 ∷ [])) 16) Global 0) "int __unaligned (*x)[14]"
+  pub unaligned_to_function : IsFullText 0xe00400 (source "x") no_names
+      (variable (pointer (function Cdecl void 0 (base Void 0)) 16) Global 0) "void __unaligned (__cdecl *x)(void)"
+  pub unaligned_member_to_array : IsFullText 0xe00400 (source "x") no_names
+      (variable (shape rows.member_pointer 16 [] [] (names class_c no_names) (types (levels (plus 14 ∷ [])) no_types))
+      Global 0) "int __unaligned (C::*x)[14]"
   pub descriptor_name : IsFullText 0 (shaped rows.type_descriptor_name 0 [] [] no_names no_types) no_names
       (plain plain_kind.None) "`RTTI Type Descriptor Name'"
   pub displacement : IsFullText 0 (source "m") (names (source "A") no_names)
@@ -269,6 +279,10 @@ pub record AreFullTexts : Type 0 where
       "A<&N::C::m> x"
   pub member_of_none : IsFullText 0 (source "x") no_names
       (alias_of (shape rows.member_of 0 [] [] (names (source "m") no_names) no_types)) "A<&m> x"
+  pub explicit_this : IsFullText 0xe00400 (source "f") no_names
+      (function_of (types (shape rows.explicit_this 0 [] [] no_names (types int_pointer no_types))
+      (types int no_types)))
+      "void __cdecl f(this int *, int)"
   pub bits : IsFullText 0 (source "x") no_names
       (alias_of (shape rows.float 0 (plus 0x3fa00000 ∷ []) [] no_names no_types)) "A<float{0x3FA00000}> x"
   pub bits_of_nothing : IsFullText 0 (source "x") no_names

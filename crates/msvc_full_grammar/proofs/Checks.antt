@@ -10,7 +10,8 @@ use Rattle.msvc_full_grammar.specs.Forms.{encoding_by_row, thunk_of, c_function,
 use Rattle.msvc_full_grammar.specs.Forms.{type_information, virtual_call, displaced}
 use Rattle.msvc_full_grammar.specs.Forms.{adjustor, vtordisp, vtordispex, hashed, string, descriptor, guard_of, stub_of}
 use Rattle.msvc_full_grammar.specs.Forms.{value_by_row, of_symbol, offsets, member_offsets, bits_of, value_word}
-use Rattle.msvc_full_grammar.specs.Forms.{aggregate, elements, subobject, element, union_value, template_object}
+use Rattle.msvc_full_grammar.specs.Forms.{aggregate, elements, subobject, element, union_value, member_of}
+use Rattle.msvc_full_grammar.specs.Forms.{template_object}
 use Rattle.msvc_full_grammar.specs.Forms.{member as member_form, an_argument, a_member, an_element}
 use Rattle.msvc_full_grammar.specs.Forms.{free_function, function_of, of_pointer, of_member_pointer, of_value, named}
 use Rattle.msvc_full_grammar.specs.Forms.{pointer_with, reference_by, volatile_reference, arrayed, function_with}
@@ -30,7 +31,8 @@ use Rattle.msvc_full_grammar.specs.Productions.{repeated_name, symbol_name, oper
 use Rattle.msvc_full_grammar.specs.Productions.{type_symbol, class_symbol, template_name, scope, nested_name}
 use Rattle.msvc_full_grammar.specs.Productions.{anonymous_kept, name_row, type_row}
 use Rattle.msvc_full_grammar.specs.Productions.{source_name, function_type, signature, own_qualifiers, marks, returned}
-use Rattle.msvc_full_grammar.specs.Productions.{function_parameters, parameters, parameter, type_, type_after, pointer}
+use Rattle.msvc_full_grammar.specs.Productions.{function_parameters, explicit_parameters, parameters}
+use Rattle.msvc_full_grammar.specs.Productions.{type_, type_after, pointer}
 use Rattle.msvc_full_grammar.specs.Productions.{reference, arrays, dimensions, positive, lengths, listed, one_listed}
 use Rattle.msvc_full_grammar.specs.Productions.{argument}
 use Rattle.msvc_full_grammar.specs.Productions.{member, member_value}
@@ -99,8 +101,8 @@ rank (own_qualifiers own) = 1
 rank returned = 2
 rank result_type = 1
 rank function_parameters = 3
+rank explicit_parameters = 2
 rank parameters = 2
-rank parameter = 1
 rank (type_after q f) = 4
 rank (type_row q r) = 3
 rank (pointer q) = 1
@@ -262,8 +264,8 @@ no_operator_begins_another = refl
 -- how many bytes a production reads at least before a digit that it notes
 unfoldable pub runs_up : {a : Sort} → Production a → ℕ
 runs_up function_parameters = 0
+runs_up explicit_parameters = 0
 runs_up parameters = 0
-runs_up parameter = 0
 runs_up source_name = 9
 runs_up scope = 2
 runs_up nested_name = 2
@@ -370,6 +372,7 @@ checked (value_after subobject) = search depth 20
 checked (value_after member_form) = search depth 20
 checked (value_after element) = search depth 20
 checked (value_after union_value) = search depth 20
+checked (value_after member_of) = search depth 20
 checked (one_listed an_argument) = search
 checked (one_listed a_member) = search
 checked (one_listed an_element) = search depth 20

@@ -9,7 +9,8 @@ use Rattle.msvc_full_grammar.specs.Forms.{encoding_by_row, thunk_of, c_function,
 use Rattle.msvc_full_grammar.specs.Forms.{type_information, virtual_call, displaced}
 use Rattle.msvc_full_grammar.specs.Forms.{adjustor, vtordisp, vtordispex, hashed, string, descriptor, guard_of, stub_of}
 use Rattle.msvc_full_grammar.specs.Forms.{value_by_row, of_symbol, offsets, member_offsets, bits_of, value_word}
-use Rattle.msvc_full_grammar.specs.Forms.{aggregate, elements, subobject, element, union_value, template_object}
+use Rattle.msvc_full_grammar.specs.Forms.{aggregate, elements, subobject, element, union_value, member_of}
+use Rattle.msvc_full_grammar.specs.Forms.{template_object}
 use Rattle.msvc_full_grammar.specs.Forms.{member as member_form, an_argument, a_member, an_element}
 use Rattle.msvc_full_grammar.specs.Forms.{free_function, function_of, of_pointer, of_member_pointer, of_value, named}
 use Rattle.msvc_full_grammar.specs.Forms.{pointer_with, reference_by, volatile_reference, arrayed, function_with}
@@ -108,6 +109,7 @@ well_placed (value_after subobject) = search depth 12
 well_placed (value_after member_form) = search depth 12
 well_placed (value_after element) = search depth 12
 well_placed (value_after union_value) = search depth 12
+well_placed (value_after member_of) = search depth 12
 well_placed (listed an_argument) = search depth 12
 well_placed (listed a_member) = search depth 12
 well_placed (listed an_element) = search depth 12

@@ -26,7 +26,7 @@ use Rattle.msvc_full_grammar.specs.Rows.{extern_c_row, frame_row, literal_operat
 use Rattle.msvc_full_grammar.specs.Rows.{tables_row, md5_locator_row, string_literal_row, static_guard_row}
 use Rattle.msvc_full_grammar.specs.Rows.{type_descriptor_row, address_row, offsets_row, type_descriptor_name_row}
 use Rattle.msvc_full_grammar.specs.Rows.{initializer_of_name_row, initializer_of_variable_row, handle_row}
-use Rattle.msvc_full_grammar.specs.Rows.{destructor_row}
+use Rattle.msvc_full_grammar.specs.Rows.{destructor_row, explicit_this_row, member_of_row}
 use Rattle.msvc_full_grammar.specs.Strings.{decoded}
 
 -- the tree that is read of a text, and the bytes left
@@ -349,6 +349,24 @@ pub a_stub_of_a_variable : read_of "??__E?x@@3HA@@YAXXZ" ≡ whole (shaped initi
     (plain_function (base b.Void 0))
 unfolding read_name read_name_in read_within read_by part_here counting grammar
 a_stub_of_a_variable = refl
+
+-- an explicit `this`, of which the type alone enters the table, is the first parameter
+pub an_explicit_this : read_of "?f@@YAX_VPAH0@Z" ≡ whole (source "f") [] (function c.Cdecl
+    (types (shape explicit_this_row 0 [] [] no_names (types (pointing m.Pointer (base b.Int 0) 0) no_types))
+    (types (pointing m.Pointer (base b.Int 0) 0) no_types)) 0 (base b.Void 0))
+unfolding read_name read_name_in read_within read_by part_here counting grammar
+an_explicit_this = refl
+
+pub a_second_this : read_of "?f@@YAXH_VH@Z" ≡ None
+unfolding read_name read_name_in read_within read_by part_here counting grammar
+a_second_this = refl
+
+-- a pointer to a member by its scope and its name
+pub a_member_by_name : read_of "?x@@3U?$T@$8C@N@@m@@@@A" ≡ whole (source "x") []
+    (variable (tagged t.Struct (template (source "T") (types (shape member_of_row 0 [] []
+    (names (source "N") (names (source "C") (names (source "m") no_names))) no_types) no_types)) no_names 0) v.Global 0)
+unfolding read_name read_name_in read_within read_by part_here counting grammar
+a_member_by_name = refl
 
 -- a handle, as a parameter of a function of managed code
 pub a_handle : read_of "?f@@$$FYMXP$AAUA@@@Z" ≡ whole (source "f") [] (function c.Clrcall

@@ -2,7 +2,9 @@
 use Rattle.std.proofs.Common.{ℕ, zero, suc, List, [], ◌∷◌, Bool, true, None, Some}
 use Rattle.std.specs.Prelude.{pos, negsuc}
 use Rattle.std.proofs.Common.{◌≡◌}
-use Rattle.std.proofs.Common.{false, refl}
+use Rattle.std.proofs.Common.{◌++◌, false, refl, subst, sym}
+use Rattle.std.proofs.lemmas.List.{reverse-append}
+use Rattle.std.specs.Prelude.{reverse}
 use Rattle.msvc_nodes.specs.EachName.{EachNameOfName, EachNameOfNames, EachNameOfType, EachNameOfTypes}
 use Rattle.msvc_nodes.specs.Trees.{NameTree, TypeTree, name_trees, type_trees}
 use Rattle.msvc_rules.specs.Rules.{Rule, call, every}
@@ -12,7 +14,8 @@ use Rattle.msvc_full_grammar.specs.Forms.{encoding_by_row, thunk_of, c_function,
 use Rattle.msvc_full_grammar.specs.Forms.{type_information, virtual_call, displaced}
 use Rattle.msvc_full_grammar.specs.Forms.{adjustor, vtordisp, vtordispex, hashed, string, descriptor, guard_of, stub_of}
 use Rattle.msvc_full_grammar.specs.Forms.{value_by_row, of_symbol, offsets, member_offsets, bits_of, value_word}
-use Rattle.msvc_full_grammar.specs.Forms.{aggregate, elements, subobject, element, union_value, template_object}
+use Rattle.msvc_full_grammar.specs.Forms.{aggregate, elements, subobject, element, union_value, member_of}
+use Rattle.msvc_full_grammar.specs.Forms.{template_object}
 use Rattle.msvc_full_grammar.specs.Forms.{member as member_form, an_argument, a_member, an_element}
 use Rattle.msvc_full_grammar.specs.Forms.{free_function, function_of, of_pointer, of_member_pointer, of_value, named}
 use Rattle.msvc_full_grammar.specs.Forms.{pointer_with, reference_by, volatile_reference, arrayed, function_with}
@@ -50,6 +53,12 @@ module _ (P : List ℕ → Type 0) (none : P []) where
   in-types : (ts : List TypeTree) → Each (λ t. EachNameOfType P t) ts → EachNameOfTypes P (type_trees ts)
   in-types [] h = tt
   in-types (t ∷ ts) h = (h.0, in-types ts h.1)
+
+  each-reversed : (ns : List NameTree) → Each (λ n. EachNameOfName P n) ns → Each (λ n. EachNameOfName P n) (reverse ns)
+  each-reversed [] h = tt
+  each-reversed (n ∷ ns) h =
+      subst (λ ms. Each (λ m. EachNameOfName P m) ms) (sym (reverse-append (n ∷ []) ns))
+      (each-last P (λ m. EachNameOfName P m) (reverse ns) n (each-reversed ns h.1) h.0)
 
   -- the names of what fields hold
   abbrev InHeld : Held → Type 0
@@ -235,6 +244,20 @@ module _ (P : List ℕ → Type 0) (none : P []) where
   gives (value_after member_form) = search depth 60
   gives (value_after element) = search depth 60
   gives (value_after union_value) = search depth 60
+  gives (value_after member_of) = (
+    tt,
+    λ ns h. (
+      tt,
+      λ n k. (
+        refl,
+        λ _ _. (
+          none,
+          in-names (reverse ns ++ n ∷ []) (each-last P (λ m. EachNameOfName P m) (reverse ns) n (each-reversed ns h) k),
+          tt,
+        ),
+      ),
+    ),
+  )
   gives (one_listed an_argument) = tt
   gives (one_listed a_member) = tt
   gives (one_listed an_element) = search depth 60

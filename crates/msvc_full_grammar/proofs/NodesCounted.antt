@@ -1,7 +1,9 @@
 -- That each production of Full counts the nodes of its value.
 use Rattle.std.proofs.Common.{ℕ, zero, suc, List, [], ◌∷◌, ◌++◌, true, false, None, Some}
 use Rattle.std.specs.Prelude.{pos, negsuc}
-use Rattle.std.proofs.Common.{◌≡◌, ◌+◌, refl, arith}
+use Rattle.std.proofs.Common.{◌≡◌, ◌+◌, refl, arith, ap, ◌∙◌}
+use Rattle.std.proofs.lemmas.List.{reverse-append}
+use Rattle.std.specs.Prelude.{reverse}
 use Rattle.msvc_nodes.specs.Trees.{NameTree, name_trees, type_trees}
 use Rattle.msvc_rules.specs.Counts.{name_count, names_count, types_count}
 use Rattle.msvc_rules.specs.Rules.{Rule, call}
@@ -11,7 +13,8 @@ use Rattle.msvc_full_grammar.specs.Forms.{encoding_by_row, thunk_of, c_function,
 use Rattle.msvc_full_grammar.specs.Forms.{type_information, virtual_call, displaced}
 use Rattle.msvc_full_grammar.specs.Forms.{adjustor, vtordisp, vtordispex, hashed, string, descriptor, guard_of, stub_of}
 use Rattle.msvc_full_grammar.specs.Forms.{value_by_row, of_symbol, offsets, member_offsets, bits_of, value_word}
-use Rattle.msvc_full_grammar.specs.Forms.{aggregate, elements, subobject, element, union_value, template_object}
+use Rattle.msvc_full_grammar.specs.Forms.{aggregate, elements, subobject, element, union_value, member_of}
+use Rattle.msvc_full_grammar.specs.Forms.{template_object}
 use Rattle.msvc_full_grammar.specs.Forms.{member as member_form, an_argument, a_member, an_element}
 use Rattle.msvc_full_grammar.specs.Forms.{free_function, function_of, of_pointer, of_member_pointer, of_value, named}
 use Rattle.msvc_full_grammar.specs.Forms.{pointer_with, reference_by, volatile_reference, arrayed, function_with}
@@ -37,7 +40,7 @@ use Rattle.msvc_full_grammar.specs.Productions.{class_symbol, template_name, sco
 use Rattle.msvc_full_grammar.specs.Productions.{anonymous_kept, hexadecimal_digits, name_row, type_row, source_name}
 use Rattle.msvc_full_grammar.specs.Productions.{function_type}
 use Rattle.msvc_full_grammar.specs.Productions.{signature, own_qualifiers, marks, returned, function_parameters}
-use Rattle.msvc_full_grammar.specs.Productions.{parameters, parameter, type_, type_after, pointer, reference, arrays}
+use Rattle.msvc_full_grammar.specs.Productions.{explicit_parameters, parameters, type_, type_after, pointer, reference, arrays}
 use Rattle.msvc_full_grammar.specs.Productions.{dimensions, positive, lengths, listed, one_listed, argument}
 use Rattle.msvc_full_grammar.specs.Productions.{argument_after, member, member_value}
 use Rattle.msvc_full_grammar.specs.Productions.{numbers, small_number, unsigned, whole_hash, symbol_after, string_of}
@@ -75,6 +78,14 @@ module _ (w : ℕ) where
       → names_count w (name_trees (ns ++ n ∷ [])) ≡ names_count w (name_trees ns) + name_count w n
   with_last [] n = omega arith
   with_last (m ∷ ns) n = omega (arith, with_last ns n)
+
+  -- the order of names doesn't count
+  reversed : (ns : List NameTree) → names_count w (name_trees (reverse ns)) ≡ names_count w (name_trees ns)
+  reversed [] = refl
+  reversed (n ∷ ns) =
+      ap (λ ms. names_count w (name_trees ms)) (reverse-append (n ∷ []) ns)
+      ∙ with_last (reverse ns) n
+      ∙ omega (arith, reversed ns)
 
   -- fields count what they hold, beside c that were counted before them
   makes_fields : (fields : List Field) (h : Held) {a : Sort} (f : Held → Rule Production a) (c g : ℕ)
@@ -262,10 +273,10 @@ module _ (w : ℕ) where
   )
   makes returned = ((refl, λ _. omega arith), refl)
   makes result_type = ((refl, λ _. (no_nodes qualifiers, λ _. refl)), refl)
-  makes function_parameters = ((refl, λ _. omega arith), refl)
+  makes function_parameters = ((refl, λ _. omega arith), ((refl, λ _. refl), refl))
+  makes explicit_parameters = (((refl, refl), λ t. omega arith), λ t. (refl, λ ts. omega arith))
   makes parameters =
-      ((refl, λ _. refl), ((refl, λ _. omega arith), (refl, λ t. (refl, λ ts. omega arith))))
-  makes parameter = (refl, refl)
+      ((refl, λ _. refl), ((refl, λ _. omega arith), ((refl, refl), λ t. (refl, λ ts. omega arith))))
   makes (type_ q) = (
     makes_texts full_grammar w type_texts (λ f. call (type_after q f)) (λ f. refl),
     (no_nodes base_types, λ _. omega arith),
@@ -361,6 +372,8 @@ module _ (w : ℕ) where
   makes (value_after element) = (refl, λ v. (refl, λ _. (refl, λ n. (refl, λ _. omega arith))))
   makes (value_after union_value) =
       (refl, λ t. ((refl, λ _. omega arith), (refl, λ n. (refl, λ v. (refl, λ _. omega arith)))))
+  makes (value_after member_of) =
+      (refl, λ ns. (refl, λ n. (refl, λ _. omega (arith, with_last (reverse ns) n, reversed ns))))
   makes member = (
     makes_texts full_grammar w member_texts (λ v. call (value_after v)) (λ v. refl),
     (refl, λ t. (refl, λ v. omega arith)),

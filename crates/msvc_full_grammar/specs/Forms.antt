@@ -19,6 +19,7 @@ pub use Rattle.msvc_full_grammar.specs.declared.forms.ValueForm.TheVariants.{Agg
 pub use Rattle.msvc_full_grammar.specs.declared.forms.ValueForm.TheVariants.{Elements as elements}
 pub use Rattle.msvc_full_grammar.specs.declared.forms.ValueForm.TheVariants.{Subobject as subobject, Member as member}
 pub use Rattle.msvc_full_grammar.specs.declared.forms.ValueForm.TheVariants.{Element as element, Union as union_value}
+pub use Rattle.msvc_full_grammar.specs.declared.forms.ValueForm.TheVariants.{MemberOf as member_of}
 pub use Rattle.msvc_full_grammar.specs.declared.forms.Listed.{Listed}
 pub use Rattle.msvc_full_grammar.specs.declared.forms.Listed.TheVariants.{Argument as an_argument, Member as a_member}
 pub use Rattle.msvc_full_grammar.specs.declared.forms.Listed.TheVariants.{Element as an_element}

@@ -15,8 +15,8 @@ use Rattle.msvc_nodes.specs.declared.kinds.PointerAffinity.{PointerAffinity}
 use Rattle.msvc_nodes.specs.declared.kinds.PrimitiveKind.TheVariants as base_kind
 use Rattle.msvc_nodes.specs.declared.kinds.Spelling.TheVariants as spelling_kind
 use Rattle.msvc_rules.specs.Rules.{Rule, some_of, give, letter, literal, ◌>>=◌}
-use Rattle.msvc_rules.specs.Rules.{◌>>◌, ◌or◌, call, remember, letter_or}
-use Rattle.msvc_rules.specs.Rules.{literal_or, node}
+use Rattle.msvc_rules.specs.Rules.{◌>>◌, ◌or◌, begins_of, call, entering, here, letter_or, literal_or, node, none_of}
+use Rattle.msvc_rules.specs.Rules.{noted, remember}
 use Rattle.msvc_rules.specs.Sorts.{Sort, nothing, bits, name_tree, type_tree}
 use Rattle.msvc_full_grammar.specs.Forms.{OwnQualifiers, absent, present}
 use Rattle.msvc_full_grammar.specs.Forms.{EncodingForm, free_function, function_of, thunk_of}
@@ -41,7 +41,7 @@ use Rattle.msvc_full_grammar.specs.Productions.{funclet_function}
 use Rattle.msvc_full_grammar.specs.Productions.{result_type}
 use Rattle.msvc_full_grammar.specs.Productions.{template_value}
 use Rattle.msvc_full_grammar.specs.Rows.{member_pointer_row, Field}
-use Rattle.msvc_full_grammar.specs.Rows.{typed_row, adjustor_row}
+use Rattle.msvc_full_grammar.specs.Rows.{typed_row, adjustor_row, explicit_this_row}
 use Rattle.msvc_full_grammar.specs.Rows.{vtordisp_row, vtordispex_row, md5_locator_row}
 use Rattle.msvc_full_grammar.specs.Rows.{static_guard_row, thread_guard_row, string_literal_row}
 use Rattle.msvc_full_grammar.specs.Rows.{wide_string_literal_row}
@@ -192,6 +192,18 @@ name_alone = node (do
   ns ← call scope
   t ← no_type
   give (nested n (name_trees ns) t))
+
+-- a digit is the type of an entry, and is noted; a type that was read enters the table
+abbrev pub parameter : Rule Production type_tree
+parameter =
+    noted digits
+    or here (none_of (begins_of digits)) (entering (call (type_ 0)))
+
+-- an explicit `this`, after its _V
+abbrev pub explicit_this : Rule Production type_tree
+explicit_this = node (do
+  t ← parameter
+  give (shape explicit_this_row 0 [] [] no_names (types t no_types)))
 
 -- what a pointer or a reference of no managed code holds behind its marks
 abbrev pub pointed_type : PointerAffinity → ℕ → Rule Production type_tree

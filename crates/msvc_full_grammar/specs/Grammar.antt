@@ -2,7 +2,7 @@
 -- letters stand for is in the tables of Letters.
 use Rattle.std.specs.Prelude.{pos, negsuc, [], ◌∷◌, ◌++◌, ◌+◌, ◌*◌, ◌%◌, ◌^◌, true, false}
 use Rattle.std.specs.Prelude.{Some, None}
-use Rattle.std.specs.Prelude.{bit_or, suc, zero, codes}
+use Rattle.std.specs.Prelude.{bit_or, suc, zero, codes, reverse}
 use Rattle.msvc_nodes.specs.Trees.{spelled, operator, nested, anonymous, shaped, no_names}
 use Rattle.msvc_nodes.specs.Trees.{names, name_trees, base, tagged, pointing, member_function, shape, no_types}
 use Rattle.msvc_nodes.specs.Trees.{types, type_trees, base_class_descriptor, vcall_thunk}
@@ -13,7 +13,7 @@ use Rattle.msvc_nodes.specs.declared.kinds.PrimitiveKind.TheVariants as base_kin
 use Rattle.msvc_nodes.specs.declared.kinds.Spelling.TheVariants as spelling_kind
 use Rattle.msvc_nodes.specs.declared.kinds.TagKind.TheVariants as tag_kind
 use Rattle.msvc_rules.specs.Rules.{none_of, at_end, Grammar, Rule, give, letter, literal, up_to, here}
-use Rattle.msvc_rules.specs.Rules.{◌>>=◌, ◌>>◌, ◌or◌, call, known_name, remember, noted, entering, apart, begins_of}
+use Rattle.msvc_rules.specs.Rules.{◌>>=◌, ◌>>◌, ◌or◌, call, known_name, remember, apart}
 use Rattle.msvc_rules.specs.Rules.{letter_or}
 use Rattle.msvc_rules.specs.Rules.{literal_or, node, text_and, text_or, optional, never}
 use Rattle.msvc_rules.specs.Sorts.{Sort, bits, base_type, convention}
@@ -25,7 +25,8 @@ use Rattle.msvc_full_grammar.specs.Forms.{virtual_call, displaced}
 use Rattle.msvc_full_grammar.specs.Forms.{adjustor, vtordisp, vtordispex}
 use Rattle.msvc_full_grammar.specs.Forms.{hashed, string, descriptor, guard_of, stub_of}
 use Rattle.msvc_full_grammar.specs.Forms.{value_by_row, of_symbol, offsets, member_offsets, bits_of, value_word}
-use Rattle.msvc_full_grammar.specs.Forms.{aggregate, elements, subobject, element, union_value, template_object}
+use Rattle.msvc_full_grammar.specs.Forms.{aggregate, elements, subobject, element, union_value, member_of}
+use Rattle.msvc_full_grammar.specs.Forms.{template_object}
 use Rattle.msvc_full_grammar.specs.Forms.{member as member_form, an_argument, a_member, an_element}
 use Rattle.msvc_full_grammar.specs.Forms.{of_pointer, of_member_pointer, of_value}
 use Rattle.msvc_full_grammar.specs.Forms.{named, pointer_with, reference_by, volatile_reference, arrayed}
@@ -47,7 +48,8 @@ use Rattle.msvc_full_grammar.specs.Productions.{repeated_name, symbol_name, oper
 use Rattle.msvc_full_grammar.specs.Productions.{type_symbol, class_symbol, template_name, scope, nested_name}
 use Rattle.msvc_full_grammar.specs.Productions.{anonymous_digits, anonymous_kept, hexadecimal_digits, name_row}
 use Rattle.msvc_full_grammar.specs.Productions.{source_name, function_type, signature, own_qualifiers, marks, returned}
-use Rattle.msvc_full_grammar.specs.Productions.{function_parameters, parameters, parameter, type_, type_after, pointer}
+use Rattle.msvc_full_grammar.specs.Productions.{function_parameters, explicit_parameters, parameters}
+use Rattle.msvc_full_grammar.specs.Productions.{type_, type_after, pointer}
 use Rattle.msvc_full_grammar.specs.Productions.{reference, arrays, dimensions, positive, lengths, listed, one_listed}
 use Rattle.msvc_full_grammar.specs.Productions.{argument, member, member_value}
 use Rattle.msvc_full_grammar.specs.Productions.{argument_after, template_symbol, named_symbol, type_row, whole_text}
@@ -66,13 +68,14 @@ use Rattle.msvc_full_grammar.specs.Rows.{type_descriptor_name_row, displacement_
 use Rattle.msvc_full_grammar.specs.Rows.{block_row, handle_row}
 use Rattle.msvc_full_grammar.specs.Rows.{tracking_row}
 use Rattle.msvc_full_grammar.specs.Rows.{subobject_row, member_row, element_row}
-use Rattle.msvc_full_grammar.specs.Rows.{aggregate_row, empty_union_row, union_value_row, absent_row}
+use Rattle.msvc_full_grammar.specs.Rows.{aggregate_row, empty_union_row, union_value_row, absent_row, member_of_row}
 use Rattle.msvc_full_grammar.specs.Rows.{fields_of_type, fields_of_name, nothing_held}
 use Rattle.msvc_full_grammar.specs.Fragments.{adjusted_row, anonymous_namespace, described, each_plain, end_of}
-use Rattle.msvc_full_grammar.specs.Fragments.{fields_rule}
+use Rattle.msvc_full_grammar.specs.Fragments.{explicit_this, fields_rule}
 use Rattle.msvc_full_grammar.specs.Fragments.{funclet_frame, funclet_type, guard_row, has_capital, hash_name}
-use Rattle.msvc_full_grammar.specs.Fragments.{interface_name, made_name, managed_mark, name_alone, nested_symbol}
-use Rattle.msvc_full_grammar.specs.Fragments.{new_source_name, new_template, no_type, object_name, of_c, own_of_class}
+use Rattle.msvc_full_grammar.specs.Fragments.{interface_name, made_name, managed_mark, name_alone}
+use Rattle.msvc_full_grammar.specs.Fragments.{nested_symbol, new_source_name, new_template, no_type, object_name}
+use Rattle.msvc_full_grammar.specs.Fragments.{of_c, own_of_class, parameter}
 use Rattle.msvc_full_grammar.specs.Fragments.{plain, pointed, signed_number, small, string_row, stub_row}
 use Rattle.msvc_full_grammar.specs.Fragments.{template_inside}
 use Rattle.msvc_full_grammar.specs.Fragments.{typed_member, unsigned_number, values_of, whole_hash_name}
@@ -416,18 +419,19 @@ grammar marks = do
 grammar returned = literal_or (codes "@") no_type (call result_type)
 -- a type, before which a ? and a qualifier may stand
 grammar result_type = literal_or (codes "?") (do q ← letter bits qualifiers; call (type_ q)) (call (type_ 0))
--- X for one void, or parameters
+-- X for one void, or parameters, of which the first is an explicit `this` behind a _V; no type begins so
 grammar function_parameters =
-    literal_or (codes "X") (node (give (base base_kind.Void 0 ∷ []))) (call parameters)
+    literal_or (codes "X") (node (give (base base_kind.Void 0 ∷ [])))
+    ((literal (codes "_V") >> call explicit_parameters) or call parameters)
+grammar explicit_parameters = do
+  t ← explicit_this
+  ts ← call parameters
+  give (t ∷ ts)
 -- parameters up to an @ or a Z, which adds an ellipsis
 grammar parameters =
     (do literal (codes "@"); give [])
     or (do literal (codes "Z"); node (give (tree.plain plain_kind.Variadic ∷ [])))
-    or here (none_of (codes "@" ∷ codes "Z" ∷ [])) (do t ← call parameter; ts ← call parameters; give (t ∷ ts))
--- a digit is the type of an entry, and is noted; a type that was read enters the table
-grammar parameter =
-    noted digits
-    or here (none_of (begins_of digits)) (entering (call (type_ 0)))
+    or here (none_of (codes "@" ∷ codes "Z" ∷ [])) (do t ← parameter; ts ← call parameters; give (t ∷ ts))
 -- Types, with the qualifiers that they are read with.
 grammar (type_ q) =
     text_or type_texts (λ f. call (type_after q f)) (node (do b ← letter base_type base_types; give (base b q)))
@@ -565,6 +569,12 @@ grammar (value_after union_value) = node (do
         v ← call template_value
         literal (codes "@")
         give (shape union_value_row 0 [] [] (names n no_names) (types t (types v no_types)))))
+-- the scope of a member, the innermost name first, and the name of the member
+grammar (value_after member_of) = node (do
+  ns ← call scope
+  n ← call type_name
+  literal (codes "@")
+  give (shape member_of_row 0 [] [] (name_trees (reverse ns ++ n ∷ [])) no_types))
 -- a value that needs no type, or a type and the value, if there is one
 grammar member = text_or member_texts (λ v. call (value_after v)) typed_member
 grammar member_value =

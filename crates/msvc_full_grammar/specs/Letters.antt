@@ -21,7 +21,7 @@ use Rattle.msvc_full_grammar.specs.Forms.{vtordispex, ValueForm, value_by_row, o
 use Rattle.msvc_full_grammar.specs.Forms.{typed}
 use Rattle.msvc_full_grammar.specs.Forms.{SymbolForm, hashed, string, descriptor, guard_of, stub_of}
 use Rattle.msvc_full_grammar.specs.Forms.{initializer, destructor, template_object}
-use Rattle.msvc_full_grammar.specs.Forms.{aggregate, elements, subobject, member, element, union_value}
+use Rattle.msvc_full_grammar.specs.Forms.{aggregate, elements, subobject, member, element, union_value, member_of}
 use Rattle.msvc_full_grammar.specs.Forms.{absent, present}
 use Rattle.msvc_full_grammar.specs.Forms.{TypeForm, named, pointer_with, reference_by, arrayed, function_with, the_same}
 use Rattle.msvc_full_grammar.specs.Forms.{qualified, type_by_row, extended}
@@ -213,6 +213,7 @@ value_texts =
     ∷ (codes "6", member)
     ∷ (codes "C", element)
     ∷ (codes "7", union_value)
+    ∷ (codes "8", member_of)
     ∷ []
 
 -- The texts of values without a type before them, among the members of a class. None begins another, and none a type.

@@ -80,8 +80,8 @@ pub data Production : Sort → Type 0 where
   returned : Production type_tree
   result_type : Production type_tree
   function_parameters : Production (list type_tree)
+  explicit_parameters : Production (list type_tree)
   parameters : Production (list type_tree)
-  parameter : Production type_tree
   -- types
   type_ : ℕ → Production type_tree
   type_after : ℕ → TypeForm → Production type_tree

@@ -29,6 +29,7 @@ pub use Rattle.msvc_shapes.specs.Rows.{template_object as template_object_row}
 pub use Rattle.msvc_shapes.specs.Rows.{subobject as subobject_row, member as member_row, element as element_row}
 pub use Rattle.msvc_shapes.specs.Rows.{aggregate as aggregate_row, values as values_row}
 pub use Rattle.msvc_shapes.specs.Rows.{empty_union as empty_union_row, union_value as union_value_row}
+pub use Rattle.msvc_shapes.specs.Rows.{member_of as member_of_row, explicit_this as explicit_this_row}
 pub use Rattle.msvc_shapes.specs.Rows.{catch_funclet as catch_row, destructor_funclet as destructor_row}
 pub use Rattle.msvc_shapes.specs.Rows.{filter_funclet as filter_row, finally_funclet as finally_row}
 pub use Rattle.msvc_shapes.specs.Rows.{managed_vector_ctor_iterator, managed_vector_dtor_iterator}

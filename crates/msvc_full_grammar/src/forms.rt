@@ -71,6 +71,8 @@ pub enum ValueForm {
     Element,
     /// A type follows, and one member of a union with its value, if any.
     Union,
+    /// The scope of a member follows, and its name.
+    MemberOf,
 }
 
 /// Tells what a list of types up to an `@` has.

@@ -1,13 +1,18 @@
 -- Step lemmas of what begins with the text of a table.
-use Rattle.std.proofs.Common.{ℕ, List, [], ◌∷◌, Option, Some, None, ◌≡◌, ◌∙◌, refl, ap}
+use Rattle.std.proofs.Common.{ℕ, List, [], ◌∷◌, ◌++◌, Option, Some, None, Bool, true, false, cond, ◌==◌, ◌≡◌, ◌∙◌}
+use Rattle.std.proofs.Common.{refl, ap}
+use Rattle.std.proofs.lemmas.Bool.{eqb-true}
+use Rattle.std.specs.Prelude.{codes}
+use Prim.Native.Char.{code}
 use Rattle.std.specs.Option.{option_map}
 use Rattle.msvc_nodes.specs.Trees.{TypeTree, base, no_names, no_types, plain, shape}
 use Rattle.msvc_nodes.specs.declared.kinds.PlainType.TheVariants as plain_kind
 use Rattle.msvc_nodes.specs.declared.kinds.PrimitiveKind.{PrimitiveKind}
-use Rattle.msvc_rules.specs.Readers.{Found, and_then, in_node, letter_here, or_else, read_by, with_value}
+use Rattle.msvc_rules.specs.Readers.{Found, and_then, counting, in_node, letter_here, only_if, or_else, read_by}
+use Rattle.msvc_rules.specs.Readers.{with_value}
 use Rattle.msvc_rules.specs.Rules.{Rule, call, give, letter, letter_or, lookup, node, text_and, ◌>>=◌}
 use Rattle.msvc_rules.specs.Sorts.{base_type, type_tree}
-use Rattle.msvc_rules.specs.State.{State}
+use Rattle.msvc_rules.specs.State.{State, counted, is_allowed, more}
 use Rattle.msvc_full_grammar.specs.Forms.{c_function, extended, managed_function}
 use Rattle.msvc_full_grammar.specs.Grammar.{grammar}
 use Rattle.msvc_full_grammar.specs.Fragments.{of_c, typed_member}
@@ -29,10 +34,11 @@ use Rattle.msvc_full_grammar.proofs.Checks.{no_member_begins_another, no_variabl
 use Rattle.msvc_full_grammar.proofs.Laws.{read_name-is}
 use Rattle.msvc_cursor.specs.Parser.{byte_here, text_at}
 use Rattle.msvc_cursor.proofs.Choices.{by_text, choose}
-use Rattle.msvc_full_letters.specs.Texts.{code_at, encoding_at, function_at, operator_at}
+use Rattle.msvc_full_letters.specs.Texts.{code_at, dollar, encoding_at, function_at, operator_at, unless_dollar}
+use Rattle.msvc_full_letters.specs.Texts.{type_double_dollar_texts, value_behind}
 use Rattle.msvc_full_letters.proofs.Choices.{letter_or-is, text_and-is, text_or-is}
 use Rattle.msvc_full_letters.proofs.TextsByLetter.{code_by_letter, encoding_by_letter, function_by_letter}
-use Rattle.msvc_full_letters.proofs.TextsByLetter.{operator_by_letter}
+use Rattle.msvc_full_letters.proofs.TextsByLetter.{led_by-none, operator_by_letter}
 
 pub marked_symbol_step : (left : List ℕ) (s : State) → read_name marked_symbol left s
     ≡ by_text (text_at symbol_texts left) (λ f rest. read_name (symbol_after f) rest s)
@@ -163,6 +169,62 @@ type_step q left s =
     ∙ λ i. by_text (text_at type_texts left) (λ f rest. read_name (type_after q f) rest s)
     (in_node left s (λ l t. base_letter base_types q l t i))
 
+-- a node of which nothing is read is none
+pub node_rejected : {A : Type 0} (f : List ℕ → State → Found A) (l : List ℕ) (t : State)
+    → ((u : State) → f l u ≡ None) → in_node l t f ≡ None
+unfolding counting
+node_rejected f l t none = go (is_allowed (more t.count.weight t.count)) (counted t.count.weight t)
+  where
+    go : (b : Bool) (u : State) → and_then (only_if b l u) (λ _ k v. f k v) ≡ None
+    go true u = none u
+    go false u = refl
+
+-- no type begins with a $ of which no other follows
+no_text_at_value : (left rest : List ℕ) → value_behind left ≡ Some rest → text_at type_texts left ≡ None
+unfolding value_behind text_at
+no_text_at_value [] rest e = absurd (cc)
+no_text_at_value (b ∷ bs) rest e = go (b == dollar) refl e
+  where
+    behind : (l : List ℕ) → unless_dollar l ≡ Some rest → text_at type_texts (dollar ∷ l) ≡ None
+    behind [] h = refl
+    behind (c ∷ l) h = at (c == dollar) refl h
+      where
+        at : (t : Bool) → (c == dollar) ≡ t → cond t None (Some (c ∷ l)) ≡ Some rest
+            → text_at type_texts (dollar ∷ c ∷ l) ≡ None
+        at true d k = absurd (cc)
+        at false d k = led_by-none dollar type_double_dollar_texts c l d
+
+    go : (t : Bool) → (b == dollar) ≡ t → cond t (unless_dollar bs) None ≡ Some rest
+        → text_at type_texts (b ∷ bs) ≡ None
+    go true d k = ap (λ x. text_at type_texts (x ∷ bs)) (eqb-true b dollar d) ∙ behind bs k
+    go false d k = absurd (cc)
+
+no_base_at_value : (left rest : List ℕ) (q : ℕ) (s : State) → value_behind left ≡ Some rest
+    → base_by base_types q left s ≡ None
+unfolding value_behind byte_here
+no_base_at_value [] rest q s e = absurd (cc)
+no_base_at_value (b ∷ bs) rest q s e = go (b == dollar) refl e
+  where
+    letter : List ℕ → State → Found TypeTree
+    letter l t = and_then (byte_here l t) (λ c k u. with_value (option_map (λ x. base x q) (lookup c base_types)) k u)
+
+    at : (u : State) → letter (dollar ∷ bs) u ≡ None
+    at u = refl
+
+    go : (t : Bool) → (b == dollar) ≡ t → cond t (unless_dollar bs) None ≡ Some rest
+        → base_by base_types q (b ∷ bs) s ≡ None
+    go true d k =
+        ap (λ x. base_by base_types q (x ∷ bs) s) (eqb-true b dollar d) ∙ node_rejected letter (dollar ∷ bs) s at
+    go false d k = absurd (cc)
+
+pub no_type_at_value : (q : ℕ) (left rest : List ℕ) (s : State) → value_behind left ≡ Some rest
+    → read_name (type_ q) left s ≡ None
+no_type_at_value q left rest s e =
+    type_step q left s
+    ∙ ap (λ o. by_text o (λ f l. read_name (type_after q f) l s) (base_by base_types q left s))
+    (no_text_at_value left rest e)
+    ∙ no_base_at_value left rest q s e
+
 -- a type that is deduced, by its row, or another type
 abbrev pub deduced_or : Option ℕ → Option TypeTree → ℕ → Option TypeTree
 deduced_or None other q = other
@@ -199,6 +261,21 @@ extended_step q left s =
     inside (b ∷ bs) t =
         letter_or-is {a = type_tree} deduced_types of_row a_base (b ∷ bs) t
         ∙ found (lookup b deduced_types) (lookup b extended_types) bs t
+
+-- no type begins with the _V of an explicit `this`
+no_second_letter : (q : ℕ) (rest : List ℕ) (s : State) → read_name (type_after q extended) (code "V" ∷ rest) s ≡ None
+unfolding byte_here
+no_second_letter q rest s = extended_step q (code "V" ∷ rest) s ∙ node_rejected letter (code "V" ∷ rest) s at
+  where
+    letter : List ℕ → State → Found TypeTree
+    letter l t = and_then (byte_here l t) (λ b k u. with_value (extended_by q b) k u)
+
+    at : (u : State) → letter (code "V" ∷ rest) u ≡ None
+    at u = refl
+
+pub no_type_at_this : (q : ℕ) (rest : List ℕ) (s : State) → read_name (type_ q) (codes "_V" ++ rest) s ≡ None
+unfolding text_at
+no_type_at_this q rest s = type_step q (codes "_V" ++ rest) s ∙ no_second_letter q rest s
 
 pub ruleset steps = (
   marked_symbol_step,

@@ -37,11 +37,11 @@ singles-are (row ∷ table) others b bs = go (b == row.0) (singles-are table oth
     go false e = e
 
 -- texts that all begin with one letter
-abbrev led_by : {A : Type 0} → ℕ → List (List ℕ × A) → List (List ℕ × A)
+abbrev pub led_by : {A : Type 0} → ℕ → List (List ℕ × A) → List (List ℕ × A)
 led_by c [] = []
 led_by c (row ∷ table) = (c ∷ row.0, row.1) ∷ led_by c table
 
-led_by-none : {A : Type 0} (c : ℕ) (table : List (List ℕ × A)) (b : ℕ) (bs : List ℕ) → (b == c) ≡ false
+pub led_by-none : {A : Type 0} (c : ℕ) (table : List (List ℕ × A)) (b : ℕ) (bs : List ℕ) → (b == c) ≡ false
     → text_at (led_by c table) (b ∷ bs) ≡ None
 unfolding text_at
 led_by-none c [] b bs e = refl

@@ -1,5 +1,5 @@
 -- The tables of texts by the letters that the texts begin with.
-use Rattle.std.specs.Prelude.{ℕ, List, [], ◌∷◌, Option, None, ◌==◌, if◌then◌else◌}
+use Rattle.std.specs.Prelude.{ℕ, List, [], ◌∷◌, Option, Some, None, ◌==◌, if◌then◌else◌}
 use Prim.Native.Char.{code}
 use Rattle.msvc_full_grammar.specs.Forms.{EncodingForm, TypeForm}
 use Rattle.msvc_full_grammar.specs.declared.forms.ArgumentForm.{ArgumentForm}
@@ -26,6 +26,15 @@ argument_dollar_texts = one_less dollar argument_texts
 
 abbrev pub argument_double_dollar_texts : List (List ℕ × ArgumentForm)
 argument_double_dollar_texts = one_less dollar argument_dollar_texts
+
+-- the bytes after the $ of a value, which no other $ follows, as it does before a type
+abbrev pub unless_dollar : List ℕ → Option (List ℕ)
+unless_dollar [] = Some []
+unless_dollar (b ∷ bs) = if b == dollar then None else Some (b ∷ bs)
+
+unfoldable pub value_behind : List ℕ → Option (List ℕ)
+value_behind [] = None
+value_behind (b ∷ bs) = if b == dollar then unless_dollar bs else None
 
 -- the texts of one letter, by that letter
 abbrev pub letter_row : {A : Type 0} → List ℕ → A → List (ℕ × A) → List (ℕ × A)

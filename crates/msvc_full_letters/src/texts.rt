@@ -12,7 +12,8 @@ ghost use Rattle.msvc_full_letters.specs.Texts.{argument_dollar_texts, argument_
 ghost use Rattle.msvc_full_letters.specs.Texts.{code_dollar_texts, encoding_at, funclet_c_texts, funclet_d_texts};
 ghost use Rattle.msvc_full_letters.specs.Texts.{funclet_f_texts, funclet_mark_texts};
 ghost use Rattle.msvc_full_letters.specs.Texts.{encoding_dollar_texts, function_at, function_dollar_texts};
-ghost use Rattle.msvc_full_letters.specs.Texts.{type_dollar_texts, type_double_dollar_texts};
+ghost use Rattle.msvc_full_letters.specs.Texts.{type_dollar_texts, type_double_dollar_texts, unless_dollar};
+ghost use Rattle.msvc_full_letters.specs.Texts.{value_behind};
 ghost use Rattle.msvc_full_letters.specs.Views.{encoding_form_of, type_form_of};
 
 use crate::forms::{EncodingForm, TypeForm};
@@ -134,6 +135,7 @@ fn argument_form_after_dollar<'a>(left: &'a [u8]) -> Option<(ArgumentForm, &'a [
         [b'6', rest @ ..] => Some((ArgumentForm::Value(ValueForm::Member), rest)),
         [b'C', rest @ ..] => Some((ArgumentForm::Value(ValueForm::Element), rest)),
         [b'7', rest @ ..] => Some((ArgumentForm::Value(ValueForm::Union), rest)),
+        [b'8', rest @ ..] => Some((ArgumentForm::Value(ValueForm::MemberOf), rest)),
         _ => None,
     }
 }
@@ -150,6 +152,31 @@ fn argument_form_after_dollars<'a>(left: &'a [u8]) -> Option<(ArgumentForm, &'a 
         [b'Y', rest @ ..] => Some((ArgumentForm::Alias, rest)),
         [b'$', b'V', rest @ ..] => Some((ArgumentForm::EmptyPack, rest)),
         _ => None,
+    }
+}
+
+/// Returns the bytes after the `$` of a value, unless another `$` follows, as it does before a type.
+#[tactic(auto, unfolding(crate::specs::Texts::value_behind))]
+#[inline(always)]
+pub fn value_behind<'a>(left: &'a [u8]) -> Option<&'a [u8]>
+    ensures value { option_map (λ x. x.now) result ≡ value_behind left.now }
+    ensures shorter { IfSome result (λ x. length x.now < length left.now) }
+{
+    match left {
+        [b'$', rest @ ..] => unless_dollar(rest),
+        _ => None,
+    }
+}
+
+/// Returns the bytes, unless they begin with a `$`.
+#[inline(always)]
+fn unless_dollar<'a>(left: &'a [u8]) -> Option<&'a [u8]>
+    ensures value { option_map (λ x. x.now) result ≡ unless_dollar left.now }
+    ensures shorter { IfSome result (λ x. length x.now ≤ length left.now) }
+{
+    match left {
+        [b'$', ..] => None,
+        _ => Some(left),
     }
 }
 
@@ -181,6 +208,7 @@ pub fn value_form<'a>(left: &'a [u8]) -> Option<(ValueForm, &'a [u8])>
         [b'6', rest @ ..] => Some((ValueForm::Member, rest)),
         [b'C', rest @ ..] => Some((ValueForm::Element, rest)),
         [b'7', rest @ ..] => Some((ValueForm::Union, rest)),
+        [b'8', rest @ ..] => Some((ValueForm::MemberOf, rest)),
         _ => None,
     }
 }

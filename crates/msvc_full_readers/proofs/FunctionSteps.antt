@@ -2,25 +2,30 @@
 use Rattle.std.proofs.Common.{ℕ, List, [], ◌∷◌, ◌++◌, Option, Some, None, Bool, true, false, cond, not, ◌≡◌, ◌==◌}
 use Rattle.std.proofs.Common.{refl, ap, ◌∙◌}
 use Rattle.std.specs.Prelude.{bit_or, codes, is_some, slice_get}
-use Rattle.msvc_nodes.specs.Trees.{TypeTree, base, function, member_function, plain, type_trees}
+use Rattle.msvc_nodes.specs.Trees.{TypeTree, base, function, member_function, no_names, no_types, plain, shape, types}
+use Rattle.msvc_nodes.specs.Trees.{type_trees}
 use Rattle.msvc_nodes.specs.declared.kinds.Convention.{Convention}
 use Rattle.msvc_nodes.specs.declared.kinds.PlainType.TheVariants as plain_kind
 use Rattle.msvc_nodes.specs.declared.kinds.PrimitiveKind.TheVariants as base_kind
-use Rattle.msvc_rules.specs.Readers.{Found, after_literal, and_then, entered_by, in_node, letter_here, noted_by}
+use Rattle.msvc_rules.specs.Readers.{Found, after_literal, and_then, counting, entered_by, in_node, letter_here}
+use Rattle.msvc_rules.specs.Readers.{noted_by}
 use Rattle.msvc_rules.specs.Readers.{or_else, read_by, type_noted, with_value}
 use Rattle.msvc_rules.specs.Rules.{after, begins_of, call, give, holds, letter, literal, lookup, node}
-use Rattle.msvc_rules.specs.Rules.{none_of, ◌>>=◌}
+use Rattle.msvc_rules.specs.Rules.{none_of, ◌>>=◌, ◌>>◌, ◌or◌}
 use Rattle.msvc_rules.specs.Sorts.{bits, list, type_tree}
 use Rattle.msvc_rules.specs.State.{State}
 use Rattle.msvc_grammar.specs.Reading.{read as crate_read}
 use Rattle.msvc_grammar.specs.declared.forms.Ellipsis.{Ellipsis}
 use Rattle.msvc_grammar.specs.declared.forms.Ellipsis.TheVariants.{Absent, Present}
+use Rattle.msvc_rules.proofs.Soundness.{after-is}
 use Rattle.msvc_full_grammar.specs.Forms.{function_of}
 use Rattle.msvc_full_grammar.specs.Grammar.{grammar}
-use Rattle.msvc_full_grammar.specs.Fragments.{no_type, own_of_class}
+use Rattle.msvc_full_grammar.specs.Fragments.{no_type, own_of_class, parameter}
+use Rattle.msvc_full_grammar.specs.Rows.{explicit_this_row}
 use Rattle.msvc_full_grammar.specs.Letters.{at_sign, conventions, digits, noexcept, qualifiers}
 use Rattle.msvc_full_grammar.specs.Productions.{encoding_after, function_parameters, function_type}
-use Rattle.msvc_full_grammar.specs.Productions.{own_qualifiers, parameter, parameters, result_type, returned, signature}
+use Rattle.msvc_full_grammar.specs.Productions.{explicit_parameters, own_qualifiers, parameters, result_type, returned}
+use Rattle.msvc_full_grammar.specs.Productions.{signature}
 use Rattle.msvc_full_grammar.specs.Productions.{type_}
 use Rattle.msvc_full_grammar.specs.Reading.{read_name, read}
 use Rattle.msvc_full_grammar.specs.declared.forms.OwnQualifiers.{OwnQualifiers}
@@ -29,7 +34,9 @@ use Rattle.msvc_cursor.specs.Parser.{counting_ellipsis, ellipsis_types}
 use Rattle.msvc_cursor.proofs.Choices.{choose, chosen, no_letter, or_none}
 use Rattle.msvc_cursor.proofs.RowSteps.{front_first, front_none, stopped, with_front}
 use Rattle.msvc_full_letters.proofs.Choices.{literal_or-is}
+use Rattle.msvc_full_letters.proofs.TextSteps.{no_type_at_this}
 use Rattle.msvc_full_readers.specs.Readings.{ellipsis_letter, parameters_stop, signature_end}
+use Rattle.msvc_full_readers.proofs.Founds.{then_then}
 
 pub function_type_step : (own : OwnQualifiers) (left : List ℕ) (s : State) → read_name (function_type own) left s
     ≡ in_node left s (λ j a. and_then (read_name (signature own) j a)
@@ -87,22 +94,13 @@ result_type_step left s =
 
 -- parameters
 
-pub function_parameters_step : (left : List ℕ) (s : State) → read_name function_parameters left s
-    ≡ chosen (after (codes "X") left) (λ rest. in_node rest s (λ k u. Some (base base_kind.Void 0 ∷ [], k, u)))
-    (read_name parameters left s)
-unfolding grammar read read_by
-function_parameters_step left s =
-    read_name-is function_parameters left s
-    ∙ literal_or-is {a = list type_tree} (codes "X") (node (give (base base_kind.Void 0 ∷ []))) (call parameters) left s
-
-pub parameter_step : (left : List ℕ) (s : State) → read_name parameter left s
+pub parameter_step : (left : List ℕ) (s : State) → read parameter left s
     ≡ choose (letter_here digits left s) (λ i l t. type_noted (slice_get t.types i) left l t)
     (entered_by left (read_name (type_ 0) left s))
-unfolding grammar read read_by
-parameter_step [] s = read_name-is parameter [] s
+unfolding read read_by
+parameter_step [] s = refl
 parameter_step (b ∷ bs) s =
-    read_name-is parameter (b ∷ bs) s
-    ∙ go (lookup b digits) (holds (none_of (begins_of digits)) (b ∷ bs)) (no_letter digits b bs)
+    go (lookup b digits) (holds (none_of (begins_of digits)) (b ∷ bs)) (no_letter digits b bs)
   where
     go : (o : Option ℕ) (t : Bool) → (o ≡ None → t ≡ true) × ((i : ℕ) → o ≡ Some i → t ≡ false)
         → or_else (noted_by o (b ∷ bs) bs s) (cond t (entered_by (b ∷ bs) (read_name (type_ 0) (b ∷ bs) s)) None)
@@ -121,13 +119,13 @@ parameters_by None first s =
     and_then first (λ x l t. and_then (read_name parameters l t) (λ xs k u. Some (x ∷ xs, k, u)))
 
 parameters_step : (left : List ℕ) (s : State) → read_name parameters left s
-    ≡ parameters_by (parameters_stop left) (read_name parameter left s) s
+    ≡ parameters_by (parameters_stop left) (read parameter left s) s
 unfolding grammar read read_by parameters_stop
 parameters_step [] s = read_name-is parameters [] s
 parameters_step (b ∷ bs) s = read_name-is parameters (b ∷ bs) s ∙ go (b == at_sign) (b == ellipsis_letter)
   where
     others : Found (List TypeTree)
-    others = and_then (read_name parameter (b ∷ bs) s)
+    others = and_then (read parameter (b ∷ bs) s)
         (λ x l t. and_then (read_name parameters l t) (λ xs k u. Some (x ∷ xs, k, u)))
 
     go : (t u : Bool)
@@ -137,10 +135,75 @@ parameters_step (b ∷ bs) s = read_name-is parameters (b ∷ bs) s ∙ go (b ==
         (cond (not (cond (is_some (cond t (Some bs) None)) true (cond (is_some (cond u (Some bs) None)) true false)))
         others None))
         ≡ parameters_by (cond t (Some (Absent, bs)) (cond u (Some (Present, bs)) None))
-        (read_name parameter (b ∷ bs) s) s
+        (read parameter (b ∷ bs) s) s
     go true u = refl
     go false true = or_none (in_node bs s (λ k w. Some (plain plain_kind.Variadic ∷ [], k, w)))
     go false false = refl
+
+-- none begin with the _V of an explicit `this`
+no_parameter_at_this : (rest : List ℕ) (s : State) → read parameter (codes "_V" ++ rest) s ≡ None
+no_parameter_at_this rest s =
+    parameter_step (codes "_V" ++ rest) s ∙ ap (entered_by (codes "_V" ++ rest)) (no_type_at_this 0 rest s)
+
+no_parameters_at_this : (rest : List ℕ) (s : State) → read_name parameters (codes "_V" ++ rest) s ≡ None
+unfolding parameters_stop
+no_parameters_at_this rest s =
+    parameters_step (codes "_V" ++ rest) s ∙ ap (λ o. parameters_by None o s) (no_parameter_at_this rest s)
+
+-- so that what follows a _V is read of nothing else
+this_or_others : (left : List ℕ) (s : State)
+    → or_else (and_then (after_literal (after (codes "_V") left) s) (λ _. read_name explicit_parameters))
+    (read_name parameters left s)
+    ≡ chosen (after (codes "_V") left) (λ rest. read_name explicit_parameters rest s) (read_name parameters left s)
+this_or_others left s = go (after (codes "_V") left) refl
+  where
+    go : (o : Option (List ℕ)) → after (codes "_V") left ≡ o
+        → or_else (and_then (after_literal o s) (λ _. read_name explicit_parameters)) (read_name parameters left s)
+        ≡ chosen o (λ rest. read_name explicit_parameters rest s) (read_name parameters left s)
+    go None e = refl
+    go (Some rest) e =
+        ap (or_else (read_name explicit_parameters rest s))
+        (ap (λ l. read_name parameters l s) (after-is (codes "_V") left rest e) ∙ no_parameters_at_this rest s)
+        ∙ or_none (read_name explicit_parameters rest s)
+
+pub function_parameters_step : (left : List ℕ) (s : State) → read_name function_parameters left s
+    ≡ chosen (after (codes "X") left) (λ rest. in_node rest s (λ k u. Some (base base_kind.Void 0 ∷ [], k, u)))
+    (chosen (after (codes "_V") left) (λ rest. read_name explicit_parameters rest s) (read_name parameters left s))
+unfolding grammar read read_by
+function_parameters_step left s =
+    read_name-is function_parameters left s
+    ∙ literal_or-is {a = list type_tree} (codes "X") (node (give (base base_kind.Void 0 ∷ [])))
+    (literal (codes "_V") >> call explicit_parameters or call parameters) left s
+    ∙ ap (chosen (after (codes "X") left) (λ rest. in_node rest s (λ k u. Some (base base_kind.Void 0 ∷ [], k, u))))
+    (this_or_others left s)
+
+pub explicit_parameters_step : (left : List ℕ) (s : State) → read_name explicit_parameters left s
+    ≡ in_node left s (λ j a. and_then (read parameter j a)
+    (λ x l t. with_front (shape explicit_this_row 0 [] [] no_names (types x no_types) ∷ []) (read_name parameters l t)))
+unfolding grammar read read_by
+explicit_parameters_step left s =
+    read_name-is explicit_parameters left s
+    ∙ then_then (counting s.count.weight left s)
+    (λ _ j a. and_then (read parameter j a) (λ x l t. Some (this_of x, l, t))) behind
+    ∙ λ i. in_node left s (λ j a. inside j a i)
+  where
+    this_of : TypeTree → TypeTree
+    this_of x = shape explicit_this_row 0 [] [] no_names (types x no_types)
+
+    behind : TypeTree → List ℕ → State → Found (List TypeTree)
+    behind x l t = and_then (read_name parameters l t) (λ xs k u. Some (x ∷ xs, k, u))
+
+    front : (x : TypeTree) (o : Found (List TypeTree))
+        → and_then o (λ xs k u. Some (x ∷ xs, k, u)) ≡ with_front (x ∷ []) o
+    front x None = refl
+    front x (Some y) = refl
+
+    inside : (j : List ℕ) (a : State)
+        → and_then (and_then (read parameter j a) (λ x l t. Some (this_of x, l, t))) behind
+        ≡ and_then (read parameter j a) (λ x l t. with_front (this_of x ∷ []) (read_name parameters l t))
+    inside j a =
+        then_then (read parameter j a) (λ x l t. Some (this_of x, l, t)) behind
+        ∙ λ i. and_then (read parameter j a) (λ x l t. front (this_of x) (read_name parameters l t) i)
 
 pub parameters_starts : (left : List ℕ) (s : State)
     → with_front [] (read_name parameters left s) ≡ read_name parameters left s
@@ -151,7 +214,7 @@ parameters_ends : (xs : List TypeTree) (left rest : List ℕ) (more : Ellipsis) 
     → with_front xs (read_name parameters left s)
     ≡ and_then (counting_ellipsis more rest s) (λ _ l t. Some (xs ++ ellipsis_types more, l, t))
 parameters_ends xs left rest more s e =
-    ap (with_front xs) (parameters_step left s ∙ ap (λ o. parameters_by o (read_name parameter left s) s) e)
+    ap (with_front xs) (parameters_step left s ∙ ap (λ o. parameters_by o (read parameter left s) s) e)
     ∙ go (counting_ellipsis more rest s)
   where
     go : (o : Found (Unit {0})) → with_front xs (and_then o (λ _ l t. Some (ellipsis_types more, l, t)))
@@ -174,17 +237,17 @@ parameters_uncounted xs left rest more s e none =
     ∙ ap (λ o. and_then o (λ _ k u. Some (xs ++ ellipsis_types more, k, u))) none
 
 pub parameters_rejected : (xs : List TypeTree) (left : List ℕ) (s : State) → parameters_stop left ≡ None
-    → read_name parameter left s ≡ None
+    → read parameter left s ≡ None
     → with_front xs (read_name parameters left s) ≡ None
 parameters_rejected xs left s e none =
-    ap (with_front xs) (parameters_step left s ∙ ap (λ o. parameters_by o (read_name parameter left s) s) e
+    ap (with_front xs) (parameters_step left s ∙ ap (λ o. parameters_by o (read parameter left s) s) e
     ∙ ap (λ o. parameters_by None o s) none)
 
 pub parameters_more : (xs : List TypeTree) (left l : List ℕ) (s t : State) (x : TypeTree) → parameters_stop left ≡ None
-    → read_name parameter left s ≡ Some (x, l, t)
+    → read parameter left s ≡ Some (x, l, t)
     → with_front xs (read_name parameters left s) ≡ with_front (xs ++ x ∷ []) (read_name parameters l t)
 parameters_more xs left l s t x e some =
-    ap (with_front xs) (parameters_step left s ∙ ap (λ o. parameters_by o (read_name parameter left s) s) e
+    ap (with_front xs) (parameters_step left s ∙ ap (λ o. parameters_by o (read parameter left s) s) e
     ∙ ap (λ o. parameters_by None o s) some)
     ∙ front_first xs x (read_name parameters l t)
 
@@ -195,6 +258,7 @@ pub ruleset steps = (
   returned_step,
   result_type_step,
   function_parameters_step,
+  explicit_parameters_step,
   parameter_step,
   parameters_starts,
   parameters_ended,

@@ -8,13 +8,13 @@ use Rattle.msvc_nodes.specs.Trees.{base_class_descriptor, template, type_trees}
 use Rattle.msvc_nodes.specs.declared.kinds.PlainOperator.{PlainOperator}
 use Rattle.msvc_nodes.specs.declared.kinds.PlainType.TheVariants as plain_kind
 use Rattle.msvc_rules.specs.Readers.{Found, after_literal, and_then, counting, in_node, letter_here, name_known}
-use Rattle.msvc_rules.specs.Readers.{only_if, or_else, put_apart, read_by}
+use Rattle.msvc_rules.specs.Readers.{or_else, put_apart, read_by}
 use Rattle.msvc_rules.specs.Reads.{emptied}
 use Rattle.msvc_rules.specs.Rules.{Rule, after, begins, call, give, here, known_name, literal, literal_or, none_of}
 use Rattle.msvc_rules.specs.Rules.{◌>>=◌}
 use Rattle.msvc_rules.specs.Rules.{◌or◌}
 use Rattle.msvc_rules.specs.Sorts.{list, name_tree}
-use Rattle.msvc_rules.specs.State.{State, counted, is_allowed, more, remember_name}
+use Rattle.msvc_rules.specs.State.{State, remember_name}
 use Rattle.msvc_grammar.specs.Reading.{read as crate_read}
 use Rattle.msvc_full_grammar.specs.Grammar.{grammar}
 use Rattle.msvc_full_grammar.specs.Fragments.{anonymous_namespace, nested_symbol, new_source_name, new_template}
@@ -34,6 +34,7 @@ use Rattle.msvc_full_grammar.proofs.Laws.{read_name-is}
 use Rattle.msvc_cursor.proofs.Choices.{choose, chosen}
 use Rattle.msvc_cursor.proofs.RowSteps.{front_none, row_by, row_ends, row_more, row_rejected, scope_stop, with_front}
 use Rattle.msvc_full_letters.proofs.Choices.{letter_or-is, literal_or-is}
+use Rattle.msvc_full_letters.proofs.TextSteps.{node_rejected}
 use Rattle.msvc_full_readers.specs.Readings.{name_in_scope, symbol_body}
 use Rattle.msvc_full_readers.proofs.Founds.{then_then}
 
@@ -190,12 +191,7 @@ symbol_rejected l t e = read_name-is symbol l t ∙ at (after (codes "?") l) e
 -- nor a node around one
 pub around_rejected : {A : Type 0} (P : List ℕ → State → Found SymbolTree) (f : SymbolTree → List ℕ → State → Found A)
     (l : List ℕ) (t : State) → ((u : State) → P l u ≡ None) → in_node l t (λ k u. and_then (P k u) f) ≡ None
-unfolding counting
-around_rejected P f l t none = go (is_allowed (more t.count.weight t.count)) (counted t.count.weight t)
-  where
-    go : (b : Bool) (u : State) → and_then (only_if b l u) (λ _ k v. and_then (P k v) f) ≡ None
-    go true u = ap (λ o. and_then o f) (none u)
-    go false u = refl
+around_rejected P f l t none = node_rejected (λ k u. and_then (P k u) f) l t (λ u. ap (λ o. and_then o f) (none u))
 
 pub marked_scope_step : (left : List ℕ) (s : State) → read_name marked_scope left s
     ≡ chosen (after (codes "Q") left) (λ rest. read interface_name rest s)

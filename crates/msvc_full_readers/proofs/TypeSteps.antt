@@ -1,7 +1,7 @@
 -- Step lemmas of types and of arguments.
 use Rattle.std.proofs.Common.{ℕ, List, [], ◌∷◌, ◌++◌, Option, Some, None, Bool, true, false, cond, not, ◌≡◌, refl, ap}
 use Rattle.std.proofs.Common.{◌∙◌, append-nil, true≢false}
-use Rattle.std.specs.Prelude.{bit_or, codes, is_some}
+use Rattle.std.specs.Prelude.{bit_or, codes, is_some, reverse}
 use Rattle.msvc_nodes.specs.Trees.{NameTree, SymbolTree, TypeTree, name_trees, names, nested, no_names, no_types, plain}
 use Rattle.msvc_nodes.specs.Trees.{pointing, shape, tagged}
 use Rattle.msvc_nodes.specs.Trees.{shaped, type_trees, types}
@@ -23,18 +23,19 @@ use Rattle.msvc_full_grammar.specs.Forms.{the_same, type_by_row, volatile_refere
 use Rattle.msvc_full_grammar.specs.Grammar.{grammar}
 use Rattle.msvc_full_grammar.specs.Fragments.{managed_array, managed_type, nested_symbol, object_name, pointed}
 use Rattle.msvc_full_grammar.specs.Fragments.{pointed_type, typed_member, values_of}
-use Rattle.msvc_full_grammar.specs.Letters.{digits, managed_rows, member_qualifiers, qualifiers}
+use Rattle.msvc_full_grammar.specs.Letters.{argument_texts, digits, managed_rows, member_qualifiers, qualifiers}
 use Rattle.msvc_full_grammar.specs.Letters.{volatile}
 use Rattle.msvc_full_grammar.specs.Productions.{Production, argument, argument_after, arrays, class_symbol, count}
 use Rattle.msvc_full_grammar.specs.Productions.{listed}
 use Rattle.msvc_full_grammar.specs.Productions.{member, member_value, one_listed}
 use Rattle.msvc_full_grammar.specs.Productions.{dimensions, function_type, lengths, marks, number, pointer, reference}
-use Rattle.msvc_full_grammar.specs.Productions.{numbers, symbol, template_value, type_, type_after, type_name, type_row}
+use Rattle.msvc_full_grammar.specs.Productions.{numbers, scope, symbol, template_value, type_, type_after, type_name}
+use Rattle.msvc_full_grammar.specs.Productions.{type_row}
 use Rattle.msvc_full_grammar.specs.Productions.{type_symbol}
 use Rattle.msvc_full_grammar.specs.Productions.{value_after}
 use Rattle.msvc_full_grammar.specs.Reading.{read_name, read}
 use Rattle.msvc_full_grammar.specs.Rows.{custom_row, extern_c_row, integer_row, nullptr_row, offsets_row}
-use Rattle.msvc_full_grammar.specs.Rows.{absent_row, aggregate_row, block_row, cli_array_row, element_row}
+use Rattle.msvc_full_grammar.specs.Rows.{absent_row, aggregate_row, block_row, cli_array_row, element_row, member_of_row}
 use Rattle.msvc_full_grammar.specs.Rows.{empty_union_row, handle_row, member_row, subobject_row, symbol_offsets_row}
 use Rattle.msvc_full_grammar.specs.Rows.{template_object_row, tracking_row, typed_row, union_value_row, values_row}
 use Rattle.msvc_full_grammar.specs.declared.forms.Listed.{Listed}
@@ -49,7 +50,11 @@ use Rattle.msvc_full_grammar.specs.declared.forms.TypeRow.TheVariants.{Custom, E
 use Rattle.msvc_full_grammar.proofs.Laws.{read_name-is}
 use Rattle.msvc_cursor.proofs.Choices.{choose, chosen}
 use Rattle.msvc_cursor.proofs.RowSteps.{front_none, row_by, row_ends, row_more, row_rejected, with_front}
+use Rattle.msvc_cursor.proofs.Choices.{by_text}
+use Rattle.msvc_cursor.specs.Parser.{text_at}
+use Rattle.msvc_full_letters.specs.Texts.{value_behind}
 use Rattle.msvc_full_letters.proofs.Choices.{letter_or-is, literal_or-is}
+use Rattle.msvc_full_letters.proofs.TextSteps.{argument_step, no_type_at_value}
 use Rattle.msvc_full_readers.specs.Readings.{array_lengths, arrays_of, block, elements, managed, member_pointer}
 use Rattle.msvc_full_readers.specs.Readings.{numbered_managed}
 use Rattle.msvc_full_readers.specs.Readings.{pointed_function}
@@ -410,6 +415,13 @@ union_value_step left s =
       literal (codes "@")
       give (shape union_value_row 0 [] [] (names n no_names) (types x (types v no_types)))
 
+pub member_by_name_step : (left : List ℕ) (s : State) → read_name (value_after values.MemberOf) left s
+    ≡ in_node left s (λ j a. and_then (read_name scope j a) (λ ns i b. and_then (read_name type_name i b)
+    (λ n l t. and_then (crate_read (literal (codes "@")) l t)
+    (λ _ k u. Some (shape member_of_row 0 [] [] (name_trees (reverse ns ++ n ∷ [])) no_types, k, u)))))
+unfolding grammar read read_by crate_read
+member_by_name_step left s = read_name-is (value_after values.MemberOf) left s
+
 pub typed_member_step : (left : List ℕ) (s : State) → read typed_member left s
     ≡ in_node left s (λ j a. and_then (read_name (type_ 0) j a) (λ x l t. and_then (read_name member_value l t)
     (λ y k u. Some (shape typed_row 0 [] [] no_names (types y (types x no_types)), k, u))))
@@ -437,6 +449,15 @@ pub argument_listed_step : (left : List ℕ) (s : State)
     → read_name (one_listed kinds.Argument) left s ≡ read_name argument left s
 unfolding grammar read read_by
 argument_listed_step left s = read_name-is (one_listed kinds.Argument) left s
+
+-- nothing begins with a $ that neither an argument nor a type has
+pub argument_unknown : (left rest : List ℕ) (s : State) → text_at argument_texts left ≡ None
+    → value_behind left ≡ Some rest → read_name (one_listed kinds.Argument) left s ≡ None
+argument_unknown left rest s none e =
+    argument_listed_step left s
+    ∙ argument_step left s
+    ∙ ap (λ o. by_text o (λ f l. read_name (argument_after f) l s) (read_name (type_ 0) left s)) none
+    ∙ no_type_at_value 0 left rest s e
 
 pub member_listed_step : (left : List ℕ) (s : State)
     → read_name (one_listed kinds.Member) left s ≡ read_name member left s
@@ -600,10 +621,12 @@ pub ruleset steps = (
   member_of_value_step,
   element_of_value_step,
   union_value_step,
+  member_by_name_step,
   typed_member_step,
   member_value_step,
   object_name_step,
   argument_listed_step,
+  argument_unknown,
   member_listed_step,
   element_listed_step,
   offsets_step,

@@ -26,9 +26,11 @@ use Rattle.msvc_full_grammar.specs.Letters.{at_sign, base_types, capitals, funcl
 use Rattle.msvc_full_grammar.specs.Letters.{qualifiers}
 use Rattle.msvc_full_grammar.specs.Productions.{Production, anonymous_digits, class_symbol, dimensions, funclet}
 use Rattle.msvc_full_grammar.specs.Productions.{funclet_or_symbol, source_name, symbol, whole_hash}
-use Rattle.msvc_full_grammar.specs.Productions.{function_type, lengths, marked_symbol, named_symbol, scope, symbol_name}
+use Rattle.msvc_full_grammar.specs.Productions.{function_type, lengths, marked_symbol, named_symbol, parameters, scope}
+use Rattle.msvc_full_grammar.specs.Productions.{symbol_name}
 use Rattle.msvc_full_grammar.specs.Productions.{template_symbol, type_, type_after, type_symbol}
 use Rattle.msvc_full_grammar.specs.Reading.{read_name}
+use Rattle.msvc_cursor.proofs.RowSteps.{with_front}
 use Rattle.msvc_full_letters.proofs.TextSteps.{base_by}
 use Rattle.msvc_full_grammar.specs.Rows.{arrays_row, block_row, member_pointer_row}
 use Rattle.msvc_full_grammar.specs.declared.forms.Stub.{Stub}
@@ -215,6 +217,10 @@ parameters_stop [] = None
 parameters_stop (b ∷ bs) =
     if b == at_sign then Some (ellipsis.Absent, bs)
     else (if b == ellipsis_letter then Some (ellipsis.Present, bs) else None)
+
+-- what is read of parameters, behind these types
+abbrev pub parameters_behind : List TypeTree → List ℕ → State → Found (List TypeTree)
+parameters_behind xs left s = with_front xs (read_name parameters left s)
 
 -- the state after the name of a template, which is memorized where the text of a variable is found
 abbrev pub entered : {A : Type 0} → Option A → NameTree → State → State

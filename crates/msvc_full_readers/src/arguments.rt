@@ -15,10 +15,11 @@ ghost use Rattle.msvc_cursor.specs.Parser.{Consumes, MayConsume, ReadsAs, Stays}
 ghost use Rattle.msvc_cursor.specs.Rows.{ListsTypes};
 ghost use Rattle.msvc_cursor.specs.NestedList.{current};
 
-use crate::names::{nested_symbol, type_name};
+use crate::names::{nested_symbol, scope, type_name};
 use crate::store::{
-    put_empty_type, put_named_outer, put_named_type, put_number_type, put_numbered_outer,
-    put_numbers_type, put_outer_type, put_pair, put_symbol_offsets, put_union_value, put_values,
+    put_empty_type, put_member_of, put_named_outer, put_named_type, put_number_type,
+    put_numbered_outer, put_numbers_type, put_outer_type, put_pair, put_symbol_offsets,
+    put_union_value, put_values,
 };
 use crate::types::{tagged_type, type_, type_row};
 use bitflags::Flags;
@@ -29,7 +30,7 @@ use msvc_cursor::parser::Parser;
 use msvc_full_grammar::forms::{ArgumentForm, Listed, ValueForm};
 use msvc_full_letters::numbers::{count, number, plain};
 use msvc_full_letters::offsets::numbers;
-use msvc_full_letters::texts::{argument_form, member_form, value_form};
+use msvc_full_letters::texts::{argument_form, member_form, value_behind, value_form};
 use msvc_nodes::flags::StorageClass;
 use msvc_nodes::kinds::{PlainType, TagKind};
 use msvc_nodes::nodes::Type;
@@ -74,6 +75,10 @@ fn one_listed<'a, 'b, L: NodeBudget, A: Allocator>(
             if let Some((form, rest)) = argument_form(parser.rest) {
                 parser.rest = rest;
                 return argument_after(parser, form);
+            }
+            if let Some(rest) = value_behind(parser.rest) {
+                parser.rest = rest;
+                return no_value(parser);
             }
             type_(parser, StorageClass::empty())
         }
@@ -171,6 +176,7 @@ fn value_after<'a, 'b, L: NodeBudget, A: Allocator>(
         ValueForm::Member => member_of_value(parser),
         ValueForm::Element => element_of_value(parser),
         ValueForm::Union => union_value(parser),
+        ValueForm::MemberOf => member_by_name(parser),
     }
 }
 
@@ -341,6 +347,23 @@ fn union_value<'a, 'b, L: NodeBudget, A: Allocator>(
     let value = template_value(parser)?;
     parser.expect(b"@", Message::AtExpected)?;
     put_union_value(parser, name, union_type, value)
+}
+
+/// Reads `SCOPE TYPE_NAME "@"`: a pointer to a member by its name.
+#[cycle(readers)]
+#[inline(never)]
+fn member_by_name<'a, 'b, L: NodeBudget, A: Allocator>(
+    parser: &mut Parser<'a, 'b, L, A>,
+) -> Result<&'b Type<'a, 'b>, Failed>
+    ensures value { ReadsAs type_at parser.old parser.new result
+        (read_name (production.value_after value_forms.MemberOf)) }
+    ensures consumes { Consumes parser.old parser.new result }
+{
+    parser.count_node()?;
+    let checkpoint = scope(parser)?;
+    let member = type_name(parser)?;
+    parser.expect(b"@", Message::AtExpected)?;
+    put_member_of(parser, checkpoint, member)
 }
 
 /// Reads the bits of a number, of the type that the row says.

@@ -2,7 +2,7 @@
 //! lemma is all that the prover needs of a reader.
 #![tactic(auto, using(crate::proofs::StoreSteps::steps), unfolding(msvc_cursor::specs::Parser::byte_here, msvc_rules::specs::Readers::counting, msvc_nodes::specs::NodeView::name_of, msvc_nodes::specs::NodeView::type_of))]
 
-ghost use Rattle.std.specs.Prelude.{◌≡◌, ◌≤◌, ◌<◌, ◌∷◌, [], IfOk, IfSome, length, map, Some};
+ghost use Rattle.std.specs.Prelude.{◌≡◌, ◌≤◌, ◌<◌, ◌∷◌, ◌++◌, [], IfOk, IfSome, length, map, reverse, Some};
 ghost use Rattle.std.specs.Mem.{FitsInMemory};
 ghost use Rattle.msvc_nodes.specs.NodeView.{name_at, name_of, type_at, type_of};
 ghost use Rattle.msvc_nodes.specs.Trees.{name_trees, names, nested, no_names, no_types, plain, shape, shaped};
@@ -13,7 +13,8 @@ ghost use Rattle.msvc_nodes.specs.declared.kinds.PlainType.TheVariants as plain_
 ghost use Rattle.msvc_rules.specs.Readers.{in_node, with_value};
 ghost use Rattle.msvc_full_grammar.specs.Reading.{read};
 ghost use Rattle.msvc_nodes.specs.declared.kinds.VarStorageKind.TheVariants as storage_kind;
-ghost use Rattle.msvc_full_grammar.specs.Rows.{frame_row, symbol_offsets_row, tables_row, union_value_row, values_row};
+ghost use Rattle.msvc_full_grammar.specs.Rows.{frame_row, member_of_row, symbol_offsets_row, tables_row};
+ghost use Rattle.msvc_full_grammar.specs.Rows.{union_value_row, values_row};
 ghost use Rattle.msvc_cursor.specs.NestedList.{current, enclosing};
 ghost use Rattle.msvc_cursor.specs.Parser.{ReadsAs, Stays};
 ghost use Rattle.msvc_cursor.specs.Rows.{EndsNames, EndsTypes, typed_symbol_at};
@@ -269,6 +270,64 @@ pub fn put_values<'a, 'b, L: NodeBudget, A: Allocator>(
         text: b"",
         names,
         types: types.items,
+    })?;
+    parser.put_type(Type::Shape(shape))
+}
+
+/// Stores a list of items, the last first, and one behind them, or returns nothing if memory runs out.
+fn from_last<'b, T: Copy, A: Allocator>(
+    arena: &'b Bump<A>,
+    items: &[T],
+    behind: T,
+) -> Option<List<'b, T>>
+    ensures { IfSome result (λ list. list.items.now ≡ reverse items.now ++ behind ∷ []) }
+{
+    let mut list = Vec::new(arena);
+    let mut at = items.len();
+    'items: while at > 0 {
+        at -= 1;
+        if list.push(items[at]).is_err() {
+            return None;
+        }
+    }
+    if list.push(behind).is_err() {
+        return None;
+    }
+    Some(List {
+        items: into_bump_slice(list),
+    })
+}
+
+/// Stores a pointer to a member by its scope, whose names are on the list, and its name.
+#[tactic(auto, using(msvc_cursor::proofs::Nodes::views, crate::proofs::StoreSteps::steps))]
+#[inline(never)]
+pub fn put_member_of<'a, 'b, L: NodeBudget, A: Allocator>(
+    parser: &mut Parser<'a, 'b, L, A>,
+    checkpoint: Checkpoint,
+    member: &'b Name<'a, 'b>,
+) -> Result<&'b Type<'a, 'b>, Failed>
+    requires { checkpoint.from ≤ length (enclosing parser.old.listed_names) }
+    ensures value { ReadsAs type_at parser.old parser.new result
+        (with_value (Some (shape member_of_row 0 [] []
+        (name_trees (reverse (map name_at (current parser.old.listed_names)) ++ name_of member.now ∷ [])) no_types))) }
+    ensures rest { IfOk result (λ _. parser.new.rest.now ≡ parser.old.rest.now) }
+    ensures kept { EndsNames checkpoint parser.old parser.new result }
+{
+    let Some(scope) = parser.listed_names.end_in(parser.arena, checkpoint) else {
+        return Err(parser.no_memory());
+    };
+    let Some(names) = from_last(parser.arena, scope.items, member) else {
+        return Err(parser.no_memory());
+    };
+    let numbers: &[Number] = &[];
+    let types: &[&Type<'a, 'b>] = &[];
+    let shape = parser.put(Shape {
+        row: rows::MEMBER_OF,
+        qualifiers: StorageClass::empty(),
+        numbers,
+        text: b"",
+        names: names.items,
+        types,
     })?;
     parser.put_type(Type::Shape(shape))
 }

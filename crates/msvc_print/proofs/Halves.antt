@@ -22,6 +22,9 @@ use Rattle.msvc_print.proofs.Dropped.{kept_right-all, kept_right-dropped}
 use Rattle.msvc_print.proofs.Stack.{pushes}
 use Rattle.msvc_shapes.specs.Layouts.{layout_of, slots}
 use Rattle.msvc_shapes.specs.declared.layouts.Side.TheVariants as side
+use Rattle.msvc_print.specs.Pointed.{pointed_by, unaligned_mark, under}
+use Rattle.msvc_print.specs.declared.pointed.Pointed.{Pointed}
+use Rattle.msvc_print.specs.declared.pointed.Pointed.TheVariants.{No, Yes}
 
 -- pieces around pieces
 between-twice : (a b c d : List Piece) (s : Sides) → between a (between b s c) d ≡ between (a ++ b) s (c ++ d)
@@ -32,7 +35,7 @@ between-twice a b c d s =
 between-nothing : (s : Sides) → s ≡ between [] s []
 between-nothing s = ap (λ x. record { left = s.left; right = x }) (sym (append-nil s.right))
 
-function_end-parts : (pointed : Bool) (ps : List Piece) (set flags : ℕ) (returned : List Piece) →
+function_end-parts : (pointed : Pointed) (ps : List Piece) (set flags : ℕ) (returned : List Piece) →
     parameter_list pointed ps set flags ++ returned ≡ function_end pointed ps set flags returned
 function_end-parts pointed ps set flags returned =
     let end : List Piece = text (codes ")") ∷ function_qualifiers set flags in
@@ -49,69 +52,72 @@ member_pointer_end-parts ps set returned =
     ∙ append_assoc ps (text (codes ")") ∷ returned) const)
 
 -- the first type around a shape, by the two sides of that type
-around_shape-halves : (w : Option Bool) (t : TypeTree) (ts : TypeTrees) (more end : List Piece) (inside : Sides)
-    (flags : ℕ) → ((p : Bool) (s : Sides) → grown t p s flags ≡ between (before t p flags) s (after t p flags)) →
-    grown_around (types t ts) w (between more inside end) flags
-    ≡ between (pieces_around w (λ p. before t p flags) ++ more) inside
-    (end ++ pieces_around w (λ p. after t p flags))
+around_shape-halves : (w : Option Bool) (set : ℕ) (t : TypeTree) (ts : TypeTrees) (more end : List Piece)
+    (inside : Sides) (flags : ℕ) →
+    ((p : Pointed) (s : Sides) → grown t p s flags ≡ between (before t p flags) s (after t p flags)) →
+    grown_around (types t ts) w set (between more inside end) flags
+    ≡ between (pieces_around w set flags (λ p. before t p flags) ++ more) inside
+    (end ++ pieces_around w set flags (λ p. after t p flags))
 unfolding grown_around
-around_shape-halves None t ts more end inside flags h = ap (λ x. between more inside x) (sym (append-nil end))
-around_shape-halves (Some p) t ts more end inside flags h =
+around_shape-halves None set t ts more end inside flags h = ap (λ x. between more inside x) (sym (append-nil end))
+around_shape-halves (Some is_mark) set t ts more end inside flags h =
+    let p : Pointed = under is_mark set flags in
     h p (between more inside end) ∙ between-twice (before t p flags) more end (after t p flags) inside
 
-pub grown-halves : (t : TypeTree) (pointed : Bool) (inside : Sides) (flags : ℕ) →
+pub grown-halves : (t : TypeTree) (pointed : Pointed) (inside : Sides) (flags : ℕ) →
     grown t pointed inside flags ≡ between (before t pointed flags) inside (after t pointed flags)
 unfolding grown grown_around conversion before after
 grown-halves (base b set) pointed inside flags = refl
 grown-halves (tagged tag n scope set) pointed inside flags = refl
 grown-halves (pointing m t set) pointed inside flags =
-    let more = marked (mark_word m) set flags in
-    grown-halves t true (between more inside []) flags
-    ∙ between-twice (before t true flags) more [] (after t true flags) inside
+    let more = marked (unaligned_mark set t flags) (mark_word m) set flags in
+    let p : Pointed = pointed_by set flags in
+    grown-halves t p (between more inside []) flags
+    ∙ between-twice (before t p flags) more [] (after t p flags) inside
 grown-halves (array n t set) pointed inside flags =
     let more = qualifiers set flags ++ opening pointed flags in
     let end = closing pointed ++ length_pieces n in
-    grown-halves t false (between more inside end) flags
-    ∙ between-twice (before t false flags) more end (after t false flags) inside
-    ∙ ap (λ x. between (before t false flags ++ more) inside x)
-    (append_assoc (closing pointed) (length_pieces n) (after t false flags))
+    grown-halves t No (between more inside end) flags
+    ∙ between-twice (before t No flags) more end (after t No flags) inside
+    ∙ ap (λ x. between (before t No flags ++ more) inside x)
+    (append_assoc (closing pointed) (length_pieces n) (after t No flags))
 grown-halves (function convention ts set t) pointed inside flags =
     let more = returned_end t flags ++ calling pointed convention flags in
     let ps = parameters ts true flags in
     let end = parameter_list pointed ps set flags in
-    grown-halves t false (between more inside end) flags
-    ∙ between-twice (before t false flags) more end (after t false flags) inside
-    ∙ ap (λ x. between (before t false flags ++ more) inside x)
-    (function_end-parts pointed ps set flags (after t false flags))
+    grown-halves t No (between more inside end) flags
+    ∙ between-twice (before t No flags) more end (after t No flags) inside
+    ∙ ap (λ x. between (before t No flags ++ more) inside x)
+    (function_end-parts pointed ps set flags (after t No flags))
 grown-halves (member_function class convention ts set t) pointed inside flags =
     let words = member_start pointed class flags in
     let more = returned_end t flags ++ calling pointed convention flags in
     let ps = parameters ts true flags in
     let end = parameter_list pointed ps set flags in
-    let both = function_end pointed ps set flags (after t false flags) in
-    ap (λ s. between words s []) (grown-halves t false (between more inside end) flags
-    ∙ between-twice (before t false flags) more end (after t false flags) inside
-    ∙ ap (λ x. between (before t false flags ++ more) inside x)
-    (function_end-parts pointed ps set flags (after t false flags)))
-    ∙ between-twice words (before t false flags ++ more) both [] inside
-    ∙ ap (λ x. between (words ++ (before t false flags ++ more)) inside x) (append-nil both)
+    let both = function_end pointed ps set flags (after t No flags) in
+    ap (λ s. between words s []) (grown-halves t No (between more inside end) flags
+    ∙ between-twice (before t No flags) more end (after t No flags) inside
+    ∙ ap (λ x. between (before t No flags ++ more) inside x)
+    (function_end-parts pointed ps set flags (after t No flags)))
+    ∙ between-twice words (before t No flags ++ more) both [] inside
+    ∙ ap (λ x. between (words ++ (before t No flags ++ more)) inside x) (append-nil both)
 grown-halves (member_pointer n scope class convention ts set t) pointed inside flags =
-    let more = (returned_end t flags ++ calling true convention flags) ++ pointed_name n scope flags in
+    let more = (returned_end t flags ++ calling Yes convention flags) ++ pointed_name n scope flags in
     let ps = parameters ts true flags in
     let end = text (codes ")(") ∷ (ps ++ text (codes ")") ∷ []) in
     let const = function_qualifier 1 (codes "const") set in
-    ap (λ s. between [] s const) (grown-halves t false (between more inside end) flags
-    ∙ between-twice (before t false flags) more end (after t false flags) inside)
-    ∙ between-twice [] (before t false flags ++ more) (end ++ after t false flags) const inside
-    ∙ ap (λ x. between (before t false flags ++ more) inside x)
-    (member_pointer_end-parts ps set (after t false flags))
+    ap (λ s. between [] s const) (grown-halves t No (between more inside end) flags
+    ∙ between-twice (before t No flags) more end (after t No flags) inside)
+    ∙ between-twice [] (before t No flags ++ more) (end ++ after t No flags) const inside
+    ∙ ap (λ x. between (before t No flags ++ more) inside x)
+    (member_pointer_end-parts ps set (after t No flags))
 grown-halves (variable t kind set) pointed inside flags =
     let word = text (variable_word kind) ∷ [] in
     let more = qualifiers set flags in
-    ap (λ s. between word s []) (grown-halves t false (between more inside []) flags
-    ∙ between-twice (before t false flags) more [] (after t false flags) inside)
-    ∙ between-twice word (before t false flags ++ more) (after t false flags) [] inside
-    ∙ ap (λ x. between (word ++ (before t false flags ++ more)) inside x) (append-nil (after t false flags))
+    ap (λ s. between word s []) (grown-halves t No (between more inside []) flags
+    ∙ between-twice (before t No flags) more [] (after t No flags) inside)
+    ∙ between-twice word (before t No flags ++ more) (after t No flags) [] inside
+    ∙ ap (λ x. between (word ++ (before t No flags ++ more)) inside x) (append-nil (after t No flags))
 grown-halves (table k scope set) pointed inside flags = refl
 grown-halves (vcall_thunk n convention) pointed inside flags = refl
 grown-halves (numbered number_kind.Constant n) pointed inside flags = refl
@@ -121,7 +127,7 @@ grown-halves (plain plain_kind.Variadic) pointed inside flags = refl
 grown-halves (plain plain_kind.Nullptr) pointed inside flags = refl
 grown-halves (shape row set zs bytes ns no_types) pointed inside flags = refl
 grown-halves (shape row set zs bytes ns (types t ts)) pointed inside flags =
-    around_shape-halves (layout_of row).around t ts
+    around_shape-halves (layout_of row).around set t ts
     (laid (slots row side.Left) pointed (shape_parts set zs bytes ns (types t ts) flags)
     flags)
     (laid (slots row side.Right) pointed (shape_parts set zs bytes ns (types t ts) flags) flags) inside flags
@@ -129,25 +135,25 @@ grown-halves (shape row set zs bytes ns (types t ts)) pointed inside flags =
 grown-halves _ pointed inside flags = between-nothing inside
 
 -- the two sides of a name
-pub left-before : (t : TypeTree) (flags : ℕ) → (grown t false alone flags).left ≡ before t false flags
-left-before t flags = ap (λ s. s.left) (grown-halves t false alone flags) ∙ append-nil (before t false flags)
+pub left-before : (t : TypeTree) (flags : ℕ) → (grown t No alone flags).left ≡ before t No flags
+left-before t flags = ap (λ s. s.left) (grown-halves t No alone flags) ∙ append-nil (before t No flags)
 
-pub right-after : (t : TypeTree) (flags : ℕ) → (grown t false alone flags).right ≡ after t false flags
-right-after t flags = ap (λ s. s.right) (grown-halves t false alone flags)
+pub right-after : (t : TypeTree) (flags : ℕ) → (grown t No alone flags).right ≡ after t No flags
+right-after t flags = ap (λ s. s.right) (grown-halves t No alone flags)
 
 pub around-halves : (t : TypeTree) (inside : List Piece) (flags : ℕ) →
-    around (grown t false alone flags) inside ≡ before t false flags ++ (inside ++ after t false flags)
+    around (grown t No alone flags) inside ≡ before t No flags ++ (inside ++ after t No flags)
 around-halves t inside flags =
-    ap (λ x. x ++ (inside ++ (grown t false alone flags).right)) (left-before t flags)
-    ∙ ap (λ x. before t false flags ++ (inside ++ x)) (right-after t flags)
+    ap (λ x. x ++ (inside ++ (grown t No alone flags).right)) (left-before t flags)
+    ∙ ap (λ x. before t No flags ++ (inside ++ x)) (right-after t flags)
 
 pub symbol_pieces-halves : (n : NameTree) (scope : NameTrees) (t : TypeTree) (flags : ℕ) →
-    symbol_pieces n scope t flags ≡ kept_left (before t false flags) flags
-    ++ (symbol_name n scope t flags ++ kept_right (after t false flags) flags)
+    symbol_pieces n scope t flags ≡ kept_left (before t No flags) flags
+    ++ (symbol_name n scope t flags ++ kept_right (after t No flags) flags)
 symbol_pieces-halves n scope t flags =
-    ap (λ x. kept_left x flags ++ (symbol_name n scope t flags ++ kept_right (grown t false alone flags).right flags))
+    ap (λ x. kept_left x flags ++ (symbol_name n scope t flags ++ kept_right (grown t No alone flags).right flags))
     (left-before t flags)
-    ∙ ap (λ x. kept_left (before t false flags) flags ++ (symbol_name n scope t flags ++ kept_right x flags))
+    ∙ ap (λ x. kept_left (before t No flags) flags ++ (symbol_name n scope t flags ++ kept_right x flags))
     (right-after t flags)
 
 -- what flags keep of them
@@ -155,24 +161,24 @@ pub symbol_pieces-name_only : (n : NameTree) (scope : NameTrees) (t : TypeTree) 
     has flags name_only ≡ true → symbol_pieces n scope t flags ≡ symbol_name n scope t flags
 symbol_pieces-name_only n scope t flags e =
     symbol_pieces-halves n scope t flags
-    ∙ ap (λ x. x ++ (symbol_name n scope t flags ++ kept_right (after t false flags) flags)) (kept_left-name_only _ _ e)
+    ∙ ap (λ x. x ++ (symbol_name n scope t flags ++ kept_right (after t No flags) flags)) (kept_left-name_only _ _ e)
     ∙ ap (λ x. symbol_name n scope t flags ++ x) (kept_right-dropped _ _ e) ∙ append-nil (symbol_name n scope t flags)
 
 pub symbol_pieces-no_returns : (n : NameTree) (scope : NameTrees) (t : TypeTree) (flags : ℕ) →
     has flags name_only ≡ false → has flags no_function_returns ≡ true →
-    symbol_pieces n scope t flags ≡ symbol_name n scope t flags ++ after t false flags
+    symbol_pieces n scope t flags ≡ symbol_name n scope t flags ++ after t No flags
 symbol_pieces-no_returns n scope t flags e e' =
     symbol_pieces-halves n scope t flags
-    ∙ ap (λ x. x ++ (symbol_name n scope t flags ++ kept_right (after t false flags) flags))
+    ∙ ap (λ x. x ++ (symbol_name n scope t flags ++ kept_right (after t No flags) flags))
     (kept_left-no_returns _ _ e e')
     ∙ ap (λ x. symbol_name n scope t flags ++ x) (kept_right-all _ _ e)
 
 pub symbol_pieces-all : (n : NameTree) (scope : NameTrees) (t : TypeTree) (flags : ℕ) →
     has flags name_only ≡ false → has flags no_function_returns ≡ false →
-    symbol_pieces n scope t flags ≡ before t false flags ++ (symbol_name n scope t flags ++ after t false flags)
+    symbol_pieces n scope t flags ≡ before t No flags ++ (symbol_name n scope t flags ++ after t No flags)
 symbol_pieces-all n scope t flags e e' =
     symbol_pieces-halves n scope t flags
-    ∙ ap (λ x. x ++ (symbol_name n scope t flags ++ kept_right (after t false flags) flags)) (kept_left-all _ _ e e')
-    ∙ ap (λ x. before t false flags ++ (symbol_name n scope t flags ++ x)) (kept_right-all _ _ e)
+    ∙ ap (λ x. x ++ (symbol_name n scope t flags ++ kept_right (after t No flags) flags)) (kept_left-all _ _ e e')
+    ∙ ap (λ x. before t No flags ++ (symbol_name n scope t flags ++ x)) (kept_right-all _ _ e)
 
 pub ruleset pushed_left = (pushes, left-before)

@@ -1,6 +1,6 @@
 -- What flags do not change: bits that no definition asks for, and under NAME_ONLY the type of a symbol.
 use Rattle.std.proofs.Common.{◌≡◌, ℕ, ℤ, List, [], ◌∷◌, ◌++◌, Bool, true, false, cond, refl, ap, sym, ◌∙◌, bit_and}
-use Rattle.std.proofs.Common.{◌==◌, ◌<◌, append_assoc, arith, codes, drop, zero, suc, Option, Some, None}
+use Rattle.std.proofs.Common.{◌==◌, ◌<◌, append_assoc, arith, codes, drop, zero, suc, not, Option, Some, None}
 use Rattle.std.proofs.lemmas.Bool.{ne_eqb}
 use Rattle.std.proofs.lemmas.Nat.{and_assoc, and_le_l}
 use Rattle.std.specs.Fmt.{signed_decimal}
@@ -47,7 +47,7 @@ use Rattle.msvc_print.specs.Sides.{Sides, alone, around, between, kept, kept_lef
 use Rattle.msvc_print.specs.Words.{base_word, base_words, chosen_word, closing, kind_word, mark_space, mark_word}
 use Rattle.msvc_print.specs.Words.{marked, name_space, opening, qualifier, qualifier_space, qualifiers, tag_word}
 use Rattle.msvc_print.specs.Words.{angle_end, full_mark_space, full_marked, full_space, mark_qualifiers, set_word}
-use Rattle.msvc_print.specs.Words.{variable_word}
+use Rattle.msvc_print.specs.Words.{parenthesis, unaligned, variable_word}
 use Rattle.msvc_print.specs.declared.operators.NameKind.{NameKind}
 use Rattle.msvc_print.specs.declared.operators.NameKind.TheVariants as name_kinds
 use Rattle.msvc_print.specs.declared.spaces.Space.TheVariants.{AfterPointer, AfterReference, AfterWord, UnlessOpen}
@@ -55,6 +55,10 @@ use Rattle.msvc_shapes.specs.Layouts.{Slot, layout_of, slots}
 use Rattle.msvc_print.specs.declared.spaces.Space.TheVariants.{AfterFullPointer, AfterFullReference, AfterFullWord}
 use Rattle.msvc_shapes.specs.Layouts as slot
 use Rattle.msvc_shapes.specs.declared.layouts.Side.TheVariants as side
+use Rattle.msvc_print.specs.Pointed.{is_pointed, is_unaligned, opens, pointed_by, unaligned_mark, unaligned_shape}
+use Rattle.msvc_print.specs.Pointed.{under}
+use Rattle.msvc_print.specs.declared.pointed.Pointed.{Pointed}
+use Rattle.msvc_print.specs.declared.pointed.Pointed.TheVariants.{No, Yes, Unaligned}
 
 -- two words give the same answer to each question that a definition asks
 record Same (a b : ℕ) : Type 0 where
@@ -151,20 +155,42 @@ full_mark_space-same a b e =
     e.hug
     ∙ ap (λ c. cond (has b hug_type) (cond c (space AfterFullWord ∷ []) []) (space AfterFullPointer ∷ [])) e.pointer
 
-full_marked-same : (word : List ℕ) (set a b : ℕ) → Same a b → full_marked word set a ≡ full_marked word set b
-unfolding full_marked
-full_marked-same word set a b e =
-    ap (λ s. qualifier s 16 (codes "__unaligned ") set ++ (full_mark_space a ++ (text word ∷ mark_qualifiers s set)))
-    (full_space-same a b e)
-    ∙ ap (λ x. qualifier (full_space b) 16 (codes "__unaligned ") set
-    ++ (x ++ (text word ∷ mark_qualifiers (full_space b) set))) (full_mark_space-same a b e)
+unaligned-same : (has_it : Bool) (a b : ℕ) → Same a b → unaligned has_it a ≡ unaligned has_it b
+unaligned-same has_it a b e =
+    ap (λ s. cond has_it (space s ∷ text (codes "__unaligned ") ∷ []) []) (full_space-same a b e)
 
-opening-same : (pointed : Bool) (a b : ℕ) → Same a b → opening pointed a ≡ opening pointed b
+full_marked-same : (is : Bool) (word : List ℕ) (set a b : ℕ) → Same a b →
+    full_marked is word set a ≡ full_marked is word set b
+unfolding full_marked
+full_marked-same is word set a b e = same-append _ _ _ _ (unaligned-same is a b e)
+    (same-append _ _ _ _ (full_mark_space-same a b e)
+    (ap (λ s. text word ∷ mark_qualifiers s set) (full_space-same a b e)))
+
+parenthesis-same : (a b : ℕ) → Same a b → parenthesis a ≡ parenthesis b
+parenthesis-same a b e =
+    ap (λ s. space (cond (has a full_style) s AfterPointer) ∷ text (codes "(") ∷ []) (full_space-same a b e)
+    ∙ ap (λ c. space (cond c (full_space b) AfterPointer) ∷ text (codes "(") ∷ []) e.style
+
+opening-same : (pointed : Pointed) (a b : ℕ) → Same a b → opening pointed a ≡ opening pointed b
 unfolding opening
-opening-same pointed a b e =
-    ap (λ s. cond pointed (space (cond (has a full_style) s AfterPointer) ∷ text (codes "(") ∷ []) [])
-    (full_space-same a b e)
-    ∙ ap (λ c. cond pointed (space (cond c (full_space b) AfterPointer) ∷ text (codes "(") ∷ []) []) e.style
+opening-same pointed a b e = ap (λ x. cond (is_pointed pointed) x []) (same-append _ _ _ _
+    (ap (λ c. unaligned (cond c (is_unaligned pointed) false) a) e.style
+    ∙ unaligned-same (cond (has b full_style) (is_unaligned pointed) false) a b e) (parenthesis-same a b e))
+
+pointed_by-same : (set a b : ℕ) → Same a b → pointed_by set a ≡ pointed_by set b
+pointed_by-same set a b e = ap (λ c. cond c (cond (has set 16) Unaligned Yes) Yes) e.style
+
+under-same : (is_mark : Bool) (set a b : ℕ) → Same a b → under is_mark set a ≡ under is_mark set b
+under-same is_mark set a b e = ap (λ p. cond is_mark p No) (pointed_by-same set a b e)
+
+unaligned_mark-same : (set : ℕ) (t : TypeTree) (a b : ℕ) → Same a b → unaligned_mark set t a ≡ unaligned_mark set t b
+unaligned_mark-same set t a b e = ap (λ c. cond c (cond (has set 16) (not (opens t)) false) false) e.style
+
+unaligned_shape-same : (set : ℕ) (ts : TypeTrees) (a b : ℕ) → Same a b →
+    unaligned_shape set ts a ≡ unaligned_shape set ts b
+unfolding unaligned_shape
+unaligned_shape-same set no_types a b e = refl
+unaligned_shape-same set (types t ts) a b e = unaligned_mark-same set t a b e
 
 angle_end-same : (a b : ℕ) → Same a b → angle_end a ≡ angle_end b
 unfolding angle_end
@@ -175,9 +201,12 @@ mark_space-same a b e =
     ap (λ c. cond c (cond (has a space_before_pointer) (space AfterWord ∷ []) []) (space AfterPointer ∷ [])) e.hug
     ∙ ap (λ c. cond (has b hug_type) (cond c (space AfterWord ∷ []) []) (space AfterPointer ∷ [])) e.pointer
 
-marked-same : (word : List ℕ) (set a b : ℕ) → Same a b → marked word set a ≡ marked word set b
+marked-same : (is is' : Bool) (word : List ℕ) (set a b : ℕ) → is ≡ is' → Same a b →
+    marked is word set a ≡ marked is' word set b
 unfolding marked
-marked-same word set a b e = same-style _ _ _ _ a b e (full_marked-same word set a b e)
+marked-same is is' word set a b h e =
+    ap (λ x. marked x word set a) h
+    ∙ same-style _ _ _ _ a b e (full_marked-same is' word set a b e)
     (same-append (mark_space a) (mark_space b) (text word ∷ qualifiers set a) (text word ∷ qualifiers set b)
     (mark_space-same a b e) (ap (λ x. text word ∷ x) (qualifiers-same set a b e)))
 
@@ -211,11 +240,11 @@ kind_words-same class a b e = same-unless (has a no_member_type) (has b no_membe
     (ap (λ x. member_word 16 (codes "static ") class ++ (member_word 32 (codes "virtual ") class ++ x))
     (extern_words-same class a b e))
 
-member_start-same : (pointed : Bool) (class a b : ℕ) → Same a b →
+member_start-same : (pointed : Pointed) (class a b : ℕ) → Same a b →
     member_start pointed class a ≡ member_start pointed class b
 unfolding member_start member_words
 member_start-same pointed class a b e =
-    ap (λ x. cond pointed [] (member_word 128 (codes "[thunk]: ") class ++ x))
+    ap (λ x. cond (is_pointed pointed) [] (member_word 128 (codes "[thunk]: ") class ++ x))
     (same-append (access_words class a) (access_words class b) (kind_words class a) (kind_words class b)
     (access_words-same class a b e) (kind_words-same class a b e))
 
@@ -251,7 +280,7 @@ function_qualifiers-same set a b e = same-style _ _ _ _ a b e (full_function_qua
     ++ (function_qualifier 128 (codes "&") set ++ function_qualifier 256 (codes "&&") set)))))
     (wide_qualifier-same set a b e)))
 
-calling-same : (pointed : Bool) (convention : Convention) (a b : ℕ) → Same a b →
+calling-same : (pointed : Pointed) (convention : Convention) (a b : ℕ) → Same a b →
     calling pointed convention a ≡ calling pointed convention b
 unfolding calling full_calling convention_pieces
 calling-same pointed convention a b e = same-style _ _ _ _ a b e
@@ -264,7 +293,7 @@ returned_end-same : (t : TypeTree) (a b : ℕ) → Same a b → returned_end t a
 unfolding returned_end
 returned_end-same t a b e = same-style _ _ _ _ a b e refl refl
 
-returned-same : (t : TypeTree) (pointed : Bool) (convention : Convention) (a b : ℕ) → Same a b →
+returned-same : (t : TypeTree) (pointed : Pointed) (convention : Convention) (a b : ℕ) → Same a b →
     returned_end t a ++ calling pointed convention a ≡ returned_end t b ++ calling pointed convention b
 returned-same t pointed convention a b e =
     same-append _ _ _ _ (returned_end-same t a b e) (calling-same pointed convention a b e)
@@ -273,7 +302,7 @@ angled-same : (xs ys : List Piece) (a b : ℕ) → xs ≡ ys → Same a b → an
 angled-same xs ys a b h e =
     ap (λ x. text (codes "<") ∷ x) (same-append xs ys (angle_end a) (angle_end b) h (angle_end-same a b e))
 
-parameter_list-same : (pointed : Bool) (xs ys : List Piece) (set a b : ℕ) → xs ≡ ys → Same a b →
+parameter_list-same : (pointed : Pointed) (xs ys : List Piece) (set a b : ℕ) → xs ≡ ys → Same a b →
     parameter_list pointed xs set a ≡ parameter_list pointed ys set b
 parameter_list-same pointed xs ys set a b h e = ap (λ x. closing pointed ++ (text (codes "(") ∷ x))
     (same-append xs ys (text (codes ")") ∷ function_qualifiers set a) (text (codes ")") ∷ function_qualifiers set b) h
@@ -352,7 +381,7 @@ rank_at-same (n ∷ ns) zero a b e =
     ap (λ w. cond (n.value == 1) [] (text w ∷ number_pieces n)) (comma-same a b e)
 rank_at-same (n ∷ ns) (suc i) a b e = rank_at-same ns i a b e
 
-slot_pieces-same : (s : Slot) (pointed : Bool) (p : Parts) (a b : ℕ) → Same a b →
+slot_pieces-same : (s : Slot) (pointed : Pointed) (p : Parts) (a b : ℕ) → Same a b →
     slot_pieces s pointed p a ≡ slot_pieces s pointed p b
 unfolding slot_pieces
 slot_pieces-same (slot.kind_word w) pointed p a b e =
@@ -360,9 +389,8 @@ slot_pieces-same (slot.kind_word w) pointed p a b e =
 slot_pieces-same slot.qualifiers pointed p a b e = qualifiers-same p.set a b e
 slot_pieces-same slot.pointer_qualifiers pointed p a b e =
     ap (λ s. mark_qualifiers s p.set) (full_space-same a b e)
-slot_pieces-same slot.unaligned pointed p a b e =
-    ap (λ s. qualifier s 16 (codes "__unaligned ") p.set) (full_space-same a b e)
-slot_pieces-same (slot.mark w) pointed p a b e = marked-same w p.set a b e
+slot_pieces-same slot.unaligned pointed p a b e = unaligned-same p.unaligned a b e
+slot_pieces-same (slot.mark w) pointed p a b e = marked-same p.unaligned p.unaligned w p.set a b refl e
 slot_pieces-same slot.opening pointed p a b e = opening-same pointed a b e
 slot_pieces-same slot.numbers pointed p a b e = each_number-same p.numbers true a b e
 slot_pieces-same (slot.rank i) pointed p a b e = rank_at-same p.numbers i a b e
@@ -371,21 +399,23 @@ slot_pieces-same (slot.types_from i) pointed p a b e =
 slot_pieces-same slot.comma pointed p a b e = separator-same false a b e
 slot_pieces-same _ pointed p a b e = refl
 
-laid-flags : (ss : List Slot) (pointed : Bool) (p : Parts) (a b : ℕ) → Same a b →
+laid-flags : (ss : List Slot) (pointed : Pointed) (p : Parts) (a b : ℕ) → Same a b →
     laid ss pointed p a ≡ laid ss pointed p b
 unfolding laid
 laid-flags [] pointed p a b e = refl
 laid-flags (s ∷ ss) pointed p a b e =
     same-append _ _ _ _ (slot_pieces-same s pointed p a b e) (laid-flags ss pointed p a b e)
 
-laid-same : (ss : List Slot) (pointed : Bool) (p p' : Parts) (a b : ℕ) → p ≡ p' → Same a b →
+laid-same : (ss : List Slot) (pointed : Pointed) (p p' : Parts) (a b : ℕ) → p ≡ p' → Same a b →
     laid ss pointed p a ≡ laid ss pointed p' b
 laid-same ss pointed p p' a b h e = ap (λ z. laid ss pointed z a) h ∙ laid-flags ss pointed p' a b e
 
-parts-same : (set : ℕ) (zs : List Number) (bytes : List ℕ) (ns ns' os os' ts ts' : List (List Piece)) → ns ≡ ns' →
-    os ≡ os' → ts ≡ ts' → parts set zs bytes ns os ts ≡ parts set zs bytes ns' os' ts'
-parts-same set zs bytes ns ns' os os' ts ts' h h' h'' = ap (λ z. parts set zs bytes z os ts) h
-    ∙ ap (λ z. parts set zs bytes ns' z ts) h' ∙ ap (λ z. parts set zs bytes ns' os' z) h''
+parts-same : (is is' : Bool) (set : ℕ) (zs : List Number) (bytes : List ℕ)
+    (ns ns' os os' ts ts' : List (List Piece)) → is ≡ is' → ns ≡ ns' → os ≡ os' → ts ≡ ts' →
+    parts is set zs bytes ns os ts ≡ parts is' set zs bytes ns' os' ts'
+parts-same is is' set zs bytes ns ns' os os' ts ts' e h h' h'' = ap (λ z. parts z set zs bytes ns os ts) e
+    ∙ ap (λ z. parts is' set zs bytes z os ts) h ∙ ap (λ z. parts is' set zs bytes ns' z ts) h'
+    ∙ ap (λ z. parts is' set zs bytes ns' os' z) h''
 
 same-cons : (x x' : List Piece) (xs xs' : List (List Piece)) → x ≡ x' → xs ≡ xs' →
     Path (List (List Piece)) (x ∷ xs) (x' ∷ xs')
@@ -403,7 +433,7 @@ mutual
       (angled-same _ _ a b (parameters-same ts true a b e) e)
   name_pieces-same (discriminator z) of_symbol a b e = refl
   name_pieces-same (nested n ns t) of_symbol a b e = ap (quoted_unless of_symbol) (around_kept-same _ _ _ _ a b
-      (grown-same t false alone alone a b refl e)
+      (grown-same t No alone alone a b refl e)
       (named-same _ _ _ _ _ _ _ _ _ _ a b (name_kind-same n a b e) (scope_pieces-same ns a b e)
       (arguments-same n a b e)
       (conversion-same t _ _ _ _ a b (arguments-same n a b e) (name_pieces-same n true a b e) e)
@@ -413,10 +443,11 @@ mutual
   name_pieces-same (guard g n) of_symbol a b e = refl
   name_pieces-same (type_descriptor set t) of_symbol a b e =
       ap (λ s. space AfterPointer ∷ (s.left ++ text (codes "::`RTTI Type Descriptor'") ∷ []))
-      (grown-same t false alone alone a b refl e)
+      (grown-same t No alone alone a b refl e)
   name_pieces-same (base_class_descriptor k l m n) of_symbol a b e = base_class-same k l m n a b e
-  name_pieces-same (shaped row set zs bytes ns ts) of_symbol a b e = laid-same (slots row side.Left) false _ _ a b
-      (parts-same set zs bytes _ _ _ _ _ _ (each_name-same ns true a b e) (each_name-same ns false a b e)
+  name_pieces-same (shaped row set zs bytes ns ts) of_symbol a b e = laid-same (slots row side.Left) No _ _ a b
+      (parts-same _ _ set zs bytes _ _ _ _ _ _ (unaligned_shape-same set ts a b e)
+      (each_name-same ns true a b e) (each_name-same ns false a b e)
       (each_type-same ts a b e)) e
 
   each_name-same : (ns : NameTrees) (of_symbol : Bool) (a b : ℕ) → Same a b →
@@ -439,15 +470,20 @@ mutual
       Same a b → conversion t list name a ≡ conversion t list' name' b
   conversion-same (function convention ts set t) list list' name name' a b h h' e = same-style _ _ _ _ a b e
       (full_conversion-same (is_none t) _ _ _ _ _ _ h
-      (ap (λ s. around s []) (grown-same t false alone alone a b refl e)) h') h'
+      (ap (λ s. around s []) (grown-same t No alone alone a b refl e)) h') h'
   conversion-same (member_function class convention ts set t) list list' name name' a b h h' e =
       same-style _ _ _ _ a b e
       (full_conversion-same (is_none t) _ _ _ _ _ _ h
-      (ap (λ s. around s []) (grown-same t false alone alone a b refl e)) h')
-      (ap (λ s. text (codes "operator ") ∷ around s []) (grown-same t false alone alone a b refl e))
+      (ap (λ s. around s []) (grown-same t No alone alone a b refl e)) h')
+      (ap (λ s. text (codes "operator ") ∷ around s []) (grown-same t No alone alone a b refl e))
+  conversion-same (shape row q zs bytes ns (types (member_function class convention ts set t) us)) list list'
+      name name' a b h h' e =
+      same-style _ _ _ _ a b e
+      (full_conversion-same (is_none t) _ _ _ _ _ _ h
+      (ap (λ s. around s []) (grown-same t No alone alone a b refl e)) h') h'
   conversion-same _ list list' name name' a b h h' e = h'
 
-  grown-same : (t : TypeTree) (pointed : Bool) (s s' : Sides) (a b : ℕ) → s ≡ s' → Same a b →
+  grown-same : (t : TypeTree) (pointed : Pointed) (s s' : Sides) (a b : ℕ) → s ≡ s' → Same a b →
       grown t pointed s a ≡ grown t pointed s' b
   grown-same (base w set) pointed s s' a b h e = between-same _ _ s s' [] [] (same-append _ _ _ _
       (ap (λ x. text x ∷ []) (base_word-same w a b e)) (qualifiers-same set a b e)) h refl
@@ -456,34 +492,37 @@ mutual
       (named-same _ _ _ _ _ _ _ _ _ _ a b (name_kind-same n a b e) (scope_pieces-same scope a b e)
       (arguments-same n a b e) (name_pieces-same n true a b e) (name_pieces-same n true a b e) e)
       (qualifiers-same set a b e))) h refl
-  grown-same (pointing m t set) pointed s s' a b h e = grown-same t true _ _ a b
-      (between-same _ _ s s' [] [] (marked-same (mark_word m) set a b e) h refl) e
+  grown-same (pointing m t set) pointed s s' a b h e =
+      ap (λ p. grown t p (between (marked (unaligned_mark set t a) (mark_word m) set a) s []) a)
+      (pointed_by-same set a b e)
+      ∙ grown-same t (pointed_by set b) _ _ a b (between-same _ _ s s' [] []
+      (marked-same _ _ (mark_word m) set a b (unaligned_mark-same set t a b e) e) h refl) e
   grown-same (array n t set) pointed s s' a b h e =
       let end : List Piece = closing pointed ++ length_pieces n in
-      grown-same t false _ _ a b (between-same _ _ s s' end end
+      grown-same t No _ _ a b (between-same _ _ s s' end end
       (same-append _ _ _ _ (qualifiers-same set a b e) (opening-same pointed a b e)) h refl) e
-  grown-same (function convention ts set t) pointed s s' a b h e = grown-same t false _ _ a b
+  grown-same (function convention ts set t) pointed s s' a b h e = grown-same t No _ _ a b
       (between-same _ _ s s' _ _ (returned-same t pointed convention a b e) h
       (parameter_list-same pointed _ _ set a b (parameters-same ts true a b e) e)) e
   grown-same (member_function class convention ts set t) pointed s s' a b h e =
-      between-same _ _ _ _ [] [] (member_start-same pointed class a b e) (grown-same t false _ _ a b
+      between-same _ _ _ _ [] [] (member_start-same pointed class a b e) (grown-same t No _ _ a b
       (between-same _ _ s s' _ _ (returned-same t pointed convention a b e) h
       (parameter_list-same pointed _ _ set a b (parameters-same ts true a b e) e)) e) refl
   grown-same (member_pointer n scope class convention ts set t) pointed s s' a b h e =
       let const : List Piece = function_qualifier 1 (codes "const") set in
-      between-same [] [] _ _ const const refl (grown-same t false _ _ a b
-      (between-same _ _ s s' _ _ (same-append _ _ _ _ (returned-same t true convention a b e) (ap pointed_class
+      between-same [] [] _ _ const const refl (grown-same t No _ _ a b
+      (between-same _ _ s s' _ _ (same-append _ _ _ _ (returned-same t Yes convention a b e) (ap pointed_class
       (named-same _ _ _ _ _ _ _ _ _ _ a b (name_kind-same n a b e) (scope_pieces-same scope a b e)
       (arguments-same n a b e) (name_pieces-same n true a b e) (name_pieces-same n true a b e) e))) h
       (ap (λ x. text (codes ")(") ∷ (x ++ text (codes ")") ∷ [])) (parameters-same ts true a b e))) e) refl
   grown-same (variable t kind set) pointed s s' a b h e =
       let word : List Piece = text (variable_word kind) ∷ [] in
-      between-same word word _ _ [] [] refl (grown-same t false _ _ a b
+      between-same word word _ _ [] [] refl (grown-same t No _ _ a b
       (between-same _ _ s s' [] [] (qualifiers-same set a b e) h refl) e) refl
   grown-same (table k scope set) pointed s s' a b h e = between-same _ _ s s' _ _ (qualifiers-same set a b e) h
       (ap (λ x. table_end k scope x.path) (scope_pieces-same scope a b e))
   grown-same (vcall_thunk n convention) pointed s s' a b h e = between-same _ _ s s' _ _
-      (ap (λ x. text (codes "[thunk]: ") ∷ x) (calling-same false convention a b e)) h
+      (ap (λ x. text (codes "[thunk]: ") ∷ x) (calling-same No convention a b e)) h
       (ap (λ x. text (codes "{") ∷ text (signed_decimal n) ∷ (x ++ text (codes "{flat}}") ∷ []))
       (separator-same false a b e))
   grown-same (numbered number_kind.Constant n) pointed s s' a b h e =
@@ -496,32 +535,34 @@ mutual
   grown-same (plain plain_kind.Nullptr) pointed s s' a b h e =
       ap (λ x. between (text (codes "std::nullptr_t") ∷ []) x []) h
   grown-same (shape row set zs bytes ns ts) pointed s s' a b h e =
-      let p = parts-same set zs bytes _ _ _ _ _ _ (each_name-same ns true a b e) (each_name-same ns false a b e)
+      let p = parts-same _ _ set zs bytes _ _ _ _ _ _ (unaligned_shape-same set ts a b e)
+      (each_name-same ns true a b e) (each_name-same ns false a b e)
       (each_type-same ts a b e) in
-      grown_around-same ts (layout_of row).around _ _ a b (between-same _ _ s s' _ _
+      grown_around-same ts (layout_of row).around set _ _ a b (between-same _ _ s s' _ _
       (laid-same (slots row side.Left) pointed _ _ a b p e) h (laid-same (slots row side.Right) pointed _ _ a b p e)) e
   grown-same _ pointed s s' a b h e = h
 
   each_type-same : (ts : TypeTrees) (a b : ℕ) → Same a b → each_type ts a ≡ each_type ts b
   each_type-same no_types a b e = refl
   each_type-same (types t ts) a b e =
-      same-cons _ _ _ _ (ap (λ s. around s []) (grown-same t false alone alone a b refl e))
+      same-cons _ _ _ _ (ap (λ s. around s []) (grown-same t No alone alone a b refl e))
       (each_type-same ts a b e)
 
-  grown_around-same : (ts : TypeTrees) (w : Option Bool) (s s' : Sides) (a b : ℕ) → s ≡ s' → Same a b →
-      grown_around ts w s a ≡ grown_around ts w s' b
-  grown_around-same (types t ts) (Some pointed) s s' a b h e = grown-same t pointed s s' a b h e
-  grown_around-same _ _ s s' a b h e = h
+  grown_around-same : (ts : TypeTrees) (w : Option Bool) (set : ℕ) (s s' : Sides) (a b : ℕ) → s ≡ s' → Same a b →
+      grown_around ts w set s a ≡ grown_around ts w set s' b
+  grown_around-same (types t ts) (Some is_mark) set s s' a b h e =
+      ap (λ p. grown t p s a) (under-same is_mark set a b e) ∙ grown-same t (under is_mark set b) s s' a b h e
+  grown_around-same _ _ set s s' a b h e = h
 
   parameters-same : (ts : TypeTrees) (first : Bool) (a b : ℕ) → Same a b → parameters ts first a ≡ parameters ts first b
   parameters-same no_types first a b e = refl
   parameters-same (types t ts) first a b e = same-choice (is_empty_pack t) _ _ _ _ (parameters-same ts first a b e)
       (same-append _ _ _ _ (separator-same first a b e) (same-append _ _ _ _
-      (ap (λ s. around s []) (grown-same t false alone alone a b refl e)) (parameters-same ts false a b e)))
+      (ap (λ s. around s []) (grown-same t No alone alone a b refl e)) (parameters-same ts false a b e)))
 
 symbol_pieces-same : (n : NameTree) (ns : NameTrees) (t : TypeTree) (a b : ℕ) → Same a b →
     symbol_pieces n ns t a ≡ symbol_pieces n ns t b
-symbol_pieces-same n ns t a b e = around_kept-same _ _ _ _ a b (grown-same t false alone alone a b refl e)
+symbol_pieces-same n ns t a b e = around_kept-same _ _ _ _ a b (grown-same t No alone alone a b refl e)
     (named-same _ _ _ _ _ _ _ _ _ _ a b (name_kind-same n a b e) (scope_pieces-same ns a b e)
     (arguments-same n a b e) (conversion-same t _ _ _ _ a b (arguments-same n a b e) (name_pieces-same n true a b e) e)
     (name_pieces-same n true a b e) e) e
@@ -535,8 +576,8 @@ other_bits-change-nothing = λ s a b agree.
 name_only-pieces : (n : NameTree) (scope : NameTrees) (t : TypeTree) (flags : ℕ) → has flags name_only ≡ true →
     symbol_pieces n scope t flags ≡ symbol_name n scope t flags ++ []
 name_only-pieces n scope t flags only = same-append _ _ _ _
-    (kept_left-name_only (grown t false alone flags).left flags only)
-    (ap (λ x. symbol_name n scope t flags ++ x) (kept_right-dropped (grown t false alone flags).right flags only))
+    (kept_left-name_only (grown t No alone flags).left flags only)
+    (ap (λ x. symbol_name n scope t flags ++ x) (kept_right-dropped (grown t No alone flags).right flags only))
 
 -- only a conversion operator prints what its symbol returns
 unqualified_name-conversion : (kind : NameKind) (c d v v' name : List Piece) → (kind ≡ name_kinds.Conversion → ⊥) →

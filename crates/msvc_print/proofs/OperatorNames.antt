@@ -2,7 +2,7 @@
 use Rattle.std.proofs.Common.{◌≡◌, ℕ, ℤ, ◌≤◌, List, [], ◌∷◌, ◌++◌, refl, ap, ◌∙◌, arith, false, Option, Some, None}
 use Rattle.std.proofs.Common.{codes, cond, Bool, true}
 use Rattle.std.specs.Fmt.{signed_decimal}
-use Rattle.msvc_nodes.specs.Trees.{TypeTree, operator, function, member_function}
+use Rattle.msvc_nodes.specs.Trees.{TypeTree, operator, function, member_function, shape, types}
 use Rattle.msvc_nodes.specs.declared.kinds.PlainOperator.{PlainOperator}
 use Rattle.msvc_nodes.specs.declared.kinds.PlainOperator.TheVariants as plain_operator
 use Rattle.msvc_print.proofs.Halves.{around-halves}
@@ -16,8 +16,9 @@ use Rattle.msvc_print.specs.Limited.{LimitedText, add_all}
 use Rattle.msvc_print.specs.Pieces.{Piece, text}
 use Rattle.msvc_print.proofs.Settling.{settled_two}
 use Rattle.msvc_print.specs.Weights.{type_weight}
-use Rattle.msvc_print.specs.Work.{full_conversion_to, full_return, member_return}
+use Rattle.msvc_print.specs.Work.{full_conversion_to, full_return, member_return, moved_return, some_return}
 use Rattle.msvc_print.specs.declared.operators.NameKind.TheVariants as name_kinds
+use Rattle.msvc_print.specs.declared.pointed.Pointed.TheVariants.{No}
 
 pub name_kind-other : (o : PlainOperator) → (o ≡ plain_operator.Ctor → ⊥) → (o ≡ plain_operator.Dtor → ⊥) →
     (o ≡ plain_operator.Conversion → ⊥) → (o ≡ plain_operator.VBTable → ⊥) →
@@ -73,7 +74,7 @@ full_operator_word-other _ a b c d e f g h i j k l m = refl
 -- the pieces of a conversion operator, by the type that its function returns, or `name` if it is no member function
 unfoldable pub conversion_to : Option TypeTree → List Piece → ℕ → List Piece
 conversion_to None name flags = name
-conversion_to (Some t) name flags = text (codes "operator ") ∷ (before t false flags ++ after t false flags)
+conversion_to (Some t) name flags = text (codes "operator ") ∷ (before t No flags ++ after t No flags)
 
 -- the weight of the type that a function returns
 unfoldable pub return_weight : Option TypeTree → ℕ
@@ -84,16 +85,18 @@ pub conversion-return : (t : TypeTree) (list name : List Piece) (flags : ℕ) �
     conversion t list name flags ≡ conversion_to (member_return t) name flags
 unfolding conversion conversion_to member_return
 conversion-return (function c ts q t) list name flags e =
-    ap (λ b. cond b (full_conversion (is_none t) list (around (grown t false alone flags) []) name) name) e
+    ap (λ b. cond b (full_conversion (is_none t) list (around (grown t No alone flags) []) name) name) e
 conversion-return (member_function f c ts q t) list name flags e =
-    ap (λ b. cond b (full_conversion (is_none t) list (around (grown t false alone flags) []) name)
-    (text (codes "operator ") ∷ around (grown t false alone flags) [])) e
+    ap (λ b. cond b (full_conversion (is_none t) list (around (grown t No alone flags) []) name)
+    (text (codes "operator ") ∷ around (grown t No alone flags) [])) e
     ∙ ap (λ x. text (codes "operator ") ∷ x) (around-halves t [] flags)
+conversion-return (shape row p zs bytes ns (types (member_function f c ts q t) us)) list name flags e =
+    ap (λ b. cond b (full_conversion (is_none t) list (around (grown t No alone flags) []) name) name) e
 conversion-return _ list name flags e = refl
 
 -- a conversion to a type, or the name if there is none
 full_conversion-choice : (none : Bool) (t : TypeTree) (list name : List Piece) (flags : ℕ) →
-    full_conversion none list (before t false flags ++ after t false flags) name
+    full_conversion none list (before t No flags ++ after t No flags) name
     ≡ full_conversion_to (cond none None (Some t)) list name flags
 unfolding full_conversion full_conversion_to
 full_conversion-choice true t list name flags = refl
@@ -101,14 +104,18 @@ full_conversion-choice false t list name flags = refl
 
 pub full_conversion-return : (t : TypeTree) (list name : List Piece) (flags : ℕ) → has flags full_style ≡ true →
     conversion t list name flags ≡ full_conversion_to (full_return t) list name flags
-unfolding conversion full_conversion_to full_return
+unfolding conversion full_conversion_to full_return moved_return some_return
 full_conversion-return (function c ts q t) list name flags e =
-    ap (λ b. cond b (full_conversion (is_none t) list (around (grown t false alone flags) []) name) name) e
+    ap (λ b. cond b (full_conversion (is_none t) list (around (grown t No alone flags) []) name) name) e
     ∙ ap (λ x. full_conversion (is_none t) list x name) (around-halves t [] flags)
     ∙ full_conversion-choice (is_none t) t list name flags
 full_conversion-return (member_function f c ts q t) list name flags e =
-    ap (λ b. cond b (full_conversion (is_none t) list (around (grown t false alone flags) []) name)
-    (text (codes "operator ") ∷ around (grown t false alone flags) [])) e
+    ap (λ b. cond b (full_conversion (is_none t) list (around (grown t No alone flags) []) name)
+    (text (codes "operator ") ∷ around (grown t No alone flags) [])) e
+    ∙ ap (λ x. full_conversion (is_none t) list x name) (around-halves t [] flags)
+    ∙ full_conversion-choice (is_none t) t list name flags
+full_conversion-return (shape row p zs bytes ns (types (member_function f c ts q t) us)) list name flags e =
+    ap (λ b. cond b (full_conversion (is_none t) list (around (grown t No alone flags) []) name) name) e
     ∙ ap (λ x. full_conversion (is_none t) list x name) (around-halves t [] flags)
     ∙ full_conversion-choice (is_none t) t list name flags
 full_conversion-return _ list name flags e = refl
@@ -124,9 +131,11 @@ return_weight-choice true t = omega arith
 return_weight-choice false t = omega arith
 
 pub full_return_weight-bound : (t : TypeTree) → return_weight (full_return t) ≤ type_weight t
-unfolding return_weight full_return type_weight
+unfolding return_weight full_return moved_return some_return type_weight
 full_return_weight-bound (function c ts q t) = omega (arith, return_weight-choice (is_none t) t)
 full_return_weight-bound (member_function f c ts q t) = omega (arith, return_weight-choice (is_none t) t)
+full_return_weight-bound (shape row p zs bytes ns (types (member_function f c ts q t) us)) =
+    omega (arith, return_weight-choice (is_none t) t)
 full_return_weight-bound _ = omega arith
 
 -- the place of a base class, from its parts

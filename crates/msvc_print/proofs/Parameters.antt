@@ -1,5 +1,5 @@
 -- What lists of parameters print, by their parts.
-use Rattle.std.proofs.Common.{◌≡◌, ℕ, ℤ, zero, suc, ◌+◌, ◌-◌, ◌<◌, ◌≤◌, List, [], ◌∷◌, ◌++◌, Bool, true, false, length}
+use Rattle.std.proofs.Common.{◌≡◌, ℕ, ℤ, zero, suc, ◌+◌, ◌-◌, ◌<◌, ◌≤◌, List, [], ◌∷◌, ◌++◌, true, length}
 use Rattle.std.proofs.Common.{get_or, drop, take, ap, sym, ◌∙◌, arith, codes}
 use Rattle.std.proofs.lemmas.List.{append_assoc, take_all}
 use Rattle.msvc_nodes.specs.Trees.{TypeTree, array, types}
@@ -18,6 +18,8 @@ use Rattle.msvc_print.specs.Words.{closing}
 use Rattle.msvc_print.specs.Work.{AddsLess, rest_of_parameters, work}
 use Rattle.msvc_print.specs.declared.item.Item.{Item}
 use Rattle.msvc_print.specs.declared.item.ListEnd.TheVariants.{Round, Bare}
+use Rattle.msvc_print.specs.declared.pointed.Pointed.{Pointed}
+use Rattle.msvc_print.specs.declared.pointed.Pointed.TheVariants.{No}
 
 -- a list is its first type and the rest
 types_in-first : (ts : List (Bor «Type»)) (d : Bor «Type») → 1 ≤ length ts →
@@ -55,19 +57,19 @@ types_weight-positive [] = omega arith
 types_weight-positive (x ∷ xs) = omega arith
 
 -- after the length of a level of an array stands what is after its elements
-pub settled-array : (out out1 : LimitedText) (pointed : Bool) (m n : ℤ) (t : TypeTree) (q flags : ℕ) →
+pub settled-array : (out out1 : LimitedText) (pointed : Pointed) (m n : ℤ) (t : TypeTree) (q flags : ℕ) →
     out1 ≡ add_all out (closing pointed ++ length_pieces m) →
-    m ≡ n → add_all out1 (after t false flags) ≡ add_all out (after (array n t q) pointed flags)
+    m ≡ n → add_all out1 (after t No flags) ≡ add_all out (after (array n t q) pointed flags)
 unfolding after
 settled-array out out1 pointed m n t q flags e same =
-    ap (λ x. add_all x (after t false flags)) e
-    ∙ sym (add_all-append out (closing pointed ++ length_pieces m) (after t false flags))
-    ∙ ap (add_all out) (append_assoc (closing pointed) (length_pieces m) (after t false flags))
-    ∙ ap (λ k. add_all out (closing pointed ++ (length_pieces k ++ after t false flags))) same
+    ap (λ x. add_all x (after t No flags)) e
+    ∙ sym (add_all-append out (closing pointed ++ length_pieces m) (after t No flags))
+    ∙ ap (add_all out) (append_assoc (closing pointed) (length_pieces m) (after t No flags))
+    ∙ ap (λ k. add_all out (closing pointed ++ (length_pieces k ++ after t No flags))) same
 
 -- what a function has after its name, from its parts
-pub settled-function_end : (out out1 out2 : LimitedText) (ts : List (Bor «Type»)) (pointed : Bool) (set : StorageClass)
-    (flags : ℕ) (returned : List Piece) →
+pub settled-function_end : (out out1 out2 : LimitedText) (ts : List (Bor «Type»)) (pointed : Pointed)
+    (set : StorageClass) (flags : ℕ) (returned : List Piece) →
     out1 ≡ add_all out (closing pointed) → out2 ≡ add_all out1 (text (codes "(") ∷ []) →
     add_all (add_all out2 (rest_of_parameters ts true (Round set) flags)) returned
     ≡ add_all out (function_end pointed (parameters (types_in ts) true flags) set.0 flags returned)

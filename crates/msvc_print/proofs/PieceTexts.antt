@@ -49,9 +49,11 @@ use Rattle.msvc_print.specs.Words.{angle_end, full_mark_space, full_marked, full
 use Rattle.msvc_print.specs.Words.{mark_qualifiers}
 use Rattle.msvc_print.specs.Words.{base_word, base_words, chosen_word, closing, kind_word, mark_space, mark_word}
 use Rattle.msvc_print.specs.Words.{marked, name_space, opening, qualifiers, table_qualifiers, tag_word, unaligned}
-use Rattle.msvc_print.specs.Words.{variable_word}
+use Rattle.msvc_print.specs.Words.{parenthesis, variable_word}
 use Rattle.msvc_print.specs.declared.spaces.Space.{Space}
 use Rattle.msvc_print.specs.declared.spaces.Space.TheVariants.{AfterPointer}
+use Rattle.msvc_print.specs.Pointed.{is_pointed}
+use Rattle.msvc_print.specs.declared.pointed.Pointed.{Pointed}
 
 -- the bytes of a piece, if it has some, are UTF-8
 abbrev IsText : Piece → Type 0
@@ -228,29 +230,35 @@ mark_qualifiers-texts s set = AreTexts-append _ _ (AreTexts-spaced _ s (codes "c
     (AreTexts-append _ _ (AreTexts-spaced _ s (codes "volatile") (codes "volatile", (refl, refl)))
     (AreTexts-spaced _ s (codes "__restrict") (codes "__restrict", (refl, refl))))
 
-pub unaligned-texts : (set flags : ℕ) → AreTexts (unaligned set flags)
+pub unaligned-texts : (has_it : Bool) (flags : ℕ) → AreTexts (unaligned has_it flags)
 unfolding lib.Utf8.encode
-unaligned-texts set flags = AreTexts-spaced _ _ (codes "__unaligned ") (codes "__unaligned ", (refl, refl))
+unaligned-texts has_it flags = AreTexts-spaced _ _ (codes "__unaligned ") (codes "__unaligned ", (refl, refl))
 
-full_marked-texts : (word : List ℕ) (set flags : ℕ) → IsUtf8 word → AreTexts (full_marked word set flags)
+full_marked-texts : (is : Bool) (word : List ℕ) (set flags : ℕ) → IsUtf8 word →
+    AreTexts (full_marked is word set flags)
 unfolding full_marked lib.Utf8.encode
-full_marked-texts word set flags h =
-    AreTexts-append _ _ (unaligned-texts set flags)
+full_marked-texts is word set flags h =
+    AreTexts-append _ _ (unaligned-texts is flags)
     (AreTexts-append _ _ (full_mark_space-texts flags)
     (AreTexts-text word _ h (mark_qualifiers-texts (full_space flags) set)))
 
-pub marked-texts : (word : List ℕ) (set flags : ℕ) → IsUtf8 word → AreTexts (marked word set flags)
+pub marked-texts : (is : Bool) (word : List ℕ) (set flags : ℕ) → IsUtf8 word → AreTexts (marked is word set flags)
 unfolding marked
-marked-texts word set flags h = AreTexts-choice (has flags full_style) _ _ (full_marked-texts word set flags h)
+marked-texts is word set flags h = AreTexts-choice (has flags full_style) _ _ (full_marked-texts is word set flags h)
     (AreTexts-append _ _ (mark_space-texts flags) (AreTexts-text word _ h (qualifiers-texts set flags)))
 
-pub opening-texts : (pointed : Bool) (flags : ℕ) → AreTexts (opening pointed flags)
-unfolding opening lib.Utf8.encode
-opening-texts pointed flags = AreTexts-spaced pointed _ (codes "(") (codes "(", (refl, refl))
+parenthesis-texts : (flags : ℕ) → AreTexts (parenthesis flags)
+unfolding lib.Utf8.encode
+parenthesis-texts flags = AreTexts-space _ _ (AreTexts-text (codes "(") [] (codes "(", (refl, refl)) AreTexts-none)
 
-pub closing-texts : (pointed : Bool) → AreTexts (closing pointed)
+pub opening-texts : (pointed : Pointed) (flags : ℕ) → AreTexts (opening pointed flags)
+unfolding opening
+opening-texts pointed flags = AreTexts-choice (is_pointed pointed) _ []
+    (AreTexts-append _ _ (unaligned-texts _ flags) (parenthesis-texts flags)) AreTexts-none
+
+pub closing-texts : (pointed : Pointed) → AreTexts (closing pointed)
 unfolding closing lib.Utf8.encode
-closing-texts pointed = AreTexts-word pointed (codes ")") (codes ")", (refl, refl))
+closing-texts pointed = AreTexts-word (is_pointed pointed) (codes ")") (codes ")", (refl, refl))
 
 angle_end-texts : (flags : ℕ) → AreTexts (angle_end flags)
 unfolding angle_end lib.Utf8.encode
@@ -287,9 +295,9 @@ member_words-texts class flags =
     AreTexts-append _ _ (AreTexts-word _ (codes "[thunk]: ") (codes "[thunk]: ", (refl, refl)))
     (AreTexts-append _ _ (access_words-texts class flags) (kind_words-texts class flags))
 
-pub member_start-texts : (pointed : Bool) (class flags : ℕ) → AreTexts (member_start pointed class flags)
+pub member_start-texts : (pointed : Pointed) (class flags : ℕ) → AreTexts (member_start pointed class flags)
 unfolding member_start
-member_start-texts pointed class flags = AreTexts-unless pointed (member_words class flags)
+member_start-texts pointed class flags = AreTexts-unless (is_pointed pointed) (member_words class flags)
     (member_words-texts class flags)
 
 pub function_qualifier-texts : (bit : ℕ) (word : List ℕ) (set : ℕ) → IsUtf8 word →
@@ -336,15 +344,16 @@ unfolding convention_pieces
 convention-texts convention flags =
     AreTexts-unless _ _ (AreTexts-text _ _ (spaced_convention-utf8 convention) AreTexts-none)
 
-full_calling-texts : (pointed : Bool) (convention : Convention) (flags : ℕ) →
+full_calling-texts : (pointed : Pointed) (convention : Convention) (flags : ℕ) →
     AreTexts (full_calling pointed convention flags)
 unfolding full_calling
 full_calling-texts pointed convention flags = AreTexts-append _ _ (opening-texts pointed flags)
-    (AreTexts-unless _ _ (AreTexts-choice pointed _ _
+    (AreTexts-unless _ _ (AreTexts-choice (is_pointed pointed) _ _
     (AreTexts-text _ _ (spaced_convention-utf8 convention) AreTexts-none)
     (AreTexts-space _ _ (AreTexts-text _ _ (convention_word-utf8 convention) AreTexts-none))))
 
-pub calling-texts : (pointed : Bool) (convention : Convention) (flags : ℕ) → AreTexts (calling pointed convention flags)
+pub calling-texts : (pointed : Pointed) (convention : Convention) (flags : ℕ) →
+    AreTexts (calling pointed convention flags)
 unfolding calling
 calling-texts pointed convention flags = AreTexts-choice (has flags full_style) _ _
     (full_calling-texts pointed convention flags)
@@ -355,7 +364,7 @@ unfolding returned_end lib.Utf8.encode
 returned_end-texts t flags = AreTexts-choice (has flags full_style) _ []
     (AreTexts-unless _ _ (AreTexts-text (codes " ") [] (codes " ", (refl, refl)) AreTexts-none)) AreTexts-none
 
-pub returned-texts : (t : TypeTree) (pointed : Bool) (convention : Convention) (flags : ℕ) →
+pub returned-texts : (t : TypeTree) (pointed : Pointed) (convention : Convention) (flags : ℕ) →
     AreTexts (returned_end t flags ++ calling pointed convention flags)
 returned-texts t pointed convention flags =
     AreTexts-append _ _ (returned_end-texts t flags) (calling-texts pointed convention flags)
@@ -368,7 +377,7 @@ kept_right-texts : (pieces : List Piece) (flags : ℕ) → AreTexts pieces → A
 unfolding kept_right
 kept_right-texts pieces flags h = AreTexts-unless _ pieces h
 
-pub parameter_list-texts : (pointed : Bool) (inside : List Piece) (set flags : ℕ) → AreTexts inside →
+pub parameter_list-texts : (pointed : Pointed) (inside : List Piece) (set flags : ℕ) → AreTexts inside →
     AreTexts (parameter_list pointed inside set flags)
 unfolding lib.Utf8.encode
 parameter_list-texts pointed inside set flags h = AreTexts-append _ _ (closing-texts pointed)

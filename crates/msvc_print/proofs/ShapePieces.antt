@@ -1,5 +1,5 @@
 -- The pieces and weights of shapes, by places: of numbers, of names, of slots, and of the type around a shape.
-use Rattle.std.proofs.Common.{◌≡◌, ℕ, zero, suc, ◌+◌, ◌<◌, ◌≤◌, List, [], ◌∷◌, ◌++◌, Bool, false, length}
+use Rattle.std.proofs.Common.{◌≡◌, ℕ, zero, suc, ◌+◌, ◌<◌, ◌≤◌, List, [], ◌∷◌, ◌++◌, Bool, true, false, cond, length}
 use Rattle.std.proofs.Common.{get_or, drop, take, refl, ap, sym, ◌∙◌, ◌-◌, ◌==◌, arith}
 use Rattle.std.specs.Borrow.{Bor}
 use Rattle.std.specs.Prelude.{Some, None}
@@ -18,6 +18,8 @@ use Rattle.msvc_print.specs.Functions.{separator}
 use Rattle.msvc_print.specs.Halves.{after, before, pieces_around, shape_parts}
 use Rattle.msvc_print.specs.Limited.{LimitedText, add_all}
 use Rattle.msvc_print.specs.Pieces.{Piece}
+use Rattle.msvc_print.specs.Pointed.{is_opening, some_opening, under}
+use Rattle.msvc_print.specs.declared.pointed.Pointed.{Pointed}
 use Rattle.msvc_print.specs.ShapeNodes.{part_slot_pieces, slot_of}
 use Rattle.msvc_print.specs.Shapes.{Parts, each_level, each_number, laid, level_pieces, names_word_pieces}
 use Rattle.msvc_print.specs.Shapes.{number_pieces, of_number_at, parted, parting, pieces_at, slot_pieces, slots_weight}
@@ -30,6 +32,7 @@ use Rattle.msvc_print.specs.declared.shapes.PartSlot.TheVariants as part_slot
 use Rattle.msvc_shapes.specs.Layouts.{Slot, layout_of, slot_seen, slots, slots_seen}
 use Rattle.msvc_shapes.specs.declared.layouts.Side.TheVariants as side
 use Rattle.msvc_shapes.specs.declared.layouts.Slot.{Slot as SlotCode}
+use Rattle.msvc_print.specs.declared.pointed.Pointed.TheVariants.{No}
 
 -- a place behind the first
 not-first : (i : ℕ) → 0 < i → (i == 0) ≡ false
@@ -147,7 +150,7 @@ seen-none [] (suc i) h = refl
 seen-none (x ∷ xs) zero h = absurd (omega arith)
 seen-none (x ∷ xs) (suc i) h = seen-none xs i (omega arith)
 
-laid-some : (xs : List SlotCode) (ss : List Slot) (d : SlotCode) (i : ℕ) (pointed : Bool) (p : Parts) (flags : ℕ) →
+laid-some : (xs : List SlotCode) (ss : List Slot) (d : SlotCode) (i : ℕ) (pointed : Pointed) (p : Parts) (flags : ℕ) →
     slots_seen xs ≡ ss → i < length xs → laid (drop i ss) pointed p flags
     ≡ slot_pieces (slot_seen (get_or xs i d)) pointed p flags ++ laid (drop (suc i) ss) pointed p flags
 unfolding laid
@@ -156,14 +159,41 @@ laid-some xs ss d i pointed p flags e h =
     ∙ ap (λ z. laid z pointed p flags) (seen-some xs d i h)
     ∙ ap (λ z. slot_pieces (slot_seen (get_or xs i d)) pointed p flags ++ laid (drop (suc i) z) pointed p flags) e
 
-pub laid-none : (xs : List SlotCode) (ss : List Slot) (i : ℕ) (pointed : Bool) (p : Parts) (flags : ℕ) →
+pub laid-none : (xs : List SlotCode) (ss : List Slot) (i : ℕ) (pointed : Pointed) (p : Parts) (flags : ℕ) →
     slots_seen xs ≡ ss → length xs ≤ i → laid (drop i ss) pointed p flags ≡ []
 unfolding laid
 laid-none xs ss i pointed p flags e h =
     ap (λ z. laid (drop i z) pointed p flags) (sym e) ∙ ap (λ z. laid z pointed p flags) (seen-none xs i h)
 
+-- whether one of the slots that are left is the parenthesis before the mark of a pointer
+opening-some : (xs : List SlotCode) (ss : List Slot) (d : SlotCode) (i : ℕ) → slots_seen xs ≡ ss → i < length xs →
+    some_opening (drop i ss) ≡ cond (is_opening (slot_seen (get_or xs i d))) true (some_opening (drop (suc i) ss))
+unfolding some_opening
+opening-some xs ss d i e h =
+    ap (λ z. some_opening (drop i z)) (sym e)
+    ∙ ap some_opening (seen-some xs d i h)
+    ∙ ap (λ z. cond (is_opening (slot_seen (get_or xs i d))) true (some_opening (drop (suc i) z))) e
+
+pub opening-found : (xs : List SlotCode) (ss : List Slot) (d : SlotCode) (i : ℕ) → slots_seen xs ≡ ss →
+    i < length xs → is_opening (slot_seen (get_or xs i d)) ≡ true → some_opening (drop i ss) ≡ true
+opening-found xs ss d i e h is =
+    opening-some xs ss d i e h ∙ ap (λ b. cond b true (some_opening (drop (suc i) ss))) is
+
+pub opening-passed : (xs : List SlotCode) (ss : List Slot) (d : SlotCode) (i : ℕ) → slots_seen xs ≡ ss →
+    i < length xs → is_opening (slot_seen (get_or xs i d)) ≡ false →
+    some_opening (drop i ss) ≡ some_opening (drop (i + 1) ss)
+opening-passed xs ss d i e h is =
+    let next : suc i ≡ i + 1 = omega arith in
+    opening-some xs ss d i e h ∙ ap (λ b. cond b true (some_opening (drop (suc i) ss))) is
+    ∙ ap (λ k. some_opening (drop k ss)) next
+
+pub opening-none : (xs : List SlotCode) (ss : List Slot) (i : ℕ) → slots_seen xs ≡ ss → length xs ≤ i →
+    some_opening (drop i ss) ≡ false
+unfolding some_opening
+opening-none xs ss i e h = ap (λ z. some_opening (drop i z)) (sym e) ∙ ap some_opening (seen-none xs i h)
+
 -- a slot is written, and the others are left
-pub laid-step : (xs : List SlotCode) (ss : List Slot) (d : SlotCode) (i : ℕ) (pointed : Bool) (p : Parts) (flags : ℕ)
+pub laid-step : (xs : List SlotCode) (ss : List Slot) (d : SlotCode) (i : ℕ) (pointed : Pointed) (p : Parts) (flags : ℕ)
     (out out' : LimitedText) → slots_seen xs ≡ ss → i < length xs →
     out' ≡ add_all out (slot_pieces (slot_seen (get_or xs i d)) pointed p flags) →
     add_all out' (laid (drop (i + 1) ss) pointed p flags) ≡ add_all out (laid (drop i ss) pointed p flags)
@@ -176,7 +206,7 @@ laid-step xs ss d i pointed p flags out out' e h e' =
     ∙ ap (add_all out) (sym (laid-some xs ss d i pointed p flags e h))
 
 -- the names and types of a slot
-part_slot-pieces : (s : PartSlot) (pointed : Bool) (set : ℕ) (zs : List Number) (bytes : List ℕ) (ns : NameTrees)
+part_slot-pieces : (s : PartSlot) (pointed : Pointed) (set : ℕ) (zs : List Number) (bytes : List ℕ) (ns : NameTrees)
     (ts : TypeTrees) (flags : ℕ) →
     slot_pieces (slot_of s) pointed (shape_parts set zs bytes ns ts flags) flags ≡ part_slot_pieces s ns ts flags
 unfolding slot_pieces
@@ -187,8 +217,8 @@ part_slot-pieces (part_slot.Type i) pointed set zs bytes ns ts flags = refl
 part_slot-pieces (part_slot.Types i) pointed set zs bytes ns ts flags = refl
 
 -- the names and types of a slot are pushed above the other slots
-pub laid-parts : (xs : List SlotCode) (ss : List Slot) (d : SlotCode) (i : ℕ) (s : PartSlot) (pointed : Bool) (set : ℕ)
-    (zs : List Number) (bytes : List ℕ) (ns : NameTrees) (ts : TypeTrees) (flags : ℕ) (out : LimitedText) →
+pub laid-parts : (xs : List SlotCode) (ss : List Slot) (d : SlotCode) (i : ℕ) (s : PartSlot) (pointed : Pointed)
+    (set : ℕ) (zs : List Number) (bytes : List ℕ) (ns : NameTrees) (ts : TypeTrees) (flags : ℕ) (out : LimitedText) →
     slots_seen xs ≡ ss → i < length xs → slot_seen (get_or xs i d) ≡ slot_of s →
     add_all (add_all out (part_slot_pieces s ns ts flags))
     (laid (drop (i + 1) ss) pointed (shape_parts set zs bytes ns ts flags) flags)
@@ -308,7 +338,7 @@ names-weight-none ns i h = ap (λ xs. scope_weight (names_in xs)) (drop_all i ns
 
 -- types
 abbrev pub both_sides : TypeTree → ℕ → List Piece
-both_sides t flags = before t false flags ++ after t false flags
+both_sides t flags = before t No flags ++ after t No flags
 
 pub type_at-some : (ts : List (Bor «Type»)) (d : Bor «Type») (i flags : ℕ) → i < length ts →
     pieces_at (each_type (types_in ts) flags) i ≡ both_sides (type_of (get_or ts i d).now) flags
@@ -389,29 +419,29 @@ types-rest ts i h = take_all (length ts - i) (drop i ts) (omega (arith, length-d
 
 -- a shape with no type around it
 pub before-alone : (row set : ℕ) (zs : List Number) (bytes : List ℕ) (ns : NameTrees) (ts : List (Bor «Type»))
-    (pointed : Bool) (flags : ℕ) → (layout_of row).around ≡ None →
+    (pointed : Pointed) (flags : ℕ) → (layout_of row).around ≡ None →
     before (shape row set zs bytes ns (types_in ts)) pointed flags
     ≡ laid (slots row side.Left) pointed (shape_parts set zs bytes ns (types_in ts) flags) flags
 unfolding before
 before-alone row set zs bytes ns [] pointed flags e = refl
 before-alone row set zs bytes ns (t ∷ ts) pointed flags e =
-    ap (λ w. pieces_around w (λ p. before (type_of t.now) p flags)
+    ap (λ w. pieces_around w set flags (λ p. before (type_of t.now) p flags)
     ++ laid (slots row side.Left) pointed (shape_parts set zs bytes ns (types_in (t ∷ ts)) flags) flags) e
 
 pub after-alone : (row set : ℕ) (zs : List Number) (bytes : List ℕ) (ns : NameTrees) (ts : List (Bor «Type»))
-    (pointed : Bool) (flags : ℕ) → (layout_of row).around ≡ None →
+    (pointed : Pointed) (flags : ℕ) → (layout_of row).around ≡ None →
     after (shape row set zs bytes ns (types_in ts)) pointed flags
     ≡ laid (slots row side.Right) pointed (shape_parts set zs bytes ns (types_in ts) flags) flags
 unfolding after
 after-alone row set zs bytes ns [] pointed flags e = refl
 after-alone row set zs bytes ns (t ∷ ts) pointed flags e =
     ap (λ w. laid (slots row side.Right) pointed (shape_parts set zs bytes ns (types_in (t ∷ ts)) flags) flags
-    ++ pieces_around w (λ p. after (type_of t.now) p flags)) e
+    ++ pieces_around w set flags (λ p. after (type_of t.now) p flags)) e
     ∙ append-nil (laid (slots row side.Right) pointed (shape_parts set zs bytes ns (types_in (t ∷ ts)) flags) flags)
 
 -- a shape without types
 pub before-empty : (row set : ℕ) (zs : List Number) (bytes : List ℕ) (ns : NameTrees) (ts : List (Bor «Type»))
-    (pointed : Bool) (flags : ℕ) → length ts < 1 →
+    (pointed : Pointed) (flags : ℕ) → length ts < 1 →
     before (shape row set zs bytes ns (types_in ts)) pointed flags
     ≡ laid (slots row side.Left) pointed (shape_parts set zs bytes ns (types_in ts) flags) flags
 unfolding before
@@ -419,7 +449,7 @@ before-empty row set zs bytes ns [] pointed flags h = refl
 before-empty row set zs bytes ns (t ∷ ts) pointed flags h = absurd (omega arith)
 
 pub after-empty : (row set : ℕ) (zs : List Number) (bytes : List ℕ) (ns : NameTrees) (ts : List (Bor «Type»))
-    (pointed : Bool) (flags : ℕ) → length ts < 1 →
+    (pointed : Pointed) (flags : ℕ) → length ts < 1 →
     after (shape row set zs bytes ns (types_in ts)) pointed flags
     ≡ laid (slots row side.Right) pointed (shape_parts set zs bytes ns (types_in ts) flags) flags
 unfolding after
@@ -428,26 +458,32 @@ after-empty row set zs bytes ns (t ∷ ts) pointed flags h = absurd (omega arith
 
 -- a shape with its first type around it
 pub before-around : (row set : ℕ) (zs : List Number) (bytes : List ℕ) (ns : NameTrees) (ts : List (Bor «Type»))
-    (d : Bor «Type») (is_mark pointed : Bool) (flags : ℕ) → 1 ≤ length ts → (layout_of row).around ≡ Some is_mark →
+    (d : Bor «Type») (is_mark : Bool) (beneath pointed : Pointed) (flags : ℕ) → 1 ≤ length ts →
+    (layout_of row).around ≡ Some is_mark → beneath ≡ under is_mark set flags →
     before (shape row set zs bytes ns (types_in ts)) pointed flags
-    ≡ before (type_of (get_or ts 0 d).now) is_mark flags
+    ≡ before (type_of (get_or ts 0 d).now) beneath flags
     ++ laid (slots row side.Left) pointed (shape_parts set zs bytes ns (types_in ts) flags) flags
 unfolding before
-before-around row set zs bytes ns [] d is_mark pointed flags h e = absurd (omega arith)
-before-around row set zs bytes ns (t ∷ ts) d is_mark pointed flags h e =
-    ap (λ w. pieces_around w (λ p. before (type_of t.now) p flags)
-    ++ laid (slots row side.Left) pointed (shape_parts set zs bytes ns (types_in (t ∷ ts)) flags) flags) e
+before-around row set zs bytes ns [] d is_mark beneath pointed flags h e e' = absurd (omega arith)
+before-around row set zs bytes ns (t ∷ ts) d is_mark beneath pointed flags h e e' =
+    let own : List Piece
+    = laid (slots row side.Left) pointed (shape_parts set zs bytes ns (types_in (t ∷ ts)) flags) flags in
+    ap (λ w. pieces_around w set flags (λ p. before (type_of t.now) p flags) ++ own) e
+    ∙ ap (λ p. before (type_of t.now) p flags ++ own) (sym e')
 
 pub after-around : (row set : ℕ) (zs : List Number) (bytes : List ℕ) (ns : NameTrees) (ts : List (Bor «Type»))
-    (d : Bor «Type») (is_mark pointed : Bool) (flags : ℕ) → 1 ≤ length ts → (layout_of row).around ≡ Some is_mark →
+    (d : Bor «Type») (is_mark : Bool) (beneath pointed : Pointed) (flags : ℕ) → 1 ≤ length ts →
+    (layout_of row).around ≡ Some is_mark → beneath ≡ under is_mark set flags →
     after (shape row set zs bytes ns (types_in ts)) pointed flags
     ≡ laid (slots row side.Right) pointed (shape_parts set zs bytes ns (types_in ts) flags) flags
-    ++ after (type_of (get_or ts 0 d).now) is_mark flags
+    ++ after (type_of (get_or ts 0 d).now) beneath flags
 unfolding after
-after-around row set zs bytes ns [] d is_mark pointed flags h e = absurd (omega arith)
-after-around row set zs bytes ns (t ∷ ts) d is_mark pointed flags h e =
-    ap (λ w. laid (slots row side.Right) pointed (shape_parts set zs bytes ns (types_in (t ∷ ts)) flags) flags
-    ++ pieces_around w (λ p. after (type_of t.now) p flags)) e
+after-around row set zs bytes ns [] d is_mark beneath pointed flags h e e' = absurd (omega arith)
+after-around row set zs bytes ns (t ∷ ts) d is_mark beneath pointed flags h e e' =
+    let own : List Piece
+    = laid (slots row side.Right) pointed (shape_parts set zs bytes ns (types_in (t ∷ ts)) flags) flags in
+    ap (λ w. own ++ pieces_around w set flags (λ p. after (type_of t.now) p flags)) e
+    ∙ ap (λ p. own ++ after (type_of t.now) p flags) (sym e')
 
 -- work on the first type is less than work on the list
 first-weight : (ts : List (Bor «Type»)) (d : Bor «Type») → 1 ≤ length ts →

@@ -30,6 +30,7 @@ use Rattle.msvc_print.proofs.PieceTexts.{AreTexts-unless, AreTexts-word, IsAscii
 use Rattle.msvc_print.proofs.PieceTexts.{hex_choice-ascii, hexadecimal-ascii, mark_qualifiers-texts, marked-texts}
 use Rattle.msvc_print.proofs.PieceTexts.{opening-texts, qualifiers-texts, separator-texts, signed_decimal-utf8}
 use Rattle.msvc_print.proofs.PieceTexts.{table_qualifiers-texts, unaligned-texts}
+use Rattle.msvc_print.specs.declared.pointed.Pointed.{Pointed}
 
 -- numbers of shapes
 number_pieces-texts : (n : Number) → AreTexts (number_pieces n)
@@ -215,7 +216,7 @@ dropped-texts (suc i) [] h = tt
 dropped-texts (suc i) (x ∷ xs) h = dropped-texts i xs h.1
 
 -- slots
-slot-texts : (s : Slot) (pointed : Bool) (p : Parts) (flags : ℕ) → WordOfSlot IsAscii s → IsUtf8 p.bytes →
+slot-texts : (s : Slot) (pointed : Pointed) (p : Parts) (flags : ℕ) → WordOfSlot IsAscii s → IsUtf8 p.bytes →
     EachAreTexts p.symbols → EachAreTexts p.names → EachAreTexts p.types → AreTexts (slot_pieces s pointed p flags)
 unfolding slot_pieces
 slot-texts (slot.word w) pointed p flags h hb hs hn ht = AreTexts-text w [] (IsUtf8-from_ascii w h) AreTexts-none
@@ -225,8 +226,8 @@ slot-texts (slot.number i) pointed p flags h hb hs hn ht = of_number_at-texts _ 
 slot-texts slot.lengths pointed p flags h hb hs hn ht = each_level-texts p.numbers
 slot-texts slot.qualifiers pointed p flags h hb hs hn ht = qualifiers-texts p.set flags
 slot-texts slot.pointer_qualifiers pointed p flags h hb hs hn ht = mark_qualifiers-texts (full_space flags) p.set
-slot-texts slot.unaligned pointed p flags h hb hs hn ht = unaligned-texts p.set flags
-slot-texts (slot.mark w) pointed p flags h hb hs hn ht = marked-texts w p.set flags (IsUtf8-from_ascii w h)
+slot-texts slot.unaligned pointed p flags h hb hs hn ht = unaligned-texts p.unaligned flags
+slot-texts (slot.mark w) pointed p flags h hb hs hn ht = marked-texts p.unaligned w p.set flags (IsUtf8-from_ascii w h)
 slot-texts slot.opening pointed p flags h hb hs hn ht = opening-texts pointed flags
 slot-texts slot.closing pointed p flags h hb hs hn ht = closing-texts pointed
 slot-texts (slot.symbol i) pointed p flags h hb hs hn ht = pieces_at-texts p.symbols i hs
@@ -247,15 +248,15 @@ slot-texts (slot.types_from i) pointed p flags h hb hs hn ht =
     parted-texts (comma flags) (drop i p.types) true (comma-ascii flags) (dropped-texts i p.types ht)
 slot-texts (slot.literal is_wide) pointed p flags h hb hs hn ht = literal_pieces-texts is_wide p.numbers
 
-laid-texts : (ss : List Slot) (pointed : Bool) (p : Parts) (flags : ℕ) → EachWord IsAscii ss → IsUtf8 p.bytes →
+laid-texts : (ss : List Slot) (pointed : Pointed) (p : Parts) (flags : ℕ) → EachWord IsAscii ss → IsUtf8 p.bytes →
     EachAreTexts p.symbols → EachAreTexts p.names → EachAreTexts p.types → AreTexts (laid ss pointed p flags)
 unfolding laid
 laid-texts [] pointed p flags h hb hs hn ht = AreTexts-none
 laid-texts (s ∷ ss) pointed p flags h hb hs hn ht =
     AreTexts-append _ _ (slot-texts s pointed p flags h.0 hb hs hn ht) (laid-texts ss pointed p flags h.1 hb hs hn ht)
 
-pub slots-texts : (row : ℕ) (s : Side) (pointed : Bool) (set : ℕ) (zs : List Number) (bytes : List ℕ)
+pub slots-texts : (row : ℕ) (s : Side) (pointed : Pointed) (is : Bool) (set : ℕ) (zs : List Number) (bytes : List ℕ)
     (ns os ts : List (List Piece)) (flags : ℕ) → IsUtf8 bytes → EachAreTexts ns → EachAreTexts os →
-    EachAreTexts ts → AreTexts (laid (slots row s) pointed (parts set zs bytes ns os ts) flags)
-slots-texts row s pointed set zs bytes ns os ts flags hb hs hn ht =
-    laid-texts (slots row s) pointed (parts set zs bytes ns os ts) flags (slots-ascii row s) hb hs hn ht
+    EachAreTexts ts → AreTexts (laid (slots row s) pointed (parts is set zs bytes ns os ts) flags)
+slots-texts row s pointed is set zs bytes ns os ts flags hb hs hn ht =
+    laid-texts (slots row s) pointed (parts is set zs bytes ns os ts) flags (slots-ascii row s) hb hs hn ht

@@ -18,6 +18,7 @@ use Rattle.msvc_print.specs.Pieces.{Piece}
 use Rattle.msvc_print.specs.Sides.{alone, around}
 use Rattle.msvc_print.specs.Work.{end_pieces, rest_of_parameters}
 use Rattle.msvc_print.specs.declared.item.ListEnd.{ListEnd}
+use Rattle.msvc_print.specs.declared.pointed.Pointed.TheVariants.{No}
 
 -- a text that is not whole gets no more pieces
 pub add_all-not_whole : (out : LimitedText) (pieces : List Piece) → is_some out.text ≡ false →
@@ -33,19 +34,19 @@ parameters-pack : (t : TypeTree) (ts : List (Bor «Type»)) (first : Bool) (flag
 unfolding parameters
 parameters-pack t ts first flags pack =
     ap (λ b. cond b (parameters (types_in ts) first flags) (separator first flags
-    ++ (around (grown t false alone flags) [] ++ parameters (types_in ts) false flags))) pack
+    ++ (around (grown t No alone flags) [] ++ parameters (types_in ts) false flags))) pack
 
 -- any other type is printed on both sides of nothing, and then the rest
 parameters-kept : (t : TypeTree) (ts : List (Bor «Type»)) (first : Bool) (flags : ℕ) → is_empty_pack t ≡ false →
     parameters (types t (types_in ts)) first flags ≡ separator first flags
-    ++ (before t false flags ++ (after t false flags ++ parameters (types_in ts) false flags))
+    ++ (before t No flags ++ (after t No flags ++ parameters (types_in ts) false flags))
 unfolding parameters
 parameters-kept t ts first flags kept =
     let later : List Piece = parameters (types_in ts) false flags in
     ap (λ b. cond b (parameters (types_in ts) first flags) (separator first flags
-    ++ (around (grown t false alone flags) [] ++ later))) kept
+    ++ (around (grown t No alone flags) [] ++ later))) kept
     ∙ ap (λ x. separator first flags ++ x) (ap (λ x. x ++ later) (around-halves t [] flags)
-    ∙ append_assoc (before t false flags) (after t false flags) later)
+    ∙ append_assoc (before t No flags) (after t No flags) later)
 
 pub passed-pack : (ts : List (Bor «Type»)) (at : ℕ) (d : Bor «Type») (first : Bool) (flags : ℕ) → at < length ts →
     is_empty_pack (type_of (get_or ts at d).now) ≡ true →
@@ -63,12 +64,12 @@ passed-kept ts at d first flags within kept =
     ∙ ap (λ x. separator first flags ++ x) (sym (at_drop_more (λ ys. begun ys flags) ts at d within))
 
 begun-simple : (ts : List (Bor «Type»)) (at : ℕ) (d : Bor «Type») (flags : ℕ) → at < length ts →
-    after (type_of (get_or ts at d).now) false flags ≡ [] →
+    after (type_of (get_or ts at d).now) No flags ≡ [] →
     begun (drop at ts) flags
-    ≡ before (type_of (get_or ts at d).now) false flags ++ parameters (types_in (drop (at + 1) ts)) false flags
+    ≡ before (type_of (get_or ts at d).now) No flags ++ parameters (types_in (drop (at + 1) ts)) false flags
 begun-simple ts at d flags within none =
     at_drop_more (λ ys. begun ys flags) ts at d within
-    ∙ ap (λ x. before (type_of (get_or ts at d).now) false flags ++ (x ++ parameters (types_in (drop (at + 1) ts)) false
+    ∙ ap (λ x. before (type_of (get_or ts at d).now) No flags ++ (x ++ parameters (types_in (drop (at + 1) ts)) false
     flags)) none
 
 -- the comma before a type is written
@@ -82,8 +83,8 @@ written-separator ts at d first flags out out1 within kept e =
 
 -- and so is the type
 pub written-simple : (ts : List (Bor «Type»)) (at : ℕ) (d : Bor «Type») (flags : ℕ) (out out1 : LimitedText) →
-    at < length ts → after (type_of (get_or ts at d).now) false flags ≡ [] →
-    out1 ≡ add_all out (before (type_of (get_or ts at d).now) false flags) →
+    at < length ts → after (type_of (get_or ts at d).now) No flags ≡ [] →
+    out1 ≡ add_all out (before (type_of (get_or ts at d).now) No flags) →
     add_all out1 (parameters (types_in (drop (at + 1) ts)) false flags) ≡ add_all out (begun (drop at ts) flags)
 written-simple ts at d flags out out1 within none e =
     ap (λ x. add_all x (parameters (types_in (drop (at + 1) ts)) false flags)) e ∙ sym (add_all-append out _ _)
@@ -124,13 +125,13 @@ begun-none [] flags none = refl
 begun-none (x ∷ xs) flags none = absurd (omega arith)
 
 begun-first : (ts : List (Bor «Type»)) (d : Bor «Type») (flags : ℕ) → 1 ≤ length ts →
-    begun ts flags ≡ before (type_of (get_or ts 0 d).now) false flags
-    ++ (after (type_of (get_or ts 0 d).now) false flags
+    begun ts flags ≡ before (type_of (get_or ts 0 d).now) No flags
+    ++ (after (type_of (get_or ts 0 d).now) No flags
     ++ parameters (types_in (take (length ts - 1) (drop 1 ts))) false flags)
 begun-first [] d flags some = absurd (omega arith)
 begun-first (x ∷ xs) d flags some =
     let one : suc (length xs) - 1 ≡ length xs = omega arith in
-    ap (λ ys. before (type_of x.now) false flags ++ (after (type_of x.now) false flags
+    ap (λ ys. before (type_of x.now) No flags ++ (after (type_of x.now) No flags
     ++ parameters (types_in ys) false flags)) (sym (ap (λ k. take k xs) one ∙ take_all (length xs) xs (omega arith)))
 
 pub rest-written : (ts : List (Bor «Type»)) (end : ListEnd) (flags : ℕ) (out : LimitedText) → length ts < 1 →
@@ -141,13 +142,13 @@ rest-written ts end flags out none =
 -- the first type that is left, and then the rest
 pub rest-begun : (ts : List (Bor «Type»)) (d : Bor «Type») (end : ListEnd) (flags : ℕ) (out : LimitedText) →
     1 ≤ length ts →
-    add_all (add_all out (before (type_of (get_or ts 0 d).now) false flags
-    ++ after (type_of (get_or ts 0 d).now) false flags))
+    add_all (add_all out (before (type_of (get_or ts 0 d).now) No flags
+    ++ after (type_of (get_or ts 0 d).now) No flags))
     (rest_of_parameters (take (length ts - 1) (drop 1 ts)) false end flags)
     ≡ add_all out (begun ts flags ++ end_pieces end flags)
 rest-begun ts d end flags out some =
-    let b : List Piece = before (type_of (get_or ts 0 d).now) false flags in
-    let a : List Piece = after (type_of (get_or ts 0 d).now) false flags in
+    let b : List Piece = before (type_of (get_or ts 0 d).now) No flags in
+    let a : List Piece = after (type_of (get_or ts 0 d).now) No flags in
     let later : List Piece = parameters (types_in (take (length ts - 1) (drop 1 ts))) false flags in
     let last : List Piece = end_pieces end flags in
     sym (add_all-append out (b ++ a) (later ++ last))

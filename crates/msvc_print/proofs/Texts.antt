@@ -35,6 +35,9 @@ use Rattle.msvc_print.proofs.PieceTexts.{returned-texts, separator-texts, settle
 use Rattle.msvc_print.proofs.PieceTexts.{spelled_name-texts, table_end-texts, tag_word-utf8, thunk_end-texts}
 use Rattle.msvc_print.proofs.PieceTexts.{variable_word-utf8, with_inner-texts}
 use Rattle.msvc_print.proofs.ShapeTexts.{EachAreTexts, slots-texts}
+use Rattle.msvc_print.specs.Pointed.{pointed_by, under}
+use Rattle.msvc_print.specs.declared.pointed.Pointed.{Pointed}
+use Rattle.msvc_print.specs.declared.pointed.Pointed.TheVariants.{No, Yes}
 
 -- names, scopes, types and their lists
 mutual
@@ -49,8 +52,8 @@ mutual
   name_pieces-texts (discriminator z) of_symbol flags h =
       quoted-texts _ (AreTexts-text _ _ (signed_decimal-utf8 z) AreTexts-none)
   name_pieces-texts (nested n ns t) of_symbol flags h = quoted_unless-texts of_symbol _
-      (around-texts (kept (grown t false alone flags) flags) _
-      (kept-texts (grown t false alone flags) flags (grown-texts t false alone flags alone-texts h.2))
+      (around-texts (kept (grown t No alone flags) flags) _
+      (kept-texts (grown t No alone flags) flags (grown-texts t No alone flags alone-texts h.2))
       (named-texts (name_kind n flags) _ _ _ _ flags (scope_pieces-texts ns flags h.1) (arguments-texts n flags h.0)
       (conversion-texts t _ _ flags h.2 (arguments-texts n flags h.0) (name_pieces-texts n true flags h.0))
       (name_pieces-texts n true flags h.0)))
@@ -59,12 +62,12 @@ mutual
   name_pieces-texts (operator o) of_symbol flags h = operator_pieces-texts o flags
   name_pieces-texts (guard g n) of_symbol flags h = guard_pieces-texts g n
   name_pieces-texts (type_descriptor set t) of_symbol flags h =
-      let whole = grown-texts t false alone flags alone-texts h in
+      let whole = grown-texts t No alone flags alone-texts h in
       AreTexts-space _ _ (AreTexts-append _ _ whole.left (AreTexts-text (codes "::`RTTI Type Descriptor'") []
       (codes "::`RTTI Type Descriptor'", (refl, refl)) AreTexts-none))
   name_pieces-texts (base_class_descriptor a b c d) of_symbol flags h = base_class_pieces-texts a b c d flags
   name_pieces-texts (shaped row set zs bytes ns ts) of_symbol flags h =
-      slots-texts row side.Left false set zs bytes _ _ _ flags h.0
+      slots-texts row side.Left No _ set zs bytes _ _ _ flags h.0
       (each_name-texts ns true flags h.1) (each_name-texts ns false flags h.1)
       (each_type-texts ts flags h.2)
 
@@ -87,14 +90,19 @@ mutual
       AreTexts name → AreTexts (conversion t list name flags)
   conversion-texts (function convention ts set t) list name flags h h' h'' = AreTexts-choice (has flags full_style) _ _
       (full_conversion-texts (is_none t) list _ name h'
-      (around-texts _ [] (grown-texts t false alone flags alone-texts h.1) AreTexts-none) h'') h''
+      (around-texts _ [] (grown-texts t No alone flags alone-texts h.1) AreTexts-none) h'') h''
   conversion-texts (member_function class convention ts set t) list name flags h h' h'' =
-      let value = around-texts _ [] (grown-texts t false alone flags alone-texts h.1) AreTexts-none in
+      let value = around-texts _ [] (grown-texts t No alone flags alone-texts h.1) AreTexts-none in
       AreTexts-choice (has flags full_style) _ _ (full_conversion-texts (is_none t) list _ name h' value h'')
       (AreTexts-text (codes "operator ") _ (codes "operator ", (refl, refl)) value)
+  conversion-texts (shape row q zs bytes ns (types (member_function class convention ts set t) us)) list name flags h
+      h' h'' =
+      AreTexts-choice (has flags full_style) _ _
+      (full_conversion-texts (is_none t) list _ name h'
+      (around-texts _ [] (grown-texts t No alone flags alone-texts h.2.0.1) AreTexts-none) h'') h''
   conversion-texts _ list name flags h h' h'' = h''
 
-  grown-texts : (t : TypeTree) (pointed : Bool) (s : Sides) (flags : ℕ) → SidesAreTexts s → EachNameOfType IsUtf8 t →
+  grown-texts : (t : TypeTree) (pointed : Pointed) (s : Sides) (flags : ℕ) → SidesAreTexts s → EachNameOfType IsUtf8 t →
       SidesAreTexts (grown t pointed s flags)
   grown-texts (base b set) pointed s flags hs h =
       before-texts _ s (AreTexts-text _ _ (base_word-utf8 b flags) (qualifiers-texts set flags)) hs
@@ -102,21 +110,21 @@ mutual
       (AreTexts-text _ _ (tag_word-utf8 tag flags) (AreTexts-append _ _
       (named-texts (name_kind n flags) _ _ _ _ flags (scope_pieces-texts scope flags h.1) (arguments-texts n flags h.0)
       (name_pieces-texts n true flags h.0) (name_pieces-texts n true flags h.0)) (qualifiers-texts set flags))) hs
-  grown-texts (pointing m t set) pointed s flags hs h = grown-texts t true _ flags
-      (before-texts _ s (marked-texts _ set flags (mark_word-utf8 m)) hs) h
-  grown-texts (array n t set) pointed s flags hs h = grown-texts t false _ flags (between-texts _ s _
+  grown-texts (pointing m t set) pointed s flags hs h = grown-texts t (pointed_by set flags) _ flags
+      (before-texts _ s (marked-texts _ _ set flags (mark_word-utf8 m)) hs) h
+  grown-texts (array n t set) pointed s flags hs h = grown-texts t No _ flags (between-texts _ s _
       (AreTexts-append _ _ (qualifiers-texts set flags) (opening-texts pointed flags)) hs
       (AreTexts-append _ _ (closing-texts pointed) (length_pieces-texts n))) h
-  grown-texts (function convention ts set t) pointed s flags hs h = grown-texts t false _ flags (between-texts _ s _
+  grown-texts (function convention ts set t) pointed s flags hs h = grown-texts t No _ flags (between-texts _ s _
       (returned-texts t pointed convention flags) hs
       (parameter_list-texts pointed _ set flags (parameters-texts ts true flags h.0))) h.1
   grown-texts (member_function class convention ts set t) pointed s flags hs h =
-      before-texts _ _ (member_start-texts pointed class flags) (grown-texts t false _ flags (between-texts _ s _
+      before-texts _ _ (member_start-texts pointed class flags) (grown-texts t No _ flags (between-texts _ s _
       (returned-texts t pointed convention flags) hs
       (parameter_list-texts pointed _ set flags (parameters-texts ts true flags h.0))) h.1)
   grown-texts (member_pointer n scope class convention ts set t) pointed s flags hs h = between-texts [] _ _
-      AreTexts-none (grown-texts t false _ flags (between-texts _ s _
-      (AreTexts-append _ _ (returned-texts t true convention flags) (pointed_class-texts _
+      AreTexts-none (grown-texts t No _ flags (between-texts _ s _
+      (AreTexts-append _ _ (returned-texts t Yes convention flags) (pointed_class-texts _
       (named-texts (name_kind n flags) _ _ _ _ flags (scope_pieces-texts scope flags h.1) (arguments-texts n flags h.0)
       (name_pieces-texts n true flags h.0) (name_pieces-texts n true flags h.0)))) hs
       (AreTexts-text (codes ")(") _ (codes ")(", (refl, refl)) (AreTexts-append _ _ (parameters-texts ts true flags h.2)
@@ -124,12 +132,12 @@ mutual
       (function_qualifier-texts 1 (codes "const") set (codes "const", (refl, refl)))
   grown-texts (variable t kind set) pointed s flags hs h = before-texts _ _
       (AreTexts-text _ [] (variable_word-utf8 kind) AreTexts-none)
-      (grown-texts t false _ flags (before-texts _ s (qualifiers-texts set flags) hs) h)
+      (grown-texts t No _ flags (before-texts _ s (qualifiers-texts set flags) hs) h)
   grown-texts (table k scope set) pointed s flags hs h =
       let whole = scope_pieces-texts scope flags h in
       between-texts _ s _ (qualifiers-texts set flags) hs (table_end-texts k scope _ whole.path)
   grown-texts (vcall_thunk n convention) pointed s flags hs h = between-texts _ s _
-      (AreTexts-text (codes "[thunk]: ") _ (codes "[thunk]: ", (refl, refl)) (calling-texts false convention flags)) hs
+      (AreTexts-text (codes "[thunk]: ") _ (codes "[thunk]: ", (refl, refl)) (calling-texts No convention flags)) hs
       (thunk_end-texts n flags)
   grown-texts (numbered number_kind.Constant n) pointed s flags hs h =
       before-texts _ s (AreTexts-text _ [] (signed_decimal-utf8 n) AreTexts-none) hs
@@ -148,23 +156,24 @@ mutual
       let symbols = each_name-texts ns true flags h.1 in
       let names = each_name-texts ns false flags h.1 in
       let values = each_type-texts ts flags h.2 in
-      grown_around-texts ts (layout_of row).around _ flags (between-texts _ s _
-      (slots-texts row side.Left pointed set zs bytes _ _ _ flags h.0 symbols names values) hs
-      (slots-texts row side.Right pointed set zs bytes _ _ _ flags h.0 symbols names values)) h.2
+      grown_around-texts ts (layout_of row).around set _ flags (between-texts _ s _
+      (slots-texts row side.Left pointed _ set zs bytes _ _ _ flags h.0 symbols names values) hs
+      (slots-texts row side.Right pointed _ set zs bytes _ _ _ flags h.0 symbols names values)) h.2
   grown-texts _ pointed s flags hs h = hs
 
   each_type-texts : (ts : TypeTrees) (flags : ℕ) → EachNameOfTypes IsUtf8 ts → EachAreTexts (each_type ts flags)
   each_type-texts no_types flags h = tt
   each_type-texts (types t ts) flags h = (
-    around-texts _ [] (grown-texts t false alone flags alone-texts h.0)
+    around-texts _ [] (grown-texts t No alone flags alone-texts h.0)
         AreTexts-none,
     each_type-texts ts flags h.1,
   )
 
-  grown_around-texts : (ts : TypeTrees) (w : Option Bool) (s : Sides) (flags : ℕ) → SidesAreTexts s →
-      EachNameOfTypes IsUtf8 ts → SidesAreTexts (grown_around ts w s flags)
-  grown_around-texts (types t ts) (Some pointed) s flags hs h = grown-texts t pointed s flags hs h.0
-  grown_around-texts _ _ s flags hs h = hs
+  grown_around-texts : (ts : TypeTrees) (w : Option Bool) (set : ℕ) (s : Sides) (flags : ℕ) → SidesAreTexts s →
+      EachNameOfTypes IsUtf8 ts → SidesAreTexts (grown_around ts w set s flags)
+  grown_around-texts (types t ts) (Some is_mark) set s flags hs h =
+      grown-texts t (under is_mark set flags) s flags hs h.0
+  grown_around-texts _ _ set s flags hs h = hs
 
   parameters-texts : (ts : TypeTrees) (first : Bool) (flags : ℕ) → EachNameOfTypes IsUtf8 ts →
       AreTexts (parameters ts first flags)
@@ -172,7 +181,7 @@ mutual
   parameters-texts (types t ts) first flags h =
       AreTexts-choice (is_empty_pack t) _ _ (parameters-texts ts first flags h.1)
       (AreTexts-append _ _ (separator-texts first flags) (AreTexts-append _ _
-      (around-texts _ [] (grown-texts t false alone flags alone-texts h.0) AreTexts-none)
+      (around-texts _ [] (grown-texts t No alone flags alone-texts h.0) AreTexts-none)
       (parameters-texts ts false flags h.1)))
 
 pub declaration-utf8 : (tree : SymbolTree) (flags : ℕ) → EachName IsUtf8 tree → IsUtf8 (declaration tree flags)
@@ -181,8 +190,8 @@ declaration-utf8 tree flags h =
     let n = tree.name in
     let ns = tree.scope in
     let t = tree.symbol_type in
-    let all : AreTexts (symbol_pieces n ns t flags) = around-texts (kept (grown t false alone flags) flags) _
-    (kept-texts (grown t false alone flags) flags (grown-texts t false alone flags alone-texts h.2))
+    let all : AreTexts (symbol_pieces n ns t flags) = around-texts (kept (grown t No alone flags) flags) _
+    (kept-texts (grown t No alone flags) flags (grown-texts t No alone flags alone-texts h.2))
     (named-texts (name_kind n flags) _ _ _ _ flags (scope_pieces-texts ns flags h.1) (arguments-texts n flags h.0)
     (conversion-texts t _ _ flags h.2 (arguments-texts n flags h.0) (name_pieces-texts n true flags h.0))
     (name_pieces-texts n true flags h.0)) in

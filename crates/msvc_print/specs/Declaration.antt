@@ -20,6 +20,9 @@ use Rattle.msvc_print.specs.Operators.{base_class_pieces, guard_pieces, name_kin
 use Rattle.msvc_print.specs.Operators.{unqualified_name}
 use Rattle.msvc_print.specs.declared.operators.NameKind.{NameKind}
 use Rattle.msvc_print.specs.Pieces.{Piece, text, space, resolve}
+use Rattle.msvc_print.specs.Pointed.{pointed_by, unaligned_mark, unaligned_shape, under}
+use Rattle.msvc_print.specs.declared.pointed.Pointed.{Pointed}
+use Rattle.msvc_print.specs.declared.pointed.Pointed.TheVariants.{No, Yes}
 use Rattle.msvc_print.specs.Shapes.{laid, parts}
 use Rattle.msvc_print.specs.Sides.{Sides, alone, around, between, kept}
 use Rattle.msvc_print.specs.declared.spaces.Space.TheVariants.{AfterPointer}
@@ -127,17 +130,18 @@ unfoldable mutual
   name_pieces (spelled how bytes) of_symbol flags = spelled_name how bytes
   name_pieces (template n ts) of_symbol flags = name_pieces n false flags ++ angled (parameters ts true flags) flags
   name_pieces (discriminator z) of_symbol flags = quoted (text (signed_decimal z) ∷ [])
-  name_pieces (nested n ns t) of_symbol flags = quoted_unless of_symbol (around (kept (grown t false alone flags) flags)
+  name_pieces (nested n ns t) of_symbol flags = quoted_unless of_symbol (around (kept (grown t No alone flags) flags)
       (named (name_kind n flags) (scope_pieces ns flags) (arguments n flags)
       (conversion t (arguments n flags) (name_pieces n true flags) flags) (name_pieces n true flags) flags))
   name_pieces (anonymous digits) of_symbol flags = text (codes "`anonymous namespace'") ∷ []
   name_pieces (operator o) of_symbol flags = operator_pieces o flags
   name_pieces (guard g n) of_symbol flags = guard_pieces g n
   name_pieces (type_descriptor set t) of_symbol flags =
-      space AfterPointer ∷ ((grown t false alone flags).left ++ text (codes "::`RTTI Type Descriptor'") ∷ [])
+      space AfterPointer ∷ ((grown t No alone flags).left ++ text (codes "::`RTTI Type Descriptor'") ∷ [])
   name_pieces (base_class_descriptor a b c d) of_symbol flags = base_class_pieces a b c d flags
-  name_pieces (shaped row set zs bytes ns ts) of_symbol flags = laid (slots row side.Left) false
-      (parts set zs bytes (each_name ns true flags) (each_name ns false flags) (each_type ts flags)) flags
+  name_pieces (shaped row set zs bytes ns ts) of_symbol flags = laid (slots row side.Left) No
+      (parts (unaligned_shape set ts flags) set zs bytes (each_name ns true flags) (each_name ns false flags)
+      (each_type ts flags)) flags
 
   -- the pieces of each name of a list, with `of_symbol` for each
   pub each_name : NameTrees → Bool → ℕ → List (List Piece)
@@ -155,51 +159,55 @@ unfoldable mutual
   arguments _ flags = []
 
   -- the pieces of a conversion operator, by the type of its symbol: the type that a member function returns, or `name`
-  -- where the symbol is no member function; in the second grammar's style the type that any function returns
+  -- where the symbol is no member function; in the second grammar's style the type that any function returns, also
+  -- one that moves its `this`
   pub conversion : TypeTree → List Piece → List Piece → ℕ → List Piece
   conversion (function convention ts set t) list name flags = cond (has flags full_style)
-      (full_conversion (is_none t) list (around (grown t false alone flags) []) name) name
+      (full_conversion (is_none t) list (around (grown t No alone flags) []) name) name
   conversion (member_function class convention ts set t) list name flags = cond (has flags full_style)
-      (full_conversion (is_none t) list (around (grown t false alone flags) []) name)
-      (text (codes "operator ") ∷ around (grown t false alone flags) [])
+      (full_conversion (is_none t) list (around (grown t No alone flags) []) name)
+      (text (codes "operator ") ∷ around (grown t No alone flags) [])
+  conversion (shape row q zs bytes ns (types (member_function class convention ts set t) us)) list name flags =
+      cond (has flags full_style) (full_conversion (is_none t) list (around (grown t No alone flags) []) name) name
   conversion _ list name flags = name
 
   -- The sides of a name with one more type: the pieces of the type on the left and on the right of `sides`, and around
-  -- these the pieces of the types inside the type. `pointed` says whether the type stands directly under a pointer or a
-  -- reference, whose mark `sides` then has: some types put parentheses round the mark.
-  pub grown : TypeTree → Bool → Sides → ℕ → Sides
+  -- these the pieces of the types inside the type. `pointed` says how the type stands under a pointer or a reference,
+  -- whose mark `sides` then has: some types put parentheses round the mark.
+  pub grown : TypeTree → Pointed → Sides → ℕ → Sides
   grown (base b set) pointed sides flags = between (text (base_word b flags) ∷ qualifiers set flags) sides []
   grown (tagged tag n scope set) pointed sides flags = between (text (tag_word tag flags)
       ∷ (named_class (name_kind n flags) (scope_pieces scope flags) (arguments n flags) (name_pieces n true flags) flags
       ++ qualifiers set flags)) sides []
   grown (pointing m t set) pointed sides flags =
-      grown t true (between (marked (mark_word m) set flags) sides []) flags
-  grown (array n t set) pointed sides flags = grown t false
+      grown t (pointed_by set flags)
+      (between (marked (unaligned_mark set t flags) (mark_word m) set flags) sides []) flags
+  grown (array n t set) pointed sides flags = grown t No
       (between (qualifiers set flags ++ opening pointed flags) sides (closing pointed ++ length_pieces n)) flags
-  grown (function convention ts set t) pointed sides flags = grown t false
+  grown (function convention ts set t) pointed sides flags = grown t No
       (between (returned_end t flags ++ calling pointed convention flags) sides
       (parameter_list pointed (parameters ts true flags) set flags)) flags
   -- A member function grows as a function does. Its words stand before all other pieces.
   grown (member_function class convention ts set t) pointed sides flags = between (member_start pointed class flags)
-      (grown t false
+      (grown t No
       (between (returned_end t flags ++ calling pointed convention flags) sides
       (parameter_list pointed (parameters ts true flags) set flags)) flags) []
   -- A pointer to a member function grows as a pointer to a function does, with the name of the class. The `const` of
   -- the member function stands after all other pieces.
   grown (member_pointer n scope class convention ts set t) pointed sides flags = between []
-      (grown t false
-      (between ((returned_end t flags ++ calling true convention flags) ++ pointed_class
+      (grown t No
+      (between ((returned_end t flags ++ calling Yes convention flags) ++ pointed_class
       (named_class (name_kind n flags) (scope_pieces scope flags) (arguments n flags) (name_pieces n true flags) flags))
       sides
       (text (codes ")(") ∷ (parameters ts true flags ++ text (codes ")") ∷ []))) flags)
       (function_qualifier 1 (codes "const") set)
   -- A variable has its qualifiers and its type. Its words stand before all other pieces.
   grown (variable t kind set) pointed sides flags = between (text (variable_word kind) ∷ [])
-      (grown t false (between (qualifiers set flags) sides []) flags) []
+      (grown t No (between (qualifiers set flags) sides []) flags) []
   grown (table k scope set) pointed sides flags =
       between (qualifiers set flags) sides (table_end k scope (scope_pieces scope flags).path)
   grown (vcall_thunk n convention) pointed sides flags =
-      between (text (codes "[thunk]: ") ∷ calling false convention flags) sides (thunk_end n flags)
+      between (text (codes "[thunk]: ") ∷ calling No convention flags) sides (thunk_end n flags)
   grown (numbered number_kind.Constant n) pointed sides flags = between (text (signed_decimal n) ∷ []) sides []
   grown (numbered number_kind.TemplateParameter n) pointed sides flags = between
       (text (codes "`template-parameter") ∷ text (signed_decimal n) ∷ text (codes "'") ∷ []) sides []
@@ -208,32 +216,34 @@ unfoldable mutual
   grown (plain plain_kind.Variadic) pointed sides flags = between (text (codes "...") ∷ []) sides []
   grown (plain plain_kind.Nullptr) pointed sides flags = between (text (codes "std::nullptr_t") ∷ []) sides []
   -- A shape has what its row prints on both sides, and around these the first of its types, if its layout says so.
-  grown (shape row set zs bytes ns ts) pointed sides flags = grown_around ts (layout_of row).around (between
+  grown (shape row set zs bytes ns ts) pointed sides flags = grown_around ts (layout_of row).around set (between
       (laid (slots row side.Left) pointed
-      (parts set zs bytes (each_name ns true flags) (each_name ns false flags) (each_type ts flags)) flags)
+      (parts (unaligned_shape set ts flags) set zs bytes (each_name ns true flags) (each_name ns false flags)
+      (each_type ts flags)) flags)
       sides
       (laid (slots row side.Right) pointed
-      (parts set zs bytes (each_name ns true flags) (each_name ns false flags) (each_type ts flags)) flags))
+      (parts (unaligned_shape set ts flags) set zs bytes (each_name ns true flags) (each_name ns false flags)
+      (each_type ts flags)) flags))
       flags
   grown _ pointed sides flags = sides
 
-  -- the sides of a name with the first of some types around them, which is told `pointed`; the same sides where no type
-  -- is around them
-  pub grown_around : TypeTrees → Option Bool → Sides → ℕ → Sides
-  grown_around (types t ts) (Some pointed) sides flags = grown t pointed sides flags
-  grown_around _ _ sides flags = sides
+  -- the sides of a name with the first of some types around them, under which a shape with the qualifiers `set` stands
+  -- as a mark or not; the same sides where no type is around them
+  pub grown_around : TypeTrees → Option Bool → ℕ → Sides → ℕ → Sides
+  grown_around (types t ts) (Some is_mark) set sides flags = grown t (under is_mark set flags) sides flags
+  grown_around _ _ set sides flags = sides
 
   -- the pieces of each type of a list, on both sides of no name
   pub each_type : TypeTrees → ℕ → List (List Piece)
   each_type no_types flags = []
-  each_type (types t ts) flags = around (grown t false alone flags) [] ∷ each_type ts flags
+  each_type (types t ts) flags = around (grown t No alone flags) [] ∷ each_type ts flags
 
   -- The types of a list, each on both sides of no name, with a comma before each but the first. `first` says whether
   -- none of the list was printed before.
   pub parameters : TypeTrees → Bool → ℕ → List Piece
   parameters no_types first flags = []
   parameters (types t ts) first flags = cond (is_empty_pack t) (parameters ts first flags)
-      (separator first flags ++ (around (grown t false alone flags) [] ++ parameters ts false flags))
+      (separator first flags ++ (around (grown t No alone flags) [] ++ parameters ts false flags))
 
 -- the names of a scope, the outermost first, with `::` after each name
 abbrev pub scope_prefix : NameTrees → ℕ → List Piece
@@ -254,7 +264,7 @@ symbol_name n scope t flags = named (name_kind n flags) (scope_pieces scope flag
 
 -- the pieces of a symbol: its name, and what the flags keep of both sides of the name
 abbrev pub symbol_pieces : NameTree → NameTrees → TypeTree → ℕ → List Piece
-symbol_pieces n scope t flags = around (kept (grown t false alone flags) flags) (symbol_name n scope t flags)
+symbol_pieces n scope t flags = around (kept (grown t No alone flags) flags) (symbol_name n scope t flags)
 
 -- the declaration of a symbol under flags
 unfoldable pub declaration : SymbolTree → ℕ → List ℕ

@@ -7,6 +7,8 @@ use Rattle.msvc_nodes.specs.declared.kinds.Convention.TheVariants.{SwiftAsync, P
 use Rattle.msvc_print.specs.Flags.{full_style, has, no_access_specifiers, no_member_type, no_ms_keywords}
 use Rattle.msvc_print.specs.Flags.{no_this_type}
 use Rattle.msvc_print.specs.Flags.{space_after_comma, with_ptr64}
+use Rattle.msvc_print.specs.Pointed.{is_pointed}
+use Rattle.msvc_print.specs.declared.pointed.Pointed.{Pointed}
 use Rattle.msvc_print.specs.Pieces.{Piece, text, space}
 use Rattle.msvc_print.specs.Words.{opening, closing, qualifier, set_word}
 use Rattle.msvc_print.specs.declared.spaces.Space.TheVariants.{AfterFullWord, AfterPointer, UnlessOpen}
@@ -59,8 +61,8 @@ member_words class flags =
     member_word 128 (codes "[thunk]: ") class ++ (access_words class flags ++ kind_words class flags)
 
 -- the words before a member function; a pointer to the function has none
-unfoldable pub member_start : Bool → ℕ → ℕ → List Piece
-member_start pointed class flags = cond pointed [] (member_words class flags)
+unfoldable pub member_start : Pointed → ℕ → ℕ → List Piece
+member_start pointed class flags = cond (is_pointed pointed) [] (member_words class flags)
 
 -- a qualifier of a function itself, where `set` has its bit
 abbrev pub function_qualifier : ℕ → List ℕ → ℕ → List Piece
@@ -121,18 +123,18 @@ convention_pieces convention flags = cond (has flags no_ms_keywords) [] (text (s
 
 -- the calling convention of a function in the second grammar's style: that of a function that is pointed to has one
 -- space after it, any other has a space before it
-unfoldable pub full_calling : Bool → Convention → ℕ → List Piece
+unfoldable pub full_calling : Pointed → Convention → ℕ → List Piece
 full_calling pointed convention flags = opening pointed flags ++ cond (has flags no_ms_keywords) []
-    (cond pointed (text (spaced_convention convention) ∷ [])
+    (cond (is_pointed pointed) (text (spaced_convention convention) ∷ [])
     (space AfterFullWord ∷ text (convention_word convention) ∷ []))
 
 -- the calling convention of a function, after the parenthesis before the mark of a pointer to the function
-unfoldable pub calling : Bool → Convention → ℕ → List Piece
+unfoldable pub calling : Pointed → Convention → ℕ → List Piece
 calling pointed convention flags = cond (has flags full_style) (full_calling pointed convention flags)
     (opening pointed flags ++ (space UnlessOpen ∷ convention_pieces convention flags))
 
 -- the pieces on the right of the name of a function: its parameters, and the qualifiers of the function itself
-abbrev pub parameter_list : Bool → List Piece → ℕ → ℕ → List Piece
+abbrev pub parameter_list : Pointed → List Piece → ℕ → ℕ → List Piece
 parameter_list pointed parameters set flags = closing pointed
     ++ (text (codes "(") ∷ (parameters ++ (text (codes ")") ∷ function_qualifiers set flags)))
 

@@ -14,6 +14,9 @@ use Rattle.msvc_nodes.specs.declared.nodes.Number.{Number}
 use Rattle.msvc_print.specs.Declaration.{length_pieces, parameters, pointed_class, scope_path, symbol_name, table_end}
 use Rattle.msvc_print.specs.Declaration.{each_name, each_type, thunk_end, returned_end}
 use Rattle.msvc_print.specs.Functions.{calling, member_start, function_qualifier, function_qualifiers}
+use Rattle.msvc_print.specs.Pointed.{pointed_by, unaligned_mark, unaligned_shape, under}
+use Rattle.msvc_print.specs.declared.pointed.Pointed.{Pointed}
+use Rattle.msvc_print.specs.declared.pointed.Pointed.TheVariants.{No, Yes}
 use Rattle.msvc_print.specs.Pieces.{Piece, text}
 use Rattle.msvc_print.specs.Shapes.{Parts, laid, parts}
 use Rattle.msvc_print.specs.Words.{base_word, variable_word, tag_word, mark_word, qualifiers, marked}
@@ -31,7 +34,7 @@ pointed_name n scope flags = pointed_class (plain_name n scope flags)
 
 -- the pieces after the name of a function: its parameters, its qualifiers, and `returned`, the pieces that the returned
 -- type has after the name
-abbrev pub function_end : Bool → List Piece → ℕ → ℕ → List Piece → List Piece
+abbrev pub function_end : Pointed → List Piece → ℕ → ℕ → List Piece → List Piece
 function_end pointed parameters set flags returned = closing pointed
     ++ (text (codes "(") ∷ (parameters ++ (text (codes ")") ∷ (function_qualifiers set flags ++ returned))))
 
@@ -44,15 +47,16 @@ member_pointer_end parameters set returned = text (codes ")(") ∷ (parameters
 -- the parts of a shape, by its qualifiers, its numbers, its bytes, its names and its types
 abbrev pub shape_parts : ℕ → List Number → List ℕ → NameTrees → TypeTrees → ℕ → Parts
 shape_parts set zs bytes ns ts flags =
-    parts set zs bytes (each_name ns true flags) (each_name ns false flags) (each_type ts flags)
+    parts (unaligned_shape set ts flags) set zs bytes (each_name ns true flags) (each_name ns false flags)
+    (each_type ts flags)
 
 -- the pieces of the type around a shape, which is told whether the shape stands under it as the mark of a pointer does
-abbrev pub pieces_around : Option Bool → (Bool → List Piece) → List Piece
-pieces_around None pieces = []
-pieces_around (Some pointed) pieces = pieces pointed
+abbrev pub pieces_around : Option Bool → ℕ → ℕ → (Pointed → List Piece) → List Piece
+pieces_around None set flags pieces = []
+pieces_around (Some is_mark) set flags pieces = pieces (under is_mark set flags)
 
 -- the pieces of a type before the name
-unfoldable pub before : TypeTree → Bool → ℕ → List Piece
+unfoldable pub before : TypeTree → Pointed → ℕ → List Piece
 before (base b set) pointed flags = text (base_word b flags) ∷ qualifiers set flags
 before (tagged tag n scope set) pointed flags =
     text (tag_word tag flags) ∷ (plain_name n scope flags ++ qualifiers set flags)
@@ -60,42 +64,43 @@ before (numbered number_kind.Constant n) pointed flags = text (signed_decimal n)
 before (numbered number_kind.TemplateParameter n) pointed flags =
     text (codes "`template-parameter") ∷ text (signed_decimal n) ∷ text (codes "'") ∷ []
 before (numbered number_kind.ThreadSafeGuard n) pointed flags = text (codes "TSS") ∷ text (signed_decimal n) ∷ []
-before (pointing m t set) pointed flags = before t true flags ++ marked (mark_word m) set flags
-before (array n t set) pointed flags = before t false flags ++ (qualifiers set flags ++ opening pointed flags)
+before (pointing m t set) pointed flags =
+    before t (pointed_by set flags) flags ++ marked (unaligned_mark set t flags) (mark_word m) set flags
+before (array n t set) pointed flags = before t No flags ++ (qualifiers set flags ++ opening pointed flags)
 before (function convention ts set t) pointed flags =
-    before t false flags ++ (returned_end t flags ++ calling pointed convention flags)
+    before t No flags ++ (returned_end t flags ++ calling pointed convention flags)
 before (member_function class convention ts set t) pointed flags = member_start pointed class flags
-    ++ (before t false flags ++ (returned_end t flags ++ calling pointed convention flags))
+    ++ (before t No flags ++ (returned_end t flags ++ calling pointed convention flags))
 before (member_pointer n scope class convention ts set t) pointed flags =
-    before t false flags ++ ((returned_end t flags ++ calling true convention flags) ++ pointed_name n scope flags)
+    before t No flags ++ ((returned_end t flags ++ calling Yes convention flags) ++ pointed_name n scope flags)
 before (plain plain_kind.Variadic) pointed flags = text (codes "...") ∷ []
 before (plain plain_kind.Nullptr) pointed flags = text (codes "std::nullptr_t") ∷ []
 before (table k scope set) pointed flags = qualifiers set flags
-before (vcall_thunk n convention) pointed flags = text (codes "[thunk]: ") ∷ calling false convention flags
-before (variable t kind set) pointed flags = text (variable_word kind) ∷ (before t false flags ++ qualifiers set flags)
+before (vcall_thunk n convention) pointed flags = text (codes "[thunk]: ") ∷ calling No convention flags
+before (variable t kind set) pointed flags = text (variable_word kind) ∷ (before t No flags ++ qualifiers set flags)
 before (shape row set zs bytes ns no_types) pointed flags =
     laid (slots row side.Left) pointed (shape_parts set zs bytes ns no_types flags) flags
 before (shape row set zs bytes ns (types t ts)) pointed flags =
-    pieces_around (layout_of row).around (λ p. before t p flags)
+    pieces_around (layout_of row).around set flags (λ p. before t p flags)
     ++ laid (slots row side.Left) pointed (shape_parts set zs bytes ns (types t ts) flags) flags
 before _ pointed flags = []
 
 -- the pieces of a type after the name
-unfoldable pub after : TypeTree → Bool → ℕ → List Piece
-after (pointing m t set) pointed flags = after t true flags
-after (array n t set) pointed flags = closing pointed ++ (length_pieces n ++ after t false flags)
+unfoldable pub after : TypeTree → Pointed → ℕ → List Piece
+after (pointing m t set) pointed flags = after t (pointed_by set flags) flags
+after (array n t set) pointed flags = closing pointed ++ (length_pieces n ++ after t No flags)
 after (function convention ts set t) pointed flags = function_end pointed (parameters ts true flags) set flags
-    (after t false flags)
+    (after t No flags)
 after (member_function class convention ts set t) pointed flags =
-    function_end pointed (parameters ts true flags) set flags (after t false flags)
+    function_end pointed (parameters ts true flags) set flags (after t No flags)
 after (member_pointer n scope class convention ts set t) pointed flags =
-    member_pointer_end (parameters ts true flags) set (after t false flags)
-after (variable t kind set) pointed flags = after t false flags
+    member_pointer_end (parameters ts true flags) set (after t No flags)
+after (variable t kind set) pointed flags = after t No flags
 after (table k scope set) pointed flags = table_end k scope (scope_path scope flags)
 after (vcall_thunk n convention) pointed flags = thunk_end n flags
 after (shape row set zs bytes ns no_types) pointed flags =
     laid (slots row side.Right) pointed (shape_parts set zs bytes ns no_types flags) flags
 after (shape row set zs bytes ns (types t ts)) pointed flags =
     laid (slots row side.Right) pointed (shape_parts set zs bytes ns (types t ts) flags) flags
-    ++ pieces_around (layout_of row).around (λ p. after t p flags)
+    ++ pieces_around (layout_of row).around set flags (λ p. after t p flags)
 after _ pointed flags = []

@@ -2,6 +2,7 @@ pub use Rattle.msvc_nodes.specs.NodeView
 pub mod Flags
 pub mod Pieces
 pub mod Limited
+pub mod Pointed
 pub mod Words
 pub mod Operators
 pub mod Functions

@@ -1,11 +1,12 @@
 -- The pieces and weights of shapes, by their nodes. No public contract speaks of these definitions.
-use Rattle.std.specs.Prelude.{ℕ, ◌+◌, List, Bool, true, false, drop}
+use Rattle.std.specs.Prelude.{ℕ, ◌+◌, List, true, false, drop}
 use Rattle.msvc_nodes.specs.NodeView.{names_in, types_in}
 use Rattle.msvc_nodes.specs.Trees.{NameTrees, TypeTree, TypeTrees, shape}
 use Rattle.msvc_nodes.specs.declared.nodes.Shape.{Shape}
 use Rattle.msvc_print.specs.Declaration.{each_name, each_type}
 use Rattle.msvc_print.specs.Functions.{comma}
 use Rattle.msvc_print.specs.Halves.{shape_parts}
+use Rattle.msvc_print.specs.declared.pointed.Pointed.{Pointed}
 use Rattle.msvc_print.specs.Pieces.{Piece}
 use Rattle.msvc_print.specs.Shapes.{Parts, laid, parted, pieces_at, slots_weight}
 use Rattle.msvc_print.specs.Weights.{scope_weight, types_weight}
@@ -44,7 +45,7 @@ unfoldable pub slots_from : Shape → Side → ℕ → List Slot
 slots_from s side at = drop at (slots s.row side)
 
 -- the pieces of a side of a shape from a slot on
-abbrev pub rest_of_slots : Shape → Side → Bool → ℕ → ℕ → List Piece
+abbrev pub rest_of_slots : Shape → Side → Pointed → ℕ → ℕ → List Piece
 rest_of_slots s side pointed at flags = laid (slots_from s side at) pointed (parts_of s flags) flags
 
 -- the weight of names and types

@@ -4,6 +4,7 @@ use Rattle.std.specs.Fmt.{decimal, digits}
 use Rattle.msvc_nodes.specs.declared.nodes.Number.{Number}
 use Rattle.msvc_print.specs.Flags.{has, no_member_type}
 use Rattle.msvc_print.specs.Functions.{comma, separator}
+use Rattle.msvc_print.specs.declared.pointed.Pointed.{Pointed}
 use Rattle.msvc_print.specs.Pieces.{Piece, text}
 use Rattle.msvc_print.specs.Strings.{literal_pieces}
 use Rattle.msvc_print.specs.Words.{closing, full_space, mark_qualifiers, marked, opening, qualifiers}
@@ -11,9 +12,11 @@ use Rattle.msvc_print.specs.Words.{table_qualifiers, unaligned}
 use Rattle.msvc_shapes.specs.Layouts.{Slot}
 use Rattle.msvc_shapes.specs.Layouts as slot
 
--- the parts of a shape: its qualifiers, its numbers, its bytes, the pieces of each of its names, as that of a symbol
--- itself and as in a scope, and the pieces of each of its types around nothing
+-- the parts of a shape: whether it is a mark with `__unaligned` before it, its qualifiers, its numbers, its bytes, the
+-- pieces of each of its names, as that of a symbol itself and as in a scope, and the pieces of each of its types around
+-- nothing
 pub record Parts : Type 0 where
+  pub unaligned : Bool
   pub set : ℕ
   pub numbers : List Number
   pub bytes : List ℕ
@@ -21,10 +24,19 @@ pub record Parts : Type 0 where
   pub names : List (List Piece)
   pub types : List (List Piece)
 
--- the parts of a shape, by its qualifiers, its numbers, its bytes and the pieces of its names and types
-abbrev pub parts : ℕ → List Number → List ℕ → List (List Piece) → List (List Piece) → List (List Piece) → Parts
-parts set numbers bytes symbols names types =
-    record { set = set; numbers = numbers; bytes = bytes; symbols = symbols; names = names; types = types }
+-- the parts of a shape, by whether `__unaligned` stands before it, its qualifiers, its numbers, its bytes and the
+-- pieces of its names and types
+abbrev pub parts : Bool → ℕ → List Number → List ℕ → List (List Piece) → List (List Piece) → List (List Piece)
+    → Parts
+parts unaligned set numbers bytes symbols names types = record {
+  unaligned = unaligned;
+  set = set;
+  numbers = numbers;
+  bytes = bytes;
+  symbols = symbols;
+  names = names;
+  types = types;
+}
 
 -- a number in decimal, after a minus if it has one
 abbrev pub number_pieces : Number → List Piece
@@ -103,15 +115,15 @@ abbrev pub kind_word_pieces : List ℕ → ℕ → List Piece
 kind_word_pieces w flags = cond (has flags no_member_type) [] (text w ∷ [])
 
 -- the pieces of a slot; `pointed` says whether the shape stands directly under a pointer or a reference
-unfoldable pub slot_pieces : Slot → Bool → Parts → ℕ → List Piece
+unfoldable pub slot_pieces : Slot → Pointed → Parts → ℕ → List Piece
 slot_pieces (slot.word w) pointed p flags = text w ∷ []
 slot_pieces (slot.kind_word w) pointed p flags = kind_word_pieces w flags
 slot_pieces (slot.number i) pointed p flags = number_at p.numbers i
 slot_pieces slot.lengths pointed p flags = each_level p.numbers
 slot_pieces slot.qualifiers pointed p flags = qualifiers p.set flags
 slot_pieces slot.pointer_qualifiers pointed p flags = mark_qualifiers (full_space flags) p.set
-slot_pieces slot.unaligned pointed p flags = unaligned p.set flags
-slot_pieces (slot.mark w) pointed p flags = marked w p.set flags
+slot_pieces slot.unaligned pointed p flags = unaligned p.unaligned flags
+slot_pieces (slot.mark w) pointed p flags = marked p.unaligned w p.set flags
 slot_pieces slot.opening pointed p flags = opening pointed flags
 slot_pieces slot.closing pointed p flags = closing pointed
 slot_pieces (slot.symbol i) pointed p flags = pieces_at p.symbols i
@@ -130,7 +142,7 @@ slot_pieces (slot.types_from i) pointed p flags = parted (comma flags) (drop i p
 slot_pieces (slot.literal is_wide) pointed p flags = literal_pieces is_wide p.numbers
 
 -- the pieces of slots, in their order
-unfoldable pub laid : List Slot → Bool → Parts → ℕ → List Piece
+unfoldable pub laid : List Slot → Pointed → Parts → ℕ → List Piece
 laid [] pointed p flags = []
 laid (s ∷ ss) pointed p flags = slot_pieces s pointed p flags ++ laid ss pointed p flags
 

@@ -7,9 +7,10 @@ use Rattle.msvc_nodes.specs.declared.nodes.Type.{«Type»}
 use Rattle.msvc_print.specs.Declaration.{parameters}
 use Rattle.msvc_print.specs.Halves.{after, before}
 use Rattle.msvc_print.specs.Pieces.{Piece}
+use Rattle.msvc_print.specs.declared.pointed.Pointed.TheVariants.{No}
 
 -- the types of a list, without a comma before the first type, which is written already if one belongs there
 abbrev pub begun : List (Bor «Type») → ℕ → List Piece
 begun [] flags = []
 begun (t ∷ ts) flags =
-    before (type_of t.now) false flags ++ (after (type_of t.now) false flags ++ parameters (types_in ts) false flags)
+    before (type_of t.now) No flags ++ (after (type_of t.now) No flags ++ parameters (types_in ts) false flags)

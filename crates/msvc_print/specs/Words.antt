@@ -1,5 +1,5 @@
 -- The words and marks of a declaration that depend on no other type or name.
-use Rattle.std.specs.Prelude.{ℕ, List, [], ◌∷◌, ◌++◌, Bool, Option, Some, None, cond, codes, if◌then◌else◌}
+use Rattle.std.specs.Prelude.{ℕ, List, [], ◌∷◌, ◌++◌, Bool, false, Option, Some, None, cond, codes, if◌then◌else◌}
 use denote.Enum.Bare.{sameb}
 use Rattle.msvc_nodes.specs.BaseTypes.{BaseRow, basic_types, under_types}
 use Rattle.msvc_nodes.specs.contracts.kinds.PrimitiveKind.{the_type as bases}
@@ -12,6 +12,8 @@ use Rattle.msvc_nodes.specs.declared.kinds.VarStorageKind.{VarStorageKind}
 use Rattle.msvc_nodes.specs.declared.kinds.VarStorageKind.TheVariants.{PrivateStatic, ProtectedStatic, PublicStatic}
 use Rattle.msvc_nodes.specs.declared.kinds.VarStorageKind.TheVariants.{Global, FunctionLocalStatic}
 use Rattle.msvc_print.specs.Flags.{full_style, has, hug_type, ms_type_names, no_class_type, space_before_pointer}
+use Rattle.msvc_print.specs.Pointed.{is_pointed, is_unaligned}
+use Rattle.msvc_print.specs.declared.pointed.Pointed.{Pointed}
 use Rattle.msvc_print.specs.Pieces.{Piece, text, space}
 use Rattle.msvc_print.specs.declared.spaces.Space.{Space}
 use Rattle.msvc_print.specs.declared.spaces.Space.TheVariants.{AfterAngle, AfterPointer, AfterReference, AfterWord}
@@ -112,32 +114,38 @@ unfoldable pub mark_qualifiers : Space → ℕ → List Piece
 mark_qualifiers s set = qualifier s 1 (codes "const") set
     ++ (qualifier s 2 (codes "volatile") set ++ qualifier s 32 (codes "__restrict") set)
 
--- the `__unaligned` of a pointer, before its mark
-abbrev pub unaligned : ℕ → ℕ → List Piece
-unaligned set flags = qualifier (full_space flags) 16 (codes "__unaligned ") set
+-- the `__unaligned` of a pointer, if it has one
+abbrev pub unaligned : Bool → ℕ → List Piece
+unaligned has_it flags = cond has_it (space (full_space flags) ∷ text (codes "__unaligned ") ∷ []) []
 
 -- the mark of a pointer or a reference in the second grammar's style, with its qualifiers: `__unaligned` before the
 -- mark, the others after it
-unfoldable pub full_marked : List ℕ → ℕ → ℕ → List Piece
-full_marked word set flags = unaligned set flags
+unfoldable pub full_marked : Bool → List ℕ → ℕ → ℕ → List Piece
+full_marked is_unaligned word set flags = unaligned is_unaligned flags
     ++ (full_mark_space flags ++ (text word ∷ mark_qualifiers (full_space flags) set))
 
 -- the mark of a pointer or a reference, with its qualifiers
-unfoldable pub marked : List ℕ → ℕ → ℕ → List Piece
-marked word set flags = cond (has flags full_style) (full_marked word set flags)
+unfoldable pub marked : Bool → List ℕ → ℕ → ℕ → List Piece
+marked is_unaligned word set flags = cond (has flags full_style) (full_marked is_unaligned word set flags)
     (mark_space flags ++ (text word ∷ qualifiers set flags))
 
 -- the space before the parenthesis before the mark of a pointer
 abbrev pub opening_space : ℕ → Space
 opening_space flags = cond (has flags full_style) (full_space flags) AfterPointer
 
--- the parenthesis before the mark of a pointer to an array or a function
-unfoldable pub opening : Bool → ℕ → List Piece
-opening pointed flags = cond pointed (space (opening_space flags) ∷ text (codes "(") ∷ []) []
+-- a parenthesis before the mark of a pointer
+abbrev pub parenthesis : ℕ → List Piece
+parenthesis flags = space (opening_space flags) ∷ text (codes "(") ∷ []
+
+-- the parenthesis before the mark of a pointer to an array or a function, and the `__unaligned` of that pointer, which
+-- the second grammar's style shows
+unfoldable pub opening : Pointed → ℕ → List Piece
+opening pointed flags = cond (is_pointed pointed)
+    (unaligned (cond (has flags full_style) (is_unaligned pointed) false) flags ++ parenthesis flags) []
 
 -- the parenthesis after the name of a pointer to an array or a function
-unfoldable pub closing : Bool → List Piece
-closing pointed = cond pointed (text (codes ")") ∷ []) []
+unfoldable pub closing : Pointed → List Piece
+closing pointed = cond (is_pointed pointed) (text (codes ")") ∷ []) []
 
 -- the end of the arguments of a template
 unfoldable pub angle_end : ℕ → List Piece

@@ -1,10 +1,10 @@
 -- The pieces that the items of the printer's stack stand for, and their weights. No public contract speaks of these
 -- definitions.
-use Rattle.std.specs.Prelude.{ℕ, ◌+◌, ◌<◌, ◌≤◌, ◌≡◌, List, [], ◌∷◌, ◌++◌, Bool, false, Option, Some, None}
+use Rattle.std.specs.Prelude.{ℕ, ◌+◌, ◌<◌, ◌≤◌, ◌≡◌, List, [], ◌∷◌, ◌++◌, Bool, Option, Some, None}
 use Rattle.std.specs.Prelude.{codes, cond}
 use Rattle.std.specs.Borrow.{Bor}
 use Rattle.msvc_nodes.specs.NodeView.{name_of, names_in, type_of, types_in}
-use Rattle.msvc_nodes.specs.Trees.{TypeTree, function, member_function}
+use Rattle.msvc_nodes.specs.Trees.{TypeTree, TypeTrees, function, member_function, no_types, shape, types}
 use Rattle.msvc_nodes.specs.declared.nodes.Type.{«Type»}
 use Rattle.msvc_print.specs.Declaration.{is_none, name_pieces, parameters, scope_prefix}
 use Rattle.msvc_print.specs.Functions.{calling, function_qualifiers}
@@ -12,6 +12,7 @@ use Rattle.msvc_print.specs.Halves.{after, before}
 use Rattle.msvc_print.specs.Operators.{spaced}
 use Rattle.msvc_print.specs.Limited.{LimitedText, add_all}
 use Rattle.msvc_print.specs.Pieces.{Piece, text}
+use Rattle.msvc_print.specs.declared.pointed.Pointed.TheVariants.{No}
 use Rattle.msvc_print.specs.ShapeNodes.{rest_of_slots, rest_weight}
 use Rattle.msvc_print.specs.Weights.{name_weight, scope_weight, type_weight, types_weight}
 use Rattle.msvc_print.specs.SymbolNodes.{class_pieces_of, class_weight_of, symbol_name_of, symbol_weight_of}
@@ -30,10 +31,21 @@ unfoldable pub member_return : TypeTree → Option TypeTree
 member_return (member_function class convention ts set t) = Some t
 member_return _ = None
 
+-- the type that a member function returns, or `None` of any other type and of one that returns nothing
+unfoldable pub some_return : TypeTree → Option TypeTree
+some_return (member_function class convention ts set t) = cond (is_none t) None (Some t)
+some_return _ = None
+
+-- the same of the first type of a shape, as of a function that moves its `this`
+unfoldable pub moved_return : TypeTrees → Option TypeTree
+moved_return no_types = None
+moved_return (types t ts) = some_return t
+
 -- the type that a function returns, or `None` of any other type and of a function that returns nothing
 unfoldable pub full_return : TypeTree → Option TypeTree
 full_return (function convention ts set t) = cond (is_none t) None (Some t)
 full_return (member_function class convention ts set t) = cond (is_none t) None (Some t)
+full_return (shape row q zs bytes ns ts) = moved_return ts
 full_return _ = None
 
 -- the pieces of a conversion operator in the second grammar's style, by the type that its function returns and the
@@ -41,7 +53,7 @@ full_return _ = None
 unfoldable pub full_conversion_to : Option TypeTree → List Piece → List Piece → ℕ → List Piece
 full_conversion_to None list name flags = name
 full_conversion_to (Some t) list name flags =
-    text (codes "operator") ∷ (list ++ (text (codes " ") ∷ (before t false flags ++ after t false flags)))
+    text (codes "operator") ∷ (list ++ (text (codes " ") ∷ (before t No flags ++ after t No flags)))
 
 -- the pieces after the last type of a list
 abbrev pub end_pieces : ListEnd → ℕ → List Piece
@@ -62,7 +74,7 @@ item_pieces (Symbol s t) flags = symbol_name_of s.now (type_or_none t) flags
 item_pieces (Class s) flags = class_pieces_of s.now flags
 item_pieces (Spaced word) flags = spaced word.now
 item_pieces (Qualifiers set) flags = qualifiers set.0 flags
-item_pieces (Mark word set) flags = marked word.now set.0 flags
+item_pieces (Mark word set is_unaligned) flags = marked is_unaligned word.now set.0 flags
 item_pieces (ArrayLevel set pointed) flags = qualifiers set.0 flags ++ opening pointed flags
 item_pieces (Calling pointed convention) flags = calling pointed convention flags
 item_pieces (Parameters list) flags = rest_of_parameters list.types.now list.first list.end flags
@@ -79,7 +91,7 @@ item_weight (Symbol s t) = symbol_weight_of s.now (type_or_none t)
 item_weight (Class s) = class_weight_of s.now
 item_weight (Spaced word) = 1
 item_weight (Qualifiers set) = 1
-item_weight (Mark word set) = 1
+item_weight (Mark word set is_unaligned) = 1
 item_weight (ArrayLevel set pointed) = 1
 item_weight (Calling pointed convention) = 1
 item_weight (Parameters list) = types_weight (types_in list.types.now)

@@ -7,6 +7,7 @@ ghost use Rattle.msvc_print.specs.Limited.{Writes};
 ghost use Rattle.msvc_print.specs.Work.{end_pieces};
 
 use crate::item::ListEnd;
+use crate::pointed::{Pointed, is_pointed};
 use crate::spaces::{
     Space, write_angle_end, write_opening, write_qualifier, write_set_word, write_space,
 };
@@ -66,7 +67,7 @@ fn convention_word<'t>(convention: Convention) -> &'t [u8]
 #[cold]
 fn write_full_calling<W: Wording, A: Allocator>(
     out: &mut Text<A>,
-    pointed: bool,
+    pointed: Pointed,
     convention: Convention,
     flags: Style<W>,
 ) -> Result<(), AllocError>
@@ -76,7 +77,7 @@ fn write_full_calling<W: Wording, A: Allocator>(
     if flags.contains(DemangleFlags::NO_MS_KEYWORDS) {
         return Ok(());
     }
-    if pointed {
+    if is_pointed(pointed) {
         return write_text(out, spaced_convention(convention));
     }
     write_space(out, Space::AfterFullWord)?;
@@ -87,7 +88,7 @@ fn write_full_calling<W: Wording, A: Allocator>(
 /// the word of the convention.
 pub fn write_calling<W: Wording, A: Allocator>(
     out: &mut Text<A>,
-    pointed: bool,
+    pointed: Pointed,
     convention: Convention,
     flags: Style<W>,
 ) -> Result<(), AllocError>
@@ -189,13 +190,13 @@ fn write_member_words<W: Wording, A: Allocator>(
 /// Writes the words of a member function, unless it is pointed to.
 pub fn write_member_start<W: Wording, A: Allocator>(
     out: &mut Text<A>,
-    pointed: bool,
+    pointed: Pointed,
     class: FuncClass,
     flags: Style<W>,
 ) -> Result<(), AllocError>
     ensures { OnOk result (Writes (spec.member_start pointed class.0 flags.bits) out.old out.new) }
 {
-    if !pointed {
+    if !is_pointed(pointed) {
         write_member_words(out, class, flags)?;
     }
     Ok(())

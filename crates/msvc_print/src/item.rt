@@ -2,6 +2,7 @@
 
 ghost use Rattle.std.specs.Prelude.{◌≡◌, ◌++◌, ◌∷◌, [], OnOk};
 
+use crate::pointed::Pointed;
 use msvc_nodes::flags::StorageClass;
 use msvc_nodes::kinds::Convention;
 use msvc_nodes::nodes::{Name, Scope, Shape, Symbol, Type};
@@ -45,21 +46,20 @@ pub enum Item<'a, 'b> {
     Class(&'b Symbol<'a, 'b>),
     /// `const` and `volatile`.
     Qualifiers(StorageClass),
-    /// The mark of a pointer or a reference, with its qualifiers.
-    Mark(&'b [u8], StorageClass),
+    /// The mark of a pointer or a reference, with its qualifiers. The flag says whether `__unaligned` stands before it.
+    Mark(&'b [u8], StorageClass, bool),
     /// The qualifiers of a level of an array, and the parenthesis before the mark of a pointer to it.
-    ArrayLevel(StorageClass, bool),
+    ArrayLevel(StorageClass, Pointed),
     /// The calling convention of a function, and the parenthesis before the mark of a pointer to it.
-    Calling(bool, Convention),
+    Calling(Pointed, Convention),
     /// The types that are left of a list, and what stands after the last.
     Parameters(TypeList<'a, 'b>),
-    /// What a type has before the name. The flag says whether it stands directly under a pointer or a reference.
-    Before(&'b Type<'a, 'b>, bool),
+    /// What a type has before the name.
+    Before(&'b Type<'a, 'b>, Pointed),
     /// What a type has after the name.
-    After(&'b Type<'a, 'b>, bool),
-    /// The slots of a side of a shape from a place on. The flag says whether the shape stands directly under a pointer
-    /// or a reference.
-    Slots(&'b Shape<'a, 'b>, Side, bool, usize),
+    After(&'b Type<'a, 'b>, Pointed),
+    /// The slots of a side of a shape from a place on.
+    Slots(&'b Shape<'a, 'b>, Side, Pointed, usize),
 }
 
 /// Pushes an item. Its contract is the part of `Vec::push`'s that proofs of steps need.

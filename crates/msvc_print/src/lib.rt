@@ -17,6 +17,7 @@ mod function_types;
 mod hexadecimal;
 mod item;
 mod operators;
+mod pointed;
 mod printer;
 mod qualified_names;
 mod shapes;

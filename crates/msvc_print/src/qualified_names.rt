@@ -1,6 +1,6 @@
 //! Prints names: those of scopes, and that of a symbol in its scope. Spelled names are written at once; what holds
 //! types or other names is pushed.
-#![tactic(auto, using(crate::proofs::Halves::pushed_left, crate::proofs::Nodes::printed), unfolding(crate::specs::Declaration::arguments, crate::specs::Declaration::name_pieces, crate::specs::Declaration::quoted_unless, crate::specs::Operators::scoped, crate::specs::Weights::name_weight, crate::specs::Work::full_return, crate::specs::Work::member_return, msvc_nodes::specs::NodeView::name_of, msvc_nodes::specs::NodeView::type_of))]
+#![tactic(auto, using(crate::proofs::Halves::pushed_left, crate::proofs::Nodes::printed), unfolding(crate::specs::Declaration::arguments, crate::specs::Declaration::name_pieces, crate::specs::Declaration::quoted_unless, crate::specs::Operators::scoped, crate::specs::Weights::name_weight, crate::specs::Work::full_return, crate::specs::Work::member_return, crate::specs::Work::moved_return, crate::specs::Work::some_return, msvc_nodes::specs::NodeView::name_of, msvc_nodes::specs::NodeView::type_of))]
 
 ghost use Rattle.std.specs.Prelude.{ℕ, ◌≡◌, ◌≤◌, ◌+◌, ◌++◌, ◌∷◌, [], Bool, true, false, OnOk, IfOk};
 ghost use Rattle.std.specs.Prelude.{codes, cond, take, length, option_map, Some, None};
@@ -18,13 +18,15 @@ ghost use Rattle.msvc_print.specs.SymbolNodes.{symbol_pieces_of, symbol_weight_o
 ghost use Rattle.msvc_print.specs.SymbolNodes.{typed_symbol_weight_of};
 ghost use Rattle.msvc_print.specs.Weights.{name_weight, scope_weight, type_weight, types_weight};
 ghost use Rattle.msvc_print.specs.Work.{AddsAtMost, AddsLess, Keeps, Lightens, Prints, Pushes, full_conversion_to};
-ghost use Rattle.msvc_print.specs.Work.{full_return, member_return};
+ghost use Rattle.msvc_print.specs.Work.{full_return, member_return, moved_return, some_return};
 ghost use Rattle.msvc_print.specs.declared.spaces.Space.TheVariants.{AfterPointer};
+ghost use Rattle.msvc_print.specs.declared.pointed.Pointed.TheVariants.{No};
 
 use crate::item::{Item, ListEnd, TypeList, push};
 use crate::operators::{
     NameKind, name_kind, write_base_class, write_guard, write_operator, write_spaced_word,
 };
+use crate::pointed::Pointed;
 use crate::printer::Printer;
 use crate::spaces::{Space, name_space, write_space};
 use crate::style::{Style, Wording};
@@ -147,12 +149,12 @@ pub fn push_typed_symbol<'a, 'b, W: Wording, S: Allocator>(
     if flags.contains(DemangleFlags::NAME_ONLY) {
         return push(stack, name);
     }
-    push(stack, Item::After(tree.symbol_type, false))?;
+    push(stack, Item::After(tree.symbol_type, Pointed::No))?;
     push(stack, name)?;
     if flags.contains(DemangleFlags::NO_FUNCTION_RETURNS) {
         return Ok(());
     }
-    push(stack, Item::Before(tree.symbol_type, false))
+    push(stack, Item::Before(tree.symbol_type, Pointed::No))
 }
 
 impl<'a, 'b, 't, W: Wording, S: Allocator, A: Allocator> Printer<'a, 'b, 't, W, S, A> {
@@ -180,14 +182,14 @@ impl<'a, 'b, 't, W: Wording, S: Allocator, A: Allocator> Printer<'a, 'b, 't, W, 
     #[cold]
     fn print_descriptor(&mut self, described: &'b Type<'a, 'b>) -> Result<(), AllocError>
         ensures text { OnOk result
-            (Prints (space AfterPointer ∷ ((spec.grown (type_of described.now) false alone self.old.flags.bits).left
+            (Prints (space AfterPointer ∷ ((spec.grown (type_of described.now) No alone self.old.flags.bits).left
             ++ text (codes "::`RTTI Type Descriptor'") ∷ [])) self.old self.new) }
         ensures lighter { OnOk result (Lightens (3 + type_weight (type_of described.now)) self.old self.new) }
         ensures kept { Keeps self.old self.new }
     {
         write_space(self.out, Space::AfterPointer)?;
         push(self.stack, Item::Text(b"::`RTTI Type Descriptor'"))?;
-        push(self.stack, Item::Before(described, false))
+        push(self.stack, Item::Before(described, Pointed::No))
     }
 
     /// Prints a template with its arguments. Most of their names are spelled, and are written at once.
@@ -237,7 +239,7 @@ impl<'a, 'b, 't, W: Wording, S: Allocator, A: Allocator> Printer<'a, 'b, 't, W, 
             Name::Template(template) => self.print_template(template.name, template.arguments),
             Name::Discriminator(number) => write_discriminator(self.out, *number),
             Name::Nested(tree) => self.print_nested(*tree, of_symbol),
-            Name::Shape(shape) => self.print_slots(*shape, Side::Left, false, 0),
+            Name::Shape(shape) => self.print_slots(*shape, Side::Left, Pointed::No, 0),
         }
     }
 
@@ -495,6 +497,27 @@ fn full_function_return<'a, 'b>(t: &'b Type<'a, 'b>) -> Option<&'b Type<'a, 'b>>
     match t {
         Type::Function(function) => some_type(function.returned),
         Type::MemberFunction(function) => some_type(function.returned),
+        Type::Shape(shape) => moved_return(shape.types),
+        _ => None,
+    }
+}
+
+/// Returns the same of the first type of a shape, as of a function that moves its `this`.
+fn moved_return<'a, 'b>(types: &'b [&'b Type<'a, 'b>]) -> Option<&'b Type<'a, 'b>>
+    ensures { option_map (λ t. type_of t.now) result ≡ moved_return (types_in types.now) }
+{
+    match types {
+        [] => None,
+        [first, ..] => member_function_return(first),
+    }
+}
+
+/// Returns the type that a member function returns, or `None` of any other type and of one that returns nothing.
+fn member_function_return<'a, 'b>(t: &'b Type<'a, 'b>) -> Option<&'b Type<'a, 'b>>
+    ensures { option_map (λ t. type_of t.now) result ≡ some_return (type_of t.now) }
+{
+    match t {
+        Type::MemberFunction(function) => some_type(function.returned),
         _ => None,
     }
 }
@@ -517,13 +540,13 @@ fn push_conversion_to<'a, 'b, W: Wording, S: Allocator>(
     flags: Style<W>,
 ) -> Result<(), AllocError>
     ensures text { OnOk result (Pushes (text (codes "operator") ∷ (spec.arguments (name_of name.now) flags.bits
-        ++ (text (codes " ") ∷ (before (type_of returned.now) false flags.bits
-        ++ after (type_of returned.now) false flags.bits)))) flags.bits stack.old.items stack.new.items) }
+        ++ (text (codes " ") ∷ (before (type_of returned.now) No flags.bits
+        ++ after (type_of returned.now) No flags.bits)))) flags.bits stack.old.items stack.new.items) }
     ensures lighter { OnOk result (AddsAtMost (1 + name_weight (name_of name.now)
         + type_weight (type_of returned.now) + type_weight (type_of returned.now)) stack.old.items stack.new.items) }
 {
-    push(stack, Item::After(returned, false))?;
-    push(stack, Item::Before(returned, false))?;
+    push(stack, Item::After(returned, Pointed::No))?;
+    push(stack, Item::Before(returned, Pointed::No))?;
     push(stack, Item::Text(b" "))?;
     push_arguments(stack, name, flags)?;
     push(stack, Item::Text(b"operator"))
@@ -569,8 +592,8 @@ fn push_conversion<'a, 'b, W: Wording, S: Allocator>(
     }
     match symbol_return(symbol_type) {
         Some(returned) => {
-            push(stack, Item::After(returned, false))?;
-            push(stack, Item::Before(returned, false))?;
+            push(stack, Item::After(returned, Pointed::No))?;
+            push(stack, Item::Before(returned, Pointed::No))?;
             push(stack, Item::Text(b"operator "))
         }
         None => push(stack, Item::Name(name, true)),

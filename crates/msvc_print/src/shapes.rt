@@ -15,10 +15,12 @@ ghost use Rattle.msvc_print.specs.Weights.{name_weight, scope_weight, type_weigh
 ghost use Rattle.msvc_print.specs.Work.{AddsAtMost, Keeps, Lightens, Prints, Pushes};
 ghost use Rattle.msvc_print.specs.declared.shapes.PartSlot.{PartSlot as PartSlotCode};
 ghost use Rattle.msvc_shapes.specs.Layouts as layouts;
+ghost use Rattle.msvc_print.specs.declared.pointed.Pointed.TheVariants.{No};
 
 use crate::function_types::{comma, write_separator};
 use crate::hexadecimal::write_hexadecimal;
 use crate::item::{Item, push};
+use crate::pointed::{Pointed, is_unaligned_shape, under};
 use crate::printer::Printer;
 use crate::spaces::{
     write_closing, write_mark, write_opening, write_pointer_qualifiers, write_qualifiers,
@@ -216,7 +218,7 @@ fn write_slot<'a, 'b, W: Wording, A: Allocator>(
     out: &mut Text<A>,
     slot: Slot<'b>,
     shape: &'b Shape<'a, 'b>,
-    pointed: bool,
+    pointed: Pointed,
     flags: Style<W>,
 ) -> Result<Option<PartSlot<'b>>, AllocError>
     ensures written { IfOk result (λ names. names ≡ None → Writes
@@ -233,8 +235,14 @@ fn write_slot<'a, 'b, W: Wording, A: Allocator>(
         Slot::Lengths => write_levels(out, shape.numbers)?,
         Slot::Qualifiers => write_qualifiers(out, shape.qualifiers, flags)?,
         Slot::PointerQualifiers => write_pointer_qualifiers(out, shape.qualifiers, flags)?,
-        Slot::Unaligned => write_unaligned(out, shape.qualifiers, flags)?,
-        Slot::Mark(word) => write_mark(out, word, shape.qualifiers, flags)?,
+        Slot::Unaligned => write_unaligned(out, is_unaligned_shape(shape, flags), flags)?,
+        Slot::Mark(word) => write_mark(
+            out,
+            word,
+            shape.qualifiers,
+            is_unaligned_shape(shape, flags),
+            flags,
+        )?,
         Slot::Opening => write_opening(out, pointed, flags)?,
         Slot::Closing => write_closing(out, pointed)?,
         Slot::Symbol(at) => return Ok(Some(PartSlot::Symbol(at))),
@@ -318,13 +326,13 @@ fn push_type<'a, 'b, W: Wording, S: Allocator>(
     flags: Style<W>,
 ) -> Result<(), AllocError>
     ensures text { OnOk result (Pushes
-        (before (type_of t.now) false flags.bits ++ after (type_of t.now) false flags.bits)
+        (before (type_of t.now) No flags.bits ++ after (type_of t.now) No flags.bits)
         flags.bits stack.old.items stack.new.items) }
     ensures lighter { OnOk result (AddsAtMost (type_weight (type_of t.now) + type_weight (type_of t.now))
         stack.old.items stack.new.items) }
 {
-    push(stack, Item::After(t, false))?;
-    push(stack, Item::Before(t, false))
+    push(stack, Item::After(t, Pointed::No))?;
+    push(stack, Item::Before(t, Pointed::No))
 }
 
 /// Pushes a type of a list around nothing, if the list has one at this place.
@@ -353,13 +361,13 @@ fn push_parted_type<'a, 'b, W: Wording, S: Allocator>(
     flags: Style<W>,
 ) -> Result<(), AllocError>
     ensures text { OnOk result (Pushes (spec.parting word.now first
-        ++ (before (type_of t.now) false flags.bits ++ after (type_of t.now) false flags.bits))
+        ++ (before (type_of t.now) No flags.bits ++ after (type_of t.now) No flags.bits))
         flags.bits stack.old.items stack.new.items) }
     ensures lighter { OnOk result (AddsAtMost (1 + type_weight (type_of t.now) + type_weight (type_of t.now))
         stack.old.items stack.new.items) }
 {
-    push(stack, Item::After(t, false))?;
-    push(stack, Item::Before(t, false))?;
+    push(stack, Item::After(t, Pointed::No))?;
+    push(stack, Item::Before(t, Pointed::No))?;
     if first {
         return Ok(());
     }
@@ -434,7 +442,7 @@ impl<'a, 'b, 't, W: Wording, S: Allocator, A: Allocator> Printer<'a, 'b, 't, W, 
         &mut self,
         shape: &'b Shape<'a, 'b>,
         side: Side,
-        pointed: bool,
+        pointed: Pointed,
         at: usize,
     ) -> Result<(), AllocError>
         ensures text { OnOk result (Prints (rest_of_slots shape.now side pointed at self.old.flags.bits)
@@ -464,7 +472,7 @@ impl<'a, 'b, 't, W: Wording, S: Allocator, A: Allocator> Printer<'a, 'b, 't, W, 
     pub fn print_shape_prefix(
         &mut self,
         shape: &'b Shape<'a, 'b>,
-        pointed: bool,
+        pointed: Pointed,
     ) -> Result<(), AllocError>
         ensures text { OnOk result (Prints (before (shape_of shape.now) pointed self.old.flags.bits) self.old
             self.new) }
@@ -477,7 +485,7 @@ impl<'a, 'b, 't, W: Wording, S: Allocator, A: Allocator> Printer<'a, 'b, 't, W, 
                 [] => self.print_slots(shape, Side::Left, pointed, 0),
                 [first, ..] => {
                     push(self.stack, Item::Slots(shape, Side::Left, pointed, 0))?;
-                    self.print_inner(*first, is_mark)
+                    self.print_inner(*first, under(is_mark, shape.qualifiers, self.flags))
                 }
             },
         }
@@ -489,7 +497,7 @@ impl<'a, 'b, 't, W: Wording, S: Allocator, A: Allocator> Printer<'a, 'b, 't, W, 
     pub fn print_shape_suffix(
         &mut self,
         shape: &'b Shape<'a, 'b>,
-        pointed: bool,
+        pointed: Pointed,
     ) -> Result<(), AllocError>
         ensures text { OnOk result (Prints (after (shape_of shape.now) pointed self.old.flags.bits) self.old self.new) }
         ensures lighter { OnOk result (Lightens (type_weight (shape_of shape.now)) self.old self.new) }
@@ -500,7 +508,8 @@ impl<'a, 'b, 't, W: Wording, S: Allocator, A: Allocator> Printer<'a, 'b, 't, W, 
             Some(is_mark) => match shape.types {
                 [] => self.print_slots(shape, Side::Right, pointed, 0),
                 [first, ..] => {
-                    push_suffix(self.stack, *first, is_mark, self.flags)?;
+                    let beneath = under(is_mark, shape.qualifiers, self.flags);
+                    push_suffix(self.stack, *first, beneath, self.flags)?;
                     self.print_slots(shape, Side::Right, pointed, 0)
                 }
             },

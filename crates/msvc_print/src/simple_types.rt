@@ -9,9 +9,12 @@ ghost use Rattle.msvc_print.specs.SimpleTypes as spec;
 ghost use Rattle.msvc_print.specs.Halves.{after, before};
 ghost use Rattle.msvc_print.specs.Limited.{Writes, add_all};
 ghost use Rattle.msvc_print.specs.Pieces.{text};
+ghost use Rattle.msvc_print.specs.Pointed.{pointed_by, unaligned_mark};
 ghost use Rattle.msvc_print.specs.Words.{base_word, marked, qualifiers as qualifier_pieces};
+ghost use Rattle.msvc_print.specs.declared.pointed.Pointed.TheVariants.{No};
 
 use crate::function_types::write_separator;
+use crate::pointed::{Pointed, has_unaligned_mark};
 use crate::spaces::{write_mark, write_qualifiers};
 use crate::style::{Style, Wording};
 use crate::text::{Text, write_text};
@@ -42,9 +45,9 @@ pub fn write_simple_inner<'a, 'b, W: Wording, A: Allocator>(
     t: &'b Type<'a, 'b>,
     flags: Style<W>,
 ) -> Result<bool, AllocError>
-    ensures simple { IfOk result (λ is. is ≡ true → (pointed : Bool) →
+    ensures simple { IfOk result (λ is. is ≡ true → (pointed : Pointed) →
         Writes (before (type_of t.now) pointed flags.bits) out.old out.new) }
-    ensures ends { IfOk result (λ is. is ≡ true → (pointed : Bool) → after (type_of t.now) pointed flags.bits ≡ []) }
+    ensures ends { IfOk result (λ is. is ≡ true → (pointed : Pointed) → after (type_of t.now) pointed flags.bits ≡ []) }
     ensures other { IfOk result (λ is. is ≡ false → out.new ≡ out.old) }
 {
     match t {
@@ -53,7 +56,7 @@ pub fn write_simple_inner<'a, 'b, W: Wording, A: Allocator>(
             Ok(true)
         }
         Type::Numbered(kind, number) => {
-            write_numbered(out, *kind, *number, false, flags)?;
+            write_numbered(out, *kind, *number, Pointed::No, flags)?;
             Ok(true)
         }
         _ => Ok(false),
@@ -69,15 +72,18 @@ pub fn write_simple_pointer<'a, 'b, W: Wording, A: Allocator>(
     flags: Style<W>,
 ) -> Result<bool, AllocError>
     ensures simple { IfOk result (λ is. is ≡ true →
-        Writes (before (type_of inner.now) true flags.bits ++ marked word.now qualifiers.0 flags.bits) out.old
+        Writes (before (type_of inner.now) (pointed_by qualifiers.0 flags.bits) flags.bits
+        ++ marked (unaligned_mark qualifiers.0 (type_of inner.now) flags.bits) word.now qualifiers.0 flags.bits) out.old
         out.new) }
-    ensures ends { IfOk result (λ is. is ≡ true → after (type_of inner.now) true flags.bits ≡ []) }
+    ensures ends { IfOk result (λ is. is ≡ true →
+        after (type_of inner.now) (pointed_by qualifiers.0 flags.bits) flags.bits ≡ []) }
     ensures other { IfOk result (λ is. is ≡ false → out.new ≡ out.old) }
 {
     if !write_simple_inner(out, inner, flags)? {
         return Ok(false);
     }
-    write_mark(out, word, qualifiers, flags)?;
+    let is_unaligned = has_unaligned_mark(qualifiers, inner, flags);
+    write_mark(out, word, qualifiers, is_unaligned, flags)?;
     Ok(true)
 }
 
@@ -88,8 +94,8 @@ pub fn write_simple<'a, 'b, W: Wording, A: Allocator>(
     t: &'b Type<'a, 'b>,
     flags: Style<W>,
 ) -> Result<bool, AllocError>
-    ensures simple { IfOk result (λ is. is ≡ true → Writes (before (type_of t.now) false flags.bits) out.old out.new) }
-    ensures ends { IfOk result (λ is. is ≡ true → after (type_of t.now) false flags.bits ≡ []) }
+    ensures simple { IfOk result (λ is. is ≡ true → Writes (before (type_of t.now) No flags.bits) out.old out.new) }
+    ensures ends { IfOk result (λ is. is ≡ true → after (type_of t.now) No flags.bits ≡ []) }
     ensures other { IfOk result (λ is. is ≡ false → out.new ≡ out.old) }
 {
     match t {

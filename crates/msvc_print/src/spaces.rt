@@ -8,6 +8,7 @@ ghost use Rattle.msvc_print.specs.Limited.{Writes};
 ghost use Rattle.msvc_print.specs.Pieces.{is_written_after, space};
 ghost use Rattle.msvc_print.specs.Words as spec;
 
+use crate::pointed::{Pointed, is_pointed, is_unaligned};
 use crate::style::{Style, Wording};
 use crate::text::{Text, write_text};
 use bitflags::Flags;
@@ -92,6 +93,13 @@ fn chosen_space<W: Wording>(flags: Style<W>, word: Space, other: Space) -> Space
     }
 }
 
+/// Returns the space before the mark of a pointer and its qualifiers, in the second grammar's style.
+fn full_space<W: Wording>(flags: Style<W>) -> Space
+    ensures { result ≡ spec.full_space flags.bits }
+{
+    chosen_space(flags, Space::AfterFullWord, Space::AfterFullPointer)
+}
+
 /// Returns the space before the name of a symbol.
 pub fn name_space<W: Wording>(flags: Style<W>) -> Space
     ensures { result ≡ spec.name_space flags.bits }
@@ -107,7 +115,7 @@ fn opening_space<W: Wording>(flags: Style<W>) -> Space
     ensures { result ≡ spec.opening_space flags.bits }
 {
     if flags.is_full() {
-        return chosen_space(flags, Space::AfterFullWord, Space::AfterFullPointer);
+        return full_space(flags);
     }
     Space::AfterPointer
 }
@@ -226,27 +234,24 @@ pub fn write_pointer_qualifiers<W: Wording, A: Allocator>(
 ) -> Result<(), AllocError>
     ensures { OnOk result (Writes (spec.mark_qualifiers (spec.full_space flags.bits) qualifiers.0) out.old out.new) }
 {
-    let kind = chosen_space(flags, Space::AfterFullWord, Space::AfterFullPointer);
+    let kind = full_space(flags);
     write_mark_qualifiers(out, kind, qualifiers)
 }
 
-/// Writes the `__unaligned` of a pointer in the second grammar's style.
+/// Writes the `__unaligned` of a pointer in the second grammar's style, if it has one.
 #[inline(always)]
 pub fn write_unaligned<W: Wording, A: Allocator>(
     out: &mut Text<A>,
-    qualifiers: StorageClass,
+    has_it: bool,
     flags: Style<W>,
 ) -> Result<(), AllocError>
-    ensures { OnOk result (Writes (spec.unaligned qualifiers.0 flags.bits) out.old out.new) }
+    ensures { OnOk result (Writes (spec.unaligned has_it flags.bits) out.old out.new) }
 {
-    let kind = chosen_space(flags, Space::AfterFullWord, Space::AfterFullPointer);
-    write_qualifier(
-        out,
-        kind,
-        StorageClass::UNALIGNED,
-        b"__unaligned ",
-        qualifiers,
-    )
+    if has_it {
+        write_space(out, full_space(flags))?;
+        write_text(out, b"__unaligned ")?;
+    }
+    Ok(())
 }
 
 /// Writes the space before the mark of a pointer or a reference in the second grammar's style.
@@ -271,28 +276,31 @@ fn write_full_mark<W: Wording, A: Allocator>(
     out: &mut Text<A>,
     word: &[u8],
     qualifiers: StorageClass,
+    is_unaligned: bool,
     flags: Style<W>,
 ) -> Result<(), AllocError>
-    ensures { OnOk result (Writes (spec.full_marked word.now qualifiers.0 flags.bits) out.old out.new) }
+    ensures { OnOk result (Writes (spec.full_marked is_unaligned word.now qualifiers.0 flags.bits) out.old out.new) }
 {
-    let kind = chosen_space(flags, Space::AfterFullWord, Space::AfterFullPointer);
-    write_unaligned(out, qualifiers, flags)?;
+    let kind = full_space(flags);
+    write_unaligned(out, is_unaligned, flags)?;
     write_full_mark_space(out, flags)?;
     write_text(out, word)?;
     write_mark_qualifiers(out, kind, qualifiers)
 }
 
-/// Writes the space before the mark of a pointer or a reference, and the mark with its qualifiers.
+/// Writes the space before the mark of a pointer or a reference, and the mark with its qualifiers, the `__unaligned`
+/// among them if `is_unaligned` says so.
 pub fn write_mark<W: Wording, A: Allocator>(
     out: &mut Text<A>,
     word: &[u8],
     qualifiers: StorageClass,
+    is_unaligned: bool,
     flags: Style<W>,
 ) -> Result<(), AllocError>
-    ensures { OnOk result (Writes (spec.marked word.now qualifiers.0 flags.bits) out.old out.new) }
+    ensures { OnOk result (Writes (spec.marked is_unaligned word.now qualifiers.0 flags.bits) out.old out.new) }
 {
     if flags.is_full() {
-        return write_full_mark(out, word, qualifiers, flags);
+        return write_full_mark(out, word, qualifiers, is_unaligned, flags);
     }
     if !flags.contains(DemangleFlags::HUG_TYPE) {
         write_space(out, Space::AfterPointer)?;
@@ -303,26 +311,38 @@ pub fn write_mark<W: Wording, A: Allocator>(
     write_qualifiers(out, qualifiers, flags)
 }
 
-/// Writes the parenthesis before the mark of a pointer, if the type is pointed to.
+/// Writes the parenthesis before the mark of a pointer, and the `__unaligned` of the pointer before it, if the type is
+/// pointed to.
 pub fn write_opening<W: Wording, A: Allocator>(
     out: &mut Text<A>,
-    pointed: bool,
+    pointed: Pointed,
     flags: Style<W>,
 ) -> Result<(), AllocError>
     ensures { OnOk result (Writes (spec.opening pointed flags.bits) out.old out.new) }
 {
-    if pointed {
-        write_space(out, opening_space(flags))?;
-        write_text(out, b"(")?;
+    if is_pointed(pointed) {
+        write_unaligned(out, flags.is_full() && is_unaligned(pointed), flags)?;
+        write_parenthesis(out, flags)?;
     }
     Ok(())
 }
 
+/// Writes a parenthesis before the mark of a pointer.
+fn write_parenthesis<W: Wording, A: Allocator>(
+    out: &mut Text<A>,
+    flags: Style<W>,
+) -> Result<(), AllocError>
+    ensures { OnOk result (Writes (spec.parenthesis flags.bits) out.old out.new) }
+{
+    write_space(out, opening_space(flags))?;
+    write_text(out, b"(")
+}
+
 /// Writes the parenthesis that closes that of [`write_opening`], if the type is pointed to.
-pub fn write_closing<A: Allocator>(out: &mut Text<A>, pointed: bool) -> Result<(), AllocError>
+pub fn write_closing<A: Allocator>(out: &mut Text<A>, pointed: Pointed) -> Result<(), AllocError>
     ensures { OnOk result (Writes (spec.closing pointed) out.old out.new) }
 {
-    if pointed {
+    if is_pointed(pointed) {
         write_text(out, b")")?;
     }
     Ok(())

@@ -13,11 +13,14 @@ ghost use Rattle.msvc_print.specs.Limited.{Writes};
 ghost use Rattle.msvc_print.specs.Pieces.{text};
 ghost use Rattle.msvc_print.specs.SymbolNodes.{no_type, symbol_name_of, symbol_weight_of};
 ghost use Rattle.msvc_print.specs.Weights.{scope_weight, type_weight, types_weight};
+ghost use Rattle.msvc_print.specs.Pointed.{pointed_by, unaligned_mark};
 ghost use Rattle.msvc_print.specs.Words.{closing, marked, opening, qualifiers as qualifier_pieces, variable_word};
 ghost use Rattle.msvc_print.specs.Work.{AddsAtMost, Keeps, LeavesAtMost, Lightens, Prints, Pushes, rest_of_parameters};
+ghost use Rattle.msvc_print.specs.declared.pointed.Pointed.TheVariants.{No};
 
 use crate::function_types::{write_calling, write_list_end, write_member_start, write_separator};
 use crate::item::{Item, ListEnd, TypeList, push};
+use crate::pointed::{Pointed, has_unaligned_mark, pointed_by};
 use crate::printer::Printer;
 use crate::simple_types::{
     write_base, write_simple, write_simple_inner, write_simple_pointer, write_simple_types,
@@ -34,7 +37,7 @@ use std::alloc::{AllocError, Allocator};
 
 impl<'a, 'b, 't, W: Wording, S: Allocator, A: Allocator> Printer<'a, 'b, 't, W, S, A> {
     /// Prints what a type has before the name.
-    pub fn print_prefix(&mut self, t: &'b Type<'a, 'b>, pointed: bool) -> Result<(), AllocError>
+    pub fn print_prefix(&mut self, t: &'b Type<'a, 'b>, pointed: Pointed) -> Result<(), AllocError>
         ensures text { OnOk result (Prints (before (type_of t.now) pointed self.old.flags.bits) self.old self.new) }
         ensures lighter { OnOk result (Lightens (type_weight (type_of t.now)) self.old self.new) }
         ensures kept { Keeps self.old self.new }
@@ -54,7 +57,7 @@ impl<'a, 'b, 't, W: Wording, S: Allocator, A: Allocator> Printer<'a, 'b, 't, W, 
             }
             Type::Array(_, qualifiers, inner) => {
                 push(self.stack, Item::ArrayLevel(*qualifiers, pointed))?;
-                self.print_inner(*inner, false)
+                self.print_inner(*inner, Pointed::No)
             }
             Type::Function(function) => self.print_function(*function, pointed),
             Type::MemberFunction(function) => {
@@ -63,7 +66,7 @@ impl<'a, 'b, 't, W: Wording, S: Allocator, A: Allocator> Printer<'a, 'b, 't, W, 
             }
             Type::MemberPointer(class, function) => {
                 push(self.stack, Item::Class(*class))?;
-                self.print_function(*function, true)
+                self.print_function(*function, Pointed::Yes)
             }
             Type::Variable(kind, qualifiers, inner) => self.print_variable(
                 *inner,
@@ -80,9 +83,9 @@ impl<'a, 'b, 't, W: Wording, S: Allocator, A: Allocator> Printer<'a, 'b, 't, W, 
     /// one of these, which have nothing after the name.
     #[inline(always)]
     fn print_innermost(&mut self, t: &'b Type<'a, 'b>) -> Result<bool, AllocError>
-        ensures text { IfOk result (λ is. is ≡ true → (pointed : Bool) →
+        ensures text { IfOk result (λ is. is ≡ true → (pointed : Pointed) →
             Prints (before (type_of t.now) pointed self.old.flags.bits) self.old self.new) }
-        ensures ends { IfOk result (λ is. is ≡ true → (pointed : Bool) →
+        ensures ends { IfOk result (λ is. is ≡ true → (pointed : Pointed) →
             after (type_of t.now) pointed self.old.flags.bits ≡ []) }
         ensures lighter { IfOk result (λ is. is ≡ true → Lightens (type_weight (type_of t.now)) self.old self.new) }
         ensures other { IfOk result (λ is. is ≡ false →
@@ -99,7 +102,7 @@ impl<'a, 'b, 't, W: Wording, S: Allocator, A: Allocator> Printer<'a, 'b, 't, W, 
     }
 
     /// Prints what a type inside another has before the name. Most have no type in them, and are printed at once.
-    pub fn print_inner(&mut self, t: &'b Type<'a, 'b>, pointed: bool) -> Result<(), AllocError>
+    pub fn print_inner(&mut self, t: &'b Type<'a, 'b>, pointed: Pointed) -> Result<(), AllocError>
         ensures text { OnOk result (Prints (before (type_of t.now) pointed self.old.flags.bits) self.old self.new) }
         ensures lighter { OnOk result (LeavesAtMost (type_weight (type_of t.now)) self.old self.new) }
         ensures kept { Keeps self.old self.new }
@@ -117,25 +120,28 @@ impl<'a, 'b, 't, W: Wording, S: Allocator, A: Allocator> Printer<'a, 'b, 't, W, 
         qualifiers: StorageClass,
         inner: &'b Type<'a, 'b>,
     ) -> Result<(), AllocError>
-        ensures text { OnOk result (Prints (before (type_of inner.now) true self.old.flags.bits
-            ++ marked word.now qualifiers.0 self.old.flags.bits) self.old self.new) }
+        ensures text { OnOk result (Prints
+            (before (type_of inner.now) (pointed_by qualifiers.0 self.old.flags.bits) self.old.flags.bits
+            ++ marked (unaligned_mark qualifiers.0 (type_of inner.now) self.old.flags.bits) word.now qualifiers.0
+            self.old.flags.bits) self.old self.new) }
         ensures lighter { OnOk result (Lightens (2 + type_weight (type_of inner.now)) self.old self.new) }
         ensures kept { Keeps self.old self.new }
     {
         if write_simple_pointer(self.out, word, qualifiers, inner, self.flags)? {
             return Ok(());
         }
-        push(self.stack, Item::Mark(word, qualifiers))?;
-        self.print_inner(inner, true)
+        let is_unaligned = has_unaligned_mark(qualifiers, inner, self.flags);
+        push(self.stack, Item::Mark(word, qualifiers, is_unaligned))?;
+        self.print_inner(inner, pointed_by(qualifiers, self.flags))
     }
 
     /// Prints what a function has before its name.
     fn print_function(
         &mut self,
         function: &'b Function<'a, 'b>,
-        pointed: bool,
+        pointed: Pointed,
     ) -> Result<(), AllocError>
-        ensures text { OnOk result (Prints (before (type_of function.now.returned.now) false self.old.flags.bits
+        ensures text { OnOk result (Prints (before (type_of function.now.returned.now) No self.old.flags.bits
             ++ (spec.returned_end (type_of function.now.returned.now) self.old.flags.bits
             ++ calling pointed function.now.convention self.old.flags.bits)) self.old self.new) }
         ensures lighter { OnOk result (Lightens (3 + type_weight (type_of function.now.returned.now))
@@ -151,7 +157,7 @@ impl<'a, 'b, 't, W: Wording, S: Allocator, A: Allocator> Printer<'a, 'b, 't, W, 
         }
         push(self.stack, Item::Calling(pointed, function.convention))?;
         push_returned_end(self.stack, function.returned, self.flags)?;
-        self.print_inner(function.returned, false)
+        self.print_inner(function.returned, Pointed::No)
     }
 
     /// Prints what a variable has before its name: words that no flag drops, its type, and its qualifiers.
@@ -162,32 +168,37 @@ impl<'a, 'b, 't, W: Wording, S: Allocator, A: Allocator> Printer<'a, 'b, 't, W, 
         qualifiers: StorageClass,
     ) -> Result<(), AllocError>
         ensures text { OnOk result
-            (Prints (text (variable_word kind) ∷ (before (type_of inner.now) false self.old.flags.bits
+            (Prints (text (variable_word kind) ∷ (before (type_of inner.now) No self.old.flags.bits
             ++ qualifier_pieces qualifiers.0 self.old.flags.bits)) self.old self.new) }
         ensures lighter { OnOk result (Lightens (3 + type_weight (type_of inner.now)) self.old self.new) }
         ensures kept { Keeps self.old self.new }
     {
         write_text(self.out, variable_word(kind))?;
         push_qualifiers(self.stack, qualifiers, self.flags)?;
-        self.print_inner(inner, false)
+        self.print_inner(inner, Pointed::No)
     }
 
     /// Prints what a type has after the name.
-    pub fn print_suffix(&mut self, t: &'b Type<'a, 'b>, pointed: bool) -> Result<(), AllocError>
+    pub fn print_suffix(&mut self, t: &'b Type<'a, 'b>, pointed: Pointed) -> Result<(), AllocError>
         ensures text { OnOk result (Prints (after (type_of t.now) pointed self.old.flags.bits) self.old self.new) }
         ensures lighter { OnOk result (Lightens (type_weight (type_of t.now)) self.old self.new) }
         ensures kept { Keeps self.old self.new }
     {
         match t {
-            Type::Pointing(_, _, inner) => push_suffix(self.stack, *inner, true, self.flags),
+            Type::Pointing(_, qualifiers, inner) => push_suffix(
+                self.stack,
+                *inner,
+                pointed_by(*qualifiers, self.flags),
+                self.flags,
+            ),
             Type::Array(length, _, inner) => {
                 write_length(self.out, *length, pointed)?;
-                push_suffix(self.stack, *inner, false, self.flags)
+                push_suffix(self.stack, *inner, Pointed::No, self.flags)
             }
             Type::Function(function) => self.print_function_end(*function, pointed),
             Type::MemberFunction(function) => self.print_function_end(*function, pointed),
             Type::MemberPointer(_, function) => self.print_member_pointer_end(*function),
-            Type::Variable(_, _, inner) => push_suffix(self.stack, *inner, false, self.flags),
+            Type::Variable(_, _, inner) => push_suffix(self.stack, *inner, Pointed::No, self.flags),
             Type::Table(table, _, scope) => self.print_table_end(*table, scope.names),
             Type::VcallThunk(number, _) => write_thunk_end(self.out, *number, self.flags),
             Type::Shape(shape) => self.print_shape_suffix(*shape, pointed),
@@ -203,12 +214,12 @@ impl<'a, 'b, 't, W: Wording, S: Allocator, A: Allocator> Printer<'a, 'b, 't, W, 
     fn print_function_end(
         &mut self,
         function: &'b Function<'a, 'b>,
-        pointed: bool,
+        pointed: Pointed,
     ) -> Result<(), AllocError>
         ensures text { OnOk result
             (Prints (function_end pointed
             (spec.parameters (types_in function.now.parameters.now) true self.old.flags.bits) function.now.qualifiers.0
-            self.old.flags.bits (after (type_of function.now.returned.now) false self.old.flags.bits)) self.old
+            self.old.flags.bits (after (type_of function.now.returned.now) No self.old.flags.bits)) self.old
             self.new) }
         ensures lighter { OnOk result (Lightens (3 + types_weight (types_in function.now.parameters.now)
             + type_weight (type_of function.now.returned.now)) self.old self.new) }
@@ -216,7 +227,7 @@ impl<'a, 'b, 't, W: Wording, S: Allocator, A: Allocator> Printer<'a, 'b, 't, W, 
     {
         write_closing(self.out, pointed)?;
         write_text(self.out, b"(")?;
-        push_suffix(self.stack, function.returned, false, self.flags)?;
+        push_suffix(self.stack, function.returned, Pointed::No, self.flags)?;
         self.print_parameters(
             function.parameters,
             true,
@@ -230,14 +241,14 @@ impl<'a, 'b, 't, W: Wording, S: Allocator, A: Allocator> Printer<'a, 'b, 't, W, 
         ensures text { OnOk result
             (Prints (member_pointer_end
             (spec.parameters (types_in function.now.parameters.now) true self.old.flags.bits) function.now.qualifiers.0
-            (after (type_of function.now.returned.now) false self.old.flags.bits)) self.old self.new) }
+            (after (type_of function.now.returned.now) No self.old.flags.bits)) self.old self.new) }
         ensures lighter { OnOk result (Lightens (3 + types_weight (types_in function.now.parameters.now)
             + type_weight (type_of function.now.returned.now)) self.old self.new) }
         ensures kept { Keeps self.old self.new }
     {
         write_text(self.out, b")(")?;
         push_const(self.stack, function.qualifiers, self.flags)?;
-        push_suffix(self.stack, function.returned, false, self.flags)?;
+        push_suffix(self.stack, function.returned, Pointed::No, self.flags)?;
         self.print_parameters(function.parameters, true, ListEnd::Bare)
     }
 
@@ -338,8 +349,8 @@ impl<'a, 'b, 't, W: Wording, S: Allocator, A: Allocator> Printer<'a, 'b, 't, W, 
 
     /// Prints a type on both sides of nothing.
     fn print_parameter(&mut self, t: &'b Type<'a, 'b>) -> Result<(), AllocError>
-        ensures text { OnOk result (Prints (before (type_of t.now) false self.old.flags.bits
-            ++ after (type_of t.now) false self.old.flags.bits) self.old self.new) }
+        ensures text { OnOk result (Prints (before (type_of t.now) No self.old.flags.bits
+            ++ after (type_of t.now) No self.old.flags.bits) self.old self.new) }
         ensures lighter { OnOk result (Lightens (type_weight (type_of t.now) + type_weight (type_of t.now))
             self.old self.new) }
         ensures kept { Keeps self.old self.new }
@@ -347,8 +358,8 @@ impl<'a, 'b, 't, W: Wording, S: Allocator, A: Allocator> Printer<'a, 'b, 't, W, 
         if self.print_innermost(t)? {
             return Ok(());
         }
-        push_suffix(self.stack, t, false, self.flags)?;
-        self.print_prefix(t, false)
+        push_suffix(self.stack, t, Pointed::No, self.flags)?;
+        self.print_prefix(t, Pointed::No)
     }
 
     /// Prints a word, a name in its scope, and qualifiers.
@@ -375,7 +386,7 @@ impl<'a, 'b, 't, W: Wording, S: Allocator, A: Allocator> Printer<'a, 'b, 't, W, 
 fn write_plain<W: Wording, A: Allocator>(
     out: &mut Text<A>,
     kind: PlainType,
-    pointed: bool,
+    pointed: Pointed,
     flags: Style<W>,
 ) -> Result<(), AllocError>
     ensures { OnOk result (Writes (before (plain kind) pointed flags.bits) out.old out.new) }
@@ -394,7 +405,7 @@ pub fn write_numbered<W: Wording, A: Allocator>(
     out: &mut Text<A>,
     kind: NumberedType,
     number: i32,
-    pointed: bool,
+    pointed: Pointed,
     flags: Style<W>,
 ) -> Result<(), AllocError>
     ensures { OnOk result (Writes (before (numbered kind number) pointed flags.bits) out.old out.new) }
@@ -408,7 +419,7 @@ pub fn write_numbered<W: Wording, A: Allocator>(
 
 /// Returns whether a type may have something after the name.
 fn may_have_suffix<'a, 'b>(t: &'b Type<'a, 'b>) -> bool
-    ensures { result ≡ false → (pointed : Bool) (flags : ℕ) → after (type_of t.now) pointed flags ≡ [] }
+    ensures { result ≡ false → (pointed : Pointed) (flags : ℕ) → after (type_of t.now) pointed flags ≡ [] }
 {
     match t {
         Type::Pointing(_, _, _) => true,
@@ -432,7 +443,7 @@ fn may_have_suffix<'a, 'b>(t: &'b Type<'a, 'b>) -> bool
 pub fn push_suffix<'a, 'b, W: Wording, S: Allocator>(
     stack: &mut Vec<Item<'a, 'b>, S>,
     t: &'b Type<'a, 'b>,
-    pointed: bool,
+    pointed: Pointed,
     flags: Style<W>,
 ) -> Result<(), AllocError>
     ensures text { OnOk result
@@ -565,11 +576,11 @@ fn write_thunk<W: Wording, A: Allocator>(
     convention: Convention,
     flags: Style<W>,
 ) -> Result<(), AllocError>
-    ensures { OnOk result (Writes (text (codes "[thunk]: ") ∷ calling false convention flags.bits)
+    ensures { OnOk result (Writes (text (codes "[thunk]: ") ∷ calling No convention flags.bits)
         out.old out.new) }
 {
     write_text(out, b"[thunk]: ")?;
-    write_calling(out, false, convention, flags)
+    write_calling(out, Pointed::No, convention, flags)
 }
 
 /// Writes what a thunk has after its name: the offset in the table, in bytes, and the memory model.
@@ -601,7 +612,7 @@ fn write_template_parameter<A: Allocator>(out: &mut Text<A>, number: i32) -> Res
 fn write_length<A: Allocator>(
     out: &mut Text<A>,
     length: i32,
-    pointed: bool,
+    pointed: Pointed,
 ) -> Result<(), AllocError>
     ensures { OnOk result (Writes (closing pointed ++ spec.length_pieces length) out.old out.new) }
 {
@@ -615,7 +626,7 @@ fn write_length<A: Allocator>(
 pub fn write_array_prefix<W: Wording, A: Allocator>(
     out: &mut Text<A>,
     qualifiers: StorageClass,
-    pointed: bool,
+    pointed: Pointed,
     flags: Style<W>,
 ) -> Result<(), AllocError>
     ensures { OnOk result (Writes (qualifier_pieces qualifiers.0 flags.bits

@@ -15,6 +15,6 @@ layout_in-behind (x ∷ xs) n row e h = ap (λ c. cond c x.1 (layout_in xs row))
     (ne_eqb x.0 row (λ same. omega (arith, ltb-true x.0 n (both _ _ e).0, same, h)))
     ∙ layout_in-behind xs n row (both _ _ e).1 h
 
-pub layout_of-behind : (row : ℕ) → 67 ≤ row → layout_of row ≡ before []
+pub layout_of-behind : (row : ℕ) → 68 ≤ row → layout_of row ≡ before []
 unfolding layout_of
-layout_of-behind row h = layout_in-behind table 67 row refl h
+layout_of-behind row h = layout_in-behind table 68 row refl h

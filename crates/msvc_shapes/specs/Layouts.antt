@@ -183,6 +183,7 @@ table =
     ∷ (rows.destructor_funclet, before (word (codes "dtor$") ∷ bytes ∷ []))
     ∷ (rows.filter_funclet, before (word (codes "filt$") ∷ bytes ∷ []))
     ∷ (rows.finally_funclet, before (word (codes "fin$") ∷ bytes ∷ []))
+    ∷ (rows.explicit_this, before (word (codes "this ") ∷ type_at 0 ∷ []))
     ∷ []
 
 -- the layout of a row of a table, an empty one if there is no such row

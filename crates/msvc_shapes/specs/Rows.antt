@@ -201,3 +201,6 @@ filter_funclet = 65
 
 abbrev pub finally_funclet : ℕ
 finally_funclet = 66
+
+abbrev pub explicit_this : ℕ
+explicit_this = 67

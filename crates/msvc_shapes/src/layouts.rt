@@ -305,6 +305,7 @@ fn layout_of<'t>(row: u8) -> Layout<'t>
         DESTRUCTOR_FUNCLET => before(&[Slot::Word(b"dtor$"), Slot::Bytes]),
         FILTER_FUNCLET => before(&[Slot::Word(b"filt$"), Slot::Bytes]),
         FINALLY_FUNCLET => before(&[Slot::Word(b"fin$"), Slot::Bytes]),
+        EXPLICIT_THIS => before(&[Slot::Word(b"this "), Slot::Type(0)]),
         _ => before(&[]),
     }
 }

@@ -137,3 +137,5 @@ pub const DESTRUCTOR_FUNCLET: u8 = 64;
 pub const FILTER_FUNCLET: u8 = 65;
 /// The same of a part that runs whether or not there is an exception: the bytes after `fin$`.
 pub const FINALLY_FUNCLET: u8 = 66;
+/// An explicit `this` among the parameters of a function: type 0 is that of the parameter.
+pub const EXPLICIT_THIS: u8 = 67;

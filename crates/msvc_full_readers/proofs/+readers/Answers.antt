@@ -10,8 +10,8 @@ use Rattle.msvc_rules.specs.Readers.{in_node, put_apart}
 use Rattle.msvc_rules.specs.Reads.{emptied, put_back}
 use Rattle.msvc_rules.specs.Rules.{after}
 use Rattle.msvc_rules.specs.State.{State}
-use Rattle.msvc_full_grammar.specs.Fragments.{template_inside}
-use Rattle.msvc_full_grammar.specs.Productions.{encoding, listed, nested_name, one_listed, parameter, parameters}
+use Rattle.msvc_full_grammar.specs.Fragments.{parameter, template_inside}
+use Rattle.msvc_full_grammar.specs.Productions.{encoding, listed, nested_name, one_listed, parameters}
 use Rattle.msvc_full_grammar.specs.Productions.{class_symbol, scope, targets, template_name}
 use Rattle.msvc_full_grammar.specs.Reading.{read, read_name}
 use Rattle.msvc_full_grammar.proofs.Laws.{type_made}
@@ -152,7 +152,7 @@ parameters::parameters-parameters-preserved g t c =
     ≡ map type_at (current c.parameters.parser.listed_types) ++ type_at c.in_ok-parameter.parameter ∷ [] =
     ap (map type_at) items ∙ map_last type_at (current c.parameters.parser.listed_types) c.in_ok-parameter.parameter in
     let none : parameters_stop c.parameters.parser.rest.now ≡ None = search rules in
-    let read : read_name parameter c.parameters.parser.rest.now (state_of c.parameters.parser)
+    let read : read parameter c.parameters.parser.rest.now (state_of c.parameters.parser)
     ≡ Some (type_at c.in_ok-parameter.parameter, c.parameter.new.parser.rest.now, state_of c.parameter.new.parser) =
     c.in_ok-parameter.ensures.value in
     let rest : c.list_type.new.self.rest.now ≡ c.parameter.new.parser.rest.now = c.in_ok-list_type.ensures.rest in
@@ -171,10 +171,9 @@ parameters::parameters-parameters-preserved g t c =
           (type_at c.in_ok-parameter.parameter) none read)
           ∙ c.parameters.invariant.0,
       omega (arith, c.in_ok-parameter.ensures.consumes.0, ap length rest, c.parameters.invariant.1),
-      c.parameters.invariant.2,
       frame_types _ _ _ _ (frame_of c.parameters.parser) (frame_of c.parameter.new.parser)
           (frame_of c.list_type.new.self) c.in_ok-parameter.parameter _
-          c.parameters.invariant.3 c.in_ok-parameter.ensures.consumes.1 c.in_ok-list_type.ensures.kept,
+          c.parameters.invariant.2 c.in_ok-parameter.ensures.consumes.1 c.in_ok-list_type.ensures.kept,
     )
 
 -- the same of arguments

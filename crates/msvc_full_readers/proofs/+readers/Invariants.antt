@@ -6,6 +6,7 @@ use Rattle.msvc_full_grammar.specs.Reading.{read_name}
 use Rattle.msvc_cursor.specs.Parser.{frame_of, state_of}
 use Rattle.msvc_cursor.specs.NestedList.{current, enclosing}
 use Rattle.msvc_cursor.proofs.RowSteps.{with_front}
+use Rattle.msvc_full_readers.specs.Readings.{parameters_behind}
 use Rattle.msvc_full_readers.proofs.+readers.Given as goal
 
 -- Where as many bytes are left, a reader calls only those with a smaller number.
@@ -66,6 +67,9 @@ decreases-functions::returned g l = level l.parser.now.rest.now 3
 
 abbrev pub decreases-parameters::function_parameters : goal.decreases-parameters::function_parameters
 decreases-parameters::function_parameters g l = level l.parser.now.rest.now 4
+
+abbrev pub decreases-parameters::explicit_parameters : goal.decreases-parameters::explicit_parameters
+decreases-parameters::explicit_parameters g l = level l.parser.now.rest.now 3
 
 abbrev pub decreases-parameters::parameters : goal.decreases-parameters::parameters
 decreases-parameters::parameters g l = level l.parser.now.rest.now 3
@@ -256,6 +260,9 @@ decreases-arguments::element_of_value g l = level l.parser.now.rest.now 1
 abbrev pub decreases-arguments::union_value : goal.decreases-arguments::union_value
 decreases-arguments::union_value g l = level l.parser.now.rest.now 2
 
+abbrev pub decreases-arguments::member_by_name : goal.decreases-arguments::member_by_name
+decreases-arguments::member_by_name g l = level l.parser.now.rest.now 2
+
 -- the names so far, before what is read of the rest, are what is read of all; those that others gather stay
 abbrev pub invariant-names::scope-names : goal.invariant-names::scope-names
 invariant-names::scope-names g l =
@@ -288,19 +295,14 @@ invariant-names::targets-names g l =
 abbrev pub decreases-names::targets-names : goal.decreases-names::targets-names
 decreases-names::targets-names g l = length l.parser.rest.now
 
--- the parameters so far, before what is read of the rest, are what is read of all; those that others gather stay
+-- the parameters so far, before what is read of the rest, are what is read of all behind the first ones
 abbrev pub invariant-parameters::parameters-parameters : goal.invariant-parameters::parameters-parameters
 invariant-parameters::parameters-parameters g l =
     (with_front (map type_at (current l.parser.listed_types))
     (read_name parameters l.parser.rest.now (state_of l.parser))
-    ≡ read_name parameters l.fn.parser.rest.now (state_of l.fn.parser))
+    ≡ parameters_behind (map type_at (current l.fn.parser.listed_types)) l.fn.parser.rest.now (state_of l.fn.parser))
     × (length l.parser.rest.now ≤ length l.fn.parser.rest.now)
-    × (l.checkpoint.from ≡ length (enclosing l.fn.parser.listed_types))
-    × (frame_of l.parser
-    ≡ record (frame_of l.fn.parser) {
-      listed_types = current l.parser.listed_types;
-      types_before = enclosing l.fn.parser.listed_types ++ current l.fn.parser.listed_types;
-    })
+    × (frame_of l.parser ≡ record (frame_of l.fn.parser) { listed_types = current l.parser.listed_types })
 
 abbrev pub decreases-parameters::parameters-parameters : goal.decreases-parameters::parameters-parameters
 decreases-parameters::parameters-parameters g l = length l.parser.rest.now

@@ -15,7 +15,7 @@ returns g c =
     (λ last. settled_two _ _ _ _ _ c.in_ok-write_unaligned.ensures
     (settled_two _ _ _ _ _ c.in_ok-write_full_mark_space.ensures
     (settled_two _ _ _ _ _ c.in_ok-write_text.ensures last))
-    ∙ ap (λ s. add_all c.args.out.now (unaligned set flags
+    ∙ ap (λ s. add_all c.args.out.now (unaligned c.args.is_unaligned flags
     ++ (full_mark_space flags ++ (text c.args.word.now ∷ mark_qualifiers s set))))
-    c.chosen_space-kind.ensures)
+    c.full_space-kind.ensures)
     c.write_mark_qualifiers.ensures

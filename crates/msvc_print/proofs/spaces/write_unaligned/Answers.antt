@@ -1,11 +1,13 @@
-use Rattle.std.proofs.Common.{ap, codes, ◌∙◌}
-use Rattle.std.proofs.lemmas.Result.{on_ok_weaker}
+use Rattle.std.proofs.Common.{ap, codes, sym, ◌∙◌, ◌∷◌, [], cond}
+use Rattle.msvc_print.proofs.Settling.{settled_two}
 use Rattle.msvc_print.specs.Limited.{add_all}
-use Rattle.msvc_print.specs.Words.{qualifier}
+use Rattle.msvc_print.specs.Pieces.{space, text}
+use Rattle.msvc_print.specs.Words.{full_space}
 use Rattle.msvc_print.proofs.spaces.write_unaligned.Goals as goal
 
-pub returns : goal.returns
-returns g c = on_ok_weaker c.write_qualifier.result
-    (λ e. e ∙ ap (λ s. add_all c.args.out.now (qualifier s 16 (codes "__unaligned ") c.args.qualifiers.0))
-    c.chosen_space-kind.ensures)
-    c.write_qualifier.ensures
+pub returns-in_ok-write_text : goal.returns-in_ok-write_text
+returns-in_ok-write_text g c =
+    let word = text (codes "__unaligned ") ∷ [] in
+    settled_two _ _ _ _ _ c.in_ok-write_space.ensures c.in_ok-write_text.ensures
+    ∙ ap (λ s. add_all c.args.out.now (space s ∷ word)) c.full_space.ensures
+    ∙ ap (λ b. add_all c.args.out.now (cond b (space (full_space c.args.flags.bits) ∷ word) [])) (sym c.if-has_it.true)

@@ -1,4 +1,4 @@
-use Rattle.std.proofs.Common.{◌≡◌, [], true, ap, sym, ◌∙◌, arith}
+use Rattle.std.proofs.Common.{◌≡◌, [], ap, sym, ◌∙◌, arith}
 use Rattle.msvc_nodes.specs.NodeView.{type_of}
 use Rattle.msvc_print.proofs.Stack.{printed_none, pushed_one, work_one}
 use Rattle.msvc_print.specs.Halves.{after}
@@ -17,7 +17,7 @@ returns-else-may_have-clause-text g c =
     let flags = c.args.flags.bits in
     let none : after (type_of c.args.t.now) c.args.pointed flags ≡ [] = elim c.match-t.branch [
       | in-Pointing w ↦ ap (λ t. after (type_of t) c.args.pointed flags) w.in-Pointing.is
-          ∙ w.may_have_suffix-may_have.ensures (sym w.may_have-is ∙ c.if-may_have.false) true flags
+          ∙ w.may_have_suffix-may_have.ensures (sym w.may_have-is ∙ c.if-may_have.false) _ flags
       | in_default w ↦ w.may_have_suffix-may_have-in_default.ensures (sym w.may_have-is ∙ c.if-may_have.false)
           c.args.pointed flags
     ] in

@@ -28,8 +28,8 @@ returns-in_ok-push_suffix-in-len1-up-clause-text g c = on_ok_weaker c.print_slot
     ∙ c.in_ok-push_suffix-in-len1-up.ensures.text _
     ∙ ap (finished_after c.args.self.now) (sym (add_all-append c.args.self.now.out.now _ _))
     ∙ ap (λ x. finished_after c.args.self.now (add_all c.args.self.now.out.now x))
-    (sym (after-around _ _ _ _ _ c.args.shape.now.types.now _ _ _ _ c.in-len1-up.len_at_least
-    (sym c.around.ensures ∙ c.in-Some.is))))
+    (sym (after-around _ _ _ _ _ c.args.shape.now.types.now _ _ _ _ _ c.in-len1-up.len_at_least
+    (sym c.around.ensures ∙ c.in-Some.is) c.under-beneath.ensures)))
     c.print_slots-in-len1-up.ensures.text
 
 pub returns-in-None-clause-lighter : goal.returns-in-None-clause-lighter
