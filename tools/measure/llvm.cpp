@@ -1,5 +1,6 @@
 // Measures the time of LLVM's library for names, in one process: `llvm ROUNDS` with the names as lines of standard
-// input does what `msvc_bench measure ROUNDS` does with our library. With 0 rounds it prints the text of each name.
+// input does what `msvc_bench measure ROUNDS` does with our library. With 0 rounds it prints the text of each name, and
+// `llvm whole` prints those of names that it reads to their end.
 
 #include <algorithm>
 #include <chrono>
@@ -13,21 +14,24 @@
 
 using Names = std::vector<std::string>;
 
-// Returns the text of a name, which the caller frees, or null.
-static char *demangle(const std::string &name) {
+// Returns the text of a name, which the caller frees, or null. `read` gets the number of bytes that were read.
+static char *demangle(const std::string &name, std::size_t *read = nullptr) {
   int status;
 #if LLVM_VERSION_MAJOR < 17
-  return llvm::microsoftDemangle(name.c_str(), nullptr, nullptr, nullptr, &status);
+  return llvm::microsoftDemangle(name.c_str(), read, nullptr, nullptr, &status);
 #else
-  return llvm::microsoftDemangle(name, nullptr, &status);
+  return llvm::microsoftDemangle(name, read, &status);
 #endif
 }
 
-// Prints the names that have a text, a line each: the name, a tab, and the text.
-static void print_demangled(const Names &names) {
+// Prints the names that have a text, a line each: the name, a tab, and the text. `whole` leaves out names with bytes
+// that aren't read.
+static void print_demangled(const Names &names, bool whole) {
   for (const std::string &name : names) {
-    if (char *text = demangle(name)) {
-      std::cout << name << '\t' << text << '\n';
+    std::size_t read = 0;
+    if (char *text = demangle(name, &read)) {
+      if (!whole || read == name.size())
+        std::cout << name << '\t' << text << '\n';
       std::free(text);
     }
   }
@@ -63,9 +67,10 @@ int main(int count, char **words) {
   Names names;
   for (std::string name; std::getline(std::cin, name);)
     names.push_back(name);
-  long rounds = count > 1 ? std::atol(words[1]) : 0;
+  std::string word = count > 1 ? words[1] : "0";
+  long rounds = std::atol(word.c_str());
   if (rounds == 0)
-    print_demangled(names);
+    print_demangled(names, word == "whole");
   else
     measure(names, rounds);
 }
