@@ -21,10 +21,11 @@ table = table_letter qualifier @ | table_letter qualifier type_symbol @ \
     | table_letter qualifier type_symbol type_symbol @
 table_letter = 6 | 7
 
-# Symbols without a name of the source. Inside another symbol a guard has an index.
+# Symbols without a name of the source. Inside another symbol a guard has an index. ?$ in a stub begins a template.
 unnamed = ?@ key @ | ?_C@_ width count key @ string_bytes @ | ?_R0 result_type @8 | ?_B scope marker count \
     | ?__J scope marker count | ?__E stubbed function | ?__F stubbed function | ?__N value @
-stubbed = known_name scope | known_name scope variable_kind variable @ | ? named scope variable_kind variable @@ \
+stubbed = known_name scope | known_name scope variable_kind variable @ \
+    | ? a@ name_done scope variable_kind variable @@ | ?? operator scope variable_kind variable @@ \
     | ?$ template scope | ?$ template scope variable_kind name_done variable @ \
     | ??$ template scope variable_kind name_done variable @@
 width = 0 | 1
@@ -64,7 +65,8 @@ qualifier_of_data = A | B | C | D
 qualifier_of_members = Q | R | S | T
 
 # Parameters. Void begins no list.
-parameters = X | parameters_end | known_parameter more_parameters | ten_pointers more_parameters
+parameters = X | parameters_end | known_parameter more_parameters | ten_pointers more_parameters \
+    | _V known_parameter more_parameters
 more_parameters = parameters_end | parameter more_parameters | parameter parameter more_parameters
 parameters_end = @ | Z
 parameter = known_parameter | X
@@ -134,7 +136,7 @@ arguments = @ | argument arguments | argument argument arguments
 argument = type | $S | $$V | $$$V | $$Z | $$Y type_symbol | $ value | $M type value
 value = 0 number | 1? symbol | E? symbol | F number number | G number number number | H member_offsets \
     | I member_offsets number | J member_offsets number number | bits count | N | 2 type members | 3 type elements \
-    | 5 value @ | 6 value type_name @ | C value 0 number @ | 7 type @ | 7 type type_name value @
+    | 5 value @ | 6 value type_name @ | C value 0 number @ | 7 type @ | 7 type type_name value @ | 8 scope type_name @
 bits = A | B | V | W | X | Y | Z
 members = @ | member members | member member members
 member = 0 number | type @ | type value | 2 type members | 3 type elements | 7 type @ | 7 type type_name value @
