@@ -15,14 +15,10 @@ use Rattle.msvc_grammar.specs.Productions.{number}
 use Rattle.msvc_grammar.specs.Reading.{read_name, read}
 use Rattle.msvc_grammar.proofs.Laws.{read_name-is}
 use Rattle.msvc_cursor.specs.Parser.{counting_ellipsis, ellipsis_types, parameters_stop}
+use Rattle.msvc_cursor.specs.Rows.{with_front}
 use Rattle.msvc_grammar.specs.declared.forms.Ellipsis.{Ellipsis}
 use Rattle.msvc_grammar.specs.declared.forms.Ellipsis.TheVariants.{Absent, Present}
 use Rattle.msvc_cursor.proofs.Choices.{chosen, literal_or-is, or_none}
-
--- elements that stand before those that are read
-abbrev pub with_front : {A : Type 0} → List A → Found (List A) → Found (List A)
-with_front xs None = None
-with_front xs (Some y) = Some (xs ++ y.0, y.1, y.2)
 
 pub front_none : {A : Type 0} (o : Found (List A)) → with_front [] o ≡ o
 front_none None = refl

@@ -13,9 +13,10 @@ use Rattle.msvc_grammar.specs.Grammar.{grammar, escaped_character, halves, strin
 use Rattle.msvc_grammar.specs.Letters.{character_sizes, escaped_characters, hexadecimal, plain_characters}
 use Rattle.msvc_grammar.specs.Productions.{encoding_after, number, character, characters}
 use Rattle.msvc_grammar.specs.Reading.{read_name, read}
+use Rattle.msvc_cursor.specs.Rows.{with_front}
 use Rattle.msvc_grammar.proofs.Laws.{read_name-is}
 use Rattle.msvc_cursor.proofs.Choices.{chosen, literal_or-is}
-use Rattle.msvc_cursor.proofs.RowSteps.{with_front, front_none, front_first}
+use Rattle.msvc_cursor.proofs.RowSteps.{front_none, front_first}
 
 pub encoded_string_step : (left : List ℕ) (s : State) → read_name (encoding_after encoded_string) left s
     ≡ in_node left s (λ h a. and_then (letter_here character_sizes h a) (λ size l t. and_then (read_name number l t)

@@ -1,5 +1,6 @@
--- The lists of the parser after a reader, and views of the nodes that readers store in the arena.
-use Rattle.std.specs.Prelude.{List, Result, IfOk, ◌≡◌, ◌++◌, drop, length, map, take}
+-- The lists of the parser after a reader, what a repetition reads behind the elements so far, and views of the nodes
+-- that readers store in the arena.
+use Rattle.std.specs.Prelude.{List, Option, Some, None, Result, IfOk, ◌≡◌, ◌++◌, drop, length, map, take}
 use Rattle.std.specs.Borrow.{Bor}
 use Rattle.msvc_nodes.specs.Trees.{NameTree, SymbolTree, TypeTree}
 use Rattle.msvc_nodes.specs.NodeView.{name_at, type_at, typed_symbol_of}
@@ -7,6 +8,7 @@ use Rattle.msvc_nodes.specs.declared.nodes.Function.{Function}
 use Rattle.msvc_nodes.specs.declared.nodes.Symbol.{Symbol}
 use Rattle.msvc_nodes.specs.declared.nodes.TypedSymbol.{TypedSymbol}
 use Rattle.msvc_nodes.specs.declared.kinds.Convention.{Convention}
+use Rattle.msvc_rules.specs.Readers.{Found}
 use Rattle.msvc_cursor.specs.Parser.{frame_of}
 use Rattle.msvc_cursor.specs.NestedList.{current, enclosing}
 use Rattle.msvc_cursor.specs.declared.nested_list.Checkpoint.{Checkpoint}
@@ -52,6 +54,11 @@ EndsTypes checkpoint before after result =
       listed_types = drop checkpoint.from (enclosing before.listed_types);
       types_before = take checkpoint.from (enclosing before.listed_types);
     })
+
+-- elements that stand before those that are read
+abbrev pub with_front : {A : Type 0} → List A → Found (List A) → Found (List A)
+with_front xs None = None
+with_front xs (Some y) = Some (xs ++ y.0, y.1, y.2)
 
 -- a name and its scope
 abbrev pub named_at : Bor Symbol → NameTree × List NameTree

@@ -6,7 +6,7 @@ ghost use Rattle.std.specs.Prelude.{take};
 ghost use Rattle.msvc_nodes.specs.Equality.{same_name, same_type};
 ghost use Rattle.msvc_nodes.specs.NodeView.{name_at, name_of, type_at, type_of};
 ghost use Rattle.msvc_rules.specs.Counts.{name_count, type_count};
-ghost use Rattle.msvc_rules.specs.Readers.{name_known, type_known, type_noted, with_value};
+ghost use Rattle.msvc_rules.specs.Readers.{name_known, name_stands, type_known, type_noted, with_value};
 ghost use Rattle.msvc_rules.specs.State.{remember_name, remember_type, span_of};
 ghost use Rattle.msvc_cursor.specs.Parser.{known_name_of, memorized_of, ReadsAs, Stays};
 ghost use Rattle.msvc_cursor.specs.NestedList.{current, enclosing};
@@ -139,6 +139,18 @@ impl<'a, 'b, L: NodeBudget, A: Allocator> Parser<'a, 'b, L, A> {
         };
         self.count_nodes(known.nodes)?;
         Ok(known.memorized)
+    }
+
+    /// Returns an error if the table has no name that a digit refers to. It counts no node.
+    pub fn check_name_of_digit(&mut self, digit: u8) -> Result<(), Failed>
+        ensures value { ReadsAs (λ _. tt) self.old self.new result
+            (λ left s. name_stands (slice_get s.names digit) left s) }
+        ensures stays { Stays self.old self.new result }
+    {
+        if self.tables.names.get(usize::from(digit)).is_none() {
+            return Err(self.reject(Message::NameReferenceTooLarge));
+        }
+        Ok(())
     }
 
     /// Returns the type that a digit inside another type refers to, or an error if the table has no such entry.

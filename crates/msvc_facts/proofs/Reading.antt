@@ -10,9 +10,11 @@ use Rattle.msvc_nodes.specs.Trees.{NameTree, TypeTree}
 use Rattle.msvc_rules.specs.Readers.{Found, Reader, after_literal, and_then, in_node, letter_here, name_known}
 use Rattle.msvc_rules.specs.Readers.{noted_here, or_else, part_here, put_apart, ranks, read_by, read_name_in}
 use Rattle.msvc_rules.specs.Readers.{read_within, type_known}
+use Rattle.msvc_rules.specs.Readers.{name_stands}
 use Rattle.msvc_rules.specs.Reads.{emptied}
 use Rattle.msvc_rules.specs.Rules.{Rule, after, apart, call, entering, give, here, holds, known_name, known_type}
 use Rattle.msvc_rules.specs.Rules.{letter, literal, node, noted, remember, up_to, ◌>>=◌, ◌or◌}
+use Rattle.msvc_rules.specs.Rules.{stands}
 use Rattle.msvc_rules.specs.Sorts.{Sort}
 use Rattle.msvc_rules.specs.State.{State, most_memorized, span_of}
 use Rattle.msvc_grammar.specs.Grammar.{crate_grammar, grammar}
@@ -51,6 +53,7 @@ reading_by calls (r or q) left s = or_else (reading_by calls r left s) (reading_
 reading_by calls (call n) left s = calls _ n left s
 reading_by calls (node r) left s = in_node left s (reading_by calls r)
 reading_by calls (known_name i) left s = name_known (slice_get s.names i) left s
+reading_by calls (stands i) left s = name_stands (slice_get s.names i) left s
 reading_by calls (remember n) left s = Some (tt, left, with_name is_same_name n s)
 reading_by calls (known_type i) left s = type_known (slice_get s.types i) left s
 reading_by calls (noted table) left s = noted_here table left s
@@ -87,6 +90,7 @@ reading_by-is calls (r or q) left s = λ i. or_else (reading_by-is calls r left 
 reading_by-is calls (call n) left s = refl
 reading_by-is calls (node r) left s = λ i. in_node left s (λ l t. reading_by-is calls r l t i)
 reading_by-is calls (known_name j) left s = refl
+reading_by-is calls (stands j) left s = refl
 reading_by-is calls (remember n) left s = λ i. Some (tt, left, with_name (names-same i) n s)
 reading_by-is calls (known_type j) left s = refl
 reading_by-is calls (noted table) left s = refl

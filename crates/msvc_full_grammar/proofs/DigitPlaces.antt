@@ -20,12 +20,12 @@ use Rattle.msvc_full_grammar.specs.Rows.{integer, frame}
 use Rattle.msvc_full_grammar.specs.Grammar.{grammar}
 use Rattle.msvc_full_grammar.specs.Fragments.{of_c}
 use Rattle.msvc_full_grammar.specs.Letters.{type_texts, encoding_texts, operator_texts, function_texts, symbol_texts}
-use Rattle.msvc_full_grammar.specs.Letters.{code_texts}
+use Rattle.msvc_full_grammar.specs.Letters.{code_texts, argument_texts}
 use Rattle.msvc_full_grammar.specs.Productions.{Production, marked_symbol, template_symbol, other_encoding}
 use Rattle.msvc_full_grammar.specs.Productions.{encoding_after}
 use Rattle.msvc_full_grammar.specs.Productions.{variable_end, operator_name}
 use Rattle.msvc_full_grammar.specs.Productions.{operator_after, anonymous_kept, own_qualifiers, type_, type_after}
-use Rattle.msvc_full_grammar.specs.Productions.{positive, lengths, argument_after, name_row, type_row}
+use Rattle.msvc_full_grammar.specs.Productions.{positive, lengths, argument, argument_after, name_row, type_row}
 use Rattle.msvc_full_grammar.specs.Productions.{numbers, unsigned, symbol_after, string_of, offsets_of, value_after}
 use Rattle.msvc_full_grammar.specs.Productions.{listed, one_listed}
 use Rattle.msvc_full_grammar.specs.Productions.{function_code, no_variable, stubbed_template, stubbed_variable}
@@ -94,6 +94,8 @@ well_placed (type_after q (type_by_row r)) = search depth 12
 well_placed (type_row q integer) = search depth 12
 well_placed (type_row q r) = search depth 12
 well_placed (type_after q extended) = search depth 12
+well_placed argument =
+    ((placed_texts full_figures argument_texts (λ f. call (argument_after f)) (λ f. tt), search depth 12), refl)
 well_placed (argument_after empty_pack) = search depth 12
 well_placed (argument_after alias) = search depth 12
 well_placed (argument_after typed) = search depth 12

@@ -89,13 +89,13 @@ unfolding read_name read_name_in read_within read_by part_here counting grammar
 a_variable_template = refl
 
 -- a pointer to a member, whose class stands once more behind the variable's type
-pub a_member : read_of "?x@@3PEQC@@HEQ1@" ≡ whole (source "x") []
+pub a_member : read_of "?C@@3PEQ0@HEQ0@" ≡ whole (source "C") []
     (variable (member_of (source "C") 64 (base b.Int 0)) v.Global 0)
 unfolding read_name read_name_in read_within read_by part_here counting grammar
 a_member = refl
 
 -- the same of a class in an anonymous namespace, which a capital keeps out of the table
-pub an_anonymous_member : read_of "?x@@3PEQC@?A0x5B@@HEQ1?A0x5B@@" ≡ whole (source "x") []
+pub an_anonymous_member : read_of "?C@@3PEQ0?A0x5B@@HEQ0?A0x5B@@" ≡ whole (source "C") []
     (variable (shape member_pointer_row 64 [] [] (names (nested (source "C")
     (name_trees (anonymous (Some (codes "0x5B")) ∷ [])) (plain p.None)) no_names)
     (types (base b.Int 0) no_types)) v.Global 0)
@@ -103,7 +103,7 @@ unfolding read_name read_name_in read_within read_by part_here counting grammar
 an_anonymous_member = refl
 
 -- a pointer to a member function
-pub a_member_function : read_of "?x@@3P8C@@AEXXZQ1@" ≡ whole (source "x") []
+pub a_member_function : read_of "?C@@3P80@AEXXZQ0@" ≡ whole (source "C") []
     (variable (member_of (source "C") 0 (function c.Thiscall (types (base b.Void 0) no_types) 0 (base b.Void 0)))
     v.Global 0)
 unfolding read_name read_name_in read_within read_by part_here counting grammar

@@ -40,7 +40,8 @@ use Rattle.msvc_full_grammar.specs.Productions.{class_symbol, template_name, sco
 use Rattle.msvc_full_grammar.specs.Productions.{anonymous_kept, hexadecimal_digits, name_row, type_row, source_name}
 use Rattle.msvc_full_grammar.specs.Productions.{function_type}
 use Rattle.msvc_full_grammar.specs.Productions.{signature, own_qualifiers, marks, returned, function_parameters}
-use Rattle.msvc_full_grammar.specs.Productions.{explicit_parameters, parameters, type_, type_after, pointer, reference, arrays}
+use Rattle.msvc_full_grammar.specs.Productions.{explicit_parameters, parameters, type_, type_after, pointer}
+use Rattle.msvc_full_grammar.specs.Productions.{reference, arrays}
 use Rattle.msvc_full_grammar.specs.Productions.{dimensions, positive, lengths, listed, one_listed, argument}
 use Rattle.msvc_full_grammar.specs.Productions.{argument_after, member, member_value}
 use Rattle.msvc_full_grammar.specs.Productions.{numbers, small_number, unsigned, whole_hash, symbol_after, string_of}

@@ -13,7 +13,7 @@ use Rattle.msvc_nodes.specs.declared.kinds.PrimitiveKind.TheVariants as base_kin
 use Rattle.msvc_nodes.specs.declared.kinds.Spelling.TheVariants as spelling_kind
 use Rattle.msvc_nodes.specs.declared.kinds.TagKind.TheVariants as tag_kind
 use Rattle.msvc_rules.specs.Rules.{none_of, at_end, Grammar, Rule, give, letter, literal, up_to, here}
-use Rattle.msvc_rules.specs.Rules.{◌>>=◌, ◌>>◌, ◌or◌, call, known_name, remember, apart}
+use Rattle.msvc_rules.specs.Rules.{◌>>=◌, ◌>>◌, ◌or◌, call, known_name, remember, stands, apart}
 use Rattle.msvc_rules.specs.Rules.{letter_or}
 use Rattle.msvc_rules.specs.Rules.{literal_or, node, text_and, text_or, optional, never}
 use Rattle.msvc_rules.specs.Sorts.{Sort, bits, base_type, convention}
@@ -322,12 +322,12 @@ grammar (variable_end of_member_pointer) = do
   give 0
 grammar (variable_end of_value) = letter bits qualifiers
 -- The class of a member once more, which is dropped. So it makes no node, and its names are those that are read without
--- one: digits, whatever they stand for, source names and anonymous namespaces.
+-- one: entries of the table of names, source names and anonymous namespaces.
 grammar repeated_class = call repeated_name >> call repeated_scope
 grammar repeated_scope = literal_or (codes "@") (give tt) (call repeated_name >> call repeated_scope)
 grammar repeated_name =
     letter_or digits
-    (λ i. give tt)
+    (λ i. stands i)
     (literal_or (codes "?A")
     (do _ ← call anonymous_digits; give tt)
     (do n ← call source_name; remember (spelled spelling_kind.Source n)))

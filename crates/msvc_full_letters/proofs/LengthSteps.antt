@@ -7,8 +7,9 @@ use Rattle.msvc_rules.specs.State.{State}
 use Rattle.msvc_full_grammar.specs.Grammar.{grammar}
 use Rattle.msvc_full_grammar.specs.Productions.{count, lengths}
 use Rattle.msvc_full_grammar.specs.Reading.{read_name, read}
+use Rattle.msvc_cursor.specs.Rows.{with_front}
 use Rattle.msvc_full_grammar.proofs.Laws.{read_name-is}
-use Rattle.msvc_cursor.proofs.RowSteps.{front_first, front_none, with_front}
+use Rattle.msvc_cursor.proofs.RowSteps.{front_first, front_none}
 
 -- a length, as a number without a sign
 abbrev pub unsigned : ℕ → Number

@@ -12,8 +12,9 @@ use Rattle.msvc_full_grammar.specs.Fragments.{plain, signed_number, small, unsig
 use Rattle.msvc_full_grammar.specs.Productions.{guard_index, number, numbers, offsets_of, small_number, unsigned}
 use Rattle.msvc_full_grammar.specs.Reading.{read_name, read}
 use Rattle.msvc_full_letters.specs.Numbers.{signed_offset, unsigned_offset}
+use Rattle.msvc_cursor.specs.Rows.{with_front}
 use Rattle.msvc_full_grammar.proofs.Laws.{read_name-is}
-use Rattle.msvc_cursor.proofs.RowSteps.{front_first, front_none, with_front}
+use Rattle.msvc_cursor.proofs.RowSteps.{front_first, front_none}
 
 -- what is done with a number that is made of another
 made_then : {A : Type 0} (h : ℤ → Number) (o : Found ℤ) (g : Number → List ℕ → State → Found A)

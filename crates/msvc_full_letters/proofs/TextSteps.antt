@@ -34,7 +34,7 @@ use Rattle.msvc_full_grammar.proofs.Checks.{no_member_begins_another, no_variabl
 use Rattle.msvc_full_grammar.proofs.Laws.{read_name-is}
 use Rattle.msvc_cursor.specs.Parser.{byte_here, text_at}
 use Rattle.msvc_cursor.proofs.Choices.{by_text, choose}
-use Rattle.msvc_full_letters.specs.Texts.{code_at, dollar, encoding_at, function_at, operator_at, unless_dollar}
+use Rattle.msvc_full_letters.specs.Texts.{base_by, code_at, dollar, encoding_at, function_at, operator_at, unless_dollar}
 use Rattle.msvc_full_letters.specs.Texts.{type_double_dollar_texts, value_behind}
 use Rattle.msvc_full_letters.proofs.Choices.{letter_or-is, text_and-is, text_or-is}
 use Rattle.msvc_full_letters.proofs.TextsByLetter.{code_by_letter, encoding_by_letter, function_by_letter}
@@ -140,12 +140,6 @@ unfolding grammar read read_by
 argument_step left s =
     read_name-is argument left s
     ∙ text_or-is argument_texts (λ f. call (argument_after f)) (call (type_ 0)) left s no_argument_begins_another
-
--- a base type by its letter, with qualifiers
-abbrev pub base_by : List (ℕ × PrimitiveKind) → ℕ → List ℕ → State → Found TypeTree
-base_by table q left s =
-    in_node left s (λ l t. and_then (byte_here l t)
-    (λ b k u. with_value (option_map (λ x. base x q) (lookup b table)) k u))
 
 base_found : (q : ℕ) (o : Option PrimitiveKind) (l : List ℕ) (t : State)
     → and_then (with_value o l t) (λ x k u. Some (base x q, k, u)) ≡ with_value (option_map (λ x. base x q) o) l t

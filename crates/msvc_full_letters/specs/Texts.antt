@@ -1,13 +1,18 @@
--- The tables of texts by the letters that the texts begin with.
+-- The tables of texts by the letters that the texts begin with, and base types by their letters.
 use Rattle.std.specs.Prelude.{ℕ, List, [], ◌∷◌, Option, Some, None, ◌==◌, if◌then◌else◌}
 use Prim.Native.Char.{code}
+use Rattle.std.specs.Option.{option_map}
+use Rattle.msvc_nodes.specs.Trees.{TypeTree, base}
+use Rattle.msvc_nodes.specs.declared.kinds.PrimitiveKind.{PrimitiveKind}
 use Rattle.msvc_full_grammar.specs.Forms.{EncodingForm, TypeForm}
 use Rattle.msvc_full_grammar.specs.declared.forms.ArgumentForm.{ArgumentForm}
 use Rattle.msvc_full_grammar.specs.declared.forms.OperatorForm.{OperatorForm}
 use Rattle.msvc_full_grammar.specs.Letters.{argument_texts, encoding_texts, function_texts, operator_texts}
 use Rattle.msvc_full_grammar.specs.Letters.{code_texts, funclet_texts, type_texts}
+use Rattle.msvc_rules.specs.Readers.{Found, and_then, in_node, with_value}
 use Rattle.msvc_rules.specs.Rules.{lookup}
-use Rattle.msvc_cursor.specs.Parser.{at_rest, one_less, text_at}
+use Rattle.msvc_rules.specs.State.{State}
+use Rattle.msvc_cursor.specs.Parser.{at_rest, byte_here, one_less, text_at}
 
 -- the $ that texts of types and of arguments begin with
 abbrev pub dollar : ℕ
@@ -116,3 +121,9 @@ double_under_operator_texts = one_less underscore under_operator_texts
 -- the operator whose code the bytes begin with
 unfoldable pub operator_at : List ℕ → Option (OperatorForm × List ℕ)
 operator_at left = text_by underscore under_operator_texts operator_letters left
+
+-- a base type by its letter, with qualifiers
+abbrev pub base_by : List (ℕ × PrimitiveKind) → ℕ → List ℕ → State → Found TypeTree
+base_by table q left s =
+    in_node left s (λ l t. and_then (byte_here l t)
+    (λ b k u. with_value (option_map (λ x. base x q) (lookup b table)) k u))

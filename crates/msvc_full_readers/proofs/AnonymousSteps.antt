@@ -15,9 +15,10 @@ use Rattle.msvc_full_grammar.specs.Fragments.{anonymous_namespace, has_capital}
 use Rattle.msvc_full_grammar.specs.Letters.{hexadecimal_codes}
 use Rattle.msvc_full_grammar.specs.Productions.{anonymous_digits, anonymous_kept, hexadecimal_digits}
 use Rattle.msvc_full_grammar.specs.Reading.{read_name, read}
+use Rattle.msvc_cursor.specs.Rows.{with_front}
 use Rattle.msvc_full_grammar.proofs.Laws.{read_name-is}
 use Rattle.msvc_cursor.proofs.Choices.{chosen}
-use Rattle.msvc_cursor.proofs.RowSteps.{digits_stop, row_by, row_ends, row_more, row_rejected, with_front}
+use Rattle.msvc_cursor.proofs.RowSteps.{digits_stop, row_by, row_ends, row_more, row_rejected}
 use Rattle.msvc_full_letters.proofs.Choices.{literal_or-is}
 use Rattle.msvc_full_readers.specs.Readings.{anonymous_name}
 

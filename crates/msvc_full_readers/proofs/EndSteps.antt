@@ -1,10 +1,10 @@
 -- Step lemmas of what stands after the type of a variable.
 use Rattle.std.proofs.Common.{ℕ, List, Option, Some, None, true, false, cond, ◌≡◌, ◌==◌, refl, ap, ◌∙◌}
-use Rattle.std.specs.Prelude.{codes}
+use Rattle.std.specs.Prelude.{codes, slice_get}
 use Rattle.msvc_nodes.specs.Trees.{anonymous, spelled}
 use Rattle.msvc_nodes.specs.declared.kinds.Spelling.TheVariants as spelling_kind
-use Rattle.msvc_rules.specs.Readers.{Found, and_then, letter_here, read_by}
-use Rattle.msvc_rules.specs.Rules.{Rule, after, call, give, literal_or, remember, some_of, ◌>>=◌, ◌>>◌}
+use Rattle.msvc_rules.specs.Readers.{Found, and_then, letter_here, name_stands, read_by}
+use Rattle.msvc_rules.specs.Rules.{Rule, after, call, give, literal_or, remember, some_of, stands, ◌>>=◌, ◌>>◌}
 use Rattle.msvc_rules.specs.Sorts.{nothing}
 use Rattle.msvc_rules.specs.State.{State, remember_name}
 use Rattle.msvc_full_grammar.specs.Forms.{of_member_pointer, of_pointer, of_value}
@@ -76,15 +76,15 @@ scope_repeats left l s t e some =
     ∙ ap (λ o. and_then o (λ _ l t. read_name repeated_scope l t)) some
 
 pub repeated_name_step : (left : List ℕ) (s : State) → read_name repeated_name left s
-    ≡ choose (letter_here digits left s) (λ _ l t. Some (tt, l, t))
+    ≡ choose (letter_here digits left s) (λ d l t. name_stands (slice_get t.names d) l t)
     (chosen (after (codes "?A") left) (λ rest. and_then (read anonymous_name rest s) (λ _ l t. Some (tt, l, t)))
     (and_then (read_name source_name left s)
     (λ n l t. Some (tt, l, remember_name (spelled spelling_kind.Source n) t))))
 unfolding grammar read read_by
 repeated_name_step left s =
     read_name-is repeated_name left s
-    ∙ letter_or-is {a = nothing} digits (λ i. give tt) (literal_or (codes "?A") unnamed named) left s
-    ∙ ap (choose (letter_here digits left s) (λ _ l t. Some (tt, l, t)))
+    ∙ letter_or-is {a = nothing} digits (λ i. stands i) (literal_or (codes "?A") unnamed named) left s
+    ∙ ap (choose (letter_here digits left s) (λ d l t. name_stands (slice_get t.names d) l t))
     (literal_or-is {a = nothing} (codes "?A") unnamed named left s
     ∙ λ i. chosen (after (codes "?A") left) (λ rest. go (read_name anonymous_digits rest s) i) last)
   where

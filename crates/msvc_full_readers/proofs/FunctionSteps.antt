@@ -17,6 +17,7 @@ use Rattle.msvc_rules.specs.State.{State}
 use Rattle.msvc_grammar.specs.Reading.{read as crate_read}
 use Rattle.msvc_grammar.specs.declared.forms.Ellipsis.{Ellipsis}
 use Rattle.msvc_grammar.specs.declared.forms.Ellipsis.TheVariants.{Absent, Present}
+use Rattle.msvc_cursor.specs.Rows.{with_front}
 use Rattle.msvc_rules.proofs.Soundness.{after-is}
 use Rattle.msvc_full_grammar.specs.Forms.{function_of}
 use Rattle.msvc_full_grammar.specs.Grammar.{grammar}
@@ -32,7 +33,7 @@ use Rattle.msvc_full_grammar.specs.declared.forms.OwnQualifiers.{OwnQualifiers}
 use Rattle.msvc_full_grammar.proofs.Laws.{read_name-is}
 use Rattle.msvc_cursor.specs.Parser.{counting_ellipsis, ellipsis_types}
 use Rattle.msvc_cursor.proofs.Choices.{choose, chosen, no_letter, or_none}
-use Rattle.msvc_cursor.proofs.RowSteps.{front_first, front_none, stopped, with_front}
+use Rattle.msvc_cursor.proofs.RowSteps.{front_first, front_none, stopped}
 use Rattle.msvc_full_letters.proofs.Choices.{literal_or-is}
 use Rattle.msvc_full_letters.proofs.TextSteps.{no_type_at_this}
 use Rattle.msvc_full_readers.specs.Readings.{ellipsis_letter, parameters_stop, signature_end}

@@ -30,9 +30,10 @@ use Rattle.msvc_full_grammar.specs.declared.forms.Listed.TheVariants as kinds
 use Rattle.msvc_full_grammar.specs.declared.forms.NameRow.{NameRow}
 use Rattle.msvc_full_grammar.specs.declared.forms.NameRow.TheVariants.{Frame, LiteralOperator}
 use Rattle.msvc_full_grammar.specs.declared.forms.OperatorForm.TheVariants as operators
+use Rattle.msvc_cursor.specs.Rows.{with_front}
 use Rattle.msvc_full_grammar.proofs.Laws.{read_name-is}
 use Rattle.msvc_cursor.proofs.Choices.{choose, chosen}
-use Rattle.msvc_cursor.proofs.RowSteps.{front_none, row_by, row_ends, row_more, row_rejected, scope_stop, with_front}
+use Rattle.msvc_cursor.proofs.RowSteps.{front_none, row_by, row_ends, row_more, row_rejected, scope_stop}
 use Rattle.msvc_full_letters.proofs.Choices.{letter_or-is, literal_or-is}
 use Rattle.msvc_full_letters.proofs.TextSteps.{node_rejected}
 use Rattle.msvc_full_readers.specs.Readings.{name_in_scope, symbol_body}

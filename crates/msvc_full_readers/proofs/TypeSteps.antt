@@ -35,7 +35,8 @@ use Rattle.msvc_full_grammar.specs.Productions.{type_symbol}
 use Rattle.msvc_full_grammar.specs.Productions.{value_after}
 use Rattle.msvc_full_grammar.specs.Reading.{read_name, read}
 use Rattle.msvc_full_grammar.specs.Rows.{custom_row, extern_c_row, integer_row, nullptr_row, offsets_row}
-use Rattle.msvc_full_grammar.specs.Rows.{absent_row, aggregate_row, block_row, cli_array_row, element_row, member_of_row}
+use Rattle.msvc_full_grammar.specs.Rows.{absent_row, aggregate_row, block_row, cli_array_row}
+use Rattle.msvc_full_grammar.specs.Rows.{element_row, member_of_row}
 use Rattle.msvc_full_grammar.specs.Rows.{empty_union_row, handle_row, member_row, subobject_row, symbol_offsets_row}
 use Rattle.msvc_full_grammar.specs.Rows.{template_object_row, tracking_row, typed_row, union_value_row, values_row}
 use Rattle.msvc_full_grammar.specs.declared.forms.Listed.{Listed}
@@ -47,9 +48,10 @@ use Rattle.msvc_full_grammar.specs.declared.forms.OwnQualifiers.{OwnQualifiers}
 use Rattle.msvc_full_grammar.specs.declared.forms.OwnQualifiers.TheVariants as own
 use Rattle.msvc_full_grammar.specs.declared.forms.TypeRow.{TypeRow}
 use Rattle.msvc_full_grammar.specs.declared.forms.TypeRow.TheVariants.{Custom, ExternC, Integer, Nullptr}
+use Rattle.msvc_cursor.specs.Rows.{with_front}
 use Rattle.msvc_full_grammar.proofs.Laws.{read_name-is}
 use Rattle.msvc_cursor.proofs.Choices.{choose, chosen}
-use Rattle.msvc_cursor.proofs.RowSteps.{front_none, row_by, row_ends, row_more, row_rejected, with_front}
+use Rattle.msvc_cursor.proofs.RowSteps.{front_none, row_by, row_ends, row_more, row_rejected}
 use Rattle.msvc_cursor.proofs.Choices.{by_text}
 use Rattle.msvc_cursor.specs.Parser.{text_at}
 use Rattle.msvc_full_letters.specs.Texts.{value_behind}

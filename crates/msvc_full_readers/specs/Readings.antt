@@ -30,8 +30,8 @@ use Rattle.msvc_full_grammar.specs.Productions.{function_type, lengths, marked_s
 use Rattle.msvc_full_grammar.specs.Productions.{symbol_name}
 use Rattle.msvc_full_grammar.specs.Productions.{template_symbol, type_, type_after, type_symbol}
 use Rattle.msvc_full_grammar.specs.Reading.{read_name}
-use Rattle.msvc_cursor.proofs.RowSteps.{with_front}
-use Rattle.msvc_full_letters.proofs.TextSteps.{base_by}
+use Rattle.msvc_cursor.specs.Rows.{with_front}
+use Rattle.msvc_full_letters.specs.Texts.{base_by}
 use Rattle.msvc_full_grammar.specs.Rows.{arrays_row, block_row, member_pointer_row}
 use Rattle.msvc_full_grammar.specs.declared.forms.Stub.{Stub}
 use Rattle.msvc_full_grammar.specs.Fragments.{made_name, managed_array, managed_type, no_type, pointer_rows, stub_row}

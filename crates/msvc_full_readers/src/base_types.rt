@@ -5,7 +5,7 @@ ghost use Rattle.msvc_full_grammar.specs.Forms.{extended};
 ghost use Rattle.msvc_full_grammar.specs.Letters as letters_of;
 ghost use Rattle.msvc_full_grammar.specs.Productions as production;
 ghost use Rattle.msvc_full_grammar.specs.Reading.{read_name};
-ghost use Rattle.msvc_full_letters.proofs.TextSteps.{base_by};
+ghost use Rattle.msvc_full_letters.specs.Texts.{base_by};
 ghost use Rattle.msvc_cursor.specs.Parser.{Consumes, ReadsAs};
 
 use crate::store::put_empty_type;

@@ -152,8 +152,8 @@ fn repeated_name<'a, 'b, L: NodeBudget, A: Allocator>(
     ensures value { ReadsAs (λ _. tt) parser.old parser.new result (read_name production.repeated_name) }
     ensures consumes { Consumes parser.old parser.new result }
 {
-    if let Some(_) = parser.digit() {
-        return Ok(());
+    if let Some(digit) = parser.digit() {
+        return parser.check_name_of_digit(digit);
     }
     if parser.consume(b"?A") {
         anonymous_name(parser)?;

@@ -9,6 +9,7 @@ use Rattle.msvc_nodes.specs.declared.kinds.Convention.{Convention}
 use Rattle.msvc_rules.specs.Reads.{Reads, given, a_letter, a_literal, a_part, where_it_holds, in_a_row, the_first}
 use Rattle.msvc_rules.specs.Reads.{the_second, called, a_known_name, remembered, a_known_type, a_noted_type, entered}
 use Rattle.msvc_rules.specs.Reads.{a_node, set_apart}
+use Rattle.msvc_rules.specs.Reads.{it_stands}
 use Rattle.msvc_rules.specs.Rules.{Rule, call, text_and, lookup, give, letter, here, ◌>>=◌, ◌or◌, remember, node}
 use Rattle.msvc_rules.specs.Rules.{entering, apart}
 use Rattle.msvc_rules.specs.Sorts.{Sort, Value, bits, convention, name_tree, type_tree, symbol_tree, list, both, based}
@@ -259,6 +260,7 @@ read-ownable (called {n = n} d) g h = read-ownable d (gives n) h
 read-ownable (a_node d) g h = read-ownable d g h
 read-ownable (a_known_name {i = i} {n = n} {s = s} e) g h = (each-got of_bytes IsOwnableName s.names i n h.0 e, h)
 read-ownable (remembered {n = n} {s = s}) g h = (tt, (each-with of_bytes IsOwnableName _ n s.names h.0 g, h.1))
+read-ownable (it_stands e) g h = (tt, h)
 read-ownable (a_known_type {i = i} {e = entry} {s = s} e) g h =
     (each-got of_bytes OwnableEntry s.types i entry h.1 e, h)
 read-ownable (a_noted_type {i = i} {e = entry} {s = s} e d) g h =

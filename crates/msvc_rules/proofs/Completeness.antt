@@ -6,9 +6,11 @@ use Rattle.std.proofs.lemmas.Bool.{eq-eqb}
 use Rattle.msvc_rules.specs.Readers.{Found, with_value, with_byte, part_here, after_literal, and_then, or_else}
 use Rattle.msvc_rules.specs.Readers.{counting, only_if, name_known, type_known, type_noted, noted_by, entered_by}
 use Rattle.msvc_rules.specs.Readers.{put_apart, read_by, read_name_in, read_in, ranks}
+use Rattle.msvc_rules.specs.Readers.{name_stands}
 use Rattle.msvc_rules.specs.Reads.{Reads, given, a_letter, a_literal, a_part, where_it_holds, in_a_row, the_first}
 use Rattle.msvc_rules.specs.Reads.{the_second, called, a_node, a_known_name, remembered, a_known_type, a_noted_type}
 use Rattle.msvc_rules.specs.Reads.{entered, set_apart, note_digit, nodes_of_name, nodes_of_type}
+use Rattle.msvc_rules.specs.Reads.{it_stands}
 use Rattle.msvc_rules.specs.Rules.{Grammar, every, after, Rule, call}
 use Rattle.msvc_rules.specs.Sorts.{Sort, Value}
 use Rattle.msvc_rules.specs.State.{State, counted, is_allowed, more, span_of, uncounted}
@@ -73,6 +75,7 @@ module _ {G : Grammar} {F : Figures G} (C : Fit F) where
       counts_on s.count.weight left s (read_in G r) (allowed_before G h ok) ∙ complete h floor f ok
   complete (a_known_name {n = n} {left = left} {s = s} e) floor f ok =
       ap (λ o. name_known o left s) e ∙ counts_on (nodes_of_name n s) left s (λ l t. Some (n, l, t)) ok
+  complete (it_stands {left = left} {s = s} e) floor f ok = ap (λ o. name_stands o left s) e
   complete remembered floor f ok = refl
   complete (a_known_type {e = e} {left = left} {s = s} h) floor f ok =
       ap (λ o. type_known o left s) h

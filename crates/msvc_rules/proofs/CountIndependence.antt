@@ -5,6 +5,7 @@ use Rattle.msvc_rules.specs.Counts.{name_count, type_count}
 use Rattle.msvc_rules.specs.Reads.{Reads, given, a_letter, a_literal, a_part, where_it_holds, in_a_row, the_first}
 use Rattle.msvc_rules.specs.Reads.{the_second, called, a_node, a_known_name, remembered, a_known_type, a_noted_type}
 use Rattle.msvc_rules.specs.Reads.{entered, set_apart}
+use Rattle.msvc_rules.specs.Reads.{it_stands}
 use Rattle.msvc_rules.specs.Rules.{Grammar, Rule, entering}
 use Rattle.msvc_rules.specs.Sorts.{Sort, Value}
 use Rattle.msvc_rules.specs.State.{Count, Entry, State, more, remember_type, span_of}
@@ -34,6 +35,7 @@ module _ (G : Grammar) where
   recounted (called h) c = let one = recounted h c in (one.0, called one.1)
   recounted (a_node h) c = let one = recounted h (more c.weight c) in (one.0, a_node one.1)
   recounted (a_known_name {n = n} e) c = (more (name_count c.weight n) c, a_known_name e)
+  recounted (it_stands e) c = (c, it_stands e)
   recounted remembered c = (c, remembered)
   recounted (a_known_type {e = e} h) c = (more (type_count c.weight e.entered) c, a_known_type h)
   recounted (a_noted_type {e = e} h k) c = (more (type_count c.weight e.entered) c, a_noted_type h k)

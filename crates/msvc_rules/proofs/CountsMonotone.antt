@@ -11,6 +11,7 @@ use Rattle.msvc_rules.specs.Counts.{name_count, names_count, type_count, types_c
 use Rattle.msvc_rules.specs.Reads.{Reads, given, a_letter, a_literal, a_part, where_it_holds, in_a_row, the_first}
 use Rattle.msvc_rules.specs.Reads.{the_second, called, a_node, a_known_name, remembered, a_known_type, a_noted_type}
 use Rattle.msvc_rules.specs.Reads.{entered, set_apart}
+use Rattle.msvc_rules.specs.Reads.{it_stands}
 use Rattle.msvc_rules.specs.Rules.{Grammar, Rule}
 use Rattle.msvc_rules.specs.Sorts.{Sort, Value}
 use Rattle.msvc_rules.specs.State.{Count, State, Entry, is_allowed, more, remember_type, span_of, uncounted}
@@ -107,6 +108,7 @@ module _ (G : Grammar) where
   rises (a_node {s = s} {t = t} d) =
       both_rise s.count (more s.count.weight s.count) t.count (rises_by s.count.weight s.count) (rises d)
   rises (a_known_name {n = n} {s = s} e) = rises_by (name_count s.count.weight n) s.count
+  rises (it_stands {s = s} e) = stays s.count
   rises (remembered {s = s}) = stays s.count
   rises (a_known_type {e = e} {s = s} h) = rises_by (type_count s.count.weight e.entered) s.count
   rises (a_noted_type {e = e} {s = s} h k) = rises_by (type_count s.count.weight e.entered) s.count
@@ -135,6 +137,7 @@ module _ (G : Grammar) where
   uncounted_stays (called d) none = uncounted_stays d none
   uncounted_stays (a_node d) none = uncounted_stays d (ap (λ (c : Count). more c.weight c) none)
   uncounted_stays (a_known_name {n = n} {s = s} e) none = no_name_counts n s.count none
+  uncounted_stays (it_stands e) none = none
   uncounted_stays remembered none = none
   uncounted_stays (a_known_type {e = e} {s = s} h) none = no_type_counts e.entered s.count none
   uncounted_stays (a_noted_type {e = e} {s = s} h k) none = no_type_counts e.entered s.count none

@@ -11,6 +11,7 @@ use Rattle.msvc_rules.specs.Laws.{Later}
 use Rattle.msvc_rules.specs.Reads.{enter, note_digit, put_back, Reads, given, a_letter, a_literal, a_part}
 use Rattle.msvc_rules.specs.Reads.{where_it_holds, in_a_row, the_first, the_second, called, a_known_name, remembered}
 use Rattle.msvc_rules.specs.Reads.{a_known_type, a_node, a_noted_type, entered, nodes_of_type, set_apart}
+use Rattle.msvc_rules.specs.Reads.{it_stands}
 use Rattle.msvc_rules.specs.Rules.{Grammar, Rule, call}
 use Rattle.msvc_rules.specs.Sorts.{Sort, Value, type_tree}
 use Rattle.msvc_rules.specs.State.{Entry, State, counted, most_memorized, span_of, with_type, remember_name}
@@ -87,6 +88,7 @@ module _ {G : Grammar} {F : Figures G} (C : Fit F) (D : Placing F) where
   whole_same (a_literal e) = refl
   whole_same (a_part e d) = refl
   whole_same (a_known_name e) = refl
+  whole_same (it_stands e) = refl
   whole_same remembered = refl
   whole_same (a_known_type e) = refl
   whole_same (a_noted_type e d) = refl
@@ -182,5 +184,6 @@ module _ {G : Grammar} {F : Figures G} (C : Fit F) (D : Placing F) where
   sourced (a_literal e) p text w h = h
   sourced (a_part e d) p text w h = h
   sourced (a_known_name e) p text w h = h
+  sourced (it_stands e) p text w h = h
   sourced (a_known_type e) p text w h = h
   sourced (a_noted_type e d) p text w h = absurd p

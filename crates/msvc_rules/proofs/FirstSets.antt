@@ -9,6 +9,7 @@ use Rattle.msvc_rules.specs.Readers.{ranks}
 use Rattle.msvc_rules.specs.Reads.{Reads, given, a_letter, a_literal, a_part, where_it_holds, in_a_row, the_first}
 use Rattle.msvc_rules.specs.Reads.{a_node, the_second, called, a_known_name, remembered, a_known_type, a_noted_type}
 use Rattle.msvc_rules.specs.Reads.{entered, set_apart}
+use Rattle.msvc_rules.specs.Reads.{it_stands}
 use Rattle.msvc_rules.specs.Rules.{Grammar, Condition, none_of, at_end, holds, every, some_of, begins, is_nil, after}
 use Rattle.msvc_rules.specs.Rules.{lookup, Rule}
 use Rattle.msvc_rules.specs.Sorts.{Sort, Value}
@@ -298,6 +299,7 @@ module _ {G : Grammar} {F : Figures G} (C : Fit F) where
     omega (arith, ap length e, length-append v (b ∷ rest)),
   )
   first_of (a_known_name e) floor f k p h = (([], [], 0), single p ([], [], 0) h, refl, refl, omega arith)
+  first_of (it_stands e) floor f k p h = (([], [], 0), single p ([], [], 0) h, refl, refl, omega arith)
   first_of remembered floor f k p h = (([], [], 0), single p ([], [], 0) h, refl, refl, omega arith)
   first_of (a_known_type e) floor f k p h = (([], [], 0), single p ([], [], 0) h, refl, refl, omega arith)
 

@@ -11,6 +11,7 @@ use Rattle.msvc_rules.specs.Readers.{ranks}
 use Rattle.msvc_rules.specs.Reads.{enter, note_digit, emptied, put_back, Reads, given, a_letter, a_literal, a_part}
 use Rattle.msvc_rules.specs.Reads.{where_it_holds, in_a_row, the_first, the_second, called, a_known_name, remembered}
 use Rattle.msvc_rules.specs.Reads.{a_known_type, a_node, a_noted_type, entered, nodes_of_name, nodes_of_type, set_apart}
+use Rattle.msvc_rules.specs.Reads.{it_stands}
 use Rattle.msvc_rules.specs.Rules.{Grammar, call, known_type, holds, Rule}
 use Rattle.msvc_rules.specs.Sorts.{Sort, Value}
 use Rattle.msvc_rules.specs.State.{Entry, Note, State, place, with_name, with_type, remember_name, remember_type}
@@ -184,6 +185,7 @@ module _ {G : Grammar} {F : Figures G} (C : Fit F) where
   grows (a_literal {s = s} e) = later-refl s
   grows (a_part {s = s} e h) = later-refl s
   grows (a_known_name {s = s} e) = later-refl s
+  grows (it_stands {s = s} e) = later-refl s
   grows (a_known_type {s = s} e) = later-refl s
   grows (a_noted_type {s = s} e h) = later-refl s
 
@@ -291,6 +293,10 @@ module _ {G : Grammar} {F : Figures G} (C : Fit F) where
         a_known_name (name_there o s u i n (uncounted-ready o s u (nodes_of_name n s) q) e),
         done-counted o s u (nodes_of_name n s) (nodes_of_name n u) q,
       )) left rest w w' y h k some m s' ready
+  local (it_stands {i = i} {n = n} {left = found} {s = s} e) floor f j followed c left rest w w' y h k some m s'
+      ready =
+      still _ found s tt s j followed
+      (λ l o u q. (u, it_stands (name_there o s u i n q e), done-still o s u q)) left rest w w' y h k some m s' ready
   local (remembered {n = n} {left = found} {s = s}) floor f j followed c left rest w w' y h k some m s' ready =
       still _ found s tt (remember_name n s) j followed
       (λ l o u q. (remember_name n u, remembered, done-name o n s u q)) left rest w w' y h k some m s' ready

@@ -17,6 +17,7 @@ use Rattle.msvc_rules.specs.Parts.{IsPart, NamesAreParts}
 use Rattle.msvc_rules.specs.Reads.{Reads, given, a_letter, a_literal, a_part, where_it_holds, in_a_row, the_first}
 use Rattle.msvc_rules.specs.Reads.{the_second, called, a_known_name, remembered, a_known_type, a_noted_type, entered}
 use Rattle.msvc_rules.specs.Reads.{a_node, set_apart, DerivesIn}
+use Rattle.msvc_rules.specs.Reads.{it_stands}
 use Rattle.msvc_rules.specs.Rules.{Grammar, text_and, every, lookup, Rule, give, letter, literal, up_to, here, ◌>>=◌}
 use Rattle.msvc_rules.specs.Rules.{◌or◌, remember, node, noted, entering, apart}
 use Rattle.msvc_rules.specs.Sorts.{Sort, bytes, name_tree, type_tree, symbol_tree, list, both, Value}
@@ -154,6 +155,7 @@ module _ {G : Grammar} (N : Named G) (P : List ℕ → Type 0) (none : P []) whe
     names_in (a_node d) g q h = names_in d g q h
     names_in (a_known_name {i = i} {n = n} {s = s} e) g q h =
         (each-got P (λ m. EachNameOfName P m) s.names i n h.0 e, h, q)
+    names_in (it_stands e) g q h = (tt, h, q)
     names_in (remembered {n = n} {s = s}) g q h =
         (tt, (each-with P (λ m. EachNameOfName P m) _ n s.names h.0 g, h.1), q)
     names_in (a_known_type {i = i} {e = entry} {s = s} e) g q h =

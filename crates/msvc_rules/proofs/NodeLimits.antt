@@ -9,9 +9,11 @@ use Rattle.msvc_rules.specs.Counts.{node_count}
 use Rattle.msvc_rules.specs.Readers.{Found, Reader, and_then, counting, entered_by, letter_here, after_literal}
 use Rattle.msvc_rules.specs.Readers.{name_known, noted_by, noted_here, only_if, part_here, put_apart, ranks, read_by}
 use Rattle.msvc_rules.specs.Readers.{read_name_in, read_within, type_known, type_noted, with_byte, with_value}
+use Rattle.msvc_rules.specs.Readers.{name_stands}
 use Rattle.msvc_rules.specs.Reads.{DerivesIn, Reads, emptied, nodes_of_name, nodes_of_type, note_digit}
 use Rattle.msvc_rules.specs.Rules.{Grammar, Rule, after, apart, call, entering, give, here, holds, known_name}
 use Rattle.msvc_rules.specs.Rules.{known_type, letter, literal, lookup, node, noted, remember, up_to, ◌>>=◌, ◌or◌}
+use Rattle.msvc_rules.specs.Rules.{stands}
 use Rattle.msvc_rules.specs.Sorts.{Sort, Value}
 use Rattle.msvc_rules.specs.State.{Entry, Note, State, Count, beginning_with, counted, is_allowed, more, span_of}
 use Rattle.msvc_rules.specs.State.{uncounted}
@@ -69,6 +71,11 @@ counting_allowed n left s f h = go (is_allowed (more n s.count)) refl
 name_allowed : (o : Option NameTree) (left : List ℕ) (s : State) → IfFound Allowed (name_known o left s)
 name_allowed None left s = tt
 name_allowed (Some n) left s = counting_allowed (nodes_of_name n s) left s (λ l t. Some (n, l, t)) (λ e. e)
+
+stands_allowed : (o : Option NameTree) (left : List ℕ) (s : State) → is_allowed s.count ≡ true
+    → IfFound Allowed (name_stands o left s)
+stands_allowed None left s ok = tt
+stands_allowed (Some n) left s ok = ok
 
 type_allowed : (o : Option Entry) (left : List ℕ) (s : State) → IfFound Allowed (type_known o left s)
 type_allowed None left s = tt
@@ -139,6 +146,7 @@ module _ {G : Grammar} {F : Figures G} (C : Fit F) (N : Counted G) where
         counting_allowed s.count.weight left s (read_by calls r)
         (λ e. allowed_by r left (counted s.count.weight s) e)
     allowed_by (known_name i) left s ok = name_allowed (slice_get s.names i) left s
+    allowed_by (stands i) left s ok = stands_allowed (slice_get s.names i) left s ok
     allowed_by (remember n) left s ok = ok
     allowed_by (known_type i) left s ok = type_allowed (slice_get s.types i) left s
     allowed_by (noted table) left s ok = digits_allowed table left s

@@ -9,6 +9,7 @@ use Rattle.msvc_rules.specs.Readers.{read_name_in, read_in}
 use Rattle.msvc_rules.specs.Reads.{Reads, given, a_letter, a_literal, a_part, where_it_holds, in_a_row, the_first}
 use Rattle.msvc_rules.specs.Reads.{the_second, called, a_node, a_known_name, remembered, a_known_type, a_noted_type}
 use Rattle.msvc_rules.specs.Reads.{entered, set_apart}
+use Rattle.msvc_rules.specs.Reads.{it_stands}
 use Rattle.msvc_rules.specs.Rules.{Grammar, text_and, call, ◌>>=◌, lookup, Rule, give, letter, node, optional, here}
 use Rattle.msvc_rules.specs.Rules.{◌or◌, entering, apart}
 use Rattle.msvc_rules.specs.Sorts.{Sort, integer, name_tree, type_tree, symbol_tree, list, both, Value}
@@ -130,6 +131,7 @@ module _ {G : Grammar} (N : Counted G) where
   counts w (a_node {a = a} {v = v} {s = s} {t = t} d) same g h =
       adds_node w g (size w a v) s.count t.count same (counts w d same (g + w) h)
   counts w (a_known_name {n = n} {s = s} e) same g h = adds_entry w g (λ k. name_count k n) s.count same h
+  counts w (it_stands {s = s} e) same g h = adds_none w g 0 s.count (sym h)
   counts w (remembered {s = s}) same g h = adds_none w g 0 s.count (sym h)
   counts w (a_known_type {e = e} {s = s} k) same g h = adds_entry w g (λ x. type_count x e.entered) s.count same h
   counts w (a_noted_type {e = e} {s = s} k d) same g h = adds_entry w g (λ x. type_count x e.entered) s.count same h

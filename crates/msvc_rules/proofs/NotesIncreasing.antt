@@ -7,6 +7,7 @@ use Rattle.msvc_nodes.specs.Trees.{SymbolTree}
 use Rattle.msvc_rules.specs.Reads.{DerivesIn, Reads, given, a_letter, a_literal, a_part, where_it_holds, in_a_row}
 use Rattle.msvc_rules.specs.Reads.{the_first, the_second, called, a_known_name, remembered, a_known_type, a_noted_type}
 use Rattle.msvc_rules.specs.Reads.{a_node, entered, set_apart}
+use Rattle.msvc_rules.specs.Reads.{it_stands}
 use Rattle.msvc_rules.specs.Rules.{Grammar, Rule}
 use Rattle.msvc_rules.specs.Sorts.{Sort, Value}
 use Rattle.msvc_rules.specs.State.{Note, State, place, span_of, remember_name, remember_type, beginning}
@@ -96,6 +97,7 @@ module _ {G : Grammar} {F : Figures G} (C : Fit F) (D : Placing F) where
   taken (a_part {left = left} {rest = rest} {s = s} e d) text w =
       none_taken text left rest s s refl (tail C (a_part {s = s} e d))
   taken (a_known_name {left = left} {s = s} e) text w = none_taken text left left s s refl ([], refl)
+  taken (it_stands {left = left} {s = s} e) text w = none_taken text left left s s refl ([], refl)
   taken (remembered {n = n} {left = left} {s = s}) text w =
       none_taken text left left s (remember_name n s) refl ([], refl)
   taken (a_known_type {left = left} {s = s} e) text w = none_taken text left left s s refl ([], refl)

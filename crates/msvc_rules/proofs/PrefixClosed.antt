@@ -7,6 +7,7 @@ use Rattle.msvc_rules.specs.Readers.{ranks}
 use Rattle.msvc_rules.specs.Reads.{enter, note_digit, Reads, given, a_letter, a_literal, a_part, where_it_holds}
 use Rattle.msvc_rules.specs.Reads.{in_a_row, the_first, the_second, called, a_known_name, remembered, a_known_type}
 use Rattle.msvc_rules.specs.Reads.{a_node, a_noted_type, entered, nodes_of_name, nodes_of_type, set_apart}
+use Rattle.msvc_rules.specs.Reads.{it_stands}
 use Rattle.msvc_rules.specs.Rules.{Grammar, call, noted, entering, Condition, none_of, at_end, holds, some_of, begins}
 use Rattle.msvc_rules.specs.Rules.{Rule}
 use Rattle.msvc_rules.specs.Sorts.{Sort, Value}
@@ -109,6 +110,8 @@ module _ {G : Grammar} {F : Figures G} (C : Fit F) where
   cut (a_node d) floor f left rest w h k = a_node (cut d floor f left rest w h k)
   cut (a_known_name {i = i} {n = n} {left = found} {s = s} e) floor f left rest w h k =
       still _ found s n (counted (nodes_of_name n s) s) (λ l m. a_known_name e) left rest w h k
+  cut (it_stands {left = found} {s = s} e) floor f left rest w h k =
+      still _ found s tt s (λ l m. it_stands e) left rest w h k
   cut (remembered {left = found} {s = s}) floor f left rest w h k =
       still _ found s tt _ (λ l m. remembered) left rest w h k
   cut (a_known_type {e = entry} {left = found} {s = s} e) floor f left rest w h k =

@@ -6,6 +6,7 @@ use Rattle.msvc_rules.specs.Readers.{ranks}
 use Rattle.msvc_rules.specs.Reads.{Reads, given, a_letter, a_literal, a_part, where_it_holds, in_a_row, the_first}
 use Rattle.msvc_rules.specs.Reads.{the_second, called, a_known_name, remembered, a_known_type, a_noted_type, entered}
 use Rattle.msvc_rules.specs.Reads.{a_node, set_apart}
+use Rattle.msvc_rules.specs.Reads.{it_stands}
 use Rattle.msvc_rules.specs.Rules.{Grammar, Rule}
 use Rattle.msvc_rules.specs.Sorts.{Sort, Value}
 use Rattle.msvc_rules.specs.State.{State}
@@ -86,5 +87,6 @@ module _ {G : Grammar} {F : Figures G} (C : Fit F) where
   shorter (set_apart h) floor f = shorter h floor f
   shorter given floor f = omega arith
   shorter (a_known_name e) floor f = omega arith
+  shorter (it_stands e) floor f = omega arith
   shorter remembered floor f = omega arith
   shorter (a_known_type e) floor f = omega arith

@@ -8,11 +8,14 @@ use Rattle.msvc_rules.specs.Readers.{and_then, or_else, Found, Reader, with_valu
 use Rattle.msvc_rules.specs.Readers.{after_literal, with_byte, part_here, name_known, type_known, type_noted, noted_by}
 use Rattle.msvc_rules.specs.Readers.{noted_here, entered_by, put_apart, read_by, read_within, ranks, read_name_in}
 use Rattle.msvc_rules.specs.Readers.{read_in}
+use Rattle.msvc_rules.specs.Readers.{name_stands}
 use Rattle.msvc_rules.specs.Reads.{note_digit, emptied, Reads, given, a_letter, a_literal, a_part, a_node}
 use Rattle.msvc_rules.specs.Reads.{where_it_holds, in_a_row, the_first, the_second, called, a_known_name, remembered}
 use Rattle.msvc_rules.specs.Reads.{a_known_type, a_noted_type, entered, set_apart, nodes_of_name, nodes_of_type}
+use Rattle.msvc_rules.specs.Reads.{it_stands}
 use Rattle.msvc_rules.specs.Rules.{Grammar, every, holds, after, lookup, Rule, give, letter, literal, up_to, here}
 use Rattle.msvc_rules.specs.Rules.{◌>>=◌, ◌or◌, call, known_name, node, remember, known_type, noted, entering, apart}
+use Rattle.msvc_rules.specs.Rules.{stands}
 use Rattle.msvc_rules.specs.Sorts.{Sort, Value}
 use Rattle.msvc_rules.specs.State.{Entry, State, counted, is_allowed, more}
 
@@ -111,6 +114,11 @@ module _ (G : Grammar) where
   is_name i left s (Some n) e =
       if_counted (Derived (known_name i) left s) (nodes_of_name n s) left s (λ l t. Some (n, l, t)) (a_known_name e)
 
+  is_standing : (i : ℕ) (left : List ℕ) (s : State) (o : Option NameTree) → slice_get s.names i ≡ o
+      → IfFound (Derived (stands i) left s) (name_stands o left s)
+  is_standing i left s None e = tt
+  is_standing i left s (Some n) e = it_stands e
+
   is_type : (i : ℕ) (left : List ℕ) (s : State) (o : Option Entry) → slice_get s.types i ≡ o
       → IfFound (Derived (known_type i) left s) (type_known o left s)
   is_type i left s None e = tt
@@ -179,6 +187,7 @@ module _ (G : Grammar) where
         (read_by calls r left (counted s.count.weight s))
         (λ x h. a_node h) (sound_by r left (counted s.count.weight s)))
     sound_by (known_name i) left s = is_name i left s (slice_get s.names i) refl
+    sound_by (stands i) left s = is_standing i left s (slice_get s.names i) refl
     sound_by (remember n) left s = remembered
     sound_by (known_type i) left s = is_type i left s (slice_get s.types i) refl
     sound_by (noted table) left s = is_noted_here table left s

@@ -7,6 +7,7 @@ use Rattle.msvc_nodes.specs.Trees.{TypeTree}
 use Rattle.msvc_rules.specs.Reads.{Reads, given, a_letter, a_literal, a_part, where_it_holds, in_a_row, the_first}
 use Rattle.msvc_rules.specs.Reads.{the_second, called, a_known_name, remembered, a_known_type, a_noted_type, entered}
 use Rattle.msvc_rules.specs.Reads.{a_node, set_apart}
+use Rattle.msvc_rules.specs.Reads.{it_stands}
 use Rattle.msvc_rules.specs.Rules.{Grammar, every, some_of, begins, lookup, Rule, give, letter, literal, up_to, here}
 use Rattle.msvc_rules.specs.Rules.{◌>>=◌, ◌or◌, call, known_name, remember, known_type, node, noted, entering, apart}
 use Rattle.msvc_rules.specs.Sorts.{Sort, Value}
@@ -77,6 +78,7 @@ module _ (G : Grammar) where
   quiet (a_letter e) k h = absurd (cc)
   quiet (a_literal e) k h = absurd (cc)
   quiet (a_part e d) k h = absurd (cc)
+  quiet (it_stands e) k h = absurd (cc)
   quiet (in_a_row c d) k h = absurd (cc)
   quiet (a_noted_type e d) k h = absurd (cc)
   quiet (entered d) k h = absurd (cc)
@@ -139,6 +141,7 @@ module _ (G : Grammar) where
   short (called {n = n} d) x bytes is (suc k) h = short d x bytes is k h
   short (a_known_name e) x bytes is k h = omega arith
   short (a_known_type e) x bytes is k h = omega arith
+  short (it_stands e) x bytes is k h = omega arith
   short remembered x bytes is k h = omega arith
   short (a_noted_type e d) x bytes is k h = omega arith
   short (a_node d) x bytes is k h = short d x bytes is k h

@@ -13,6 +13,7 @@ use Rattle.msvc_rules.specs.Readers.{ranks}
 use Rattle.msvc_rules.specs.Reads.{DerivesIn, enter, note_digit, emptied, put_back, Reads, given, a_letter, a_literal}
 use Rattle.msvc_rules.specs.Reads.{a_part, where_it_holds, in_a_row, the_first, the_second, called, a_known_name}
 use Rattle.msvc_rules.specs.Reads.{remembered, a_known_type, a_node, a_noted_type, entered, nodes_of_type, set_apart}
+use Rattle.msvc_rules.specs.Reads.{it_stands}
 use Rattle.msvc_rules.specs.Rules.{Grammar, Condition, none_of, at_end, holds, every, some_of, begins, begins_of, Rule}
 use Rattle.msvc_rules.specs.Rules.{◌>>=◌, ◌or◌, apart, call, here, node, noted, entering, lookup, is_nil}
 use Rattle.msvc_rules.specs.Sorts.{Sort, Value, type_tree}
@@ -276,6 +277,7 @@ module _ {G : Grammar} {F : Figures G} (C : Fit F) (D : Placing F) (S : Starting
   lacks (set_apart d) k l p is h all = lacks d k l p is h all
   lacks given k l p is h all = absurd (cc)
   lacks (a_known_name e) k l p is h all = absurd (cc)
+  lacks (it_stands e) k l p is h all = absurd (cc)
   lacks remembered k l p is h all = absurd (cc)
   lacks (a_known_type e) k l p is h all = absurd (cc)
   lacks (a_noted_type e d) k l p is h all = absurd (cc)
@@ -744,6 +746,7 @@ module _ {G : Grammar} {F : Figures G} (C : Fit F) (D : Placing F) (S : Starting
   digits_inside (a_literal e) floor f p text w h i n k = inl k
   digits_inside (a_part e d) floor f p text w h i n k = inl k
   digits_inside (a_known_name e) floor f p text w h i n k = inl k
+  digits_inside (it_stands e) floor f p text w h i n k = inl k
   digits_inside remembered floor f p text w h i n k = inl k
   digits_inside (a_known_type e) floor f p text w h i n k = inl k
   digits_inside (a_noted_type e d) floor f p text w h i n k = absurd p

@@ -6,7 +6,7 @@ use Rattle.msvc_nodes.specs.Trees.{NameTree, TypeTree}
 use Rattle.msvc_rules.specs.Reads.{emptied, enter, nodes_of_name, nodes_of_type, note_digit, put_back}
 use Rattle.msvc_rules.specs.Rules.{Grammar, holds, lookup, after, Rule, give, letter, literal, up_to}
 use Rattle.msvc_rules.specs.Rules.{here, ◌>>=◌, ◌or◌, call, known_name, remember, known_type, noted, entering, apart}
-use Rattle.msvc_rules.specs.Rules.{node}
+use Rattle.msvc_rules.specs.Rules.{node, stands}
 use Rattle.msvc_rules.specs.Sorts.{Sort, type_tree, Value}
 use Rattle.msvc_rules.specs.State.{State, Entry, remember_name}
 use Rattle.msvc_rules.specs.State.{counted, is_allowed, more}
@@ -59,6 +59,10 @@ abbrev pub name_known : Option NameTree → List ℕ → State → Found NameTre
 name_known None left s = None
 name_known (Some n) left s = and_then (counting (nodes_of_name n s) left s) (λ _ l t. Some (n, l, t))
 
+abbrev pub name_stands : Option NameTree → List ℕ → State → Found (Unit {0})
+name_stands None left s = None
+name_stands (Some n) left s = Some (tt, left, s)
+
 abbrev pub type_known : Option Entry → List ℕ → State → Found TypeTree
 type_known None left s = None
 type_known (Some e) left s = and_then (counting (nodes_of_type e.entered s) left s) (λ _ l t. Some (e.entered, l, t))
@@ -100,6 +104,7 @@ read_by calls (r or q) left s = or_else (read_by calls r left s) (read_by calls 
 read_by calls (call n) left s = calls _ n left s
 read_by calls (node r) left s = in_node left s (read_by calls r)
 read_by calls (known_name i) left s = name_known (slice_get s.names i) left s
+read_by calls (stands i) left s = name_stands (slice_get s.names i) left s
 read_by calls (remember n) left s = Some (tt, left, remember_name n s)
 read_by calls (known_type i) left s = type_known (slice_get s.types i) left s
 read_by calls (noted table) left s = noted_here table left s

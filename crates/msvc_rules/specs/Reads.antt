@@ -6,7 +6,7 @@ use Rattle.msvc_nodes.specs.Trees.{NameTree, TypeTree, SymbolTree}
 use Rattle.msvc_rules.specs.Counts.{name_count, type_count}
 use Rattle.msvc_rules.specs.Rules.{Grammar, Condition, holds, every, lookup, Rule, give, letter, literal, up_to}
 use Rattle.msvc_rules.specs.Rules.{here, ◌>>=◌, ◌or◌, call, known_name, remember, known_type, noted, entering, apart}
-use Rattle.msvc_rules.specs.Rules.{node}
+use Rattle.msvc_rules.specs.Rules.{node, stands}
 use Rattle.msvc_rules.specs.Sorts.{Sort, type_tree, Value}
 use Rattle.msvc_rules.specs.State.{State, Entry, Note, place, span_of, beginning, remember_name, remember_type}
 use Rattle.msvc_rules.specs.State.{take_note, counted}
@@ -60,6 +60,8 @@ pub data Reads (G : Grammar) : (a : Sort) → Rule G.family a → List ℕ → S
       → Reads G _ r left (counted s.count.weight s) v rest t → Reads G _ (node r) left s v rest t
   a_known_name : {i : ℕ} {n : NameTree} {left : List ℕ} {s : State} → slice_get s.names i ≡ Some n
       → Reads G _ (known_name i) left s n left (counted (nodes_of_name n s) s)
+  it_stands : {i : ℕ} {n : NameTree} {left : List ℕ} {s : State} → slice_get s.names i ≡ Some n
+      → Reads G _ (stands i) left s tt left s
   remembered : {n : NameTree} {left : List ℕ} {s : State} → Reads G _ (remember n) left s tt left (remember_name n s)
   a_known_type : {i : ℕ} {e : Entry} {left : List ℕ} {s : State} → slice_get s.types i ≡ Some e
       → Reads G _ (known_type i) left s e.entered left (counted (nodes_of_type e.entered s) s)

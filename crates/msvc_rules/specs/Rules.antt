@@ -33,6 +33,8 @@ pub data Rule (P : Sort → Type 0) : Sort → Type 0 where
   node : {a : Sort} → Rule P a → Rule P a
   -- an entry of the table of names, whose nodes count again
   known_name : ℕ → Rule P name_tree
+  -- an entry of the table of names is there, of which no node counts
+  stands : ℕ → Rule P nothing
   -- a name enters the table of names
   remember : NameTree → Rule P nothing
   -- the type of an entry of the table of types, whose nodes count again

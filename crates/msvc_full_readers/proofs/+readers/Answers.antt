@@ -14,9 +14,9 @@ use Rattle.msvc_full_grammar.specs.Fragments.{parameter, template_inside}
 use Rattle.msvc_full_grammar.specs.Productions.{encoding, listed, nested_name, one_listed, parameters}
 use Rattle.msvc_full_grammar.specs.Productions.{class_symbol, scope, targets, template_name}
 use Rattle.msvc_full_grammar.specs.Reading.{read, read_name}
+use Rattle.msvc_cursor.specs.Rows.{with_front}
 use Rattle.msvc_full_grammar.proofs.Laws.{type_made}
 use Rattle.msvc_cursor.proofs.Nodes.{frame_names, frame_types, map_last}
-use Rattle.msvc_cursor.proofs.RowSteps.{with_front}
 use Rattle.msvc_cursor.specs.Parser.{Frame, counting_ellipsis, frame_of, known_name_of, memorized_of, state_of}
 use Rattle.msvc_cursor.specs.NestedList.{current, enclosing}
 use Rattle.msvc_cursor.specs.declared.entries.MemorizedName.{MemorizedName}

@@ -5,7 +5,7 @@ use Rattle.msvc_full_grammar.specs.Productions.{listed, parameters, scope, targe
 use Rattle.msvc_full_grammar.specs.Reading.{read_name}
 use Rattle.msvc_cursor.specs.Parser.{frame_of, state_of}
 use Rattle.msvc_cursor.specs.NestedList.{current, enclosing}
-use Rattle.msvc_cursor.proofs.RowSteps.{with_front}
+use Rattle.msvc_cursor.specs.Rows.{with_front}
 use Rattle.msvc_full_readers.specs.Readings.{parameters_behind}
 use Rattle.msvc_full_readers.proofs.+readers.Given as goal
 

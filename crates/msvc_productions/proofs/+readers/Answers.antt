@@ -20,7 +20,7 @@ use Rattle.msvc_grammar.specs.Reading.{read, read_name}
 use Rattle.msvc_grammar.proofs.Laws.{template_made, type_made}
 use Rattle.msvc_cursor.proofs.NameSteps.{template_kept_step}
 use Rattle.msvc_cursor.proofs.Nodes.{frame_names, frame_types, map_last}
-use Rattle.msvc_cursor.proofs.RowSteps.{parameters_more, scope_ends, scope_more, with_front}
+use Rattle.msvc_cursor.proofs.RowSteps.{parameters_more, scope_ends, scope_more}
 use Rattle.msvc_cursor.proofs.SymbolSteps.{encoding_first, member_letter, named_symbol_is, no_member_letter}
 use Rattle.msvc_cursor.proofs.SymbolSteps.{encoding_by, symbol_of}
 use Rattle.msvc_cursor.proofs.TypeSteps.{plain_letter, referred_step, type_by}
@@ -28,7 +28,7 @@ use Rattle.msvc_cursor.specs.Parser.{Frame, byte_here, frame_of, indexed}
 use Rattle.msvc_cursor.specs.Parser.{add_template_name, known_name_of, memorized_of}
 use Rattle.msvc_cursor.specs.Parser.{found_or, parameters_stop, state_of, type_of_letter}
 use Rattle.msvc_grammar.specs.declared.forms.TemplateNames.TheVariants.{NotMemorized}
-use Rattle.msvc_cursor.specs.Rows.{named_at}
+use Rattle.msvc_cursor.specs.Rows.{named_at, with_front}
 use Rattle.msvc_cursor.specs.NestedList.{current, enclosing}
 use Rattle.msvc_cursor.specs.declared.entries.MemorizedName.{MemorizedName}
 use Rattle.msvc_cursor.specs.declared.entries.MemorizedType.{MemorizedType}

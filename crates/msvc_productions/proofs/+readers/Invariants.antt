@@ -5,7 +5,7 @@ use Rattle.msvc_grammar.specs.Productions.{parameters, scope}
 use Rattle.msvc_grammar.specs.Reading.{read_name}
 use Rattle.msvc_cursor.specs.Parser.{frame_of, state_of}
 use Rattle.msvc_cursor.specs.NestedList.{current, enclosing}
-use Rattle.msvc_cursor.proofs.RowSteps.{with_front}
+use Rattle.msvc_cursor.specs.Rows.{with_front}
 use Rattle.msvc_productions.proofs.+readers.Given as goal
 
 -- Where as many bytes are left, a reader calls only those with a smaller number.

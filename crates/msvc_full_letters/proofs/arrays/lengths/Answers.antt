@@ -3,7 +3,7 @@ use Rattle.std.proofs.lemmas.Grind.{common_steps}
 use Rattle.msvc_nodes.specs.declared.nodes.Number.{Number}
 use Rattle.msvc_full_grammar.specs.Productions.{count, lengths}
 use Rattle.msvc_full_grammar.specs.Reading.{read_name}
-use Rattle.msvc_cursor.proofs.RowSteps.{with_front}
+use Rattle.msvc_cursor.specs.Rows.{with_front}
 use Rattle.msvc_cursor.specs.Parser.{state_of}
 use Rattle.msvc_full_letters.proofs.LengthSteps.{lengths_more, unsigned}
 use Rattle.msvc_full_letters.proofs.arrays.lengths.Goals as goal

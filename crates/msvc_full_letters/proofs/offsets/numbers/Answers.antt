@@ -3,7 +3,7 @@ use Rattle.std.proofs.lemmas.Grind.{common_steps}
 use Rattle.msvc_nodes.specs.declared.nodes.Number.{Number}
 use Rattle.msvc_full_grammar.specs.Productions.{number, numbers}
 use Rattle.msvc_full_grammar.specs.Reading.{read_name}
-use Rattle.msvc_cursor.proofs.RowSteps.{with_front}
+use Rattle.msvc_cursor.specs.Rows.{with_front}
 use Rattle.msvc_cursor.specs.Parser.{state_of}
 use Rattle.msvc_full_letters.proofs.OffsetSteps.{numbers_more}
 use Rattle.msvc_full_letters.proofs.offsets.numbers.Goals as goal

@@ -5,7 +5,7 @@ use Rattle.msvc_rules.specs.Rules.{after}
 use Rattle.msvc_full_grammar.specs.Letters.{hexadecimal_codes}
 use Rattle.msvc_full_grammar.specs.Productions.{hexadecimal_digits}
 use Rattle.msvc_full_grammar.specs.Reading.{read_name}
-use Rattle.msvc_cursor.proofs.RowSteps.{with_front}
+use Rattle.msvc_cursor.specs.Rows.{with_front}
 use Rattle.msvc_full_readers.proofs.AnonymousSteps.{digits_more}
 use Rattle.msvc_cursor.specs.Parser.{state_of}
 use Rattle.msvc_full_readers.proofs.anonymous_namespaces.hex_digit_string.Goals as goal

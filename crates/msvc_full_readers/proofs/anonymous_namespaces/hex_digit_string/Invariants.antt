@@ -4,7 +4,7 @@ use Rattle.msvc_rules.specs.Readers.{and_then}
 use Rattle.msvc_full_grammar.specs.Productions.{hexadecimal_digits}
 use Rattle.msvc_full_grammar.specs.Reading.{read_name}
 use Rattle.msvc_cursor.specs.Parser.{frame_of, state_of}
-use Rattle.msvc_cursor.proofs.RowSteps.{with_front}
+use Rattle.msvc_cursor.specs.Rows.{with_front}
 use Rattle.msvc_full_readers.proofs.anonymous_namespaces.hex_digit_string.Given as goal
 
 -- the digits so far, before what is read of the rest, are what is read of all

@@ -5,7 +5,8 @@ use Rattle.msvc_rules.specs.Rules.{after}
 use Rattle.msvc_grammar.specs.Letters.{hexadecimal_codes}
 use Rattle.msvc_grammar.specs.Productions.{hexadecimal_digits}
 use Rattle.msvc_grammar.specs.Reading.{read_name}
-use Rattle.msvc_cursor.proofs.RowSteps.{digits_more, with_front}
+use Rattle.msvc_cursor.specs.Rows.{with_front}
+use Rattle.msvc_cursor.proofs.RowSteps.{digits_more}
 use Rattle.msvc_cursor.specs.Parser.{state_of}
 use Rattle.msvc_productions.proofs.qualified_names.hex_digit_string.Goals as goal
 

@@ -3,7 +3,8 @@ use Rattle.std.proofs.lemmas.Grind.{common_steps}
 use Rattle.msvc_rules.specs.Readers.{counting}
 use Rattle.msvc_grammar.specs.Productions.{lengths, number}
 use Rattle.msvc_grammar.specs.Reading.{read_name}
-use Rattle.msvc_cursor.proofs.RowSteps.{lengths_more, with_front}
+use Rattle.msvc_cursor.specs.Rows.{with_front}
+use Rattle.msvc_cursor.proofs.RowSteps.{lengths_more}
 use Rattle.msvc_cursor.specs.Parser.{state_of}
 use Rattle.msvc_productions.proofs.types.lengths.Goals as goal
 

@@ -2,7 +2,7 @@ use Rattle.std.proofs.Common.{◌≡◌, ◌≤◌, ◌-◌, length}
 use Rattle.msvc_grammar.specs.Productions.{lengths}
 use Rattle.msvc_grammar.specs.Reading.{read_name}
 use Rattle.msvc_cursor.specs.Parser.{frame_of, state_of}
-use Rattle.msvc_cursor.proofs.RowSteps.{with_front}
+use Rattle.msvc_cursor.specs.Rows.{with_front}
 use Rattle.msvc_productions.proofs.types.lengths.Given as goal
 
 -- the lengths so far, before those that are still to be read, are all the lengths

@@ -2,7 +2,7 @@ use Rattle.std.proofs.Common.{rules, ◌≡◌, ◌∷◌, ◌+◌, ◌-◌, suc
 use Rattle.std.proofs.lemmas.Grind.{common_steps}
 use Rattle.msvc_grammar.specs.Productions.{character, characters}
 use Rattle.msvc_grammar.specs.Reading.{read_name}
-use Rattle.msvc_cursor.proofs.RowSteps.{with_front}
+use Rattle.msvc_cursor.specs.Rows.{with_front}
 use Rattle.msvc_cursor.proofs.StringSteps.{characters_more}
 use Rattle.msvc_cursor.specs.Parser.{state_of}
 use Rattle.msvc_cursor.proofs.parser.Parser.characters.Goals as goal
