@@ -114,6 +114,11 @@ pub record AreWordsInFull : Type 0 where
   pub type_name_after_an_underscore : BeginsNotIn Full "_" ".?AVA@@"
   pub type_name_after_an_at_sign : BeginsNotIn Full "@" ".?AVA@@"
   pub type_name_in_the_other_grammar : BeginsNotIn Crate "" ".?AVA@@"
+  pub type_name_with_a_digit : BeginsIn Full "" ".P6AXXZ"
+  pub type_name_with_an_underscore : BeginsIn Full "" ".PEB_J"
+  -- of letters alone it may be the ending of a file's name
+  pub ending_of_a_file : BeginsNotIn Full "*" ".BAK"
+  pub ending_before_a_comma : BeginsNotIn Full "" ".H, *.C"
   -- its ? begins none
   pub inside_a_type_name : BeginsNotIn Full "." "?AVA@@"
   -- a funclet begins at the start of a word alone

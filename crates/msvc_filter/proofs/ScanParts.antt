@@ -19,7 +19,7 @@ use Rattle.msvc_filter.specs.Filtered.{nothing, replaced, stays, text_of_parts}
 use Rattle.msvc_filter.specs.WordStates.{ArePartsUpTo, AreRest, IsDecided, IsFound, IsSymbolShown, IsUnmarked, Keeps}
 use Rattle.msvc_filter.specs.WordStates.{max_looked_at, past}
 use Rattle.msvc_filter.specs.SymbolBounds.{begins_funclet, candidate, follows_word, is_free, is_mark, is_start}
-use Rattle.msvc_filter.specs.SymbolBounds.{starts_at}
+use Rattle.msvc_filter.specs.SymbolBounds.{is_file_ending, starts_at}
 use Rattle.msvc_filter.specs.declared.symbol_bounds.WordState.{WordState}
 use Rattle.msvc_filter.proofs.SymbolLookahead.{no_symbol-more, start-more, symbol-more}
 use Rattle.msvc_filter.proofs.Replaced.{text-append}
@@ -79,11 +79,11 @@ no_start : (g : Grammar) (last : ℕ) (passed : List ℕ) (b : ℕ) (left : List
 no_start g last passed b left none starts =
     go g b (is_free last passed) (follows_word last passed) (candidate (b ∷ left)) none starts
   where
-    unmarked : (q dot free follows funclet : Bool) → q || dot ≡ false
-        → cond dot (not follows) (q && (free && not (follows && funclet))) ≡ true → ⊥
-    unmarked true dot free follows funclet none starts = cc
-    unmarked false true free follows funclet none starts = cc
-    unmarked false false free follows funclet none starts = cc
+    unmarked : (q dot free follows ending funclet : Bool) → q || dot ≡ false
+        → cond dot (not (follows || ending)) (q && (free && not (follows && funclet))) ≡ true → ⊥
+    unmarked true dot free follows ending funclet none starts = cc
+    unmarked false true free follows ending funclet none starts = cc
+    unmarked false false free follows ending funclet none starts = cc
 
     marked : (q free : Bool) → q || q ≡ false → q && free ≡ true → ⊥
     marked true free none starts = cc
@@ -93,7 +93,7 @@ no_start g last passed b left none starts =
         → starts_at g b free follows text ≡ true → ⊥
     go Crate b free follows text none starts = marked (b == 63) free none starts
     go Full b free follows text none starts =
-        unmarked (b == 63) (b == 46) free follows (begins_funclet text) none starts
+        unmarked (b == 63) (b == 46) free follows (is_file_ending text) (begins_funclet text) none starts
 
 unmarked-parts : (how : Choice) (last : ℕ) (passed run left : List ℕ) (rest : List Part) → IsUnmarked how.grammar run
     → IsFilteredFrom how last (past run passed) left rest

@@ -1,7 +1,7 @@
 -- Where a symbol may stand in a text: words, their starts, and the candidates that begin there.
 use Rattle.std.specs.Prelude.{ℕ, List, [], ◌∷◌, ◌+◌, Bool, false, true, not, ◌&&◌, ◌||◌, ◌==◌, nat_lt, take, drop}
 use Rattle.std.specs.Prelude.{if◌then◌else◌}
-use Rattle.std.specs.Char.{is_ascii_alphanumeric, is_ascii_uppercase}
+use Rattle.std.specs.Char.{is_ascii_alphabetic, is_ascii_alphanumeric, is_ascii_uppercase}
 use Rattle.std.specs.List.{list_any, take_while}
 use Rattle.std.specs.Str.Lossy.{utf8_valid_len}
 use Rattle.msvc_rules.specs.Rules.{begins}
@@ -60,13 +60,23 @@ candidate left = utf8_front (take max_bytes (take_while is_visible left))
 abbrev pub begins_funclet : List ℕ → Bool
 begins_funclet bytes = list_any (λ row. begins bytes row.0) funclet_texts
 
+-- whether letters alone stand before the end of a word
+abbrev pub ends_in_letters : List ℕ → Bool
+ends_in_letters [] = true
+ends_in_letters (b ∷ bs) = if is_ascii_alphabetic b then ends_in_letters bs else not (is_word_byte b)
+
+-- whether letters alone follow the first of some bytes before the end of its word, as they follow a full stop in *.BAK
+abbrev pub is_file_ending : List ℕ → Bool
+is_file_ending [] = false
+is_file_ending (b ∷ bs) = ends_in_letters bs
+
 -- Whether a symbol of a grammar may start at the byte `b` with this candidate, from whether a `?` may start one there
--- and whether a byte of a word precedes it. In Full the name of a type starts at a full stop that follows no word, and
--- a funclet at a `?` that follows none.
+-- and whether a byte of a word precedes it. In Full the name of a type starts at a full stop that follows no word,
+-- unless it may be the ending of a file's name, and a funclet at a `?` that follows none.
 abbrev pub starts_at : Grammar → (b : ℕ) (free follows : Bool) (text : List ℕ) → Bool
 starts_at Crate b free follows text = b == 63 && free
 starts_at Full b free follows text =
-    if b == 46 then not follows else (b == 63 && (free && not (follows && begins_funclet text)))
+    if b == 46 then not (follows || is_file_ending text) else (b == 63 && (free && not (follows && begins_funclet text)))
 
 -- whether a symbol of a grammar may start at the first of the bytes `left`
 abbrev pub is_start : Grammar → (last : ℕ) (passed left : List ℕ) → Bool

@@ -4,7 +4,8 @@ ghost use Rattle.std.specs.Prelude.{◌&&◌, ◌∷◌, ◌==◌, ◌||◌, ◌
 ghost use Rattle.std.specs.Prelude.{slice_index, true};
 ghost use Rattle.std.specs.List.{list_all, list_any, take_while};
 ghost use Rattle.msvc_symbol.specs.declared.grammar.Grammar.TheVariants.{Crate, Full};
-ghost use Rattle.msvc_filter.specs.SymbolBounds.{begins_funclet, blocks_start, candidate, continues, ends_word};
+ghost use Rattle.msvc_filter.specs.SymbolBounds.{begins_funclet, blocks_start, candidate, continues, ends_in_letters};
+ghost use Rattle.msvc_filter.specs.SymbolBounds.{ends_word, is_file_ending};
 ghost use Rattle.msvc_filter.specs.SymbolBounds.{is_mark, is_start, is_trailing_byte, is_visible, is_word_byte};
 ghost use Rattle.msvc_filter.specs.SymbolBounds.{max_bytes, other_mark, symbol_extent, utf8_front};
 ghost use Rattle.msvc_filter.specs.WordStates.{IsPlain, IsUnmarked, Keeps, may_start, past};
@@ -83,7 +84,7 @@ impl WordState {
             [b'?', ..] => {
                 self.is_free() && !(is_word_byte(self.last) && begins_funclet(candidate(left)))
             }
-            [b'.', ..] => !is_word_byte(self.last),
+            [b'.', ..] => !(is_word_byte(self.last) || is_file_ending(candidate(left))),
             _ => false,
         }
     }
@@ -129,6 +130,30 @@ fn begins_funclet(text: &str) -> bool
             | [b'?', b'f', b'i', b'l', b't', b'$', ..]
             | [b'?', b'f', b'i', b'n', b'$', ..]
     )
+}
+
+/// Returns whether letters alone follow the first byte of a text before the end of its word.
+fn is_file_ending(text: &str) -> bool
+    ensures { result ≡ is_file_ending text.now }
+{
+    match text.as_bytes() {
+        [_, rest @ ..] => ends_in_letters(rest),
+        [] => false,
+    }
+}
+
+/// Returns whether letters alone stand before the end of a word.
+fn ends_in_letters(bytes: &[u8]) -> bool
+    ensures { result ≡ ends_in_letters bytes.now }
+{
+    let mut left = bytes;
+    'letters: while let [first, rest @ ..] = left {
+        if !first.is_ascii_alphabetic() {
+            return !is_word_byte(*first);
+        }
+        left = rest;
+    }
+    true
 }
 
 /// Returns whether the word that continues after a byte has had a `?`.

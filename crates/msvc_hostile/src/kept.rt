@@ -157,12 +157,27 @@ fn want_bytes(demangler: &mut Demangler, text: &str, wanted: Wanted<'_>) -> bool
     }
 }
 
-/// Returns whether a symbol is none of a filter: it is too long, exceeds a limit, or has a byte that ends candidates.
+/// Returns whether a symbol is none of a filter: it is too long, exceeds a limit, has a byte that ends candidates, or may
+/// be the ending of a file's name.
 fn is_beyond_filter(symbol: &str, wanted: Wanted<'_>) -> bool {
     symbol.len() > CANDIDATE
         || wanted.nodes > DEFAULT_NODE_LIMIT
         || wanted.shown.len() > DEFAULT_BYTE_LIMIT
         || symbol.bytes().any(|byte| byte <= b' ' || byte == 0x7F)
+        || is_file_ending(symbol)
+}
+
+/// Returns whether a text is a full stop, and letters alone up to the end of the word.
+fn is_file_ending(text: &str) -> bool {
+    let Some(letters) = text.strip_prefix('.') else {
+        return false;
+    };
+    for byte in letters.bytes() {
+        if !byte.is_ascii_alphabetic() {
+            return !is_word_byte(byte);
+        }
+    }
+    true
 }
 
 /// Returns whether both filters write `shown` for a text.
