@@ -7,7 +7,7 @@ _msvcfilt() {
   if [[ $3 == --flags ]]; then
     compopt +o default
   elif [[ $3 == --grammar ]]; then
-    COMPREPLY=($(compgen -W 'crate full' -- "$2"))
+    COMPREPLY=($(compgen -W 'full crate' -- "$2"))
   elif [[ $2 == -* && " ${COMP_WORDS[*]:0:COMP_CWORD} " != *' -- '* ]]; then
     COMPREPLY=($(compgen -W "$options" -- "$2"))
   fi

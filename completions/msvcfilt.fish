@@ -13,6 +13,6 @@ complete -c msvcfilt -l space-after-comma -d 'set this flag, for use with --flag
 complete -c msvcfilt -l hug-type -d 'set this flag, for use with --flags'
 complete -c msvcfilt -l space-before-pointer -d 'set this flag, for use with --flags'
 complete -c msvcfilt -l flags -x -d 'start from these flags, not from 0xE00400'
-complete -c msvcfilt -l grammar -x -a 'crate full' -d 'read the symbols of this grammar'
+complete -c msvcfilt -l grammar -x -a 'full crate' -d 'read the symbols of this grammar'
 complete -c msvcfilt -s h -l help -d 'print help'
 complete -c msvcfilt -s V -l version -d 'print the version'

@@ -1,8 +1,8 @@
 //! `msvcfilt [OPTIONS] [FILE..]` writes each file, or standard input if there is none, with each symbol in it replaced
 //! by its declaration: `foo!void __cdecl crash(void)+0x12` for `foo!?crash@@YAXXZ+0x12`. With `-n` it prints names
-//! without types. With `-s` the arguments are no files but symbols, or other texts, each filtered as a line. With
-//! `--grammar full` symbols are read as today's compilers write them. It writes the text of each line before it waits
-//! for the next.
+//! without types. With `-s` the arguments are no files but symbols, or other texts, each filtered as a line. It reads
+//! symbols as today's compilers write them, with `--grammar crate` as the Rust crate does. It writes the text of each
+//! line before it waits for the next.
 //!
 //! The exit status is 0, or 1 if a file or standard input can't be read, the text can't be written, or an allocation
 //! fails, or 2 if the arguments are wrong. Then standard error has a message, unless the reader of the output pipe has
@@ -35,7 +35,7 @@ fn main(rt: HostRuntime) -> ExitCode {
 
 /// Runs the program on the words of the command line, and returns the exit status.
 fn perform(rt: &HostRuntime, words: &[String]) -> ExitCode {
-    let program = Command::new(rt.alloc(), PROGRAM).version("0.11.0");
+    let program = Command::new(rt.alloc(), PROGRAM).version("0.11.0 (Full 1)");
     match options::read(rt.alloc(), program, words) {
         Ok((matches, settings)) => run(rt, &matches, settings),
         Err(error) => show(rt, &error),

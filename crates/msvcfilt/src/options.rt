@@ -25,7 +25,7 @@ Usage: msvcfilt [OPTIONS] [FILE]..., or msvcfilt [OPTIONS] -s SYMBOL...
                            Set by default; --flags can clear them
   --flags WORD             Start from these flags, not from 0xE00400: a number,
                            decimal or, after 0x, hexadecimal
-  --grammar NAME           crate (default), or full: what compilers write today
+  --grammar NAME           full (default): what compilers write today, or crate
   -h, --help               Print this help; -V, --version prints the version
 
 Example: echo 'at ?f@@YAXXZ+0x5' | msvcfilt
@@ -78,7 +78,7 @@ pub(crate) fn read<'a>(
     let message = match (flags(&matches), grammar(&matches)) {
         (Some(flags), Some(grammar)) => return Ok((matches, Settings { flags, grammar })),
         (None, _) => "the value of '--flags <WORD>' is no number of 32 bits",
-        (_, None) => "the value of '--grammar <NAME>' is neither 'crate' nor 'full'",
+        (_, None) => "the value of '--grammar <NAME>' is neither 'full' nor 'crate'",
     };
     Err(command.error(ErrorKind::ValueValidation, message)?)
 }
@@ -130,8 +130,8 @@ fn flags(matches: &ArgMatches<'_>) -> Option<DemangleFlags> {
 /// Returns the grammar that `--grammar` names, or none if its value is no name of a grammar.
 fn grammar(matches: &ArgMatches<'_>) -> Option<Grammar> {
     match matches.get_str("grammar") {
-        None | Some("crate") => Some(Grammar::Crate),
-        Some("full") => Some(Grammar::Full),
+        None | Some("full") => Some(Grammar::Full),
+        Some("crate") => Some(Grammar::Crate),
         Some(_) => None,
     }
 }
