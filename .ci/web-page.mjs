@@ -181,10 +181,10 @@ async function run() {
     await click('#examples button');
     await page.until("document.querySelector('#output .symbol') !== null");
     await settled();
-    assert.match(await text('output'), /^int ns::x\nvoid __cdecl f\([^]*\n\?x@@3L\n$/);
-    assert.equal(await text('state'), '5 symbols · 1 rejected');
+    assert.match(await text('output'), /^public: <auto> __cdecl ns::<lambda_0>::[^]*\nint ns::x\n[^]*\n\?x@@3L\n$/);
+    assert.equal(await text('state'), '8 symbols · 1 rejected');
     assert.match(await text('time'), /^[0-9.]+ ms$/);
-    assert.equal(await page.value("document.querySelectorAll('#output .symbol').length"), 5);
+    assert.equal(await page.value("document.querySelectorAll('#output .symbol').length"), 8);
   });
 
   await see('a paste, which replaces an example and nothing else', async () => {
@@ -253,6 +253,25 @@ async function run() {
     await click('#reset');
     await shows(DECLARATION);
     assert.equal(await text('word'), '0xE00400');
+  });
+
+  await see('the grammars', async () => {
+    const typed = '?f@@YA?A?<auto>@@H@Z .?AVA@@ x.?AVA@@ *.H';
+    const full = "<auto> __cdecl f(int) class A `RTTI Type Descriptor Name' x.?AVA@@ *.H";
+    await type(typed);
+    await shows(full);
+    assert.equal(await text('state'), '2 symbols');
+    assert.deepEqual(await all('#output .symbol', 'title'), typed.split(' ', 2));
+    await put('grammar', 'crate');
+    await shows(typed);
+    assert.equal(await text('state'), '0 symbols · 1 rejected');
+    await type('?f@@9');
+    await shows('f');
+    await put('grammar', 'full');
+    await shows('extern "C" f');
+    await put('grammar', 'crate');
+    await click('#reset');
+    await shows('extern "C" f');
   });
 
   await see('an error', async () => {
@@ -410,8 +429,18 @@ async function run() {
     await shows('A::f ä&=#%+?');
     assert.equal(await page.value("document.getElementById('input').value"), `${SYMBOL} ä&=#%+?`);
     assert.equal(await text('word'), '0xE01400');
-    await open(`${address}#text=${encodeURIComponent('?x@@3HA <b>')}&flags=nonsense`);
+    await open(`${address}#text=${encodeURIComponent('?x@@3HA <b>')}&flags=nonsense&grammar=nonsense`);
     await shows('int x <b>');
+    assert.equal(await page.value("document.getElementById('grammar').value"), 'full');
+    await type('?f@@9');
+    await put('grammar', 'crate');
+    await shows('f');
+    await click('#link');
+    const older = await page.value('location.href');
+    await reload();
+    await shows('f');
+    await open(older);
+    await shows('f');
   });
 
   await see('edits of a link, and a reload', async () => {
@@ -500,7 +529,7 @@ async function run() {
     await resize(390, 844, 2);
     await open(`${address}#text=${encodeURIComponent('?g@@YAXPAHPAVx1@@010@Z')}`);
     const touched = (within) => page.value(`[...document.querySelectorAll(
-      '${within} :is(button, .button, summary, label:has(input), input[type=search])')].map((element) => {
+      '${within} :is(button, .button, summary, label:has(input), input[type=search], select)')].map((element) => {
         const { width, height } = element.getBoundingClientRect();
         return [element.textContent || element.id, width, height];
       }).filter(([, width]) => width > 0)`);

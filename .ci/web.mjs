@@ -4,7 +4,8 @@
 //     node .ci/web.mjs FOLDER prefix < ROWS           rows of crates/msvc_bench/prefix.tsv
 //     node .ci/web.mjs FOLDER lines TEXT ERRORS < IN  symbols, and undname's output for them
 //     node .ci/web.mjs FOLDER trees ERRORS < IN       symbols, and the standard error of undname -v for them
-//     node .ci/web.mjs FOLDER filter FLAGS < IN       writes what the filter returns for bytes, and compares a string's
+//     node .ci/web.mjs FOLDER filter FLAGS GRAMMAR < IN
+//                                                     writes what the filter returns for bytes, and compares a string's
 //     node .ci/web.mjs FOLDER calls                   the edge cases of each call, in the CommonJS module too
 //
 // FOLDER has the module that tools/web makes. The last line has the counts; the status is 1 if anything differs.
@@ -20,6 +21,9 @@ const [folder, command, ...words] = process.argv.slice(2);
 const module = await import(pathToFileURL(resolve(folder, 'index.mjs')));
 const { demangle, filter, references, symbolLength, tree, Flags, DemangleError, version } = module;
 const NO_LIMITS = { maxNodes: Infinity, maxBytes: Infinity };
+const CRATE = { ...NO_LIMITS, grammar: 'crate' };
+// The flag of the library for Full, which the rows of that grammar have.
+const FULL = 0x80000000;
 const top = new URL('../', import.meta.url);
 
 const input = () => readFileSync(0);
@@ -57,13 +61,13 @@ function isWanted(found, symbol, kind, wanted) {
 
 /** Whether a symbol with what a digit stands for in the digit's place has the same declaration, for each of them. */
 function areReferences(symbol, listed) {
-  const declaration = demangle(symbol, Flags.LLVM, NO_LIMITS);
-  const rest = symbol.length - symbolLength(symbol, NO_LIMITS);
+  const declaration = demangle(symbol, Flags.LLVM, CRATE);
+  const rest = symbol.length - symbolLength(symbol, CRATE);
   return listed.every(({ at, start, end }, index) => {
     const written = Buffer.concat([symbol.subarray(0, at), symbol.subarray(start, end), symbol.subarray(at + 1)]);
     return /[0-9]/.test(String.fromCharCode(symbol[at])) && start < end && end <= at &&
-      (index === 0 || listed[index - 1].at < at) && demangle(written, Flags.LLVM, NO_LIMITS) === declaration &&
-      written.length - symbolLength(written, NO_LIMITS) === rest;
+      (index === 0 || listed[index - 1].at < at) && demangle(written, Flags.LLVM, CRATE) === declaration &&
+      written.length - symbolLength(written, CRATE) === rest;
   });
 }
 
@@ -129,9 +133,10 @@ const commands = {
   rows() {
     const rows = lines(input()).filter((line) => !line.toString().startsWith('# '));
     compared(rows, 'rows', (row) => {
-      const [flags, symbol, kind, ...wanted] = fields(row);
+      const [word, symbol, kind, ...wanted] = fields(row);
+      const flags = parseInt(word, 16);
       const given = [symbol, ...(isUtf8(symbol) ? [symbol.toString()] : [])];
-      return given.every((text) => isWanted(outcome(demangle, text, parseInt(flags, 16), NO_LIMITS), symbol,
+      return given.every((text) => isWanted(outcome(demangle, text, flags, flags >= FULL ? NO_LIMITS : CRATE), symbol,
         kind.toString(), wanted.map(String)));
     });
   },
@@ -139,15 +144,15 @@ const commands = {
   prefix() {
     compared(lines(input()), 'texts', (row) => {
       const [text, bytes, nodes] = fields(row);
-      if (nodes === undefined) return outcome(symbolLength, text, NO_LIMITS).code === 'INVALID';
-      const enough = outcome(symbolLength, text, { maxNodes: Number(nodes) });
-      const few = outcome(symbolLength, text, { maxNodes: Number(nodes) - 1 });
+      if (nodes === undefined) return outcome(symbolLength, text, CRATE).code === 'INVALID';
+      const enough = outcome(symbolLength, text, { ...CRATE, maxNodes: Number(nodes) });
+      const few = outcome(symbolLength, text, { ...CRATE, maxNodes: Number(nodes) - 1 });
       return enough === Number(bytes) && few.code === 'TOO_MANY_NODES';
     });
   },
 
   lines(text, errors) {
-    const found = lines(input()).map((line) => outcome(demangle, line, Flags.LLVM, NO_LIMITS));
+    const found = lines(input()).map((line) => outcome(demangle, line, Flags.LLVM, CRATE));
     const symbols = lines(readFileSync(text));
     const messages = lines(readFileSync(errors)).map(String);
     let at = 0;
@@ -161,8 +166,8 @@ const commands = {
   trees(errors) {
     const messages = lines(readFileSync(errors)).map(String);
     compared(lines(input()), 'lines', (line) => {
-      const found = outcome(tree, line, NO_LIMITS);
-      const listed = outcome(references, line, NO_LIMITS);
+      const found = outcome(tree, line, CRATE);
+      const listed = outcome(references, line, CRATE);
       if (found instanceof DemangleError) {
         const same = listed.code === found.code && listed.offset === found.offset;
         return messages.shift() === `error: ${found.message}` && same;
@@ -172,10 +177,12 @@ const commands = {
     assert.equal(messages.length, 0);
   },
 
-  filter(flags) {
+  filter(flags, grammar) {
     const bytes = input();
-    const filtered = filter(bytes, Number(flags));
-    if (isUtf8(bytes)) assert.equal(filter(bytes.toString(), Number(flags)), Buffer.from(filtered).toString());
+    const filtered = filter(bytes, Number(flags), { grammar });
+    if (isUtf8(bytes)) {
+      assert.equal(filter(bytes.toString(), Number(flags), { grammar }), Buffer.from(filtered).toString());
+    }
     for (let at = 0; at < filtered.length;) at += writeSync(1, filtered, at);
   },
 
@@ -190,7 +197,7 @@ const commands = {
     const header = readFileSync(new URL('include/msvc_demangler.h', top), 'utf8');
     const constants = (pattern) => Object.fromEntries([...header.matchAll(pattern)].map(([, name, number]) =>
       [name, Number(number)]));
-    assert.deepEqual({ ...Flags }, constants(/MSVC_DEMANGLER_([A-Z0-9_]+) (0x[0-9A-F]+)u/g));
+    assert.deepEqual({ ...Flags }, constants(/MSVC_DEMANGLER_((?!FULL |CRATE )[A-Z0-9_]+) (0x[0-9A-F]+)u/g));
     const types = readFileSync(resolve(folder, 'index.d.ts'), 'utf8');
     assert.deepEqual(Object.fromEntries([...types.matchAll(/readonly ([A-Z0-9_]+): (0x[0-9A-F]+);/g)].map(
       ([, name, number]) => [name, Number(number)])), { ...Flags });
@@ -224,17 +231,27 @@ const commands = {
     assert.equal(symbolLength('?äö😀@@3HA and more'), 10);
     assert.equal(symbolLength(Buffer.from('?äö😀@@3HA and more')), 14);
 
-    const full = '?f@@YA?A?<auto>@@H@Z';
-    for (const flags of [Flags.LLVM + Flags.FULL, Flags.LLVM | Flags.FULL]) {
-      assert.equal(demangle(full, flags), '<auto> __cdecl f(int)');
-      assert.equal(filter(`in ${full}`, flags), 'in <auto> __cdecl f(int)');
-      assert.equal(symbolLength(`${full} and more`, { flags }), full.length);
-      assert.equal(outcome(tree, full, { flags, maxNodes: 1 }).code, 'TOO_MANY_NODES');
-      assert.ok(tree(full, { flags }).startsWith('f: '));
-      assert.deepEqual(references('?f@@YA?A?<auto>@@PAH0@Z', { flags }), [{ at: 20, start: 17, end: 20 }]);
+    // The grammars: Full is the default, and no flag chooses one.
+    const auto = '?f@@YA?A?<auto>@@H@Z';
+    for (const options of [undefined, {}, { grammar: 'full' }]) {
+      assert.equal(demangle(auto, Flags.LLVM, options), '<auto> __cdecl f(int)');
+      assert.equal(filter(`in ${auto}`, Flags.LLVM, options), 'in <auto> __cdecl f(int)');
+      assert.equal(symbolLength(`${auto} and more`, options), auto.length);
+      assert.equal(outcome(tree, auto, { ...options, maxNodes: 1 }).code, 'TOO_MANY_NODES');
+      assert.ok(tree(auto, options).startsWith('f: '));
+      assert.deepEqual(references('?f@@YA?A?<auto>@@PAH0@Z', options), [{ at: 20, start: 17, end: 20 }]);
     }
-    for (const call of [demangle, references, symbolLength, tree]) {
-      assert.ok(outcome(call, full) instanceof DemangleError);
+    rejected(() => demangle(auto, Flags.LLVM, CRATE), 'INVALID', 9);
+    assert.equal(filter(`in ${auto}`, Flags.LLVM, CRATE), `in ${auto}`);
+    for (const call of [references, symbolLength, tree]) rejected(() => call(auto, CRATE), 'INVALID', 9);
+    for (const bit of [0x1, 0x40000000, FULL]) {
+      assert.equal(demangle(auto, Flags.LLVM + bit), '<auto> __cdecl f(int)');
+      assert.equal(demangle('?f@@9', bit, CRATE), 'f');
+    }
+    for (const grammar of ['', 'Full', 'llvm', null, FULL, ['full']]) {
+      const error = { name: 'RangeError', message: `a grammar is 'full' or 'crate', not ${grammar}` };
+      for (const call of [demangle, filter]) assert.throws(() => call('', 0, { grammar }), error);
+      for (const call of [references, symbolLength, tree]) assert.throws(() => call('', { grammar }), error);
     }
 
     assert.equal(tree('?x@ns@@3HA and more'), 'ns::x: Var(Global Int)');

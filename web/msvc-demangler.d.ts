@@ -3,7 +3,7 @@
 /** The version of the library. */
 export declare const version: string;
 
-/** How a declaration is printed and, for the last, how a symbol is read. Flags are combined with |. */
+/** Chooses how a declaration is printed. Flags are combined with |. */
 export declare const Flags: {
   /** No `__cdecl` and the like. */
   readonly NO_MS_KEYWORDS: 0x2;
@@ -36,8 +36,6 @@ export declare const Flags: {
   readonly WITH_PTR64: 0x1000000;
   /** As llvm-undname prints: four of them. */
   readonly LLVM: 0xE00400;
-  /** Reads the symbols of today's compilers. */
-  readonly FULL: 0x80000000;
 };
 
 /** An error of a call, with its message. */
@@ -56,10 +54,13 @@ export interface Limits {
   maxBytes?: number;
 }
 
-/** How a symbol is read. */
-export interface Reading extends Pick<Limits, 'maxNodes'> {
-  /** Flags.FULL, or 0, the default. Flags for printing change nothing. */
-  flags?: number;
+/** Chooses how symbols are read. */
+export interface Reading {
+  /**
+   * Names the grammar. 'full', the default, is what today's compilers write; its texts follow the compilers. 'crate' is
+   * that of the Rust crate msvc-demangler 0.11.0; its texts never change, so a service that stores texts pins it.
+   */
+  grammar?: 'full' | 'crate';
 }
 
 /** Bytes, as a call takes them. */
@@ -71,7 +72,7 @@ export type Bytes = ArrayBufferLike | ArrayBufferView;
  * @throws {DemangleError} if there is none
  * @throws {RangeError} if memory or the stack runs out
  */
-export declare function demangle(symbol: string | Bytes, flags?: number, limits?: Limits): string;
+export declare function demangle(symbol: string | Bytes, flags?: number, options?: Reading & Limits): string;
 
 /**
  * Returns the text with each symbol in it replaced by its declaration; all else stays. Bytes need not be UTF-8. A
@@ -79,9 +80,9 @@ export declare function demangle(symbol: string | Bytes, flags?: number, limits?
  *
  * @throws {RangeError} if memory runs out
  */
-export declare function filter(text: string, flags?: number): string;
-export declare function filter(text: Bytes, flags?: number): Uint8Array;
-export declare function filter(text: string | Bytes, flags?: number): string | Uint8Array;
+export declare function filter(text: string, flags?: number, options?: Reading): string;
+export declare function filter(text: Bytes, flags?: number, options?: Reading): Uint8Array;
+export declare function filter(text: string | Bytes, flags?: number, options?: Reading): string | Uint8Array;
 
 /**
  * Returns how much of the text the symbol takes that it begins with: in code units of a string, or in bytes.
@@ -89,7 +90,7 @@ export declare function filter(text: string | Bytes, flags?: number): string | U
  * @throws {DemangleError} if it begins with none
  * @throws {RangeError} if memory or the stack runs out
  */
-export declare function symbolLength(symbol: string | Bytes, reading?: Reading): number;
+export declare function symbolLength(symbol: string | Bytes, options?: Reading & Pick<Limits, 'maxNodes'>): number;
 
 /**
  * Returns the tree of the symbol that the text begins with, on one line, for a person to read. Its form may change.
@@ -97,7 +98,7 @@ export declare function symbolLength(symbol: string | Bytes, reading?: Reading):
  * @throws {DemangleError} if it begins with none
  * @throws {RangeError} if memory or the stack runs out
  */
-export declare function tree(symbol: string | Bytes, reading?: Reading): string;
+export declare function tree(symbol: string | Bytes, options?: Reading & Pick<Limits, 'maxNodes'>): string;
 
 /** A digit that stands for a parameter before it. All are offsets, in code units of a string, or in bytes. */
 export interface Reference {
@@ -116,4 +117,4 @@ export interface Reference {
  * @throws {DemangleError} if it begins with none
  * @throws {RangeError} if memory or the stack runs out
  */
-export declare function references(symbol: string | Bytes, reading?: Reading): Reference[];
+export declare function references(symbol: string | Bytes, options?: Reading & Pick<Limits, 'maxNodes'>): Reference[];

@@ -12,7 +12,7 @@
 /** The version of the library. */
 export const version = '@VERSION@';
 
-/** How a declaration is printed and, for the last, how a symbol is read. Flags are combined with |. */
+/** Chooses how a declaration is printed. Flags are combined with |. */
 export const Flags = Object.freeze({
   NO_MS_KEYWORDS: 0x2,
   NO_FUNCTION_RETURNS: 0x4,
@@ -30,7 +30,6 @@ export const Flags = Object.freeze({
   SPACE_BEFORE_POINTER: 0x800000,
   WITH_PTR64: 0x1000000,
   LLVM: 0xE00400,
-  FULL: 0x80000000,
 });
 
 /** An error of a call: its message, its kind `code`, and its place `offset`. */
@@ -52,6 +51,10 @@ class OutOfStack extends RangeError {}
 // instruction `unreachable`.
 const FULL_STACK = ['Maximum call stack size exceeded', 'too much recursion', 'unreachable',
   'Unreachable code should not be executed'];
+
+// What each grammar adds to the flags of the library.
+const FULL = 0x80000000;
+const GRAMMARS = new Map([['full', FULL], ['crate', 0]]);
 
 const CODES = ['OK', 'INVALID', 'NOT_UTF8', 'OUT_OF_MEMORY', 'TOO_MANY_NODES', 'TOO_LONG'];
 const DEFAULT_NODES = 10_000;
@@ -94,6 +97,12 @@ function bytesOf(text) {
 function limit(value) {
   if (!(value >= 0)) throw new RangeError(`a limit is at least 0, not ${value}`);
   return value <= Number.MAX_SAFE_INTEGER ? BigInt(Math.floor(value)) : 2n ** 64n - 1n;
+}
+
+/** Returns flags with the bit of a grammar, as the library takes them. */
+function wordOf(flags, grammar) {
+  if (!GRAMMARS.has(grammar)) throw new RangeError(`a grammar is 'full' or 'crate', not ${grammar}`);
+  return (flags & ~FULL) | GRAMMARS.get(grammar);
 }
 
 /** Returns for each number of bytes how many code units of a string these first bytes of its UTF-8 encode. */
@@ -184,16 +193,19 @@ function completed(make, input, size, item = 1) {
 }
 
 /**
- * Returns the declaration of the symbol that the text begins with. maxNodes limits its tree, in which each name and
- * each type is a node, and maxBytes the declaration in UTF-8. Throws a DemangleError if there is none, and a RangeError
- * if memory or the stack runs out.
+ * Returns the declaration of the symbol that the text begins with. The grammar is 'full', what today's compilers write,
+ * or 'crate', that of the Rust crate msvc-demangler 0.11.0. maxNodes limits the tree of the symbol, in which each name
+ * and each type is a node, and maxBytes the declaration in UTF-8. Throws a DemangleError if there is none, and a
+ * RangeError if memory or the stack runs out.
  */
-export function demangle(symbol, flags = Flags.LLVM, { maxNodes = DEFAULT_NODES, maxBytes = DEFAULT_BYTES } = {}) {
+export function demangle(symbol, flags = Flags.LLVM,
+  { grammar = 'full', maxNodes = DEFAULT_NODES, maxBytes = DEFAULT_BYTES } = {}) {
   const input = bytesOf(symbol);
+  const word = wordOf(flags, grammar);
   const nodes = limit(maxNodes);
   const bytes = limit(maxBytes);
   const found = completed((result, from, length, arena, text, out, size) => {
-    library.msvc_demangler_demangle_in_parts(result, from, length, flags, nodes, bytes, arena, text, out, size);
+    library.msvc_demangler_demangle_in_parts(result, from, length, word, nodes, bytes, arena, text, out, size);
   }, input, DEFAULT_BYTES + 16);
   const text = decoder.decode(found.written);
   if (found.code !== 'OK') throw new DemangleError(text, found.code, place(symbol, input, found.offset));
@@ -208,25 +220,27 @@ function succeed(found, symbol, input) {
 }
 
 /**
- * Returns how much of the text the symbol takes that it begins with, in code units of a string, or in bytes. Of the
- * flags FULL alone matters, here and in the two calls below. Throws as demangle does.
+ * Returns how much of the text the symbol takes that it begins with, in code units of a string, or in bytes. Throws as
+ * demangle does.
  */
-export function symbolLength(symbol, { flags = 0, maxNodes = DEFAULT_NODES } = {}) {
+export function symbolLength(symbol, { grammar = 'full', maxNodes = DEFAULT_NODES } = {}) {
   const input = bytesOf(symbol);
+  const word = wordOf(0, grammar);
   const nodes = limit(maxNodes);
   const found = completed((result, from, length, arena) => {
-    library.msvc_demangler_prefix_in_parts(result, from, length, flags, nodes, arena);
+    library.msvc_demangler_prefix_in_parts(result, from, length, word, nodes, arena);
   }, input, 0);
   succeed(found, symbol, input);
   return place(symbol, input, found.length);
 }
 
 /** Returns the tree of the symbol that the text begins with, for a person to read. Throws as demangle does. */
-export function tree(symbol, { flags = 0, maxNodes = DEFAULT_NODES } = {}) {
+export function tree(symbol, { grammar = 'full', maxNodes = DEFAULT_NODES } = {}) {
   const input = bytesOf(symbol);
+  const word = wordOf(0, grammar);
   const nodes = limit(maxNodes);
   const found = completed((result, from, length, arena, text, out, size) => {
-    library.msvc_demangler_tree_in_parts(result, from, length, flags, nodes, arena, out, size);
+    library.msvc_demangler_tree_in_parts(result, from, length, word, nodes, arena, out, size);
   }, input, DEFAULT_BYTES + 16);
   const text = decoder.decode(found.written);
   if (found.code !== 'OK') throw new DemangleError(text, found.code, place(symbol, input, found.offset));
@@ -237,11 +251,12 @@ export function tree(symbol, { flags = 0, maxNodes = DEFAULT_NODES } = {}) {
  * Returns the digits of the symbol that stand for parameters before them, in their order: where each digit is, and
  * where what it stands for starts and ends, in code units of a string, or in bytes. Throws as demangle does.
  */
-export function references(symbol, { flags = 0, maxNodes = DEFAULT_NODES } = {}) {
+export function references(symbol, { grammar = 'full', maxNodes = DEFAULT_NODES } = {}) {
   const input = bytesOf(symbol);
+  const word = wordOf(0, grammar);
   const nodes = limit(maxNodes);
   const found = completed((result, from, length, arena, text, out, places) => {
-    library.msvc_demangler_references_in_parts(result, from, length, flags, nodes, arena, out, places);
+    library.msvc_demangler_references_in_parts(result, from, length, word, nodes, arena, out, places);
   }, input, 64 * REFERENCE, REFERENCE);
   succeed(found, symbol, input);
   const numbers = new DataView(found.written.slice().buffer);
@@ -276,17 +291,17 @@ function middleOf(piece) {
 }
 
 /** Returns a filtered piece of a text, in parts. What exhausts the stack stays, up to the next places to cut. */
-function filtered(piece, flags) {
+function filtered(piece, word) {
   try {
     const found = completed((result, from, length, arena, text, out, size) => {
-      library.msvc_demangler_filter_in_parts(result, from, length, flags, arena, text, out, size);
+      library.msvc_demangler_filter_in_parts(result, from, length, word, arena, text, out, size);
     }, piece, 16 * Math.ceil(piece.length / 8) + PIECE);
     return [found.written.slice()];
   } catch (error) {
     if (!(error instanceof OutOfStack)) throw error;
     const middle = middleOf(piece);
     if (middle === 0) return [piece];
-    return [...filtered(piece.subarray(0, middle), flags), ...filtered(piece.subarray(middle), flags)];
+    return [...filtered(piece.subarray(0, middle), word), ...filtered(piece.subarray(middle), word)];
   }
 }
 
@@ -306,12 +321,13 @@ function joined(parts) {
  * not be UTF-8, and come back as a Uint8Array. A symbol that exceeds a default limit or the stack stays. Throws a
  * RangeError if memory runs out.
  */
-export function filter(text, flags = Flags.LLVM) {
+export function filter(text, flags = Flags.LLVM, { grammar = 'full' } = {}) {
   const input = bytesOf(text);
+  const word = wordOf(flags, grammar);
   const parts = [];
   for (let begin = 0; begin < input.length;) {
     const end = pieceEnd(input, begin);
-    parts.push(...filtered(input.subarray(begin, end), flags));
+    parts.push(...filtered(input.subarray(begin, end), word));
     begin = end;
   }
   return typeof text === 'string' ? decoder.decode(joined(parts)) : joined(parts);

@@ -1,13 +1,16 @@
 """Compares the Python module with rows, as rows.c does with the library. The module is that of packaging/wheel/src."""
 import sys
 
-from msvc_demangler import UNLIMITED, DemangleError, Status, demangle
+from msvc_demangler import UNLIMITED, DemangleError, Grammar, Status, demangle
+
+FULL = 0x80000000  # the flag of a row of Full
 
 
 def result(symbol, flags):
     """Returns the status, the offset, and the declaration of a symbol or the error message."""
+    grammar = Grammar.FULL if flags & FULL else Grammar.CRATE
     try:
-        return Status.OK, 0, demangle(symbol, flags, max_nodes=UNLIMITED, max_bytes=UNLIMITED)
+        return Status.OK, 0, demangle(symbol, flags, grammar=grammar, max_nodes=UNLIMITED, max_bytes=UNLIMITED)
     except DemangleError as error:
         return error.status, error.offset, str(error)
 

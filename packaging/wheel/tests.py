@@ -26,7 +26,7 @@ import zipfile
 from typing import Any, Dict, Iterator, List, Tuple
 
 import msvc_demangler
-from msvc_demangler import UNLIMITED, DemangleError, Flags, Status
+from msvc_demangler import UNLIMITED, DemangleError, Flags, Grammar, Status
 
 TOP = pathlib.Path(__file__).resolve().parents[2]
 HEADER = (TOP / "include/msvc_demangler.h").read_text("utf-8")
@@ -34,6 +34,10 @@ VERSION = (TOP / "VERSION").read_text("utf-8").strip()
 DEEP = "?x@@3" + 100_000 * "PEA" + "HEA"
 # Each parameter has the one before twenty times: the declaration has more than 20 ** 9 bytes.
 ENDLESS = "?f@@YAXPAH" + "".join(f"P6AX{20 * str(level)}@Z" for level in range(9)) + "@Z"
+# A symbol that the crate's grammar rejects, and its declaration.
+AUTO, DECLARATION = "?f@@YA?A?<auto>@@H@Z", "<auto> __cdecl f(int)"
+# The file with the rows of each grammar.
+ROWS = {Grammar.FULL: "crates/msvc_full_bench/stdin", Grammar.CRATE: "crates/msvc_bench/stdin"}
 PROGRAM = (sys.executable, "-I", "-m", "msvc_demangler")
 # Lengths with which a stream is read.
 PIECES = (1, 2, 7, 4096, 1_000_000)
@@ -80,10 +84,10 @@ def filtered_text() -> Tuple[bytes, bytes]:
     return text.encode(), shown.partition("$ msvcfilt text\n")[2].encode()
 
 
-def rows() -> List[Tuple[int, str, str]]:
-    """Returns the rows of the crate's grammar that have a declaration: flags, symbol and declaration."""
-    lines = [line.split("\t") for line in (TOP / "crates/msvc_bench/stdin").read_text("utf-8").split("\n")]
-    return [(int(line[0], 16) & ~int(Flags.FULL), line[1], line[3]) for line in lines if line[2:3] == ["ok"]]
+def rows(grammar: Grammar) -> List[Tuple[int, str, str]]:
+    """Returns the rows of a grammar that have a declaration: flags, symbol and declaration."""
+    lines = [line.split("\t") for line in (TOP / ROWS[grammar]).read_text("utf-8").split("\n")]
+    return [(int(line[0], 16), line[1], line[3]) for line in lines if line[2:3] == ["ok"]]
 
 
 def defined(pattern: str) -> Dict[str, int]:
@@ -104,17 +108,18 @@ def little_memory() -> Iterator[None]:
 
 
 class Module(unittest.TestCase):
-    def rejected(self, symbol: "str | bytes", status: Status, offset: int, **limits: int) -> str:
+    def rejected(self, symbol: "str | bytes", status: Status, offset: int, **options: Any) -> str:
         """Returns the message, after it has compared status and offset."""
         with self.assertRaises(DemangleError) as caught:
-            msvc_demangler.demangle(symbol, **limits)
+            msvc_demangler.demangle(symbol, **options)
         self.assertIs(caught.exception.status, status)
         self.assertEqual(caught.exception.offset, offset)
         return str(caught.exception)
 
     def test_header(self) -> None:
-        self.assertEqual(defined(r"([A-Z0-9_]+) (0x[0-9A-F]+)u"), {name: int(flag) for name, flag in
-                                                                  Flags.__members__.items()})
+        self.assertEqual(defined(r"(FULL) (0x[0-9A-F]+)u"), {"FULL": msvc_demangler._FULL})
+        self.assertEqual(defined(r"((?!FULL |CRATE )[A-Z0-9_]+) (0x[0-9A-F]+)u"),
+                         {name: int(flag) for name, flag in Flags.__members__.items()})
         self.assertEqual(defined(r"([A-Z0-9_]+) = (\d+),?"), {status.name: int(status) for status in Status})
         self.assertEqual(defined(r"(DEFAULT_[A-Z]+) \(\(size_t\)(\d+)\)"),
                          {name: getattr(msvc_demangler, name) for name in ("DEFAULT_NODES", "DEFAULT_BYTES")})
@@ -146,9 +151,11 @@ class Module(unittest.TestCase):
         self.assertIs(error.status, Status.INVALID)
 
     def test_types(self) -> None:
-        for flags, symbol, wanted in rows():
-            for kind in (bytes, bytearray, memoryview):
-                self.assertEqual(msvc_demangler.demangle(kind(symbol.encode()), flags, max_nodes=UNLIMITED), wanted)
+        for grammar in Grammar:
+            for flags, symbol, wanted in rows(grammar):
+                for kind in (bytes, bytearray, memoryview):
+                    text = msvc_demangler.demangle(kind(symbol.encode()), flags, grammar=grammar, max_nodes=UNLIMITED)
+                    self.assertEqual(text, wanted)
         self.assertEqual(msvc_demangler.demangle(memoryview(b"AH3@@x?")[::-1]), "int x")
         self.assertEqual(msvc_demangler.symbol_length(bytearray("?äö@@3HA and more".encode())), 10)
         content: bytes = msvc_demangler.filter(memoryview(b"\xff ?x@ns@@3HA"))
@@ -168,16 +175,38 @@ class Module(unittest.TestCase):
             for arguments in ({"flags": wrong}, {"max_nodes": wrong}, {"max_bytes": wrong}):
                 with self.assertRaisesRegex(TypeError, "as an integer$"):
                     calls[0]("?x@@3HA", **arguments)
+        for wrong in (None, 0x80000000, "crate", Flags.LLVM):
+            for call in calls:
+                with self.assertRaisesRegex(TypeError, f"^expected a Grammar, not {type(wrong).__name__}$"):
+                    call("?x@@3HA", grammar=wrong)
 
-    def test_grammars(self) -> None:
-        symbol, wanted, full = "?f@@YA?A?<auto>@@H@Z", "<auto> __cdecl f(int)", Flags.LLVM | Flags.FULL
-        self.assertEqual(msvc_demangler.demangle(symbol, full), wanted)
-        self.assertEqual(msvc_demangler.filter(f"in {symbol}", full), f"in {wanted}")
-        self.assertEqual(msvc_demangler.symbol_length(f"{symbol} and more", flags=Flags.FULL), len(symbol))
+    def test_full(self) -> None:
+        """Full is the default."""
+        options: List[Dict[str, Any]] = [{}, {"grammar": Grammar.FULL}]
+        for option in options:
+            self.assertEqual(msvc_demangler.demangle(AUTO, **option), DECLARATION)
+            self.assertEqual(msvc_demangler.filter(f"in {AUTO}", **option), f"in {DECLARATION}")
+            self.assertEqual(msvc_demangler.symbol_length(f"{AUTO} and more", **option), len(AUTO))
+            out = io.BytesIO()
+            msvc_demangler.filter_stream(io.BytesIO(AUTO.encode()), out, **option)
+            self.assertEqual(out.getvalue(), DECLARATION.encode())
+            self.assertEqual(msvc_demangler.demangle("?f@@9", **option), 'extern "C" f')
+
+    def test_crate(self) -> None:
+        self.rejected(AUTO, Status.INVALID, 9, grammar=Grammar.CRATE)
+        self.assertEqual(msvc_demangler.filter(f"in {AUTO}", grammar=Grammar.CRATE), f"in {AUTO}")
         with self.assertRaises(DemangleError):
-            msvc_demangler.demangle(symbol)
-        with self.assertRaises(DemangleError):
-            msvc_demangler.symbol_length(symbol)
+            msvc_demangler.symbol_length(AUTO, grammar=Grammar.CRATE)
+        out = io.BytesIO()
+        msvc_demangler.filter_stream(io.BytesIO(AUTO.encode()), out, grammar=Grammar.CRATE)
+        self.assertEqual(out.getvalue(), AUTO.encode())
+        self.assertEqual(msvc_demangler.demangle("?f@@9", grammar=Grammar.CRATE), "f")
+
+    def test_other_flags(self) -> None:
+        """Bits without a name change nothing, also the one by which the library chooses a grammar."""
+        for bit in (0x1, 0x40000000, 0x80000000):
+            self.assertEqual(msvc_demangler.demangle(AUTO, Flags.LLVM | bit), DECLARATION)
+            self.assertEqual(msvc_demangler.demangle("?f@@9", bit, grammar=Grammar.CRATE), "f")
 
     def test_limits(self) -> None:
         for symbol in (DEEP, ENDLESS):
@@ -248,8 +277,9 @@ class Module(unittest.TestCase):
             self.assertEqual(out.hash.hexdigest(), wanted.hexdigest())
 
     def test_long(self) -> None:
-        """A declaration needs a second buffer."""
-        _, symbol, wanted = max((row for row in rows() if row[0] == Flags.LLVM), key=lambda row: len(row[2]))
+        """A filtered text needs a second buffer."""
+        _, symbol, wanted = max((row for row in rows(Grammar.FULL) if row[0] == Flags.LLVM),
+                                key=lambda row: len(row[2]) - 3 * len(row[1]))
         self.assertEqual(msvc_demangler.demangle(symbol), wanted)
         self.assertEqual(msvc_demangler.filter(1000 * (symbol + "\n")), 1000 * (wanted + "\n"))
 
@@ -261,10 +291,11 @@ class Module(unittest.TestCase):
         self.assertEqual((caught.exception.status, caught.exception.offset), (Status.INVALID, 6))
 
     def test_threads(self) -> None:
-        wanted = [declaration for _, _, declaration in rows()]
+        given = [(grammar, *row) for grammar in Grammar for row in rows(grammar)]
+        wanted = [declaration for _, _, _, declaration in given]
         with concurrent.futures.ThreadPoolExecutor(4) as pool:
-            runs = [pool.submit(lambda: [msvc_demangler.demangle(symbol, flags, max_nodes=UNLIMITED)
-                                         for flags, symbol, _ in rows()]) for _ in range(8)]
+            runs = [pool.submit(lambda: [msvc_demangler.demangle(symbol, flags, grammar=grammar, max_nodes=UNLIMITED)
+                                         for grammar, flags, symbol, _ in given]) for _ in range(8)]
             for run in runs:
                 self.assertEqual(run.result(), wanted)
 
@@ -297,6 +328,15 @@ class Program(unittest.TestCase):
         self.runs([b"?x@ns@@3HA"], b"", b"int ns::x\n", "", 0)
         self.runs([b"?x@ns@@3HA", b"?x@@3L", b"?x\xff@@3HA", b"?f@@"], b"", b"int ns::x\n?x@@3L\n?x\xff@@3HA\nf\n",
                   'error: unknown primitive type (offset: 6, remaining: "")\nerror: not UTF-8\n', 1)
+
+    def test_grammars(self) -> None:
+        for grammar, text in ((b"full", b'extern "C" f'), (b"crate", b"f")):
+            self.runs([b"--grammar", grammar, b"?f@@9"], b"", text + b"\n", "", 0)
+            self.runs([b"--grammar", grammar], b"in ?f@@9", b"in " + text, "", 0)
+        self.runs([b"?f@@9"], b"", b'extern "C" f\n', "", 0)
+        self.runs([], b"in ?f@@9", b'in extern "C" f', "", 0)
+        wrong = subprocess.run([*PROGRAM, "--grammar", "llvm"], stdin=subprocess.DEVNULL, stderr=subprocess.PIPE)
+        self.assertEqual(wrong.returncode, 2)
 
     def test_streams(self) -> None:
         """A stream that fails ends the program with a line and status 1."""

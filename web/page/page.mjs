@@ -3,6 +3,7 @@ const $ = (id) => document.getElementById(id);
 const input = $('input');
 const output = $('output');
 const search = $('search');
+const grammar = $('grammar');
 
 // A longer text is treated as a file: filtered in slices, and shown by its beginning.
 const LONGEST_TEXT = 100_000;
@@ -12,6 +13,7 @@ const PAINTING = 8;
 const PARTS_OF_A_BLOCK = 20;
 const PIECES_OF_A_BLOCK = 200;
 
+const DEFAULT_GRAMMAR = 'full';
 const DEFAULT_FLAGS = 0xE00400;
 const FLAGS = {
   'Leave out': [
@@ -30,14 +32,14 @@ const FLAGS = {
     [0x800000, 'SPACE_BEFORE_POINTER', 'Space only after a word', 'int const *const x, not int const * const x'],
     [0x1000000, 'WITH_PTR64', 'Width of this', '__ptr64 after the parameters of a member function'],
   ],
-  'Read': [
-    [0x80000000, 'FULL', 'Today’s compilers', 'lambdas and auto, but no tables, thunks and strings yet'],
-  ],
 };
 
 const EXAMPLES = {
-  Symbols: `?x@ns@@3HA
-?f@@YAXV?$A@PAH0@@PAD0@Z
+  Symbols: `??R<lambda_0>@ns@@QEBA?A?<auto>@@H@Z
+?at_exit@ns@@YAXP6AXX_E@Z
+??__Mversion@ns@@QEBA?AUstrong_ordering@std@@AEBV01@@Z
+?x@ns@@3HA
+?f@@YAXV?$A@PAHPAD@@PAD01@Z
 ?next@Reader@config@@QEBA_NAEAU?$basic_string@D@std@@@Z
 ??$find@H@config@@YAPEAHAEAU?$vector@HU?$allocator@H@std@@@std@@PEBD@Z
 ?x@?1??f@@YAXXZ@3V1@A
@@ -95,7 +97,7 @@ function escapeOf(character) {
 /** Returns a text as it is shown: with escapes in place of hidden characters. */
 const visible = (text) => text.replace(HIDDEN, escapeOf);
 
-// Flags
+// Flags and grammar
 
 const boxes = [];
 
@@ -111,13 +113,15 @@ function makeFlags() {
   }
 }
 
-// Bits of a number have a sign, which >>> takes off.
-const flags = () => boxes.reduce((word, box) => (box.checked ? word | Number(box.value) : word), 0) >>> 0;
+const flags = () => boxes.reduce((word, box) => (box.checked ? word | Number(box.value) : word), 0);
 const hexadecimal = (word) => `0x${word.toString(16).toUpperCase()}`;
+const settings = () => ({ flags: flags(), grammar: grammar.value });
 
-function setFlags(word) {
-  for (const box of boxes) box.checked = ((word & Number(box.value)) >>> 0) === Number(box.value);
+/** Sets flags and the grammar, which is the default one unless the name is that of the other. */
+function setSettings(word, name) {
+  for (const box of boxes) box.checked = (word & Number(box.value)) === Number(box.value);
   $('word').textContent = hexadecimal(flags());
+  grammar.value = name === 'crate' ? name : DEFAULT_GRAMMAR;
 }
 
 // What is shown
@@ -193,7 +197,7 @@ function summary(parts) {
 /** Asks the worker for something, with what is searched. */
 function request(kind, content) {
   output.setAttribute('aria-busy', 'true');
-  worker.postMessage({ kind, id: latest, flags: flags(), search: search.value, ...content });
+  worker.postMessage({ kind, id: latest, settings: settings(), search: search.value, ...content });
 }
 
 /** Asks for what the text or the file is. While the worker is busy with a text, the last state alone is asked for. */
@@ -316,7 +320,7 @@ function open(part) {
   } else {
     $('details-title').textContent = 'Symbol';
     list.replaceChildren(...row('Symbol', part.symbol), ...row('Declaration', part.text));
-    worker.postMessage({ kind: 'symbol', symbol: part.symbol, flags: flags() });
+    worker.postMessage({ kind: 'symbol', symbol: part.symbol, settings: settings() });
   }
   $('details').showModal();
 }
@@ -445,29 +449,30 @@ function hideReference() {
   $('tip').hidden = true;
 }
 
-// Links: text and flags follow the #.
+// Links: text, flags and grammar follow the #.
 
 function fragment() {
   const words = new URLSearchParams({ text: input.value });
   if (flags() !== DEFAULT_FLAGS) words.set('flags', hexadecimal(flags()));
+  if (grammar.value !== DEFAULT_GRAMMAR) words.set('grammar', grammar.value);
   return `#${words}`;
 }
 
-/** Takes text and flags from a fragment, if they are there. */
+/** Takes text, flags and grammar from a fragment, if they are there. */
 function takeFragment(from) {
   const words = new URLSearchParams(from.slice(1));
   if (!words.has('text')) return false;
-  setFlags(Number(words.get('flags') ?? DEFAULT_FLAGS) >>> 0);
+  setSettings(Number(words.get('flags') ?? DEFAULT_FLAGS) >>> 0, words.get('grammar'));
   take(words.get('text'));
   return true;
 }
 
-/** Takes the link off the address after an edit, since it has another text or other flags then. */
+/** Takes the link off the address after an edit, since it has another text or other settings then. */
 function unlink() {
   if (location.hash) history.replaceState(null, '', location.pathname + location.search);
 }
 
-/** Keeps text and flags for a reload, in this tab alone, if the browser allows that. */
+/** Keeps text, flags and grammar for a reload, in this tab alone, if the browser allows that. */
 function keep() {
   try {
     sessionStorage.setItem('kept', fragment());
@@ -523,7 +528,7 @@ $('flags').addEventListener('input', () => {
 });
 $('reset').addEventListener('click', () => {
   unlink();
-  setFlags(DEFAULT_FLAGS);
+  setSettings(DEFAULT_FLAGS, DEFAULT_GRAMMAR);
   ask();
 });
 $('clear').addEventListener('click', () => {
@@ -596,7 +601,7 @@ $('details').addEventListener('click', (event) => {
 });
 
 makeFlags();
-setFlags(DEFAULT_FLAGS);
+setSettings(DEFAULT_FLAGS, DEFAULT_GRAMMAR);
 for (const [name, text] of Object.entries(EXAMPLES)) {
   $('examples').append(make('button', {
     type: 'button',

@@ -1,6 +1,7 @@
 // The part of the page that calls the library, in a worker, so that the page itself never waits. web/assemble.py puts
-// it behind the library, within one block. A request has a kind and an id. One for a text or a file is dropped once
-// another has come, and so is a search, which has the id of the request whose result it searches.
+// it behind the library, within one block. A request has a kind, an id, and settings: flags and a grammar. One for a
+// text or a file is dropped once another has come, and so is a search, which has the id of the request whose result it
+// searches.
 Error.stackTraceLimit = 0;
 
 // A file is read in slices of so many bytes, and so many characters of its lines are shown.
@@ -12,9 +13,13 @@ const AROUND = 1_000;
 const MOST_OF_A_TREE = 50_000;
 const LINE_FEED = 10;
 
-// What a name consists of, and after what no symbol starts: docs/msvcfilt.md.
-const WORD = /[A-Za-z0-9_$@?\x80-\uFFFF]*/y;
+// What a name looks like, and after what no symbol starts: docs/msvcfilt.md. In Full the name of a type starts at a
+// full stop that neither stands behind a word nor begins the ending of a file's name, and a funclet behind no word.
+const WORD = /\.?\?[A-Za-z0-9_$@?\x80-\uFFFF]*|\./y;
 const IN_NAME = /[A-Za-z0-9.]/;
+const IN_WORD = /[A-Za-z0-9_$@?]/;
+const ENDING = /\.[A-Za-z]*(?![A-Za-z0-9_$@?])/y;
+const FUNCLET = /^\?(catch|dtor|filt|fin)\$/;
 const CANDIDATE = /[^\0-\x20\x7F]{0,4096}/y;
 
 let latest = {}; // the last request for a text or a file
@@ -27,11 +32,11 @@ const matched = (pattern, text, at) => {
 };
 
 /** Returns the symbol that begins there: its length and declaration, or the error. */
-function read(line, at, flags) {
+function read(line, at, settings) {
   const candidate = matched(CANDIDATE, line, at);
   try {
-    const declaration = demangle(candidate, flags);
-    return { length: symbolLength(candidate, { flags }), declaration };
+    const declaration = demangle(candidate, settings.flags, settings);
+    return { length: symbolLength(candidate, settings), declaration };
   } catch (error) {
     return { error };
   }
@@ -44,13 +49,35 @@ function kept(text, { length, error }) {
   return { text, offset: Math.min(error.offset ?? 0, text.length), message: error.message };
 }
 
+/** Returns whether the name of a type may start at a full stop. */
+function isTypeMark(line, at) {
+  ENDING.lastIndex = at;
+  return !IN_WORD.test(line[at - 1] ?? '') && !ENDING.test(line);
+}
+
+/** Returns where the next symbol may be, or the end of the line. */
+function markFrom(line, at, grammar) {
+  for (let mark = at; mark < line.length; mark++) {
+    if (line[mark] === '?') return mark;
+    if (line[mark] === '.' && grammar === 'full' && isTypeMark(line, mark)) return mark;
+  }
+  return line.length;
+}
+
+/** Returns whether no symbol starts at a word, because of the letter before it. */
+function isBlocked(word, before, grammar) {
+  if (word.startsWith('.')) return false;
+  return IN_NAME.test(before) || (grammar === 'full' && IN_WORD.test(before) && FUNCLET.test(word));
+}
+
 /**
  * Returns the filtered line in parts: texts that stay, declarations with their symbols, and words that look like
  * symbols and stay, with the reason. The parts are aligned with what the filter returns for the line, word by word.
  * Their texts add up to that; where the alignment fails, there is one part.
  */
-function parts(line, flags) {
-  const shown = filter(line, flags);
+function parts(line, settings) {
+  const { grammar } = settings;
+  const shown = filter(line, settings.flags, settings);
   const list = [];
   let to = 0;
   const put = (part) => {
@@ -58,22 +85,23 @@ function parts(line, flags) {
     to += part.text.length;
   };
   for (let at = 0; at < line.length;) {
-    const start = line.indexOf('?', at);
+    const start = markFrom(line, at, grammar);
     if (start !== at) {
-      put({ text: line.slice(at, start < 0 ? line.length : start) });
-      at = start < 0 ? line.length : start;
+      put({ text: line.slice(at, start) });
+      at = start;
       continue;
     }
     const word = matched(WORD, line, at);
-    if (IN_NAME.test(line[at - 1] ?? '')) {
+    if (isBlocked(word, line[at - 1] ?? '', grammar)) {
       put({ text: word });
       at += word.length;
       continue;
     }
-    const found = read(line, at, flags);
+    const found = read(line, at, settings);
     if (found.declaration !== undefined && shown.startsWith(found.declaration, to)) {
-      // The filter takes one letter more after some symbols.
-      const length = found.length + (/[@A-Z]/.test(line[at + found.length] ?? '') ? 1 : 0);
+      // In the crate's grammar the filter takes one letter more after some symbols.
+      const isLonger = grammar === 'crate' && /[@A-Z]/.test(line[at + found.length] ?? '');
+      const length = found.length + (isLonger ? 1 : 0);
       put({ text: found.declaration, symbol: line.slice(at, at + length) });
       at += length;
     } else {
@@ -88,7 +116,8 @@ function parts(line, flags) {
 const linesOf = (text) => text.match(/[^\n]*\n|[^\n]+/g) ?? [];
 
 /** Returns the parts of a line. */
-const partsOf = (line, flags) => (line.includes('?') ? parts(line, flags) : [{ text: line }]);
+const partsOf = (line, settings) => (
+  markFrom(line, 0, settings.grammar) < line.length ? parts(line, settings) : [{ text: line }]);
 
 /** Returns where a text has another, in upper or lower case, or -1. */
 const placeOf = (text, search) => text.toLowerCase().indexOf(search.toLowerCase());
@@ -115,35 +144,36 @@ const beginning = (text) => (text.length > MOST_OF_A_TREE ? `${text.slice(0, MOS
  * Returns the declaration of a parameter that stands in a symbol of a grammar, or '' if a digit in it may refer to
  * others.
  */
-function parameter(text, grammar) {
+function parameter(text, { grammar }) {
   const [before, after] = ['void __cdecl f(', ')'];
   const whole = `?f@@YAX${text}@Z`;
-  const { length, declaration = '' } = /[0-9]/.test(text) ? {} : read(whole, 0, Flags.LLVM | grammar);
+  const { length, declaration = '' } = /[0-9]/.test(text) ? {} : read(whole, 0, { flags: Flags.LLVM, grammar });
   if (length !== whole.length || !declaration.startsWith(before)) return '';
   return declaration.slice(before.length, -after.length);
 }
 
-function explain({ id, symbol, flags }) {
-  const found = read(symbol, 0, flags);
-  const name = read(symbol, 0, flags | Flags.NAME_ONLY);
+function explain({ id, symbol, settings }) {
+  const found = read(symbol, 0, settings);
+  const name = read(symbol, 0, { ...settings, flags: settings.flags | Flags.NAME_ONLY });
   const declarations = new Map();
-  const list = attempt(() => references(symbol, { flags }), []).map((reference) => {
+  const list = attempt(() => references(symbol, settings), []).map((reference) => {
     const text = symbol.slice(reference.start, reference.end);
-    if (!declarations.has(text)) declarations.set(text, parameter(text, flags & Flags.FULL));
+    if (!declarations.has(text)) declarations.set(text, parameter(text, settings));
     return { ...reference, declaration: declarations.get(text) };
   });
   postMessage({ kind: 'symbol', id, symbol, name: name.declaration ?? '', length: found.length ?? 0, references: list,
-    tree: attempt(() => beginning(tree(symbol, { flags })), '') });
+    tree: attempt(() => beginning(tree(symbol, settings)), '') });
 }
 
 /** Shows the first lines of the file. */
 async function showBeginning(request) {
-  const { id, file, flags } = latest;
+  const { id, file, settings } = latest;
   const text = decoder.decode(await file.slice(0, SHOWN).arrayBuffer());
   if (request !== searching) return;
   const whole = file.size <= SHOWN;
   const shown = linesOf(whole ? text : text.slice(0, text.lastIndexOf('\n') + 1));
-  postMessage({ kind: 'lines', id, parts: shown.flatMap((line) => partsOf(line, flags)), found: shown.length, whole });
+  postMessage({ kind: 'lines', id, parts: shown.flatMap((line) => partsOf(line, settings)), found: shown.length,
+    whole });
 }
 
 /** Yields a file in pieces, each with the place where it ends: whole lines, or a part of a line longer than a slice. */
@@ -163,25 +193,25 @@ async function* piecesOf(file) {
 }
 
 /** Returns the parts of a line of a file, or as text what is around the search in a long one. */
-function partsAround(line, filtered, flags, search) {
-  if (filtered.length <= SHOWN) return partsOf(line, flags);
+function partsAround(line, filtered, settings, search) {
+  if (filtered.length <= SHOWN) return partsOf(line, settings);
   const at = placeOf(filtered, search);
   return [{ text: `… ${filtered.slice(Math.max(0, at - AROUND), at + search.length + AROUND).trimEnd()} …\n` }];
 }
 
 /** Shows the first lines of the file that have what is searched. */
 async function searchFile(request) {
-  const { file, flags } = latest;
+  const { file, settings } = latest;
   const { id, search } = request;
   const shown = [];
   let length = 0;
   for await (const [piece] of piecesOf(file)) {
     if (request !== searching) return;
-    const filtered = linesOf(decoder.decode(filter(piece, flags)));
+    const filtered = linesOf(decoder.decode(filter(piece, settings.flags, settings)));
     for (const [at, line] of linesOf(decoder.decode(piece)).entries()) {
       if (length > SHOWN) break;
       if (placeOf(filtered[at], search) < 0) continue;
-      shown.push(partsAround(line, filtered[at], flags, search));
+      shown.push(partsAround(line, filtered[at], settings, search));
       length += shown.at(-1).reduce((sum, { text }) => sum + text.length, 0);
     }
     if (length > SHOWN) break;
@@ -194,12 +224,12 @@ const showFile = (request) => (request.search ? searchFile : showBeginning)(requ
 
 /** Filters the file in pieces, reports the progress, and sends a Blob. */
 async function filterFile(request) {
-  const { id, file, flags } = request;
+  const { id, file, settings } = request;
   const began = performance.now();
   const filtered = [];
   for await (const [piece, done] of piecesOf(file)) {
     if (request !== latest) return;
-    filtered.push(filter(piece, flags));
+    filtered.push(filter(piece, settings.flags, settings));
     postMessage({ kind: 'progress', id, done, size: file.size });
   }
   postMessage({ kind: 'file', id, blob: new Blob(filtered), time: performance.now() - began });
@@ -211,7 +241,7 @@ const REQUESTS = {
   text(request) {
     const began = performance.now();
     latest = searching = request;
-    lines = linesOf(request.text).map((line) => partsOf(line, request.flags));
+    lines = linesOf(request.text).map((line) => partsOf(line, request.settings));
     showLines(request, performance.now() - began);
   },
 

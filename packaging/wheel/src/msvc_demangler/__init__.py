@@ -6,6 +6,9 @@
     >>> msvc_demangler.filter(b"undefined: ?x@ns@@3HA")
     b'undefined: int ns::x'
 
+The calls read symbols as today's compilers write them, and with grammar=Grammar.CRATE as the Rust crate msvc-demangler
+does.
+
 Symbols are str, or bytes, bytearray or memoryview in UTF-8. The calls keep nothing, release the GIL, and may run in any
 number of threads.
 
@@ -21,8 +24,8 @@ import operator
 import os
 from typing import IO, Any, List, Union, overload
 
-__all__ = ["DEFAULT_BYTES", "DEFAULT_NODES", "UNLIMITED", "DemangleError", "Flags", "Status", "__version__", "demangle",
-           "filter", "filter_stream", "symbol_length"]
+__all__ = ["DEFAULT_BYTES", "DEFAULT_NODES", "UNLIMITED", "DemangleError", "Flags", "Grammar", "Status", "__version__",
+           "demangle", "filter", "filter_stream", "symbol_length"]
 
 DEFAULT_NODES = 10_000
 DEFAULT_BYTES = 65_536
@@ -33,10 +36,22 @@ _Stream = Union[IO[bytes], io.BufferedIOBase]
 _PIECE_SIZE = 65_536  # bytes of a stream that are read at once
 _BUFFER_SIZE = 4_096  # bytes of the first buffer, enough for nearly all declarations
 _Buffer = ctypes.c_char * _BUFFER_SIZE  # made once, since it takes longer than a call to make a type of another size
+_FULL = 0x80000000  # the flag of the library for Grammar.FULL
+
+
+class Grammar(enum.Enum):
+    """Chooses how symbols are read.
+
+    FULL is what today's compilers write; its texts follow the compilers. CRATE is the grammar of the Rust crate
+    msvc-demangler 0.11.0; its texts never change, so a service that stores texts pins it.
+    """
+
+    FULL = "full"
+    CRATE = "crate"
 
 
 class Flags(enum.IntFlag):
-    """How a declaration is printed and, for the last, how a symbol is read. Flags are combined with |."""
+    """Chooses how a declaration is printed. Flags are combined with |."""
 
     NO_MS_KEYWORDS = 0x2  # no __cdecl and the like
     NO_FUNCTION_RETURNS = 0x4  # of functions the name and the parameters alone
@@ -54,7 +69,6 @@ class Flags(enum.IntFlag):
     SPACE_BEFORE_POINTER = 0x800000
     WITH_PTR64 = 0x1000000  # __ptr64
     LLVM = 0xE00400  # four of these: spelling near llvm-undname's
-    FULL = 0x80000000  # reads the symbols of today's compilers
 
 
 class Status(enum.IntEnum):
@@ -122,6 +136,14 @@ def _limit(value: int) -> int:
     return value
 
 
+def _word(flags: int, grammar: Grammar) -> int:
+    """Returns the flags with that of the grammar, as the library takes them."""
+    if not isinstance(grammar, Grammar):
+        raise TypeError(f"expected a Grammar, not {type(grammar).__name__}")
+    full = operator.index(flags) | _FULL
+    return full if grammar is Grammar.FULL else full ^ _FULL
+
+
 def _check(result: _Result, message: bytes) -> None:
     """Raises the error of a call that failed."""
     if result.status == Status.OUT_OF_MEMORY:
@@ -142,8 +164,8 @@ def _written(size: int, call: Any, *arguments: Any) -> bytes:
     return text
 
 
-def demangle(symbol: str | _Bytes, flags: int = Flags.LLVM, *, max_nodes: int = DEFAULT_NODES,
-             max_bytes: int = DEFAULT_BYTES) -> str:
+def demangle(symbol: str | _Bytes, flags: int = Flags.LLVM, *, grammar: Grammar = Grammar.FULL,
+             max_nodes: int = DEFAULT_NODES, max_bytes: int = DEFAULT_BYTES) -> str:
     """Returns the declaration of the symbol that the text begins with.
 
     max_nodes limits its tree, in which each name and each type is a node, and max_bytes the declaration in UTF-8. The
@@ -152,30 +174,31 @@ def demangle(symbol: str | _Bytes, flags: int = Flags.LLVM, *, max_nodes: int = 
     """
     given = _bytes(symbol)
     size = min(4 * len(given) + 128, DEFAULT_BYTES)
-    return _written(size, _demangle, given, len(given), operator.index(flags), _limit(max_nodes),
+    return _written(size, _demangle, given, len(given), _word(flags, grammar), _limit(max_nodes),
                     _limit(max_bytes)).decode()
 
 
 @overload
-def filter(text: str, flags: int = Flags.LLVM) -> str: ...
+def filter(text: str, flags: int = Flags.LLVM, *, grammar: Grammar = Grammar.FULL) -> str: ...
 
 
 @overload
-def filter(text: _Bytes, flags: int = Flags.LLVM) -> bytes: ...
+def filter(text: _Bytes, flags: int = Flags.LLVM, *, grammar: Grammar = Grammar.FULL) -> bytes: ...
 
 
-def filter(text: str | _Bytes, flags: int = Flags.LLVM) -> str | bytes:
+def filter(text: str | _Bytes, flags: int = Flags.LLVM, *, grammar: Grammar = Grammar.FULL) -> str | bytes:
     """Returns the text with each symbol in it replaced by its declaration; all else stays.
 
     The result is a str for a str, and else bytes, which need not be UTF-8. A symbol that exceeds a default limit stays.
     Raises MemoryError.
     """
     given = _bytes(text)
-    filtered = _written(3 * len(given) + 256, _filter, given, len(given), operator.index(flags))
+    filtered = _written(3 * len(given) + 256, _filter, given, len(given), _word(flags, grammar))
     return filtered.decode("utf-8", "surrogatepass") if isinstance(text, str) else filtered
 
 
-def filter_stream(reader: _Stream, writer: _Stream, flags: int = Flags.LLVM) -> None:
+def filter_stream(reader: _Stream, writer: _Stream, flags: int = Flags.LLVM, *,
+                  grammar: Grammar = Grammar.FULL) -> None:
     """Copies a stream of bytes to another, as sys.stdin.buffer to sys.stdout.buffer, and filters it as filter does.
 
     Before it waits for more it writes all lines that have ended, and flushes the writer. Memory grows with the longest
@@ -188,22 +211,21 @@ def filter_stream(reader: _Stream, writer: _Stream, flags: int = Flags.LLVM) -> 
             raise TypeError(f"expected a stream of bytes, not of {type(piece).__name__}")
         lines, feed, rest = piece.rpartition(b"\n")
         if feed:
-            writer.write(filter(b"".join([*line, lines, feed]), flags))
+            writer.write(filter(b"".join([*line, lines, feed]), flags, grammar=grammar))
             writer.flush()
             line = []
         line.append(rest)
-    writer.write(filter(b"".join(line), flags))
+    writer.write(filter(b"".join(line), flags, grammar=grammar))
     writer.flush()
 
 
-def symbol_length(text: str | _Bytes, *, flags: int = 0, max_nodes: int = DEFAULT_NODES) -> int:
+def symbol_length(text: str | _Bytes, *, grammar: Grammar = Grammar.FULL, max_nodes: int = DEFAULT_NODES) -> int:
     """Returns how long the symbol is that the text begins with: in characters of a str, else in bytes.
 
-    Of the flags FULL alone matters. Raises DemangleError if it begins with none, or with one of more than max_nodes
-    nodes, and MemoryError.
+    Raises DemangleError if it begins with none, or with one of more than max_nodes nodes, and MemoryError.
     """
     given = _bytes(text)
-    result = _prefix(given, len(given), operator.index(flags), _limit(max_nodes))
+    result = _prefix(given, len(given), _word(0, grammar), _limit(max_nodes))
     _check(result, b"no symbol within the limit (offset: %d)" % result.offset)
     return len(given[:result.length].decode()) if isinstance(text, str) else int(result.length)
 
