@@ -147,7 +147,7 @@ static void look(size_t length, size_t step)
 
 int main(int count, char **words)
 {
-    grammar = count > 1 ? (uint32_t)strtoul(words[1], NULL, 16) : 0;
+    grammar = MSVC_DEMANGLER_CRATE | (count > 1 ? (uint32_t)strtoul(words[1], NULL, 16) : 0);
     for (unsigned long lines = 0; fgets(line, sizeof line, stdin) != NULL; lines++) {
         size_t length = strcspn(line, "\n");
         line[length] = '\0';

@@ -59,8 +59,9 @@
 
 /**
  * @name Flags
- * Change how a declaration is printed, but for the last, which chooses the grammar. They combine with |; 0 is none.
- * docs/flags.md describes each.
+ * Change how a declaration is printed, but for the last two, which choose the grammar. An exported call reads Full with
+ * MSVC_DEMANGLER_FULL, and the crate's grammar without it. An inline call reads Full by default, and with
+ * MSVC_DEMANGLER_CRATE what an exported call reads. Flags combine with |; 0 is none. docs/flags.md describes each.
  * @{
  */
 #define MSVC_DEMANGLER_NO_MS_KEYWORDS 0x2u         /**< drops __cdecl and the like */
@@ -80,6 +81,7 @@
 #define MSVC_DEMANGLER_WITH_PTR64 0x1000000u       /**< prints __ptr64 */
 #define MSVC_DEMANGLER_LLVM 0xE00400u              /**< four of these: spelling near llvm-undname's */
 #define MSVC_DEMANGLER_FULL 0x80000000u            /**< reads Full, the grammar of today's compilers */
+#define MSVC_DEMANGLER_CRATE 0x40000000u           /**< of inline calls alone: reads the crate's grammar */
 /** @} */
 
 /**
@@ -262,7 +264,19 @@ MSVC_DEMANGLER_API
 size_t msvc_demangler_version(char *out, size_t size) MSVC_DEMANGLER_NOEXCEPT;
 
 /**
- * Demangles a symbol that ends in NUL, as msvc_demangler_demangle does, with the default limits.
+ * Returns the flags that an inline call passes on to an exported one.
+ *
+ * @param flags  the flags of the inline call
+ * @return the flags without MSVC_DEMANGLER_CRATE; if they lack it, the flags with MSVC_DEMANGLER_FULL
+ */
+static inline uint32_t msvc_demangler_inline_flags(uint32_t flags) MSVC_DEMANGLER_NOEXCEPT
+{
+    return (flags & MSVC_DEMANGLER_CRATE) != 0 ? flags & ~MSVC_DEMANGLER_CRATE : flags | MSVC_DEMANGLER_FULL;
+}
+
+/**
+ * Demangles a symbol that ends in NUL, as msvc_demangler_demangle does, with the default limits. It reads Full, or the
+ * crate's grammar with MSVC_DEMANGLER_CRATE.
  *
  * @param symbol  the symbol
  * @param flags   flags for printing and reading
@@ -273,8 +287,8 @@ size_t msvc_demangler_version(char *out, size_t size) MSVC_DEMANGLER_NOEXCEPT;
 static inline struct msvc_demangler_result msvc_demangler_demangle_string(const char *symbol, uint32_t flags, char *out,
                                                                           size_t size) MSVC_DEMANGLER_NOEXCEPT
 {
-    return msvc_demangler_demangle(symbol, strlen(symbol), flags, MSVC_DEMANGLER_DEFAULT_NODES,
-                                   MSVC_DEMANGLER_DEFAULT_BYTES, out, size);
+    return msvc_demangler_demangle(symbol, strlen(symbol), msvc_demangler_inline_flags(flags),
+                                   MSVC_DEMANGLER_DEFAULT_NODES, MSVC_DEMANGLER_DEFAULT_BYTES, out, size);
 }
 
 /**
@@ -289,7 +303,8 @@ static inline size_t msvc_demangler_usual_size(size_t length) MSVC_DEMANGLER_NOE
 }
 
 /**
- * Demangles a symbol, as msvc_demangler_demangle does, into a buffer from malloc that holds the whole text.
+ * Demangles a symbol, as msvc_demangler_demangle does, into a buffer from malloc that holds the whole text. It reads
+ * Full, or the crate's grammar with MSVC_DEMANGLER_CRATE.
  *
  * @param symbol     the input, as of msvc_demangler_demangle
  * @param length     the length of the input
@@ -316,6 +331,7 @@ static inline char *msvc_demangler_demangle_allocated(const char *symbol, size_t
     struct msvc_demangler_result found = {MSVC_DEMANGLER_OUT_OF_MEMORY, 0, 0};
     size_t size = msvc_demangler_usual_size(length);
     char *out = (char *)malloc(size);
+    flags = msvc_demangler_inline_flags(flags);
     if (out != NULL) {
         found = msvc_demangler_demangle(symbol, length, flags, max_nodes, max_bytes, out, size);
         if (found.length >= size) {
@@ -353,7 +369,8 @@ static inline char *msvc_demangler_demangle_allocated(const char *symbol, size_t
 namespace msvc_demangler {
 
 /**
- * Returns the whole text of msvc_demangler_demangle, the declaration or an error message.
+ * Returns the whole text of msvc_demangler_demangle, the declaration or an error message. It reads Full, or the crate's
+ * grammar with MSVC_DEMANGLER_CRATE.
  *
  * @param symbol     the input, as of msvc_demangler_demangle
  * @param result     receives the result
@@ -369,6 +386,7 @@ inline std::string demangle(std::string_view symbol, msvc_demangler_result &resu
                             std::size_t max_bytes = MSVC_DEMANGLER_DEFAULT_BYTES)
 {
     std::string out(msvc_demangler_usual_size(symbol.size()), '\0');
+    flags = msvc_demangler_inline_flags(flags);
     result = msvc_demangler_demangle(symbol.data(), symbol.size(), flags, max_nodes, max_bytes, out.data(), out.size());
     if (result.length >= out.size()) {
         out.resize(result.length + 1);
@@ -383,7 +401,8 @@ inline std::string demangle(std::string_view symbol, msvc_demangler_result &resu
 }
 
 /**
- * Returns the declaration of a symbol, if there is one.
+ * Returns the declaration of a symbol, if there is one. It reads Full, or the crate's grammar with
+ * MSVC_DEMANGLER_CRATE.
  *
  * @param symbol     the input, as of msvc_demangler_demangle
  * @param flags      flags for printing and reading
@@ -405,7 +424,8 @@ inline std::optional<std::string> demangle(std::string_view symbol, std::uint32_
 }
 
 /**
- * Returns a text with each symbol in it replaced by its declaration, as msvc_demangler_filter writes it.
+ * Returns a text with each symbol in it replaced by its declaration, as msvc_demangler_filter writes it. It reads Full,
+ * or the crate's grammar with MSVC_DEMANGLER_CRATE.
  *
  * @param text   the input, of any bytes
  * @param flags  flags for printing and reading
@@ -415,6 +435,7 @@ inline std::optional<std::string> demangle(std::string_view symbol, std::uint32_
 inline std::string filter(std::string_view text, std::uint32_t flags = MSVC_DEMANGLER_LLVM)
 {
     std::string out(text.size() + 256, '\0');
+    flags = msvc_demangler_inline_flags(flags);
     msvc_demangler_result result = msvc_demangler_filter(text.data(), text.size(), flags, out.data(), out.size());
     if (result.length >= out.size()) {
         out.resize(result.length + 1);

@@ -35,7 +35,7 @@
  *
  * A workspace of MSVC_DEMANGLER_DEFAULT_WORKSPACE bytes suffices for each symbol within the default limits, and one of
  * MSVC_DEMANGLER_SMALL_WORKSPACE bytes for each symbol within the small ones. 12,288 bytes suffice for each of 676 real
- * names. With MSVC_DEMANGLER_FULL each length of an array takes 34 bytes more, since it is no node.
+ * names. In Full each length of an array takes 34 bytes more, since it is no node.
  */
 #ifndef MSVC_DEMANGLER_IN_H
 #define MSVC_DEMANGLER_IN_H
@@ -200,7 +200,8 @@ static inline struct msvc_demangler_part msvc_demangler_cut(struct msvc_demangle
 }
 
 /**
- * Demangles a symbol, as msvc_demangler_demangle does, in a workspace.
+ * Demangles a symbol, as msvc_demangler_demangle does, in a workspace. It reads Full, or the crate's grammar with
+ * MSVC_DEMANGLER_CRATE.
  *
  * @param symbol     the input, as of msvc_demangler_demangle
  * @param length     the length of the input
@@ -220,15 +221,17 @@ static inline struct msvc_demangler_result msvc_demangler_demangle_in(const char
 {
     struct msvc_demangler_part arena = msvc_demangler_aligned(work, work_size);
     struct msvc_demangler_part text = msvc_demangler_cut(&arena, max_bytes);
-    return msvc_demangler_demangle_in_parts(symbol, length, flags, max_nodes, max_bytes, &arena, &text, out, size);
+    return msvc_demangler_demangle_in_parts(symbol, length, msvc_demangler_inline_flags(flags), max_nodes, max_bytes,
+                                            &arena, &text, out, size);
 }
 
 /**
- * Returns the length of a symbol, as msvc_demangler_prefix does, in a workspace.
+ * Returns the length of a symbol, as msvc_demangler_prefix does, in a workspace. It reads Full, or the crate's grammar
+ * with MSVC_DEMANGLER_CRATE.
  *
  * @param symbol     the input, as of msvc_demangler_demangle
  * @param length     the length of the input
- * @param flags      MSVC_DEMANGLER_FULL or 0
+ * @param flags      MSVC_DEMANGLER_CRATE or 0
  * @param max_nodes  the limit on the tree of the symbol
  * @param work       the workspace
  * @param work_size  the size of the workspace
@@ -239,11 +242,12 @@ static inline struct msvc_demangler_result msvc_demangler_prefix_in(const char *
                                                                     size_t work_size) MSVC_DEMANGLER_NOEXCEPT
 {
     struct msvc_demangler_part arena = msvc_demangler_aligned(work, work_size);
-    return msvc_demangler_prefix_in_parts(symbol, length, flags, max_nodes, &arena);
+    return msvc_demangler_prefix_in_parts(symbol, length, msvc_demangler_inline_flags(flags), max_nodes, &arena);
 }
 
 /**
- * Filters a text of any length, as msvc_demangler_filter does, in a workspace.
+ * Filters a text of any length, as msvc_demangler_filter does, in a workspace. It reads Full, or the crate's grammar
+ * with MSVC_DEMANGLER_CRATE.
  *
  * @param text       the input
  * @param length     the length of the input
@@ -260,29 +264,31 @@ static inline struct msvc_demangler_result msvc_demangler_filter_in(const char *
 {
     struct msvc_demangler_part arena = msvc_demangler_aligned(work, work_size);
     struct msvc_demangler_part declaration = msvc_demangler_cut(&arena, MSVC_DEMANGLER_DEFAULT_BYTES);
-    return msvc_demangler_filter_in_parts(text, length, flags, &arena, &declaration, out, size);
+    return msvc_demangler_filter_in_parts(text, length, msvc_demangler_inline_flags(flags), &arena, &declaration, out,
+                                          size);
 }
 
 /**
- * Writes the tree of a symbol on one line, for a person to read, as `undname -v` prints it without the line feed; if
- * there is none, the text of the error. OK is proved to mean that the symbol has a tree within the limit; the text of
- * the tree is only tested, and its form may change. Statuses, offsets and the rules of the buffer are those of
- * msvc_demangler_demangle without a limit on bytes. The text is made in the workspace, so a tree with long names may
- * need a larger one than the sizes above.
+ * Writes the tree of a symbol on one line, for a person to read, in the form of `undname -v` without the line feed; if
+ * there is none, the text of the error. It reads Full, or the crate's grammar with MSVC_DEMANGLER_CRATE. OK is proved
+ * to mean that the symbol has a tree within the limit; the text of the tree is only tested, and its form may change.
+ * Statuses, offsets and the rules of the buffer are those of msvc_demangler_demangle without a limit on bytes. The text
+ * is made in the workspace, so a tree with long names may need a larger one than the sizes above.
  */
 static inline struct msvc_demangler_result msvc_demangler_tree_in(const char *symbol, size_t length, uint32_t flags,
                                                                   size_t max_nodes, void *work, size_t work_size,
                                                                   char *out, size_t size) MSVC_DEMANGLER_NOEXCEPT
 {
     struct msvc_demangler_part arena = msvc_demangler_aligned(work, work_size);
-    return msvc_demangler_tree_in_parts(symbol, length, flags, max_nodes, &arena, out, size);
+    return msvc_demangler_tree_in_parts(symbol, length, msvc_demangler_inline_flags(flags), max_nodes, &arena, out,
+                                        size);
 }
 
 /**
- * Lists the digits of a symbol that stand for whole parameters before them, in rising order. The result's length is
- * how many there are. Those for which `out` has places, of which it has `count`, are written. Statuses and offsets are
- * those of msvc_demangler_prefix. With another status than OK nothing is written; with OUT_OF_MEMORY `out` is
- * unspecified.
+ * Lists the digits of a symbol that stand for whole parameters before them, in rising order. It reads Full, or the
+ * crate's grammar with MSVC_DEMANGLER_CRATE. The result's length is how many there are. Those for which `out` has
+ * places, of which it has `count`, are written. Statuses and offsets are those of msvc_demangler_prefix. With another
+ * status than OK nothing is written; with OUT_OF_MEMORY `out` is unspecified.
  */
 static inline struct msvc_demangler_result msvc_demangler_references_in(const char *symbol, size_t length,
                                                                         uint32_t flags, size_t max_nodes,
@@ -291,7 +297,8 @@ static inline struct msvc_demangler_result msvc_demangler_references_in(const ch
                                                                         size_t count) MSVC_DEMANGLER_NOEXCEPT
 {
     struct msvc_demangler_part arena = msvc_demangler_aligned(work, work_size);
-    return msvc_demangler_references_in_parts(symbol, length, flags, max_nodes, &arena, out, count);
+    return msvc_demangler_references_in_parts(symbol, length, msvc_demangler_inline_flags(flags), max_nodes, &arena,
+                                              out, count);
 }
 
 #ifdef __cplusplus

@@ -2,10 +2,10 @@
 
        workspace NODES BYTES FLAGS < kinds
 
-   FLAGS, a hexadecimal number, are flags beside those of LLVM. Each line of standard input is a kind of symbol: five
-   texts, parted by tabs. A symbol of it is the first text, the second one so many times, the third, the fourth as many
-   times, and the fifth. Symbols of a few and of many levels are tried, up to twice as many as nodes are allowed, and a
-   million levels. Prints the bytes that suffice for all. */
+   FLAGS, a hexadecimal number, are flags beside those of LLVM: 0 for the crate's grammar, 80000000 for Full. Each line
+   of standard input is a kind of symbol: five texts, parted by tabs. A symbol of it is the first text, the second one
+   so many times, the third, the fourth as many times, and the fifth. Symbols of a few and of many levels are tried, up
+   to twice as many as nodes are allowed, and a million levels. Prints the bytes that suffice for all. */
 
 #define _POSIX_C_SOURCE 200809L
 #include <msvc_demangler_in.h>
@@ -113,7 +113,7 @@ int main(int count, char **words)
     }
     nodes = strtoul(words[1], NULL, 10);
     bytes = strtoul(words[2], NULL, 10);
-    flags = MSVC_DEMANGLER_LLVM | (uint32_t)strtoul(words[3], NULL, 16);
+    flags = MSVC_DEMANGLER_LLVM | MSVC_DEMANGLER_CRATE | (uint32_t)strtoul(words[3], NULL, 16);
     work = malloc(most);
     char *line = NULL;
     size_t capacity = 0;

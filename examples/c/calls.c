@@ -6,6 +6,7 @@
 
 #define LLVM MSVC_DEMANGLER_LLVM
 #define FULL (MSVC_DEMANGLER_LLVM | MSVC_DEMANGLER_FULL)
+#define CRATE (MSVC_DEMANGLER_LLVM | MSVC_DEMANGLER_CRATE)
 #define ANY MSVC_DEMANGLER_UNLIMITED
 
 #define NO_QUESTION_MARK "does not start with b'?' (offset: 0, remaining: \"\")"
@@ -90,12 +91,40 @@ static void try_row(const struct row *row, size_t n)
     result = msvc_demangler_demangle(row->symbol, row->length, row->flags, row->max_nodes, row->max_bytes, NULL, 0);
     see(is_result(row, result), "no buffer", n);
 
-    char *allocated = msvc_demangler_demangle_allocated(row->symbol, row->length, row->flags, row->max_nodes,
-                                                        row->max_bytes, &result);
+    char *allocated = msvc_demangler_demangle_allocated(row->symbol, row->length, row->flags | MSVC_DEMANGLER_CRATE,
+                                                        row->max_nodes, row->max_bytes, &result);
     see(is_result(row, result) && strcmp(allocated, row->text) == 0, "an allocated text", n);
     free(allocated);
 
     see(is_prefix(row, msvc_demangler_prefix(row->symbol, row->length, row->flags, row->max_nodes)), "the prefix", n);
+}
+
+/* Flags, and whether an inline call and an exported one read Full with them. */
+static const struct choice {
+    uint32_t flags;
+    bool is_full_inline;
+    bool is_full_exported;
+} choices[] = {
+    {LLVM, true, false},
+    {CRATE, false, false},
+    {FULL, true, true},
+    {FULL | CRATE, true, true},
+};
+
+/* The grammars print this symbol differently. */
+static void try_choice(const struct choice *choice, size_t n)
+{
+    const char *const texts[] = {"f", "extern \"C\" f"};
+    char text[64];
+    msvc_demangler_demangle_string("?f@@9", choice->flags, text, sizeof text);
+    see(strcmp(text, texts[choice->is_full_inline]) == 0, "the grammar of a string", n);
+
+    char *allocated = msvc_demangler_demangle_allocated("?f@@9", 5, choice->flags, ANY, ANY, NULL);
+    see(strcmp(allocated, texts[choice->is_full_inline]) == 0, "the grammar of an allocated text", n);
+    free(allocated);
+
+    msvc_demangler_demangle("?f@@9", 5, choice->flags, ANY, ANY, text, sizeof text);
+    see(strcmp(text, texts[choice->is_full_exported]) == 0, "the grammar of an exported call", n);
 }
 
 /* A text and its filtered form. It may be truncated at any of the first bytes, which are kept ones, and after them only
@@ -214,6 +243,9 @@ int main(void)
     size_t count = sizeof rows / sizeof rows[0];
     for (size_t n = 0; n < count; n++) {
         try_row(&rows[n], n);
+    }
+    for (size_t n = 0; n < sizeof choices / sizeof choices[0]; n++) {
+        try_choice(&choices[n], n);
     }
     try_filters();
     try_long_text();

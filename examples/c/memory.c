@@ -39,7 +39,7 @@ void __wrap_free(void *block)
 }
 
 static const char *const symbols[] = {
-    "?f@@YAXV?$A@PAH0@@PAD0@Z",
+    "?f@@YAXV?$A@PAHPAH@@PAD0@Z",
     "?f@@YAXPAHP6AX00@ZP6AX11@ZP6AX22@ZP6AX33@ZP6AX44@Z@Z",
     "?x@@3PAYA@HA",
     "x",

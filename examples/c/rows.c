@@ -1,7 +1,8 @@
 /* Compares the library with rows. Each line of standard input is one: flags in hexadecimal, a symbol, and `ok` with the
-   text or `err` with the offset and the message, parted by tabs. A line that begins with `#` and a space is a heading.
-   Each symbol is demangled into buffers of each size, from none to two bytes more than its text has. A row that differs
-   is printed; the last line counts. */
+   text or `err` with the offset and the message, parted by tabs. The flags have MSVC_DEMANGLER_FULL in a row of Full,
+   and lack it in a row of the crate's grammar. A line that begins with `#` and a space is a heading. Each symbol is
+   demangled into buffers of each size, from none to two bytes more than its text has. A row that differs is printed;
+   the last line counts. */
 
 #define _POSIX_C_SOURCE 200809L
 #include <msvc_demangler.h>
@@ -92,8 +93,9 @@ static bool is_written(const struct row *row, const char *text, size_t size)
 static bool agrees(const struct row *row)
 {
     struct msvc_demangler_result result;
-    char *text = msvc_demangler_demangle_allocated(row->symbol, strlen(row->symbol), row->flags,
-                                                   MSVC_DEMANGLER_UNLIMITED, MSVC_DEMANGLER_UNLIMITED, &result);
+    uint32_t flags = row->flags | MSVC_DEMANGLER_CRATE;
+    char *text = msvc_demangler_demangle_allocated(row->symbol, strlen(row->symbol), flags, MSVC_DEMANGLER_UNLIMITED,
+                                                   MSVC_DEMANGLER_UNLIMITED, &result);
     bool good = text != NULL && is_wanted(row, text, result);
     for (size_t size = 0; good && size <= result.length + 2; size++) {
         good = is_written(row, text, size);

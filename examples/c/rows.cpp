@@ -17,6 +17,7 @@ static std::string_view next_field(std::string_view &rest)
 static bool agrees(std::string_view row)
 {
     auto flags = static_cast<std::uint32_t>(std::stoul(std::string(next_field(row)), nullptr, 16));
+    flags |= MSVC_DEMANGLER_CRATE;
     std::string_view symbol = next_field(row);
     bool is_ok = next_field(row) == "ok";
     std::size_t offset = is_ok ? 0 : std::stoul(std::string(next_field(row)));
@@ -49,6 +50,9 @@ int main()
     std::cout << agree << " rows agree, " << differ << " differ\n";
     bool is_right = msvc_demangler::demangle("?x@ns@@3HA") == "int ns::x" &&
                     !msvc_demangler::demangle("?x@ns@@3HA", MSVC_DEMANGLER_LLVM, any, 8) &&
-                    msvc_demangler::filter("a ?x@ns@@3HA b") == "a int ns::x b";
+                    msvc_demangler::filter("a ?x@ns@@3HA b") == "a int ns::x b" &&
+                    msvc_demangler::demangle("?f@@9") == "extern \"C\" f" &&
+                    msvc_demangler::filter("a ?f@@9") == "a extern \"C\" f" &&
+                    msvc_demangler::filter("a ?f@@9", MSVC_DEMANGLER_LLVM | MSVC_DEMANGLER_CRATE) == "a f";
     return is_right && differ == 0 ? 0 : 1;
 }

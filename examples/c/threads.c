@@ -26,7 +26,7 @@ static void *call_often(void *argument)
 int main(void)
 {
     struct work works[] = {
-        {"?f@@YAXV?$A@PAH0@@PAD0@Z", "void __cdecl f(class A<int *, int *>, char *, class A<int *, int *>)", 0},
+        {"?f@@YAXV?$A@PAHPAH@@PAD0@Z", "void __cdecl f(class A<int *, int *>, char *, class A<int *, int *>)", 0},
         {"?x@@3L", "unknown primitive type (offset: 6, remaining: \"\")", 0},
     };
     pthread_t threads[2];

@@ -9,8 +9,8 @@
 #include <stdio.h>
 #include <sys/mman.h>
 
-#define LLVM MSVC_DEMANGLER_LLVM
-#define FULL (MSVC_DEMANGLER_LLVM | MSVC_DEMANGLER_FULL)
+#define FULL MSVC_DEMANGLER_LLVM
+#define CRATE (MSVC_DEMANGLER_LLVM | MSVC_DEMANGLER_CRATE)
 
 enum { most = 65536, before = 64, page = 65536, full = 512 };
 
@@ -29,23 +29,23 @@ static const struct row {
     size_t size;   /* of the buffer */
     size_t length; /* of a symbol that is measured */
 } rows[] = {
-    {demangle, LLVM, MSVC_DEMANGLER_OK, 0, "?x@ns@@3HA", "int ns::x", full, 0},
-    {demangle, LLVM, MSVC_DEMANGLER_OK, 0, "?f@@YAXV?$A@PAH0@@PAD0@Z",
+    {demangle, CRATE, MSVC_DEMANGLER_OK, 0, "?x@ns@@3HA", "int ns::x", full, 0},
+    {demangle, CRATE, MSVC_DEMANGLER_OK, 0, "?f@@YAXV?$A@PAH0@@PAD0@Z",
      "void __cdecl f(class A<int *, int *>, char *, class A<int *, int *>)", full, 0},
-    {demangle, LLVM, MSVC_DEMANGLER_OK, 0,
+    {demangle, CRATE, MSVC_DEMANGLER_OK, 0,
      "?wait_for@_Condition_variable@details@Concurrency@@QEAA_NAEAVcritical_section@3@I@Z",
      "public: bool __cdecl Concurrency::details::_Condition_variable::wait_for(class Concurrency::critical_section &, "
      "unsigned int)", full, 0},
-    {demangle, LLVM, MSVC_DEMANGLER_OK, 0, "?x@ns@@3HA", "int ns", 7, 9},
-    {demangle, LLVM, MSVC_DEMANGLER_INVALID, 6, "?x@@3L", "unknown primitive type (offset: 6, remaining: \"\")", full,
+    {demangle, CRATE, MSVC_DEMANGLER_OK, 0, "?x@ns@@3HA", "int ns", 7, 9},
+    {demangle, CRATE, MSVC_DEMANGLER_INVALID, 6, "?x@@3L", "unknown primitive type (offset: 6, remaining: \"\")", full,
      0},
-    {demangle, LLVM, MSVC_DEMANGLER_INVALID, 0, "main", "does not start with b'?' (offset: 0, remaining: \"main\")", full,
-     0},
-    {demangle, LLVM, MSVC_DEMANGLER_INVALID, 0, "", "does not start with b'?' (offset: 0, remaining: \"\")", full, 0},
-    {prefix, LLVM, MSVC_DEMANGLER_OK, 0, "?x@@3HA and more", NULL, 0, 7},
-    {prefix, LLVM, MSVC_DEMANGLER_INVALID, 6, "?x@@3L", NULL, 0, 0},
-    {filter, LLVM, MSVC_DEMANGLER_OK, 0, "in ?x@ns@@3HA and ?y@@3HA", "in int ns::x and int y", full, 0},
-    {filter, LLVM, MSVC_DEMANGLER_OK, 0, "no symbol", "no symbol", full, 0},
+    {demangle, CRATE, MSVC_DEMANGLER_INVALID, 0, "main", "does not start with b'?' (offset: 0, remaining: \"main\")",
+     full, 0},
+    {demangle, CRATE, MSVC_DEMANGLER_INVALID, 0, "", "does not start with b'?' (offset: 0, remaining: \"\")", full, 0},
+    {prefix, CRATE, MSVC_DEMANGLER_OK, 0, "?x@@3HA and more", NULL, 0, 7},
+    {prefix, CRATE, MSVC_DEMANGLER_INVALID, 6, "?x@@3L", NULL, 0, 0},
+    {filter, CRATE, MSVC_DEMANGLER_OK, 0, "in ?x@ns@@3HA and ?y@@3HA", "in int ns::x and int y", full, 0},
+    {filter, CRATE, MSVC_DEMANGLER_OK, 0, "no symbol", "no symbol", full, 0},
     {demangle, FULL, MSVC_DEMANGLER_OK, 0, "?f@@YA?A?<auto>@@H@Z", "<auto> __cdecl f(int)", full, 0},
     {prefix, FULL, MSVC_DEMANGLER_OK, 0, "?f@@YA?A?<auto>@@H@Z b", NULL, 0, 20},
     {filter, FULL, MSVC_DEMANGLER_OK, 0, "in ?f@@9", "in extern \"C\" f", full, 0},

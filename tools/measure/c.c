@@ -64,8 +64,8 @@ static size_t length_of_name(const char *name)
 static size_t length_of_allocated(const char *name)
 {
     struct msvc_demangler_result result;
-    char *text = msvc_demangler_demangle_allocated(name, strlen(name), MSVC_DEMANGLER_LLVM, MSVC_DEMANGLER_UNLIMITED,
-                                                   MSVC_DEMANGLER_UNLIMITED, &result);
+    char *text = msvc_demangler_demangle_allocated(name, strlen(name), MSVC_DEMANGLER_LLVM | MSVC_DEMANGLER_CRATE,
+                                                   MSVC_DEMANGLER_UNLIMITED, MSVC_DEMANGLER_UNLIMITED, &result);
     size_t length = result.status == MSVC_DEMANGLER_OK ? strlen(text) : 0;
     free(text);
     return length;

@@ -72,14 +72,15 @@ flags! {
 }
 
 impl DemangleFlags {
-    /// Reads the symbols of today's compilers, of which the crate reads a part. This is a bit of the library alone: it
-    /// is in no set of named bits, and `all`, `from_bits` and `from_bits_truncate` don't know it.
+    /// Reads the symbols of today's compilers, of which the crate reads a part. [`demangle_full`](crate::demangle_full)
+    /// sets it. This is a bit of the library alone: it is in no set of named bits, and `all`, `from_bits` and
+    /// `from_bits_truncate` don't know it.
     ///
     /// ```
-    /// use msvc_demangler::{demangle, DemangleFlags};
+    /// use msvc_demangler::{demangle_within, DemangleFlags};
     ///
     /// let flags = DemangleFlags::llvm() | DemangleFlags::FULL;
-    /// assert_eq!(demangle("?f@@YA?A?<auto>@@H@Z", flags)?, "<auto> __cdecl f(int)");
+    /// assert_eq!(demangle_within("?f@@YA?A?<auto>@@H@Z", flags, 100, 100)?, "<auto> __cdecl f(int)");
     /// # Ok::<(), msvc_demangler::Error>(())
     /// ```
     pub const FULL: DemangleFlags = DemangleFlags(0x80000000);

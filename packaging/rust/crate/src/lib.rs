@@ -37,6 +37,26 @@ pub fn demangle(input: &str, flags: DemangleFlags) -> Result<String> {
     demangle_within(input, flags, DEFAULT_NODE_LIMIT, DEFAULT_BYTE_LIMIT)
 }
 
+/// Demangles the symbol that `input` begins with, as today's compilers write it. What follows the symbol is ignored.
+///
+/// It does what [`demangle`] does with the flag [`DemangleFlags::FULL`]. Without that flag [`demangle`] reads a part of
+/// these symbols, and its texts never change; those of this call can change with a version.
+///
+/// # Errors
+///
+/// Fails as [`demangle`] does.
+///
+/// ```
+/// use msvc_demangler::{demangle_full, DemangleFlags};
+///
+/// let text = demangle_full("??R<lambda_0>@ns@@QEBA?A?<auto>@@H@Z", DemangleFlags::llvm())?;
+/// assert_eq!(text, "public: <auto> __cdecl ns::<lambda_0>::operator()(int) const");
+/// # Ok::<(), msvc_demangler::Error>(())
+/// ```
+pub fn demangle_full(input: &str, flags: DemangleFlags) -> Result<String> {
+    demangle(input, flags | DemangleFlags::FULL)
+}
+
 /// Does what [`demangle`] does, under other limits, and for bytes too, as an object file has them.
 ///
 /// A call takes up to 100 bytes of stack a node, and 16,000 more, so a thread with a small stack needs fewer `nodes`.

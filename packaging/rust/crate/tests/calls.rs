@@ -1,6 +1,8 @@
 //! Calls the library through the crate. Expected texts are those of the header and of the table of flags.
 
-use msvc_demangler::{demangle, demangle_within, filter, symbol_length, symbol_length_within, DemangleFlags, Limit};
+use msvc_demangler::{
+    demangle, demangle_full, demangle_within, filter, symbol_length, symbol_length_within, DemangleFlags, Limit,
+};
 
 const LLVM: DemangleFlags = DemangleFlags::llvm();
 
@@ -46,10 +48,12 @@ fn errors_say_which_limit_is_exceeded() {
 
 #[test]
 fn the_default_limits_suit_hostile_symbols() {
-    let error = demangle(&format!("?x@@3{}HA", "PEA".repeat(1_000_000)), LLVM).unwrap_err();
-    assert_eq!(error.limit(), Some(Limit::Nodes));
-    let error = demangle(&format!("?{}@@3HA", "n".repeat(65_536)), LLVM).unwrap_err();
-    assert_eq!(error.limit(), Some(Limit::Bytes));
+    for demangle in [demangle, demangle_full] {
+        let error = demangle(&format!("?x@@3{}HA", "PEA".repeat(1_000_000)), LLVM).unwrap_err();
+        assert_eq!(error.limit(), Some(Limit::Nodes));
+        let error = demangle(&format!("?{}@@3HA", "n".repeat(65_536)), LLVM).unwrap_err();
+        assert_eq!(error.limit(), Some(Limit::Bytes));
+    }
 }
 
 #[test]
@@ -62,7 +66,9 @@ fn a_symbol_is_measured() {
 #[test]
 fn both_grammars_are_read() {
     let (symbol, full) = ("?f@@YA?A?<auto>@@H@Z", LLVM | DemangleFlags::FULL);
-    assert_eq!(demangle(symbol, full).as_deref(), Ok("<auto> __cdecl f(int)"));
+    assert_eq!(demangle_full(symbol, LLVM).as_deref(), Ok("<auto> __cdecl f(int)"));
+    assert_eq!(demangle_full(symbol, DemangleFlags::NAME_ONLY).as_deref(), Ok("f"));
+    assert_eq!(demangle_within(symbol, full, 100, 21), demangle_full(symbol, LLVM));
     assert_eq!(symbol_length_within(symbol, full, 100), Ok(20));
     assert_eq!(filter(symbol.as_bytes(), full), b"<auto> __cdecl f(int)");
     let error = demangle(symbol, LLVM).unwrap_err();
