@@ -1,6 +1,7 @@
 //! Compares the demangler with rows. Each line of standard input is one: flags in hexadecimal, a symbol, and `ok` with
-//! the text or `err` with the offset and the message, separated by tabs. A line that begins with `#` and a space is a
-//! heading for the rows below it.
+//! the text or `err` with the offset and the message, separated by tabs. A text may have a number after it, of the
+//! departure from LLVM in `docs/DIFFERENCES.md`, which is not read. A line that begins with `#` and a space is a heading
+//! for the rows below it.
 #![tactic(auto)]
 
 use msvc_demangler::{DemangleFlags, Demangler, Error, Flags, Grammar, demangle};
