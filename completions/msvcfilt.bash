@@ -1,8 +1,8 @@
 # Completes the words of msvcfilt in bash: options, and files.
 _msvcfilt() {
-  local options='-s --symbols -n --name-only --no-calling-convention --no-access-specifier --no-member-type
-    --no-function-returns --no-this-type --no-class-type --with-ptr64 --ms-typenames --space-after-comma --hug-type
-    --space-before-pointer --flags --grammar -h --help -V --version'
+  local options='-s --symbols -n --name-only --no-calling-convention --no-return-type --no-access-specifier
+    --no-member-type --no-variable-type --no-function-returns --no-this-type --no-class-type --with-ptr64
+    --ms-typenames --space-after-comma --hug-type --space-before-pointer --flags --grammar -h --help -V --version'
   COMPREPLY=()
   if [[ $3 == --flags ]]; then
     compopt +o default

@@ -10,13 +10,14 @@ use Rattle.msvc_nodes.specs.declared.kinds.PrimitiveKind.TheVariants.{Int, Void,
 use Rattle.msvc_nodes.specs.declared.kinds.Convention.TheVariants.{Cdecl, Thiscall, Swift}
 use Rattle.msvc_nodes.specs.declared.kinds.PointerAffinity.TheVariants.{Pointer}
 use Rattle.msvc_nodes.specs.declared.kinds.TagKind.TheVariants.{Alias, Struct, Union}
-use Rattle.msvc_nodes.specs.declared.kinds.VarStorageKind.TheVariants.{Global}
+use Rattle.msvc_nodes.specs.declared.kinds.VarStorageKind.TheVariants.{Global, PublicStatic}
 use Rattle.msvc_nodes.specs.declared.kinds.Spelling.TheVariants.{Source}
 use Rattle.msvc_nodes.specs.declared.kinds.PlainOperator.TheVariants as op
 use Rattle.msvc_nodes.specs.declared.nodes.Number.{Number}
 use Rattle.msvc_shapes.specs.Rows as rows
 use Rattle.msvc_print.specs.Declaration.{declaration}
 use Rattle.msvc_print.specs.Flags.{full_style}
+use Rattle.msvc_print.specs.Flags as flags
 
 -- the declaration of a symbol of this name, scope and type in Full's style, under these flags, is this text
 abbrev pub IsFullText : ℕ → NameTree → NameTrees → TypeTree → String → Type 0
@@ -110,6 +111,21 @@ pub record AreFullTexts : Type 0 where
       (variable (pointer (function Swift void 0 (base Void 0)) 0) Global 0) "void (*p)(void)"
   pub noexcept_stays : IsFullText 0x60 (source "f") (names (source "C") no_names) (member_function 1 Cdecl void 705 int)
       "public: int __cdecl C::f(void) noexcept"
+  pub llvm_no_convention : IsFullText (0xe00400 + flags.llvm_no_convention) (source "f") no_names (function_of void)
+      "void f(void)"
+  pub pointer_keeps_its_convention : IsFullText (0xe00400 + flags.llvm_no_convention) (source "p") no_names
+      (variable (pointer (function_of void) 0) Global 0) "void (__cdecl *p)(void)"
+  pub llvm_no_return : IsFullText (0xe00400 + flags.llvm_no_return) (source "f") no_names
+      (function Cdecl void 0 (pointer (function_of void) 0)) "__cdecl f(void)"
+  pub local_name_keeps_its_function : IsFullText (0xe00400 + flags.llvm_no_return) (source "x")
+      (names (nested (source "f") no_names (function_of void)) no_names) (variable int Global 0)
+      "int `void __cdecl f(void)'::x"
+  pub llvm_no_access : IsFullText (0xe00400 + flags.llvm_no_access) (source "x") (names (source "C") no_names)
+      (variable int PublicStatic 0) "static int C::x"
+  pub llvm_no_member : IsFullText (0xe00400 + flags.llvm_no_member) (source "x") (names (source "C") no_names)
+      (variable int PublicStatic 0) "public: int C::x"
+  pub llvm_no_variable : IsFullText (0xe00400 + flags.llvm_no_variable) (source "x") (names (source "C") no_names)
+      (variable int PublicStatic 0) "public: static C::x"
   pub const_before_reference : IsFullText 0xe00400 (source "f") (names (source "C") no_names)
       (member_function 1 Cdecl void 193 int) "public: int __cdecl C::f(void) const &"
   pub unaligned_last : IsFullText 0xe00400 (source "f") (names (source "C") no_names)

@@ -24,6 +24,7 @@ use Rattle.msvc_grammar.specs.declared.forms.SpecialForm.{SpecialForm}
 use Rattle.msvc_grammar.specs.declared.forms.SpecialForm.TheVariants as special
 use Rattle.msvc_grammar.specs.declared.forms.TypePrefix.TheVariants as form
 use Rattle.msvc_print.specs.Functions.{spaced_convention, member_words}
+use Rattle.msvc_print.specs.declared.pointed.Pointed.TheVariants.{No}
 use Rattle.msvc_print.specs.Operators.{guard_word, operator_word}
 use Rattle.msvc_print.specs.Pieces.{resolve}
 use Rattle.msvc_print.specs.Words.{base_word, mark_word, tag_word, variable_word}
@@ -152,7 +153,7 @@ pub record AreTables : Type 0 where
       ∷ (codes "$$C", form.CvQualified) ∷ (codes "$1", form.MemberPointer) ∷ (codes "$H", form.MemberPointer)
       ∷ (codes "$I", form.MemberPointer) ∷ (codes "$J", form.MemberPointer) ∷ []
   -- alone, static, virtual, and thunks: the second of each pair is far (64), but for D and F
-  pub classes : with_words (λ class. resolve (member_words class 0)) function_classes ≡
+  pub classes : with_words (λ class. resolve (member_words No class 0)) function_classes ≡
       row "A" 4 "private: " ∷ row "B" 68 "private: "
       ∷ row "C" 20 "private: static " ∷ row "D" 20 "private: static "
       ∷ row "E" 36 "private: virtual " ∷ row "F" 36 "private: virtual "

@@ -1,3 +1,4 @@
+pub mod Choices
 pub mod FilterRuns
 pub mod Filtered
 pub mod SliceWriters

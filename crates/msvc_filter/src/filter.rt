@@ -1,17 +1,22 @@
 //! The filter over texts: each symbol in them is replaced by its declaration.
 
-ghost use Rattle.std.specs.Prelude.{◌≡◌, ◌≤◌, ◌<◌, ◌+◌, ◌++◌, ◌∷◌, ℕ, List, [], IfNone, IfOk, IfSome};
+ghost use Rattle.std.specs.Prelude.{◌≡◌, ◌≤◌, ◌+◌, ◌++◌, ◌∷◌, ℕ, List, [], IfErr, IfNone, IfOk, IfSome};
 ghost use Rattle.std.specs.Prelude.{MatchResult};
 ghost use Rattle.std.specs.Prelude.{OnOk, OnSome, Some, drop, length, map, slice_index, take, true, vec_len};
 ghost use Rattle.std.specs.Io.KnownBytes.{Appends, Consumes, IsAtEnd};
 ghost use Rattle.msvc_nodes.specs.Trees.{SymbolTree};
 ghost use Rattle.msvc_rules.specs.Counts.{node_count};
 ghost use Rattle.msvc_rules.specs.Parsed.{IsParsedIn, IsSymbolLengthIn};
-ghost use Rattle.msvc_symbol.specs.Grammars.{declaration_in, dialect_of, under};
+ghost use Rattle.msvc_symbol.specs.Demangled.{IsDeclaredAsIn};
+ghost use Rattle.msvc_symbol.specs.Failures.{IsFailureIn};
+ghost use Rattle.msvc_symbol.specs.Grammars.{dialect_of, under};
 ghost use Rattle.msvc_streams.specs.Faults.{SetsFailureFlag, failure_flag, no_stream};
+ghost use Rattle.msvc_filter.specs.Choices.{chosen, without};
 ghost use Rattle.msvc_filter.specs.SliceWriters.{IsSliceWriter, space_after};
 ghost use Rattle.msvc_filter.specs.Filtered.{AreOnlyParts, AreOnlyPartsIn, IsNoStart, IsNoneWithin, Part};
-ghost use Rattle.msvc_filter.specs.Filtered.{declared, fitting, kept, max_declared, max_nodes, text_of_parts};
+ghost use Rattle.msvc_filter.specs.Filtered.{declared, fitting, kept, max_declared, max_nodes};
+ghost use Rattle.msvc_filter.specs.Filtered.{declaration_under};
+ghost use Rattle.msvc_filter.specs.Filtered.{text_of_parts};
 ghost use Rattle.msvc_streams.specs.Runs.{Writes, WritesPart};
 ghost use Rattle.msvc_filter.specs.FilterRuns.{WritesFiltered, WritesFilteredIn};
 ghost use Rattle.msvc_filter.specs.WordStates.{ArePartsUpTo, IsFilteredUpTo, IsFound};
@@ -23,12 +28,22 @@ use crate::symbol_bounds::{
     MAX_LOOKED_AT, WordState, candidate, continues, has_mark, is_mark, symbol_extent, unmarked_len,
     utf8_front,
 };
+use msvc_cursor::failure::Failure;
 use msvc_cursor::limits::{DEFAULT_BYTE_LIMIT, DEFAULT_NODE_LIMIT, Limits};
 use msvc_nodes::flags::DemangleFlags;
 use msvc_streams::{Fault, Polls, Taken, Watched, consume, fail, fill_buf, line_end, write_all};
 use msvc_symbol::{Demangler, Grammar};
 use std::alloc::{AllocError, Allocator, Global};
 use std::io::{BufRead, Write};
+
+/// How symbols are read and shown.
+#[derive(Clone, Copy)]
+struct How {
+    grammar: Grammar,
+    flags: DemangleFlags,
+    /// What Full leaves out: flags of `llvm-undname`.
+    left_out: u64,
+}
 
 /// The most bytes of a line that are held before a piece of the line is written.
 const MAX_HELD: usize = 65_536;
@@ -104,21 +119,59 @@ pub fn filter_text_in<R: BufRead, W: Write>(
     ensures sets_failed { SetsFailureFlag result (failure_flag input.old input.new) (failure_flag out.old out.new)
         no_stream }
 {
-    let grammar = demangler.grammar();
-    filter_lines(demangler, grammar, input, out, flags)
+    filter_text_without(demangler, input, out, flags, 0)
+}
+
+/// Copies `input` to `out`, as [`filter_text_in`] does, and leaves out of declarations what `left_out` drops: flags of
+/// `llvm-undname`, which only Full obeys. Other bits of it count for nothing.
+///
+/// # Errors
+///
+/// Fails where [`filter_text`] does.
+///
+/// # Examples
+///
+/// ```
+/// let mut demangler = Demangler::with_grammar(alloc, Grammar::Full);
+/// let mut input = Watched::new(b"at ?f@@YAHH@Z+0x5\n".as_slice());
+/// let mut out = Watched::new(Vec::new(alloc));
+/// let flags = DemangleFlags::llvm();
+/// let left_out = NO_RETURN_TYPE;
+/// assert!(rt; filter_text_without(&mut demangler, &mut input, &mut out, flags, left_out).is_ok());
+/// assert_eq!(rt; out.into_inner().as_slice(), b"at __cdecl f(int)+0x5\n".as_slice());
+/// ```
+pub fn filter_text_without<R: BufRead, W: Write>(
+    demangler: &mut Demangler,
+    input: &mut Watched<R>,
+    out: &mut Watched<W>,
+    flags: DemangleFlags,
+    left_out: u64,
+) -> Result<(), Fault>
+    ensures text { (taken text : List ℕ) × Consumes (R.remaining input.old.stream) (R.remaining input.new.stream) taken
+        × Appends (W.contents out.old.stream) (W.contents out.new.stream) text
+        × WritesFilteredIn result (without demangler.old.grammar flags.0 left_out) taken text }
+    ensures end { OnOk result (OnSome (R.remaining input.old.stream) (IsAtEnd (R.remaining input.new.stream))) }
+    ensures sets_failed { SetsFailureFlag result (failure_flag input.old input.new) (failure_flag out.old out.new)
+        no_stream }
+{
+    let how = How {
+        grammar: demangler.grammar(),
+        flags,
+        left_out,
+    };
+    filter_lines(demangler, how, input, out)
 }
 
 /// Copies `input` to `out`, as [`filter_text`] does, with each symbol of a grammar replaced.
 fn filter_lines<R: BufRead, W: Write>(
     demangler: &mut Demangler,
-    grammar: Grammar,
+    how: How,
     input: &mut Watched<R>,
     out: &mut Watched<W>,
-    flags: DemangleFlags,
 ) -> Result<(), Fault>
     ensures text { (taken text : List ℕ) × Consumes (R.remaining input.old.stream) (R.remaining input.new.stream) taken
         × Appends (W.contents out.old.stream) (W.contents out.new.stream) text
-        × WritesFilteredIn result (under grammar flags.0) taken text }
+        × WritesFilteredIn result (chosen how) taken text }
     ensures end { OnOk result (OnSome (R.remaining input.old.stream) (IsAtEnd (R.remaining input.new.stream))) }
     ensures sets_failed { SetsFailureFlag result (failure_flag input.old input.new) (failure_flag out.old out.new)
         no_stream }
@@ -138,7 +191,7 @@ fn filter_lines<R: BufRead, W: Write>(
             Taken::Line if piece.is_empty() => {
                 // A line that the reader shows whole is not copied.
                 let line = &shown[..end];
-                let put = write_rest(demangler, grammar, &mut text, line, scan, out, flags);
+                let put = write_rest(demangler, how, &mut text, line, scan, out);
                 consume(input, end);
                 put?;
                 scan = WordState::new(b'\n');
@@ -148,7 +201,7 @@ fn filter_lines<R: BufRead, W: Write>(
                     return Err(Fault::Memory);
                 }
                 consume(input, end);
-                write_rest(demangler, grammar, &mut text, &piece, scan, out, flags)?;
+                write_rest(demangler, how, &mut text, &piece, scan, out)?;
                 piece.clear();
                 scan = WordState::new(b'\n');
             }
@@ -157,12 +210,10 @@ fn filter_lines<R: BufRead, W: Write>(
                     return Err(Fault::Memory);
                 }
                 consume(input, end);
-                write_decided(
-                    demangler, grammar, &mut text, &mut piece, &mut scan, out, flags,
-                )?;
+                write_decided(demangler, how, &mut text, &mut piece, &mut scan, out)?;
             }
             Taken::End => {
-                return write_rest(demangler, grammar, &mut text, &piece, scan, out, flags);
+                return write_rest(demangler, how, &mut text, &piece, scan, out);
             }
         }
     }
@@ -172,24 +223,23 @@ fn filter_lines<R: BufRead, W: Write>(
 /// leaves the other bytes in `piece`.
 fn write_decided<W: Write>(
     demangler: &mut Demangler,
-    grammar: Grammar,
+    how: How,
     text: &mut Vec<u8>,
     piece: &mut Vec<u8>,
     scan: &mut WordState,
     out: &mut Watched<W>,
-    flags: DemangleFlags,
 ) -> Result<(), Fault>
     ensures text { (written : List ℕ) × Appends (W.contents out.old.stream) (W.contents out.new.stream) written
-        × MatchResult result (λ _. IsDecidedText (under grammar flags.0) scan.old piece.old.items written scan.new
+        × MatchResult result (λ _. IsDecidedText (chosen how) scan.old piece.old.items written scan.new
         piece.new.items)
-        (λ fault. WritesPart fault (IsDecidedTextOf (under grammar flags.0) scan.old piece.old.items) written) }
+        (λ fault. WritesPart fault (IsDecidedTextOf (chosen how) scan.old piece.old.items) written) }
     ensures sets_failed { SetsFailureFlag result no_stream (failure_flag out.old out.new) no_stream }
 {
     if piece.len() <= MAX_HELD {
         return Ok(());
     }
     let until = piece.len() - MAX_LOOKED_AT;
-    match filter_piece(demangler, grammar, piece, until, scan, text, flags) {
+    match filter_piece(demangler, how, piece, until, scan, text) {
         Ok(at) => {
             write_all(out, text)?;
             drop_front(piece, at);
@@ -213,41 +263,39 @@ fn drop_front(bytes: &mut Vec<u8>, count: usize)
 #[inline(always)]
 fn write_rest<W: Write>(
     demangler: &mut Demangler,
-    grammar: Grammar,
+    how: How,
     text: &mut Vec<u8>,
     piece: &[u8],
     scan: WordState,
     out: &mut Watched<W>,
-    flags: DemangleFlags,
 ) -> Result<(), Fault>
     ensures text { (written : List ℕ) × Appends (W.contents out.old.stream) (W.contents out.new.stream) written
-        × Writes result (IsRestText (under grammar flags.0) scan piece.now) written }
+        × Writes result (IsRestText (chosen how) scan piece.now) written }
     ensures sets_failed { SetsFailureFlag result no_stream (failure_flag out.old out.new) no_stream }
 {
     // Most lines have no symbol, and stay as they are.
-    if !has_mark(grammar, piece) {
+    if !has_mark(how.grammar, piece) {
         return write_all(out, piece);
     }
-    write_filtered(demangler, grammar, text, piece, scan, out, flags)
+    write_filtered(demangler, how, text, piece, scan, out)
 }
 
 /// Writes the filtered text of the rest of a line that may have a symbol.
 #[inline(never)]
 fn write_filtered<W: Write>(
     demangler: &mut Demangler,
-    grammar: Grammar,
+    how: How,
     text: &mut Vec<u8>,
     piece: &[u8],
     mut scan: WordState,
     out: &mut Watched<W>,
-    flags: DemangleFlags,
 ) -> Result<(), Fault>
     ensures text { (written : List ℕ) × Appends (W.contents out.old.stream) (W.contents out.new.stream) written
-        × Writes result (IsRestText (under grammar flags.0) scan piece.now) written }
+        × Writes result (IsRestText (chosen how) scan piece.now) written }
     ensures sets_failed { SetsFailureFlag result no_stream (failure_flag out.old out.new) no_stream }
 {
     let end = piece.len();
-    match filter_piece(demangler, grammar, piece, end, &mut scan, text, flags) {
+    match filter_piece(demangler, how, piece, end, &mut scan, text) {
         Ok(_) => write_all(out, text),
         Err(_) => Err(Fault::Memory),
     }
@@ -333,6 +381,11 @@ pub fn filter_slice_as<A: Allocator + Copy>(
         × (f.length ≡ length (text_of_parts parts)) × (f.written ≡ length (fitting (length out.old) parts))
         × (out.new ≡ fitting (length out.old) parts ++ drop (length (fitting (length out.old) parts)) out.old)) }
 {
+    let how = How {
+        grammar,
+        flags,
+        left_out: 0,
+    };
     let mut scan = WordState::new(b'\n');
     let mut writer = SliceWriter {
         length: 0,
@@ -341,14 +394,7 @@ pub fn filter_slice_as<A: Allocator + Copy>(
     };
     let mut at = 0;
     'symbols: while at < text.len() {
-        match next_symbol(
-            demangler,
-            grammar,
-            &text[at..],
-            text.len() - at,
-            &mut scan,
-            flags,
-        )? {
+        match next_symbol(demangler, how, &text[at..], text.len() - at, &mut scan)? {
             Some(found) => {
                 writer = write_verbatim(out, writer, &text[at..at + found.before])?;
                 writer = write_declaration(out, writer, demangler.declared())?;
@@ -461,21 +507,20 @@ fn copy_into(out: &mut [u8], at: usize, bytes: &[u8])
 /// `until` is inside. Returns how many bytes of `piece` these are.
 fn filter_piece(
     demangler: &mut Demangler,
-    grammar: Grammar,
+    how: How,
     piece: &[u8],
     until: usize,
     scan: &mut WordState,
     text: &mut Vec<u8>,
-    flags: DemangleFlags,
 ) -> Result<usize, AllocError>
     requires { until ≤ length piece.now }
     ensures { IfOk result (λ at.
-        IsFilteredUpTo (under grammar flags.0) scan.old piece.now until text.new.items at scan.new) }
+        IsFilteredUpTo (chosen how) scan.old piece.now until text.new.items at scan.new) }
 {
     text.clear();
     let mut at = 0;
     'symbols: while at < until {
-        match next_symbol(demangler, grammar, &piece[at..], until - at, scan, flags)? {
+        match next_symbol(demangler, how, &piece[at..], until - at, scan)? {
             Some(found) => {
                 text.extend_from_slice(&piece[at..at + found.before])?;
                 text.extend_from_slice(demangler.declared())?;
@@ -503,28 +548,27 @@ struct Found {
 /// Moves the scan to the end of the symbol, or to `until` if there is none.
 fn next_symbol<A: Allocator + Copy>(
     demangler: &mut Demangler<A>,
-    grammar: Grammar,
+    how: How,
     left: &[u8],
     until: usize,
     scan: &mut WordState,
-    flags: DemangleFlags,
 ) -> Result<Option<Found>, AllocError>
     requires { until ≤ length left.now }
     ensures none { IfOk result (λ found. IfNone found
-        (ArePartsUpTo (under grammar flags.0) scan.old left.now until (map kept (take until left.now)) until
+        (ArePartsUpTo (chosen how) scan.old left.now until (map kept (take until left.now)) until
         scan.new)) }
     ensures some { IfOk result (λ found. IfSome found (λ f.
-        IsFound (under grammar flags.0) scan.old left.now until f.before f.bytes demangler.new.text scan.new)) }
+        IsFound (chosen how) scan.old left.now until f.before f.bytes demangler.new.text scan.new)) }
 {
     let mut at = 0;
     'bytes: while at < until {
-        if !is_mark(grammar, left[at]) {
-            let end = at + unmarked_len(grammar, &left[at..until]);
+        if !is_mark(how.grammar, left[at]) {
+            let end = at + unmarked_len(how.grammar, &left[at..until]);
             *scan = scan.pass(&left[at..end]);
             at = end;
             continue;
         }
-        match symbol_at(demangler, grammar, &left[at..], *scan, flags)? {
+        match symbol_at(demangler, how, &left[at..], *scan)? {
             Some(bytes) => {
                 *scan = WordState::new(left[at + bytes - 1]);
                 return Ok(Some(Found { before: at, bytes }));
@@ -542,38 +586,36 @@ fn next_symbol<A: Allocator + Copy>(
 /// text.
 fn symbol_at<A: Allocator + Copy>(
     demangler: &mut Demangler<A>,
-    grammar: Grammar,
+    how: How,
     left: &[u8],
     scan: WordState,
-    flags: DemangleFlags,
 ) -> Result<Option<usize>, AllocError>
     ensures none { IfOk result (λ found. IfNone found ((last : ℕ) (passed : List ℕ) → Keeps scan last passed
-        → is_start grammar last passed left.now ≡ true → IsNoStart (under grammar flags.0) left.now)) }
+        → is_start how.grammar last passed left.now ≡ true → IsNoStart (chosen how) left.now)) }
     ensures some { IfOk result (λ found. IfSome found (λ bytes. ((last : ℕ) (passed : List ℕ) → Keeps scan last passed
-        → is_start grammar last passed left.now ≡ true)
-        × IsSymbolShown (under grammar flags.0) left.now bytes demangler.new.text)) }
+        → is_start how.grammar last passed left.now ≡ true)
+        × IsSymbolShown (chosen how) left.now bytes demangler.new.text)) }
 {
-    if !scan.is_start(grammar, left) {
+    if !scan.is_start(how.grammar, left) {
         return Ok(None);
     }
-    match_symbol(demangler, grammar, left, flags)
+    match_symbol(demangler, how, left)
 }
 
 /// Returns the length in bytes of the symbol that begins at a start, if one does, with its declaration as the
 /// demangler's text.
 fn match_symbol<A: Allocator + Copy>(
     demangler: &mut Demangler<A>,
-    grammar: Grammar,
+    how: How,
     left: &[u8],
-    flags: DemangleFlags,
 ) -> Result<Option<usize>, AllocError>
-    ensures none { IfOk result (λ found. IfNone found (IsNoStart (under grammar flags.0) left.now)) }
+    ensures none { IfOk result (λ found. IfNone found (IsNoStart (chosen how) left.now)) }
     ensures some { IfOk result (λ found. IfSome found (λ bytes.
-        IsSymbolShown (under grammar flags.0) left.now bytes demangler.new.text)) }
+        IsSymbolShown (chosen how) left.now bytes demangler.new.text)) }
 {
-    match demangle_candidate(demangler, grammar, candidate(left), flags)? {
+    match demangle_candidate(demangler, how, candidate(left))? {
         Some(read) => {
-            let bytes = symbol_extent(grammar, left, read);
+            let bytes = symbol_extent(how.grammar, left, read);
             if continues(left, bytes) {
                 return Ok(None);
             }
@@ -588,22 +630,21 @@ fn match_symbol<A: Allocator + Copy>(
 /// declaration then.
 fn demangle_candidate<A: Allocator + Copy>(
     demangler: &mut Demangler<A>,
-    grammar: Grammar,
+    how: How,
     input: &str,
-    flags: DemangleFlags,
 ) -> Result<Option<usize>, AllocError>
     ensures declared { IfOk result (λ found. IfSome found (λ bytes. (tree : SymbolTree)
-        × IsParsedIn (dialect_of grammar) input.now tree
-        × (demangler.new.text ≡ Some (declaration_in grammar tree flags.0)) × (node_count tree ≤ max_nodes)
-        × IsSymbolLengthIn (dialect_of grammar) bytes input.now
-        × (length (declaration_in grammar tree flags.0) ≤ max_declared))) }
-    ensures none { IfOk result (λ found. IfNone found (IsNoneWithin (under grammar flags.0) input.now)) }
+        × IsParsedIn (dialect_of how.grammar) input.now tree
+        × (demangler.new.text ≡ Some (declaration_under (chosen how) tree)) × (node_count tree ≤ max_nodes)
+        × IsSymbolLengthIn (dialect_of how.grammar) bytes input.now
+        × (length (declaration_under (chosen how) tree) ≤ max_declared))) }
+    ensures none { IfOk result (λ found. IfNone found (IsNoneWithin (chosen how) input.now)) }
 {
     let limits = Limits {
         nodes: Some(DEFAULT_NODE_LIMIT),
         bytes: Some(DEFAULT_BYTE_LIMIT),
     };
-    match demangler.declare(grammar, input, flags, limits) {
+    match declare(demangler, how, input, limits) {
         Ok(length) => Ok(Some(length)),
         Err(failure) => {
             if failure.is_out_of_memory() {
@@ -613,4 +654,26 @@ fn demangle_candidate<A: Allocator + Copy>(
             }
         }
     }
+}
+
+/// Prints the declaration of the symbol that `input` begins with as the demangler's text, within limits. Returns the
+/// bytes that the symbol takes.
+#[inline(always)]
+fn declare<A: Allocator + Copy>(
+    demangler: &mut Demangler<A>,
+    how: How,
+    input: &str,
+    limits: Limits,
+) -> Result<usize, Failure>
+    ensures declared { IfOk result (λ length.
+        IsDeclaredAsIn how.grammar limits input.now (chosen how).flags length demangler.new.text) }
+    ensures fails { IfErr result (λ failure.
+        IsFailureIn how.grammar limits input.now (chosen how).flags failure) }
+{
+    if how.left_out != 0 {
+        if let Grammar::Full = how.grammar {
+            return demangler.declare_without(input, how.flags, how.left_out, limits);
+        }
+    }
+    demangler.declare(how.grammar, input, how.flags, limits)
 }

@@ -6,4 +6,5 @@ mod symbol_bounds;
 
 pub use filter::{
     Filtered, filter_slice, filter_slice_as, filter_slice_in, filter_text, filter_text_in,
+    filter_text_without,
 };

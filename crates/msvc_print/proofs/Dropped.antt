@@ -1,13 +1,13 @@
 -- What the flags leave of the pieces that they may drop.
 use Rattle.std.proofs.Common.{◌≡◌, ℕ, List, [], ◌++◌, Bool, true, false, cond, refl, ap, ◌∙◌, codes}
-use Rattle.msvc_print.specs.Flags.{full_style, has, name_only, no_access_specifiers, no_function_returns}
-use Rattle.msvc_print.specs.Flags.{no_member_type, no_this_type}
+use Rattle.msvc_print.specs.Flags.{full_style, has, name_only, no_function_returns, no_this_type}
 use Rattle.msvc_print.specs.Functions.{access_words, each_function_qualifier, extern_c, extern_words}
 use Rattle.msvc_print.specs.Functions.{full_function_qualifiers}
 use Rattle.msvc_print.specs.Functions.{full_reference_words, full_this_words, full_wide_word, function_qualifiers}
-use Rattle.msvc_print.specs.Functions.{kind_words, member_word, wide_qualifier}
+use Rattle.msvc_print.specs.Functions.{hides_access, hides_kind, kind_words, member_word, wide_qualifier}
 use Rattle.msvc_print.specs.Pieces.{Piece}
 use Rattle.msvc_print.specs.Sides.{kept_left, kept_right}
+use Rattle.msvc_print.specs.declared.pointed.Pointed.{Pointed}
 use Rattle.msvc_print.specs.Words.{full_qualifiers, qualifier, qualifier_space, qualifiers, set_word}
 
 pub kept_right-all : (pieces : List Piece) (flags : ℕ) → has flags name_only ≡ false →
@@ -36,21 +36,23 @@ unfolding kept_left
 kept_left-no_returns pieces flags e e' =
     ap (λ b. cond b [] (cond (has flags no_function_returns) [] pieces)) e ∙ ap (λ b. cond b [] pieces) e'
 
-pub access_words-kept : (class flags : ℕ) → has flags no_access_specifiers ≡ false → access_words class flags
+pub access_words-kept : (pointed : Pointed) (class flags : ℕ) → hides_access pointed flags ≡ false →
+    access_words pointed class flags
     ≡ member_word 4 (codes "private: ") class ++ (member_word 2 (codes "protected: ") class
     ++ member_word 1 (codes "public: ") class)
 unfolding access_words
-access_words-kept class flags e = ap (λ b. cond b [] (member_word 4 (codes "private: ") class
+access_words-kept pointed class flags e = ap (λ b. cond b [] (member_word 4 (codes "private: ") class
     ++ (member_word 2 (codes "protected: ") class ++ member_word 1 (codes "public: ") class))) e
 
 either : (b : Bool) (pieces : List Piece) → cond b pieces pieces ≡ pieces
 either true pieces = refl
 either false pieces = refl
 
-pub kind_words-kept : (class flags : ℕ) → has flags no_member_type ≡ false → kind_words class flags
+pub kind_words-kept : (pointed : Pointed) (class flags : ℕ) → hides_kind pointed flags ≡ false →
+    kind_words pointed class flags
     ≡ member_word 16 (codes "static ") class ++ (member_word 32 (codes "virtual ") class ++ extern_words class flags)
 unfolding kind_words
-kind_words-kept class flags e = ap (λ b. cond b [] (member_word 16 (codes "static ") class
+kind_words-kept pointed class flags e = ap (λ b. cond b [] (member_word 16 (codes "static ") class
     ++ (member_word 32 (codes "virtual ") class ++ extern_words class flags))) e
 
 pub extern_words-full : (class flags : ℕ) → has flags full_style ≡ true →

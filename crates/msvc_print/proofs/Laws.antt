@@ -1,6 +1,6 @@
 -- What flags do not change: bits that no definition asks for, and under NAME_ONLY the type of a symbol.
 use Rattle.std.proofs.Common.{◌≡◌, ℕ, ℤ, List, [], ◌∷◌, ◌++◌, Bool, true, false, cond, refl, ap, sym, ◌∙◌, bit_and}
-use Rattle.std.proofs.Common.{◌==◌, ◌<◌, append_assoc, arith, codes, drop, zero, suc, not, Option, Some, None}
+use Rattle.std.proofs.Common.{◌==◌, ◌||◌, ◌<◌, append_assoc, arith, codes, drop, zero, suc, not, Option, Some, None}
 use Rattle.std.proofs.lemmas.Bool.{ne_eqb}
 use Rattle.std.proofs.lemmas.Nat.{and_assoc, and_le_l}
 use Rattle.std.specs.Fmt.{signed_decimal}
@@ -9,7 +9,7 @@ use Rattle.msvc_nodes.specs.Trees.{NameTree, NameTrees, TypeTree, TypeTrees, spe
 use Rattle.msvc_nodes.specs.Trees.{type_descriptor, base_class_descriptor, template, discriminator, nested, anonymous}
 use Rattle.msvc_nodes.specs.Trees.{no_names, names, no_types, types, base, tagged, pointing, array, function}
 use Rattle.msvc_nodes.specs.Trees.{member_function, member_pointer, plain, numbered, variable, table, vcall_thunk}
-use Rattle.msvc_nodes.specs.Trees.{shape, shaped}
+use Rattle.msvc_nodes.specs.Trees.{SymbolTree, shape, shaped}
 use Rattle.msvc_nodes.specs.declared.nodes.Number.{Number}
 use Rattle.msvc_nodes.specs.declared.kinds.PrimitiveKind.{PrimitiveKind}
 use Rattle.msvc_nodes.specs.declared.kinds.NumberedType.TheVariants as number_kind
@@ -18,6 +18,7 @@ use Rattle.msvc_nodes.specs.declared.kinds.PlainOperator.TheVariants as plain_op
 use Rattle.msvc_nodes.specs.declared.kinds.Spelling.TheVariants as spelling_kind
 use Rattle.msvc_nodes.specs.declared.kinds.TagKind.{TagKind}
 use Rattle.msvc_nodes.specs.declared.kinds.Convention.{Convention}
+use Rattle.msvc_nodes.specs.declared.kinds.VarStorageKind.{VarStorageKind}
 use Rattle.msvc_print.proofs.Dropped.{kept_left-name_only, kept_right-dropped}
 use Rattle.msvc_print.specs.Declaration.{ScopePieces, angled, arguments, conversion, declaration, full_conversion}
 use Rattle.msvc_print.specs.Declaration.{grown, is_empty_pack, is_none}
@@ -26,12 +27,13 @@ use Rattle.msvc_print.specs.Declaration.{returned_end}
 use Rattle.msvc_print.specs.Declaration.{scope_path, scope_pieces, scope_prefix, symbol_name, symbol_pieces, table_end}
 use Rattle.msvc_print.specs.Declaration.{each_name, grown_around, with_inner}
 use Rattle.msvc_print.specs.Flags.{has, hug_type, ms_type_names, name_only, no_access_specifiers, no_class_type}
-use Rattle.msvc_print.specs.Flags.{full_style}
+use Rattle.msvc_print.specs.Flags.{full_style, llvm_no_access, llvm_no_convention, llvm_no_member, llvm_no_return}
+use Rattle.msvc_print.specs.Flags.{llvm_flags, llvm_no_variable}
 use Rattle.msvc_print.specs.Flags.{no_function_returns, no_member_type, no_ms_keywords, no_this_type}
 use Rattle.msvc_print.specs.Flags.{space_after_comma, space_before_pointer, with_ptr64}
 use Rattle.msvc_print.specs.Functions.{access_words, calling, convention_pieces, extern_words, full_calling}
 use Rattle.msvc_print.specs.Functions.{full_function_qualifiers, full_reference_words, full_this_words}
-use Rattle.msvc_print.specs.Functions.{full_wide_word, noexcept}
+use Rattle.msvc_print.specs.Functions.{full_wide_word, hides_access, hides_convention, hides_kind, noexcept}
 use Rattle.msvc_print.specs.Functions.{each_function_qualifier, kind_words, member_start, member_word, member_words}
 use Rattle.msvc_print.specs.Functions.{parameter_list}
 use Rattle.msvc_print.specs.Functions.{function_qualifier, function_qualifiers, separator, wide_qualifier}
@@ -47,7 +49,7 @@ use Rattle.msvc_print.specs.Sides.{Sides, alone, around, between, kept, kept_lef
 use Rattle.msvc_print.specs.Words.{base_word, base_words, chosen_word, closing, kind_word, mark_space, mark_word}
 use Rattle.msvc_print.specs.Words.{marked, name_space, opening, qualifier, qualifier_space, qualifiers, tag_word}
 use Rattle.msvc_print.specs.Words.{angle_end, full_mark_space, full_marked, full_space, mark_qualifiers, set_word}
-use Rattle.msvc_print.specs.Words.{parenthesis, unaligned, variable_word}
+use Rattle.msvc_print.specs.Words.{access_word, parenthesis, shown_variable_word, static_word, unaligned, variable_word}
 use Rattle.msvc_print.specs.declared.operators.NameKind.{NameKind}
 use Rattle.msvc_print.specs.declared.operators.NameKind.TheVariants as name_kinds
 use Rattle.msvc_print.specs.declared.spaces.Space.TheVariants.{AfterPointer, AfterReference, AfterWord, UnlessOpen}
@@ -56,9 +58,9 @@ use Rattle.msvc_print.specs.declared.spaces.Space.TheVariants.{AfterFullPointer,
 use Rattle.msvc_shapes.specs.Layouts as slot
 use Rattle.msvc_shapes.specs.declared.layouts.Side.TheVariants as side
 use Rattle.msvc_print.specs.Pointed.{is_pointed, is_unaligned, opens, pointed_by, unaligned_mark, unaligned_shape}
-use Rattle.msvc_print.specs.Pointed.{under}
+use Rattle.msvc_print.specs.Pointed.{drops, leaves_out, passed_on, under}
 use Rattle.msvc_print.specs.declared.pointed.Pointed.{Pointed}
-use Rattle.msvc_print.specs.declared.pointed.Pointed.TheVariants.{No, Yes, Unaligned}
+use Rattle.msvc_print.specs.declared.pointed.Pointed.TheVariants.{No, Inner, Yes, Unaligned}
 
 -- two words give the same answer to each question that a definition asks
 record Same (a b : ℕ) : Type 0 where
@@ -75,6 +77,11 @@ record Same (a b : ℕ) : Type 0 where
   pointer : has a space_before_pointer ≡ has b space_before_pointer
   wide : has a with_ptr64 ≡ has b with_ptr64
   style : has a full_style ≡ has b full_style
+  llvm_convention : drops llvm_no_convention a ≡ drops llvm_no_convention b
+  llvm_return : drops llvm_no_return a ≡ drops llvm_no_return b
+  llvm_access : drops llvm_no_access a ≡ drops llvm_no_access b
+  llvm_member : drops llvm_no_member a ≡ drops llvm_no_member b
+  llvm_variable : drops llvm_no_variable a ≡ drops llvm_no_variable b
 
 -- words that agree on some bits agree on fewer
 fewer : (a b many few : ℕ) → bit_and many few ≡ few → Agree many a b → Agree few a b
@@ -82,24 +89,40 @@ fewer a b many few within e =
     ap (bit_and a) (sym within) ∙ sym (and_assoc few a many) ∙ ap (λ x. bit_and x few) e ∙ and_assoc few b many
     ∙ ap (bit_and b) within
 
-has-same : (a b bits : ℕ) → bit_and obeyed_flags bits ≡ bits → Agree obeyed_flags a b → has a bits ≡ has b bits
-has-same a b bits within e = ap (λ x. x == bits) (fewer a b obeyed_flags bits within e)
+has-same : (a b many bits : ℕ) → bit_and many bits ≡ bits → Agree many a b → has a bits ≡ has b bits
+has-same a b many bits within e = ap (λ x. x == bits) (fewer a b many bits within e)
 
-all-same : (a b : ℕ) → Agree obeyed_flags a b → Same a b
-all-same a b e = record {
-  keywords = has-same a b no_ms_keywords refl e;
-  returns = has-same a b no_function_returns refl e;
-  this_type = has-same a b no_this_type refl e;
-  access = has-same a b no_access_specifiers refl e;
-  member = has-same a b no_member_type refl e;
-  type_names = has-same a b ms_type_names refl e;
-  only = has-same a b name_only refl e;
-  class_type = has-same a b no_class_type refl e;
-  comma = has-same a b space_after_comma refl e;
-  hug = has-same a b hug_type refl e;
-  pointer = has-same a b space_before_pointer refl e;
-  wide = has-same a b with_ptr64 refl e;
-  style = has-same a b full_style refl e;
+-- an answer that counts only where the same question is answered with yes
+both-same : (c c' d d' : Bool) → c ≡ c' → (c ≡ true → d ≡ d') → cond c d false ≡ cond c' d' false
+both-same true c' d d' e h = h refl ∙ ap (λ x. cond x d' false) e
+both-same false c' d d' e h = ap (λ x. cond x d' false) e
+
+drops-same : (a b bits : ℕ) → bit_and llvm_flags bits ≡ bits → has a full_style ≡ has b full_style →
+    (has a full_style ≡ true → Agree llvm_flags a b) → drops bits a ≡ drops bits b
+drops-same a b bits within e h =
+    both-same (has a full_style) (has b full_style) (has a bits) (has b bits) e
+    (λ full. has-same a b llvm_flags bits within (h full))
+
+all-same : (a b : ℕ) → Agree obeyed_flags a b → (has a full_style ≡ true → Agree llvm_flags a b) → Same a b
+all-same a b e h = let style = has-same a b obeyed_flags full_style refl e in record {
+  keywords = has-same a b obeyed_flags no_ms_keywords refl e;
+  returns = has-same a b obeyed_flags no_function_returns refl e;
+  this_type = has-same a b obeyed_flags no_this_type refl e;
+  access = has-same a b obeyed_flags no_access_specifiers refl e;
+  member = has-same a b obeyed_flags no_member_type refl e;
+  type_names = has-same a b obeyed_flags ms_type_names refl e;
+  only = has-same a b obeyed_flags name_only refl e;
+  class_type = has-same a b obeyed_flags no_class_type refl e;
+  comma = has-same a b obeyed_flags space_after_comma refl e;
+  hug = has-same a b obeyed_flags hug_type refl e;
+  pointer = has-same a b obeyed_flags space_before_pointer refl e;
+  wide = has-same a b obeyed_flags with_ptr64 refl e;
+  style = style;
+  llvm_convention = drops-same a b llvm_no_convention refl style h;
+  llvm_return = drops-same a b llvm_no_return refl style h;
+  llvm_access = drops-same a b llvm_no_access refl style h;
+  llvm_member = drops-same a b llvm_no_member refl style h;
+  llvm_variable = drops-same a b llvm_no_variable refl style h;
 }
 
 -- lists of the same parts are the same
@@ -180,8 +203,25 @@ opening-same pointed a b e = ap (λ x. cond (is_pointed pointed) x []) (same-app
 pointed_by-same : (set a b : ℕ) → Same a b → pointed_by set a ≡ pointed_by set b
 pointed_by-same set a b e = ap (λ c. cond c (cond (has set 16) Unaligned Yes) Yes) e.style
 
-under-same : (is_mark : Bool) (set a b : ℕ) → Same a b → under is_mark set a ≡ under is_mark set b
-under-same is_mark set a b e = ap (λ p. cond is_mark p No) (pointed_by-same set a b e)
+under-same : (pointed : Pointed) (is_mark : Bool) (set a b : ℕ) → Same a b →
+    under pointed is_mark set a ≡ under pointed is_mark set b
+under-same pointed is_mark set a b e = ap (λ p. cond is_mark p (passed_on pointed)) (pointed_by-same set a b e)
+
+-- what flags of llvm-undname drop
+leaves_out-same : (pointed : Pointed) (bit a b : ℕ) → drops bit a ≡ drops bit b →
+    leaves_out pointed bit a ≡ leaves_out pointed bit b
+leaves_out-same No bit a b e = e
+leaves_out-same Inner bit a b e = refl
+leaves_out-same Yes bit a b e = refl
+leaves_out-same Unaligned bit a b e = refl
+
+either-same : (pointed : Pointed) (bit flag a b : ℕ) → drops bit a ≡ drops bit b → has a flag ≡ has b flag →
+    (leaves_out pointed bit a || has a flag) ≡ (leaves_out pointed bit b || has b flag)
+either-same pointed bit flag a b e h =
+    ap (λ c. c || has a flag) (leaves_out-same pointed bit a b e) ∙ ap (λ c. leaves_out pointed bit b || c) h
+
+hides_kind-same : (pointed : Pointed) (a b : ℕ) → Same a b → hides_kind pointed a ≡ hides_kind pointed b
+hides_kind-same pointed a b e = either-same pointed llvm_no_member no_member_type a b e.llvm_member e.member
 
 unaligned_mark-same : (set : ℕ) (t : TypeTree) (a b : ℕ) → Same a b → unaligned_mark set t a ≡ unaligned_mark set t b
 unaligned_mark-same set t a b e = ap (λ c. cond c (cond (has set 16) (not (opens t)) false) false) e.style
@@ -225,18 +265,22 @@ unfolding kept_right
 kept_right-same xs ys a b h e = same-unless (has a name_only) (has b name_only) xs ys e.only h
 
 -- functions
-access_words-same : (class a b : ℕ) → Same a b → access_words class a ≡ access_words class b
+access_words-same : (pointed : Pointed) (class a b : ℕ) → Same a b →
+    access_words pointed class a ≡ access_words pointed class b
 unfolding access_words
-access_words-same class a b e =
-    same-unless (has a no_access_specifiers) (has b no_access_specifiers) _ _ e.access refl
+access_words-same pointed class a b e =
+    same-unless (hides_access pointed a) (hides_access pointed b) _ _
+    (either-same pointed llvm_no_access no_access_specifiers a b e.llvm_access e.access) refl
 
 extern_words-same : (class a b : ℕ) → Same a b → extern_words class a ≡ extern_words class b
 unfolding extern_words
 extern_words-same class a b e = same-style _ _ _ _ a b e refl refl
 
-kind_words-same : (class a b : ℕ) → Same a b → kind_words class a ≡ kind_words class b
+kind_words-same : (pointed : Pointed) (class a b : ℕ) → Same a b →
+    kind_words pointed class a ≡ kind_words pointed class b
 unfolding kind_words
-kind_words-same class a b e = same-unless (has a no_member_type) (has b no_member_type) _ _ e.member
+kind_words-same pointed class a b e = same-unless (hides_kind pointed a) (hides_kind pointed b) _ _
+    (hides_kind-same pointed a b e)
     (ap (λ x. member_word 16 (codes "static ") class ++ (member_word 32 (codes "virtual ") class ++ x))
     (extern_words-same class a b e))
 
@@ -245,8 +289,7 @@ member_start-same : (pointed : Pointed) (class a b : ℕ) → Same a b →
 unfolding member_start member_words
 member_start-same pointed class a b e =
     ap (λ x. cond (is_pointed pointed) [] (member_word 128 (codes "[thunk]: ") class ++ x))
-    (same-append (access_words class a) (access_words class b) (kind_words class a) (kind_words class b)
-    (access_words-same class a b e) (kind_words-same class a b e))
+    (same-append _ _ _ _ (access_words-same pointed class a b e) (kind_words-same pointed class a b e))
 
 wide_qualifier-same : (set a b : ℕ) → Same a b → wide_qualifier set a ≡ wide_qualifier set b
 unfolding wide_qualifier
@@ -285,7 +328,8 @@ calling-same : (pointed : Pointed) (convention : Convention) (a b : ℕ) → Sam
 unfolding calling full_calling convention_pieces
 calling-same pointed convention a b e = same-style _ _ _ _ a b e
     (same-append _ _ _ _ (opening-same pointed a b e)
-    (same-unless (has a no_ms_keywords) (has b no_ms_keywords) _ _ e.keywords refl))
+    (same-unless (hides_convention pointed a) (hides_convention pointed b) _ _
+    (either-same pointed llvm_no_convention no_ms_keywords a b e.llvm_convention e.keywords) refl))
     (same-append _ _ _ _ (opening-same pointed a b e) (ap (λ x. space UnlessOpen ∷ x)
     (same-unless (has a no_ms_keywords) (has b no_ms_keywords) _ _ e.keywords refl)))
 
@@ -365,6 +409,20 @@ around_kept-same s s' x x' a b hs hx e = same-append _ _ _ _
     (kept_left-same s.left s'.left a b (ap (λ z. z.left) hs) e)
     (same-append _ _ _ _ hx (kept_right-same s.right s'.right a b (ap (λ z. z.right) hs) e))
 
+same-sides : (c c' : Bool) (s s' t t' : Sides) → c ≡ c' → s ≡ s' → t ≡ t' → cond c s t ≡ cond c' s' t'
+same-sides c c' s s' t t' hc hs ht =
+    ap (λ x. cond x s t) hc ∙ ap (λ x. cond c' x t) hs ∙ ap (λ x. cond c' s' x) ht
+
+-- the words of a variable
+shown_variable_word-same : (pointed : Pointed) (kind : VarStorageKind) (a b : ℕ) → Same a b →
+    shown_variable_word pointed kind a ≡ shown_variable_word pointed kind b
+shown_variable_word-same pointed kind a b e =
+    ap (λ c. cond c (cond (leaves_out pointed llvm_no_member a) [] (static_word kind))
+    (cond (leaves_out pointed llvm_no_member a) (access_word kind) (variable_word kind)))
+    (leaves_out-same pointed llvm_no_access a b e.llvm_access)
+    ∙ ap (λ c. cond (leaves_out pointed llvm_no_access b) (cond c [] (static_word kind))
+    (cond c (access_word kind) (variable_word kind))) (leaves_out-same pointed llvm_no_member a b e.llvm_member)
+
 -- shapes
 each_number-same : (ns : List Number) (first : Bool) (a b : ℕ) → Same a b →
     each_number ns first a ≡ each_number ns first b
@@ -385,7 +443,7 @@ slot_pieces-same : (s : Slot) (pointed : Pointed) (p : Parts) (a b : ℕ) → Sa
     slot_pieces s pointed p a ≡ slot_pieces s pointed p b
 unfolding slot_pieces
 slot_pieces-same (slot.kind_word w) pointed p a b e =
-    same-unless (has a no_member_type) (has b no_member_type) _ _ e.member refl
+    same-unless (hides_kind pointed a) (hides_kind pointed b) _ _ (hides_kind-same pointed a b e) refl
 slot_pieces-same slot.qualifiers pointed p a b e = qualifiers-same p.set a b e
 slot_pieces-same slot.pointer_qualifiers pointed p a b e =
     ap (λ s. mark_qualifiers s p.set) (full_space-same a b e)
@@ -433,7 +491,7 @@ mutual
       (angled-same _ _ a b (parameters-same ts true a b e) e)
   name_pieces-same (discriminator z) of_symbol a b e = refl
   name_pieces-same (nested n ns t) of_symbol a b e = ap (quoted_unless of_symbol) (around_kept-same _ _ _ _ a b
-      (grown-same t No alone alone a b refl e)
+      (grown-same t Inner alone alone a b refl e)
       (named-same _ _ _ _ _ _ _ _ _ _ a b (name_kind-same n a b e) (scope_pieces-same ns a b e)
       (arguments-same n a b e)
       (conversion-same t _ _ _ _ a b (arguments-same n a b e) (name_pieces-same n true a b e) e)
@@ -501,13 +559,17 @@ mutual
       let end : List Piece = closing pointed ++ length_pieces n in
       grown-same t No _ _ a b (between-same _ _ s s' end end
       (same-append _ _ _ _ (qualifiers-same set a b e) (opening-same pointed a b e)) h refl) e
-  grown-same (function convention ts set t) pointed s s' a b h e = grown-same t No _ _ a b
-      (between-same _ _ s s' _ _ (returned-same t pointed convention a b e) h
-      (parameter_list-same pointed _ _ set a b (parameters-same ts true a b e) e)) e
+  grown-same (function convention ts set t) pointed s s' a b h e =
+      let end = parameter_list-same pointed _ _ set a b (parameters-same ts true a b e) e in
+      same-sides _ _ _ _ _ _ (leaves_out-same pointed llvm_no_return a b e.llvm_return)
+      (between-same _ _ s s' _ _ (calling-same pointed convention a b e) h end)
+      (grown-same t No _ _ a b (between-same _ _ s s' _ _ (returned-same t pointed convention a b e) h end) e)
   grown-same (member_function class convention ts set t) pointed s s' a b h e =
-      between-same _ _ _ _ [] [] (member_start-same pointed class a b e) (grown-same t No _ _ a b
-      (between-same _ _ s s' _ _ (returned-same t pointed convention a b e) h
-      (parameter_list-same pointed _ _ set a b (parameters-same ts true a b e) e)) e) refl
+      let end = parameter_list-same pointed _ _ set a b (parameters-same ts true a b e) e in
+      between-same _ _ _ _ [] [] (member_start-same pointed class a b e)
+      (same-sides _ _ _ _ _ _ (leaves_out-same pointed llvm_no_return a b e.llvm_return)
+      (between-same _ _ s s' _ _ (calling-same pointed convention a b e) h end)
+      (grown-same t No _ _ a b (between-same _ _ s s' _ _ (returned-same t pointed convention a b e) h end) e)) refl
   grown-same (member_pointer n scope class convention ts set t) pointed s s' a b h e =
       let const : List Piece = function_qualifier 1 (codes "const") set in
       between-same [] [] _ _ const const refl (grown-same t No _ _ a b
@@ -516,13 +578,13 @@ mutual
       (arguments-same n a b e) (name_pieces-same n true a b e) (name_pieces-same n true a b e) e))) h
       (ap (λ x. text (codes ")(") ∷ (x ++ text (codes ")") ∷ [])) (parameters-same ts true a b e))) e) refl
   grown-same (variable t kind set) pointed s s' a b h e =
-      let word : List Piece = text (variable_word kind) ∷ [] in
-      between-same word word _ _ [] [] refl (grown-same t No _ _ a b
-      (between-same _ _ s s' [] [] (qualifiers-same set a b e) h refl) e) refl
+      between-same _ _ _ _ [] [] (ap (λ w. text w ∷ []) (shown_variable_word-same pointed kind a b e))
+      (same-sides _ _ _ _ _ _ (leaves_out-same pointed llvm_no_variable a b e.llvm_variable) h (grown-same t No _ _ a b
+      (between-same _ _ s s' [] [] (qualifiers-same set a b e) h refl) e)) refl
   grown-same (table k scope set) pointed s s' a b h e = between-same _ _ s s' _ _ (qualifiers-same set a b e) h
       (ap (λ x. table_end k scope x.path) (scope_pieces-same scope a b e))
   grown-same (vcall_thunk n convention) pointed s s' a b h e = between-same _ _ s s' _ _
-      (ap (λ x. text (codes "[thunk]: ") ∷ x) (calling-same No convention a b e)) h
+      (ap (λ x. text (codes "[thunk]: ") ∷ x) (calling-same (passed_on pointed) convention a b e)) h
       (ap (λ x. text (codes "{") ∷ text (signed_decimal n) ∷ (x ++ text (codes "{flat}}") ∷ []))
       (separator-same false a b e))
   grown-same (numbered number_kind.Constant n) pointed s s' a b h e =
@@ -538,7 +600,7 @@ mutual
       let p = parts-same _ _ set zs bytes _ _ _ _ _ _ (unaligned_shape-same set ts a b e)
       (each_name-same ns true a b e) (each_name-same ns false a b e)
       (each_type-same ts a b e) in
-      grown_around-same ts (layout_of row).around set _ _ a b (between-same _ _ s s' _ _
+      grown_around-same ts (layout_of row).around set pointed _ _ a b (between-same _ _ s s' _ _
       (laid-same (slots row side.Left) pointed _ _ a b p e) h (laid-same (slots row side.Right) pointed _ _ a b p e)) e
   grown-same _ pointed s s' a b h e = h
 
@@ -548,11 +610,12 @@ mutual
       same-cons _ _ _ _ (ap (λ s. around s []) (grown-same t No alone alone a b refl e))
       (each_type-same ts a b e)
 
-  grown_around-same : (ts : TypeTrees) (w : Option Bool) (set : ℕ) (s s' : Sides) (a b : ℕ) → s ≡ s' → Same a b →
-      grown_around ts w set s a ≡ grown_around ts w set s' b
-  grown_around-same (types t ts) (Some is_mark) set s s' a b h e =
-      ap (λ p. grown t p s a) (under-same is_mark set a b e) ∙ grown-same t (under is_mark set b) s s' a b h e
-  grown_around-same _ _ set s s' a b h e = h
+  grown_around-same : (ts : TypeTrees) (w : Option Bool) (set : ℕ) (pointed : Pointed) (s s' : Sides) (a b : ℕ) →
+      s ≡ s' → Same a b → grown_around ts w set pointed s a ≡ grown_around ts w set pointed s' b
+  grown_around-same (types t ts) (Some is_mark) set pointed s s' a b h e =
+      ap (λ p. grown t p s a) (under-same pointed is_mark set a b e)
+      ∙ grown-same t (under pointed is_mark set b) s s' a b h e
+  grown_around-same _ _ set pointed s s' a b h e = h
 
   parameters-same : (ts : TypeTrees) (first : Bool) (a b : ℕ) → Same a b → parameters ts first a ≡ parameters ts first b
   parameters-same no_types first a b e = refl
@@ -561,20 +624,31 @@ mutual
       (ap (λ s. around s []) (grown-same t No alone alone a b refl e)) (parameters-same ts false a b e)))
 
 symbol_pieces-same : (n : NameTree) (ns : NameTrees) (t : TypeTree) (a b : ℕ) → Same a b →
-    symbol_pieces n ns t a ≡ symbol_pieces n ns t b
+    symbol_pieces n ns t No a ≡ symbol_pieces n ns t No b
 symbol_pieces-same n ns t a b e = around_kept-same _ _ _ _ a b (grown-same t No alone alone a b refl e)
     (named-same _ _ _ _ _ _ _ _ _ _ a b (name_kind-same n a b e) (scope_pieces-same ns a b e)
     (arguments-same n a b e) (conversion-same t _ _ _ _ a b (arguments-same n a b e) (name_pieces-same n true a b e) e)
     (name_pieces-same n true a b e) e) e
 
+-- no word of 32 bits has the bit of the style
+plain-style : (flags : ℕ) → flags < full_style → has flags full_style ≡ false
+plain-style flags small = ne_eqb (bit_and flags full_style) full_style
+    (λ e. absurd (omega (arith, and_le_l flags full_style, e, small)))
+
 pub other_bits-change-nothing : OtherBitsChangeNothing
 unfolding declaration
-other_bits-change-nothing = λ s a b agree.
-    ap resolve (symbol_pieces-same s.name s.scope s.symbol_type a b (all-same a b agree))
+other_bits-change-nothing = λ s a b agree llvm.
+    ap resolve (symbol_pieces-same s.name s.scope s.symbol_type a b (all-same a b agree llvm))
+
+-- in the crate's style no flag of llvm-undname changes anything
+pub other_bits-change-nothing-in-crate : (s : SymbolTree) (a b : ℕ) → a < full_style → Agree obeyed_flags a b →
+    declaration s a ≡ declaration s b
+other_bits-change-nothing-in-crate s a b small agree =
+    other_bits-change-nothing s a b agree (λ full. let none = plain-style a small in absurd (cc))
 
 -- under NAME_ONLY nothing but the name is left
 name_only-pieces : (n : NameTree) (scope : NameTrees) (t : TypeTree) (flags : ℕ) → has flags name_only ≡ true →
-    symbol_pieces n scope t flags ≡ symbol_name n scope t flags ++ []
+    symbol_pieces n scope t No flags ≡ symbol_name n scope t flags ++ []
 name_only-pieces n scope t flags only = same-append _ _ _ _
     (kept_left-name_only (grown t No alone flags).left flags only)
     (ap (λ x. symbol_name n scope t flags ++ x) (kept_right-dropped (grown t No alone flags).right flags only))
@@ -612,11 +686,6 @@ conversion-of-kind (template n ts) flags e other is =
     absurd (cc)
 conversion-of-kind _ flags e other is = absurd (cc)
 
--- no word of 32 bits has the bit of the style
-plain-style : (flags : ℕ) → flags < full_style → has flags full_style ≡ false
-plain-style flags small = ne_eqb (bit_and flags full_style) full_style
-    (λ e. absurd (omega (arith, and_le_l flags full_style, e, small)))
-
 pub no_conversion-of-kind : (n : NameTree) (flags : ℕ) → flags < full_style →
     (n ≡ operator plain_operator.Conversion → ⊥) → name_kind n flags ≡ name_kinds.Conversion → ⊥
 no_conversion-of-kind n flags small = conversion-of-kind n flags (plain-style flags small)
@@ -640,7 +709,7 @@ none-after flags = go (has flags name_only)
     go false = refl
 
 hash-pieces : (digits : List ℕ) (flags : ℕ) → symbol_pieces (spelled spelling_kind.Md5 digits) no_names
-    (plain plain_kind.None) flags
+    (plain plain_kind.None) No flags
     ≡ space (name_space flags) ∷ text (codes "??@") ∷ text digits ∷ text (codes "@") ∷ []
 unfolding grown scoped name_kind name_pieces scope_pieces
 hash-pieces digits flags =

@@ -17,4 +17,5 @@ pub mod PrinterLoop
 pub mod Laws
 pub mod PieceTexts
 pub mod ShapeTexts
+pub mod Styles
 pub mod Texts

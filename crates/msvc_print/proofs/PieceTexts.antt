@@ -36,7 +36,7 @@ use Rattle.msvc_print.specs.Operators.{base_class_pieces, guard_number, guard_pi
 use Rattle.msvc_print.specs.Operators.{full_operator_word, operator_pieces, unqualified_name, scoped, spaced}
 use Rattle.msvc_print.specs.declared.operators.NameKind.{NameKind}
 use Rattle.msvc_print.specs.declared.operators.NameKind.TheVariants as name_kinds
-use Rattle.msvc_print.specs.Flags.{full_style, has, no_this_type, with_ptr64}
+use Rattle.msvc_print.specs.Flags.{full_style, has, llvm_no_access, llvm_no_member, no_this_type, with_ptr64}
 use Rattle.msvc_print.specs.Functions.{access_words, calling, convention_pieces, convention_word}
 use Rattle.msvc_print.specs.Functions.{each_function_qualifier, extern_words, full_calling, full_function_qualifiers}
 use Rattle.msvc_print.specs.Functions.{full_reference_words, full_this_words, full_wide_word, spaced_convention}
@@ -49,10 +49,10 @@ use Rattle.msvc_print.specs.Words.{angle_end, full_mark_space, full_marked, full
 use Rattle.msvc_print.specs.Words.{mark_qualifiers}
 use Rattle.msvc_print.specs.Words.{base_word, base_words, chosen_word, closing, kind_word, mark_space, mark_word}
 use Rattle.msvc_print.specs.Words.{marked, name_space, opening, qualifiers, table_qualifiers, tag_word, unaligned}
-use Rattle.msvc_print.specs.Words.{parenthesis, variable_word}
+use Rattle.msvc_print.specs.Words.{access_word, parenthesis, shown_variable_word, static_word, variable_word}
 use Rattle.msvc_print.specs.declared.spaces.Space.{Space}
 use Rattle.msvc_print.specs.declared.spaces.Space.TheVariants.{AfterPointer}
-use Rattle.msvc_print.specs.Pointed.{is_pointed}
+use Rattle.msvc_print.specs.Pointed.{is_pointed, leaves_out}
 use Rattle.msvc_print.specs.declared.pointed.Pointed.{Pointed}
 
 -- the bytes of a piece, if it has some, are UTF-8
@@ -158,10 +158,29 @@ base_word-utf8 b flags =
     let ws = base_words b (basic_types ++ under_types) in
     chosen_word-utf8 flags ws (ws.0, (refl, refl)) (unwrap_or ws.1 [], (refl, refl))
 
-pub variable_word-utf8 : (kind : VarStorageKind) → IsUtf8 (variable_word kind)
+variable_word-utf8 : (kind : VarStorageKind) → IsUtf8 (variable_word kind)
 unfolding lib.Utf8.encode
 variable_word-utf8 PrivateStatic = (variable_word PrivateStatic, (refl, refl))
 variable_word-utf8 kind = (variable_word kind, (refl, refl))
+
+access_word-utf8 : (kind : VarStorageKind) → IsUtf8 (access_word kind)
+unfolding lib.Utf8.encode
+access_word-utf8 PrivateStatic = (access_word PrivateStatic, (refl, refl))
+access_word-utf8 kind = (access_word kind, (refl, refl))
+
+static_word-utf8 : (kind : VarStorageKind) → IsUtf8 (static_word kind)
+unfolding lib.Utf8.encode
+static_word-utf8 PrivateStatic = (static_word PrivateStatic, (refl, refl))
+static_word-utf8 kind = (static_word kind, (refl, refl))
+
+pub shown_variable_word-utf8 : (pointed : Pointed) (kind : VarStorageKind) (flags : ℕ) →
+    IsUtf8 (shown_variable_word pointed kind flags)
+shown_variable_word-utf8 pointed kind flags =
+    let without_kind = leaves_out pointed llvm_no_member flags in
+    IsUtf8-choice (leaves_out pointed llvm_no_access flags) _ _
+    (IsUtf8-choice without_kind [] (static_word kind) IsUtf8-nil (static_word-utf8 kind))
+    (IsUtf8-choice without_kind (access_word kind) (variable_word kind) (access_word-utf8 kind)
+    (variable_word-utf8 kind))
 
 kind_word-utf8 : (tag : TagKind) → IsUtf8 (kind_word tag)
 unfolding lib.Utf8.encode
@@ -270,9 +289,9 @@ angle_end-texts flags = AreTexts-choice (has flags full_style) _ _
 pub AreTexts-unless : (b : Bool) (xs : List Piece) → AreTexts xs → AreTexts (cond b [] xs)
 AreTexts-unless b xs h = AreTexts-choice b [] xs AreTexts-none h
 
-access_words-texts : (class flags : ℕ) → AreTexts (access_words class flags)
+access_words-texts : (pointed : Pointed) (class flags : ℕ) → AreTexts (access_words pointed class flags)
 unfolding access_words lib.Utf8.encode
-access_words-texts class flags = AreTexts-unless _ _
+access_words-texts pointed class flags = AreTexts-unless _ _
     (AreTexts-append _ _ (AreTexts-word _ (codes "private: ") (codes "private: ", (refl, refl)))
     (AreTexts-append _ _ (AreTexts-word _ (codes "protected: ") (codes "protected: ", (refl, refl)))
     (AreTexts-word _ (codes "public: ") (codes "public: ", (refl, refl)))))
@@ -282,23 +301,23 @@ unfolding extern_words lib.Utf8.encode
 extern_words-texts class flags = AreTexts-choice (has flags full_style) _ _
     (AreTexts-word _ (codes "extern \"C\" ") (codes "extern \"C\" ", (refl, refl))) AreTexts-none
 
-kind_words-texts : (class flags : ℕ) → AreTexts (kind_words class flags)
+kind_words-texts : (pointed : Pointed) (class flags : ℕ) → AreTexts (kind_words pointed class flags)
 unfolding kind_words lib.Utf8.encode
-kind_words-texts class flags = AreTexts-unless _ _
+kind_words-texts pointed class flags = AreTexts-unless _ _
     (AreTexts-append _ _ (AreTexts-word _ (codes "static ") (codes "static ", (refl, refl)))
     (AreTexts-append _ _ (AreTexts-word _ (codes "virtual ") (codes "virtual ", (refl, refl)))
     (extern_words-texts class flags)))
 
-member_words-texts : (class flags : ℕ) → AreTexts (member_words class flags)
+member_words-texts : (pointed : Pointed) (class flags : ℕ) → AreTexts (member_words pointed class flags)
 unfolding member_words lib.Utf8.encode
-member_words-texts class flags =
+member_words-texts pointed class flags =
     AreTexts-append _ _ (AreTexts-word _ (codes "[thunk]: ") (codes "[thunk]: ", (refl, refl)))
-    (AreTexts-append _ _ (access_words-texts class flags) (kind_words-texts class flags))
+    (AreTexts-append _ _ (access_words-texts pointed class flags) (kind_words-texts pointed class flags))
 
 pub member_start-texts : (pointed : Pointed) (class flags : ℕ) → AreTexts (member_start pointed class flags)
 unfolding member_start
-member_start-texts pointed class flags = AreTexts-unless (is_pointed pointed) (member_words class flags)
-    (member_words-texts class flags)
+member_start-texts pointed class flags = AreTexts-unless (is_pointed pointed) (member_words pointed class flags)
+    (member_words-texts pointed class flags)
 
 pub function_qualifier-texts : (bit : ℕ) (word : List ℕ) (set : ℕ) → IsUtf8 word →
     AreTexts (function_qualifier bit word set)
@@ -552,6 +571,11 @@ full_conversion-texts none list value name h h' h'' = AreTexts-choice none _ _ h
 pub record SidesAreTexts (s : Sides) : Type 0 where
   pub left : AreTexts s.left
   pub right : AreTexts s.right
+
+-- sides that a flag decides about
+pub SidesAreTexts-choice : (b : Bool) (s s' : Sides) → SidesAreTexts s → SidesAreTexts s' → SidesAreTexts (cond b s s')
+SidesAreTexts-choice true s s' h h' = h
+SidesAreTexts-choice false s s' h h' = h'
 
 pub alone-texts : SidesAreTexts alone
 alone-texts = record { left = AreTexts-none; right = AreTexts-none }

@@ -425,7 +425,7 @@ pub before-alone : (row set : ℕ) (zs : List Number) (bytes : List ℕ) (ns : N
 unfolding before
 before-alone row set zs bytes ns [] pointed flags e = refl
 before-alone row set zs bytes ns (t ∷ ts) pointed flags e =
-    ap (λ w. pieces_around w set flags (λ p. before (type_of t.now) p flags)
+    ap (λ w. pieces_around w pointed set flags (λ p. before (type_of t.now) p flags)
     ++ laid (slots row side.Left) pointed (shape_parts set zs bytes ns (types_in (t ∷ ts)) flags) flags) e
 
 pub after-alone : (row set : ℕ) (zs : List Number) (bytes : List ℕ) (ns : NameTrees) (ts : List (Bor «Type»))
@@ -436,7 +436,7 @@ unfolding after
 after-alone row set zs bytes ns [] pointed flags e = refl
 after-alone row set zs bytes ns (t ∷ ts) pointed flags e =
     ap (λ w. laid (slots row side.Right) pointed (shape_parts set zs bytes ns (types_in (t ∷ ts)) flags) flags
-    ++ pieces_around w set flags (λ p. after (type_of t.now) p flags)) e
+    ++ pieces_around w pointed set flags (λ p. after (type_of t.now) p flags)) e
     ∙ append-nil (laid (slots row side.Right) pointed (shape_parts set zs bytes ns (types_in (t ∷ ts)) flags) flags)
 
 -- a shape without types
@@ -459,7 +459,7 @@ after-empty row set zs bytes ns (t ∷ ts) pointed flags h = absurd (omega arith
 -- a shape with its first type around it
 pub before-around : (row set : ℕ) (zs : List Number) (bytes : List ℕ) (ns : NameTrees) (ts : List (Bor «Type»))
     (d : Bor «Type») (is_mark : Bool) (beneath pointed : Pointed) (flags : ℕ) → 1 ≤ length ts →
-    (layout_of row).around ≡ Some is_mark → beneath ≡ under is_mark set flags →
+    (layout_of row).around ≡ Some is_mark → beneath ≡ under pointed is_mark set flags →
     before (shape row set zs bytes ns (types_in ts)) pointed flags
     ≡ before (type_of (get_or ts 0 d).now) beneath flags
     ++ laid (slots row side.Left) pointed (shape_parts set zs bytes ns (types_in ts) flags) flags
@@ -468,12 +468,12 @@ before-around row set zs bytes ns [] d is_mark beneath pointed flags h e e' = ab
 before-around row set zs bytes ns (t ∷ ts) d is_mark beneath pointed flags h e e' =
     let own : List Piece
     = laid (slots row side.Left) pointed (shape_parts set zs bytes ns (types_in (t ∷ ts)) flags) flags in
-    ap (λ w. pieces_around w set flags (λ p. before (type_of t.now) p flags) ++ own) e
+    ap (λ w. pieces_around w pointed set flags (λ p. before (type_of t.now) p flags) ++ own) e
     ∙ ap (λ p. before (type_of t.now) p flags ++ own) (sym e')
 
 pub after-around : (row set : ℕ) (zs : List Number) (bytes : List ℕ) (ns : NameTrees) (ts : List (Bor «Type»))
     (d : Bor «Type») (is_mark : Bool) (beneath pointed : Pointed) (flags : ℕ) → 1 ≤ length ts →
-    (layout_of row).around ≡ Some is_mark → beneath ≡ under is_mark set flags →
+    (layout_of row).around ≡ Some is_mark → beneath ≡ under pointed is_mark set flags →
     after (shape row set zs bytes ns (types_in ts)) pointed flags
     ≡ laid (slots row side.Right) pointed (shape_parts set zs bytes ns (types_in ts) flags) flags
     ++ after (type_of (get_or ts 0 d).now) beneath flags
@@ -482,7 +482,7 @@ after-around row set zs bytes ns [] d is_mark beneath pointed flags h e e' = abs
 after-around row set zs bytes ns (t ∷ ts) d is_mark beneath pointed flags h e e' =
     let own : List Piece
     = laid (slots row side.Right) pointed (shape_parts set zs bytes ns (types_in (t ∷ ts)) flags) flags in
-    ap (λ w. own ++ pieces_around w set flags (λ p. after (type_of t.now) p flags)) e
+    ap (λ w. own ++ pieces_around w pointed set flags (λ p. after (type_of t.now) p flags)) e
     ∙ ap (λ p. own ++ after (type_of t.now) p flags) (sym e')
 
 -- work on the first type is less than work on the list

@@ -18,7 +18,7 @@ use Rattle.msvc_print.specs.Declaration.{arguments, is_none}
 use Rattle.msvc_print.specs.Declaration.{scope_pieces, symbol_pieces}
 use Rattle.msvc_print.specs.Declaration.{each_name, each_type, grown_around}
 use Rattle.msvc_print.specs.Operators.{name_kind}
-use Rattle.msvc_print.specs.Flags.{full_style, has}
+use Rattle.msvc_print.specs.Flags.{full_style, has, llvm_no_return, llvm_no_variable}
 use Rattle.msvc_print.specs.Pieces.{Piece}
 use Rattle.msvc_print.specs.Sides.{Sides, alone, around, kept}
 use Rattle.msvc_shapes.specs.Layouts.{layout_of}
@@ -33,11 +33,11 @@ use Rattle.msvc_print.proofs.PieceTexts.{opening-texts, operator_pieces-texts, p
 use Rattle.msvc_print.proofs.PieceTexts.{pointed_class-texts, qualifiers-texts, quoted-texts, quoted_unless-texts}
 use Rattle.msvc_print.proofs.PieceTexts.{returned-texts, separator-texts, settle_all-utf8, signed_decimal-utf8}
 use Rattle.msvc_print.proofs.PieceTexts.{spelled_name-texts, table_end-texts, tag_word-utf8, thunk_end-texts}
-use Rattle.msvc_print.proofs.PieceTexts.{variable_word-utf8, with_inner-texts}
+use Rattle.msvc_print.proofs.PieceTexts.{SidesAreTexts-choice, shown_variable_word-utf8, with_inner-texts}
 use Rattle.msvc_print.proofs.ShapeTexts.{EachAreTexts, slots-texts}
-use Rattle.msvc_print.specs.Pointed.{pointed_by, under}
+use Rattle.msvc_print.specs.Pointed.{leaves_out, passed_on, pointed_by, under}
 use Rattle.msvc_print.specs.declared.pointed.Pointed.{Pointed}
-use Rattle.msvc_print.specs.declared.pointed.Pointed.TheVariants.{No, Yes}
+use Rattle.msvc_print.specs.declared.pointed.Pointed.TheVariants.{Inner, No, Yes}
 
 -- names, scopes, types and their lists
 mutual
@@ -52,8 +52,8 @@ mutual
   name_pieces-texts (discriminator z) of_symbol flags h =
       quoted-texts _ (AreTexts-text _ _ (signed_decimal-utf8 z) AreTexts-none)
   name_pieces-texts (nested n ns t) of_symbol flags h = quoted_unless-texts of_symbol _
-      (around-texts (kept (grown t No alone flags) flags) _
-      (kept-texts (grown t No alone flags) flags (grown-texts t No alone flags alone-texts h.2))
+      (around-texts (kept (grown t Inner alone flags) flags) _
+      (kept-texts (grown t Inner alone flags) flags (grown-texts t Inner alone flags alone-texts h.2))
       (named-texts (name_kind n flags) _ _ _ _ flags (scope_pieces-texts ns flags h.1) (arguments-texts n flags h.0)
       (conversion-texts t _ _ flags h.2 (arguments-texts n flags h.0) (name_pieces-texts n true flags h.0))
       (name_pieces-texts n true flags h.0)))
@@ -115,13 +115,17 @@ mutual
   grown-texts (array n t set) pointed s flags hs h = grown-texts t No _ flags (between-texts _ s _
       (AreTexts-append _ _ (qualifiers-texts set flags) (opening-texts pointed flags)) hs
       (AreTexts-append _ _ (closing-texts pointed) (length_pieces-texts n))) h
-  grown-texts (function convention ts set t) pointed s flags hs h = grown-texts t No _ flags (between-texts _ s _
-      (returned-texts t pointed convention flags) hs
-      (parameter_list-texts pointed _ set flags (parameters-texts ts true flags h.0))) h.1
+  grown-texts (function convention ts set t) pointed s flags hs h =
+      let end = parameter_list-texts pointed _ set flags (parameters-texts ts true flags h.0) in
+      SidesAreTexts-choice (leaves_out pointed llvm_no_return flags) _ _
+      (between-texts _ s _ (calling-texts pointed convention flags) hs end)
+      (grown-texts t No _ flags (between-texts _ s _ (returned-texts t pointed convention flags) hs end) h.1)
   grown-texts (member_function class convention ts set t) pointed s flags hs h =
-      before-texts _ _ (member_start-texts pointed class flags) (grown-texts t No _ flags (between-texts _ s _
-      (returned-texts t pointed convention flags) hs
-      (parameter_list-texts pointed _ set flags (parameters-texts ts true flags h.0))) h.1)
+      let end = parameter_list-texts pointed _ set flags (parameters-texts ts true flags h.0) in
+      before-texts _ _ (member_start-texts pointed class flags)
+      (SidesAreTexts-choice (leaves_out pointed llvm_no_return flags) _ _
+      (between-texts _ s _ (calling-texts pointed convention flags) hs end)
+      (grown-texts t No _ flags (between-texts _ s _ (returned-texts t pointed convention flags) hs end) h.1))
   grown-texts (member_pointer n scope class convention ts set t) pointed s flags hs h = between-texts [] _ _
       AreTexts-none (grown-texts t No _ flags (between-texts _ s _
       (AreTexts-append _ _ (returned-texts t Yes convention flags) (pointed_class-texts _
@@ -131,13 +135,14 @@ mutual
       (AreTexts-text (codes ")") [] (codes ")", (refl, refl)) AreTexts-none)))) h.3)
       (function_qualifier-texts 1 (codes "const") set (codes "const", (refl, refl)))
   grown-texts (variable t kind set) pointed s flags hs h = before-texts _ _
-      (AreTexts-text _ [] (variable_word-utf8 kind) AreTexts-none)
-      (grown-texts t No _ flags (before-texts _ s (qualifiers-texts set flags) hs) h)
+      (AreTexts-text _ [] (shown_variable_word-utf8 pointed kind flags) AreTexts-none)
+      (SidesAreTexts-choice (leaves_out pointed llvm_no_variable flags) _ _ hs
+      (grown-texts t No _ flags (before-texts _ s (qualifiers-texts set flags) hs) h))
   grown-texts (table k scope set) pointed s flags hs h =
       let whole = scope_pieces-texts scope flags h in
       between-texts _ s _ (qualifiers-texts set flags) hs (table_end-texts k scope _ whole.path)
   grown-texts (vcall_thunk n convention) pointed s flags hs h = between-texts _ s _
-      (AreTexts-text (codes "[thunk]: ") _ (codes "[thunk]: ", (refl, refl)) (calling-texts No convention flags)) hs
+      (AreTexts-text (codes "[thunk]: ") _ (codes "[thunk]: ", (refl, refl)) (calling-texts (passed_on pointed) convention flags)) hs
       (thunk_end-texts n flags)
   grown-texts (numbered number_kind.Constant n) pointed s flags hs h =
       before-texts _ s (AreTexts-text _ [] (signed_decimal-utf8 n) AreTexts-none) hs
@@ -156,7 +161,7 @@ mutual
       let symbols = each_name-texts ns true flags h.1 in
       let names = each_name-texts ns false flags h.1 in
       let values = each_type-texts ts flags h.2 in
-      grown_around-texts ts (layout_of row).around set _ flags (between-texts _ s _
+      grown_around-texts ts (layout_of row).around set pointed _ flags (between-texts _ s _
       (slots-texts row side.Left pointed _ set zs bytes _ _ _ flags h.0 symbols names values) hs
       (slots-texts row side.Right pointed _ set zs bytes _ _ _ flags h.0 symbols names values)) h.2
   grown-texts _ pointed s flags hs h = hs
@@ -169,11 +174,11 @@ mutual
     each_type-texts ts flags h.1,
   )
 
-  grown_around-texts : (ts : TypeTrees) (w : Option Bool) (set : ℕ) (s : Sides) (flags : ℕ) → SidesAreTexts s →
-      EachNameOfTypes IsUtf8 ts → SidesAreTexts (grown_around ts w set s flags)
-  grown_around-texts (types t ts) (Some is_mark) set s flags hs h =
-      grown-texts t (under is_mark set flags) s flags hs h.0
-  grown_around-texts _ _ set s flags hs h = hs
+  grown_around-texts : (ts : TypeTrees) (w : Option Bool) (set : ℕ) (pointed : Pointed) (s : Sides) (flags : ℕ) →
+      SidesAreTexts s → EachNameOfTypes IsUtf8 ts → SidesAreTexts (grown_around ts w set pointed s flags)
+  grown_around-texts (types t ts) (Some is_mark) set pointed s flags hs h =
+      grown-texts t (under pointed is_mark set flags) s flags hs h.0
+  grown_around-texts _ _ set pointed s flags hs h = hs
 
   parameters-texts : (ts : TypeTrees) (first : Bool) (flags : ℕ) → EachNameOfTypes IsUtf8 ts →
       AreTexts (parameters ts first flags)
@@ -190,9 +195,9 @@ declaration-utf8 tree flags h =
     let n = tree.name in
     let ns = tree.scope in
     let t = tree.symbol_type in
-    let all : AreTexts (symbol_pieces n ns t flags) = around-texts (kept (grown t No alone flags) flags) _
+    let all : AreTexts (symbol_pieces n ns t No flags) = around-texts (kept (grown t No alone flags) flags) _
     (kept-texts (grown t No alone flags) flags (grown-texts t No alone flags alone-texts h.2))
     (named-texts (name_kind n flags) _ _ _ _ flags (scope_pieces-texts ns flags h.1) (arguments-texts n flags h.0)
     (conversion-texts t _ _ flags h.2 (arguments-texts n flags h.0) (name_pieces-texts n true flags h.0))
     (name_pieces-texts n true flags h.0)) in
-    settle_all-utf8 [] (symbol_pieces n ns t flags) IsUtf8-nil all.each
+    settle_all-utf8 [] (symbol_pieces n ns t No flags) IsUtf8-nil all.each

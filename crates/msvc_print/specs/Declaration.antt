@@ -3,6 +3,7 @@
 -- `(*x)[3500]`, `(*x)[3500][6]`, `int (*x)[3500][6]`.
 use Rattle.std.specs.Prelude.{ℕ, ℤ, List, [], ◌∷◌, ◌++◌, Bool, true, false, cond, codes, Option, Some, None}
 use Rattle.std.specs.Fmt.{signed_decimal}
+use Rattle.msvc_nodes.specs.declared.kinds.Convention.{Convention}
 use Rattle.msvc_nodes.specs.declared.kinds.NumberedType.TheVariants as number_kind
 use Rattle.msvc_nodes.specs.declared.kinds.PlainType.TheVariants as plain_kind
 use Rattle.msvc_nodes.specs.declared.kinds.Spelling.{Spelling}
@@ -14,19 +15,19 @@ use Rattle.msvc_nodes.specs.Trees.{type_descriptor, base_class_descriptor, templ
 use Rattle.msvc_nodes.specs.Trees.{no_names, names, no_types, types, plain, base, tagged, numbered, pointing, array}
 use Rattle.msvc_nodes.specs.Trees.{function, member_function, member_pointer, variable, table, vcall_thunk, shape}
 use Rattle.msvc_nodes.specs.Trees.{shaped}
-use Rattle.msvc_print.specs.Flags.{full_style, has}
+use Rattle.msvc_print.specs.Flags.{full_style, has, llvm_no_return, llvm_no_variable}
 use Rattle.msvc_print.specs.Functions.{calling, member_start, function_qualifier, parameter_list, separator}
 use Rattle.msvc_print.specs.Operators.{base_class_pieces, guard_pieces, name_kind, operator_pieces, scoped}
 use Rattle.msvc_print.specs.Operators.{unqualified_name}
 use Rattle.msvc_print.specs.declared.operators.NameKind.{NameKind}
 use Rattle.msvc_print.specs.Pieces.{Piece, text, space, resolve}
-use Rattle.msvc_print.specs.Pointed.{pointed_by, unaligned_mark, unaligned_shape, under}
+use Rattle.msvc_print.specs.Pointed.{leaves_out, passed_on, pointed_by, unaligned_mark, unaligned_shape, under}
 use Rattle.msvc_print.specs.declared.pointed.Pointed.{Pointed}
-use Rattle.msvc_print.specs.declared.pointed.Pointed.TheVariants.{No, Yes}
+use Rattle.msvc_print.specs.declared.pointed.Pointed.TheVariants.{Inner, No, Yes}
 use Rattle.msvc_print.specs.Shapes.{laid, parts}
 use Rattle.msvc_print.specs.Sides.{Sides, alone, around, between, kept}
 use Rattle.msvc_print.specs.declared.spaces.Space.TheVariants.{AfterPointer}
-use Rattle.msvc_print.specs.Words.{base_word, variable_word, tag_word, mark_word, qualifiers, marked}
+use Rattle.msvc_print.specs.Words.{base_word, shown_variable_word, tag_word, mark_word, qualifiers, marked}
 use Rattle.msvc_print.specs.Words.{opening, closing, angle_end}
 use Rattle.msvc_shapes.specs.Layouts.{layout_of, slots}
 use Rattle.msvc_shapes.specs.declared.layouts.Side.TheVariants as side
@@ -123,6 +124,11 @@ is_none _ = false
 unfoldable pub returned_end : TypeTree → ℕ → List Piece
 returned_end t flags = cond (has flags full_style) (cond (is_none t) [] (text (codes " ") ∷ [])) []
 
+-- the sides of the name of a function: its calling convention after `end`, and its parameters
+abbrev pub called : List Piece → Pointed → Convention → List Piece → ℕ → Sides → ℕ → Sides
+called end pointed convention parameters set sides flags = between (end ++ calling pointed convention flags) sides
+    (parameter_list pointed parameters set flags)
+
 unfoldable mutual
   -- The pieces of a name. `of_symbol` says whether the name is that of a symbol itself, where a nested symbol has no
   -- quotes, or stands in a scope.
@@ -130,7 +136,8 @@ unfoldable mutual
   name_pieces (spelled how bytes) of_symbol flags = spelled_name how bytes
   name_pieces (template n ts) of_symbol flags = name_pieces n false flags ++ angled (parameters ts true flags) flags
   name_pieces (discriminator z) of_symbol flags = quoted (text (signed_decimal z) ∷ [])
-  name_pieces (nested n ns t) of_symbol flags = quoted_unless of_symbol (around (kept (grown t No alone flags) flags)
+  name_pieces (nested n ns t) of_symbol flags = quoted_unless of_symbol (around
+      (kept (grown t Inner alone flags) flags)
       (named (name_kind n flags) (scope_pieces ns flags) (arguments n flags)
       (conversion t (arguments n flags) (name_pieces n true flags) flags) (name_pieces n true flags) flags))
   name_pieces (anonymous digits) of_symbol flags = text (codes "`anonymous namespace'") ∷ []
@@ -184,14 +191,15 @@ unfoldable mutual
       (between (marked (unaligned_mark set t flags) (mark_word m) set flags) sides []) flags
   grown (array n t set) pointed sides flags = grown t No
       (between (qualifiers set flags ++ opening pointed flags) sides (closing pointed ++ length_pieces n)) flags
-  grown (function convention ts set t) pointed sides flags = grown t No
-      (between (returned_end t flags ++ calling pointed convention flags) sides
-      (parameter_list pointed (parameters ts true flags) set flags)) flags
+  grown (function convention ts set t) pointed sides flags = cond (leaves_out pointed llvm_no_return flags)
+      (called [] pointed convention (parameters ts true flags) set sides flags)
+      (grown t No (called (returned_end t flags) pointed convention (parameters ts true flags) set sides flags) flags)
   -- A member function grows as a function does. Its words stand before all other pieces.
   grown (member_function class convention ts set t) pointed sides flags = between (member_start pointed class flags)
-      (grown t No
-      (between (returned_end t flags ++ calling pointed convention flags) sides
-      (parameter_list pointed (parameters ts true flags) set flags)) flags) []
+      (cond (leaves_out pointed llvm_no_return flags)
+      (called [] pointed convention (parameters ts true flags) set sides flags)
+      (grown t No (called (returned_end t flags) pointed convention (parameters ts true flags) set sides flags) flags))
+      []
   -- A pointer to a member function grows as a pointer to a function does, with the name of the class. The `const` of
   -- the member function stands after all other pieces.
   grown (member_pointer n scope class convention ts set t) pointed sides flags = between []
@@ -202,12 +210,13 @@ unfoldable mutual
       (text (codes ")(") ∷ (parameters ts true flags ++ text (codes ")") ∷ []))) flags)
       (function_qualifier 1 (codes "const") set)
   -- A variable has its qualifiers and its type. Its words stand before all other pieces.
-  grown (variable t kind set) pointed sides flags = between (text (variable_word kind) ∷ [])
-      (grown t No (between (qualifiers set flags) sides []) flags) []
+  grown (variable t kind set) pointed sides flags = between (text (shown_variable_word pointed kind flags) ∷ [])
+      (cond (leaves_out pointed llvm_no_variable flags) sides
+      (grown t No (between (qualifiers set flags) sides []) flags)) []
   grown (table k scope set) pointed sides flags =
       between (qualifiers set flags) sides (table_end k scope (scope_pieces scope flags).path)
   grown (vcall_thunk n convention) pointed sides flags =
-      between (text (codes "[thunk]: ") ∷ calling No convention flags) sides (thunk_end n flags)
+      between (text (codes "[thunk]: ") ∷ calling (passed_on pointed) convention flags) sides (thunk_end n flags)
   grown (numbered number_kind.Constant n) pointed sides flags = between (text (signed_decimal n) ∷ []) sides []
   grown (numbered number_kind.TemplateParameter n) pointed sides flags = between
       (text (codes "`template-parameter") ∷ text (signed_decimal n) ∷ text (codes "'") ∷ []) sides []
@@ -216,7 +225,7 @@ unfoldable mutual
   grown (plain plain_kind.Variadic) pointed sides flags = between (text (codes "...") ∷ []) sides []
   grown (plain plain_kind.Nullptr) pointed sides flags = between (text (codes "std::nullptr_t") ∷ []) sides []
   -- A shape has what its row prints on both sides, and around these the first of its types, if its layout says so.
-  grown (shape row set zs bytes ns ts) pointed sides flags = grown_around ts (layout_of row).around set (between
+  grown (shape row set zs bytes ns ts) pointed sides flags = grown_around ts (layout_of row).around set pointed (between
       (laid (slots row side.Left) pointed
       (parts (unaligned_shape set ts flags) set zs bytes (each_name ns true flags) (each_name ns false flags)
       (each_type ts flags)) flags)
@@ -229,9 +238,10 @@ unfoldable mutual
 
   -- the sides of a name with the first of some types around them, under which a shape with the qualifiers `set` stands
   -- as a mark or not; the same sides where no type is around them
-  pub grown_around : TypeTrees → Option Bool → ℕ → Sides → ℕ → Sides
-  grown_around (types t ts) (Some is_mark) set sides flags = grown t (under is_mark set flags) sides flags
-  grown_around _ _ set sides flags = sides
+  pub grown_around : TypeTrees → Option Bool → ℕ → Pointed → Sides → ℕ → Sides
+  grown_around (types t ts) (Some is_mark) set pointed sides flags =
+      grown t (under pointed is_mark set flags) sides flags
+  grown_around _ _ set pointed sides flags = sides
 
   -- the pieces of each type of a list, on both sides of no name
   pub each_type : TypeTrees → ℕ → List (List Piece)
@@ -263,9 +273,9 @@ symbol_name n scope t flags = named (name_kind n flags) (scope_pieces scope flag
     (conversion t (arguments n flags) (name_pieces n true flags) flags) (name_pieces n true flags) flags
 
 -- the pieces of a symbol: its name, and what the flags keep of both sides of the name
-abbrev pub symbol_pieces : NameTree → NameTrees → TypeTree → ℕ → List Piece
-symbol_pieces n scope t flags = around (kept (grown t No alone flags) flags) (symbol_name n scope t flags)
+abbrev pub symbol_pieces : NameTree → NameTrees → TypeTree → Pointed → ℕ → List Piece
+symbol_pieces n scope t pointed flags = around (kept (grown t pointed alone flags) flags) (symbol_name n scope t flags)
 
 -- the declaration of a symbol under flags
 unfoldable pub declaration : SymbolTree → ℕ → List ℕ
-declaration s flags = resolve (symbol_pieces s.name s.scope s.symbol_type flags)
+declaration s flags = resolve (symbol_pieces s.name s.scope s.symbol_type No flags)

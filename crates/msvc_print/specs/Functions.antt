@@ -1,13 +1,14 @@
 -- The words, qualifiers and commas that the declaration of a function has beside its types.
-use Rattle.std.specs.Prelude.{ℕ, List, [], ◌∷◌, ◌++◌, Bool, cond, codes}
+use Rattle.std.specs.Prelude.{ℕ, List, [], ◌∷◌, ◌++◌, ◌||◌, Bool, cond, codes}
 use Rattle.msvc_nodes.specs.declared.kinds.Convention.{Convention}
 use Rattle.msvc_nodes.specs.declared.kinds.Convention.TheVariants.{Cdecl, Pascal, Thiscall, Stdcall, Fastcall}
 use Rattle.msvc_nodes.specs.declared.kinds.Convention.TheVariants.{_Regcall, Clrcall, Eabi, Vectorcall, Swift}
 use Rattle.msvc_nodes.specs.declared.kinds.Convention.TheVariants.{SwiftAsync, PreserveMost, PreserveNone, Regcall4}
 use Rattle.msvc_print.specs.Flags.{full_style, has, no_access_specifiers, no_member_type, no_ms_keywords}
+use Rattle.msvc_print.specs.Flags.{llvm_no_access, llvm_no_convention, llvm_no_member}
 use Rattle.msvc_print.specs.Flags.{no_this_type}
 use Rattle.msvc_print.specs.Flags.{space_after_comma, with_ptr64}
-use Rattle.msvc_print.specs.Pointed.{is_pointed}
+use Rattle.msvc_print.specs.Pointed.{is_pointed, leaves_out}
 use Rattle.msvc_print.specs.declared.pointed.Pointed.{Pointed}
 use Rattle.msvc_print.specs.Pieces.{Piece, text, space}
 use Rattle.msvc_print.specs.Words.{opening, closing, qualifier, set_word}
@@ -34,9 +35,13 @@ convention_word Regcall4 = codes "__regcall4"
 abbrev pub member_word : ℕ → List ℕ → ℕ → List Piece
 member_word bit word class = cond (has class bit) (text word ∷ []) []
 
--- the word for who may call a member function, which NO_ACCESS_SPECIFIERS drops
-unfoldable pub access_words : ℕ → ℕ → List Piece
-access_words class flags = cond (has flags no_access_specifiers) []
+-- whether a flag drops the word for who may call a member function
+abbrev pub hides_access : Pointed → ℕ → Bool
+hides_access pointed flags = leaves_out pointed llvm_no_access flags || has flags no_access_specifiers
+
+-- the word for who may call a member function
+unfoldable pub access_words : Pointed → ℕ → ℕ → List Piece
+access_words pointed class flags = cond (hides_access pointed flags) []
     (member_word 4 (codes "private: ") class
     ++ (member_word 2 (codes "protected: ") class
     ++ member_word 1 (codes "public: ") class))
@@ -49,20 +54,24 @@ extern_c = 256
 unfoldable pub extern_words : ℕ → ℕ → List Piece
 extern_words class flags = cond (has flags full_style) (member_word extern_c (codes "extern \"C\" ") class) []
 
--- `static`, `virtual` and `extern "C"` of a member function, which NO_MEMBER_TYPE drops
-unfoldable pub kind_words : ℕ → ℕ → List Piece
-kind_words class flags = cond (has flags no_member_type) []
+-- whether a flag drops `static` and the like
+abbrev pub hides_kind : Pointed → ℕ → Bool
+hides_kind pointed flags = leaves_out pointed llvm_no_member flags || has flags no_member_type
+
+-- `static`, `virtual` and `extern "C"` of a member function
+unfoldable pub kind_words : Pointed → ℕ → ℕ → List Piece
+kind_words pointed class flags = cond (hides_kind pointed flags) []
     (member_word 16 (codes "static ") class
     ++ (member_word 32 (codes "virtual ") class ++ extern_words class flags))
 
 -- all words of a member function
-unfoldable pub member_words : ℕ → ℕ → List Piece
-member_words class flags =
-    member_word 128 (codes "[thunk]: ") class ++ (access_words class flags ++ kind_words class flags)
+unfoldable pub member_words : Pointed → ℕ → ℕ → List Piece
+member_words pointed class flags =
+    member_word 128 (codes "[thunk]: ") class ++ (access_words pointed class flags ++ kind_words pointed class flags)
 
 -- the words before a member function; a pointer to the function has none
 unfoldable pub member_start : Pointed → ℕ → ℕ → List Piece
-member_start pointed class flags = cond (is_pointed pointed) [] (member_words class flags)
+member_start pointed class flags = cond (is_pointed pointed) [] (member_words pointed class flags)
 
 -- a qualifier of a function itself, where `set` has its bit
 abbrev pub function_qualifier : ℕ → List ℕ → ℕ → List Piece
@@ -121,10 +130,14 @@ spaced_convention convention = convention_word convention ++ codes " "
 unfoldable pub convention_pieces : Convention → ℕ → List Piece
 convention_pieces convention flags = cond (has flags no_ms_keywords) [] (text (spaced_convention convention) ∷ [])
 
+-- whether a flag drops the calling convention of a function in the second grammar's style
+abbrev pub hides_convention : Pointed → ℕ → Bool
+hides_convention pointed flags = leaves_out pointed llvm_no_convention flags || has flags no_ms_keywords
+
 -- the calling convention of a function in the second grammar's style: that of a function that is pointed to has one
 -- space after it, any other has a space before it
 unfoldable pub full_calling : Pointed → Convention → ℕ → List Piece
-full_calling pointed convention flags = opening pointed flags ++ cond (has flags no_ms_keywords) []
+full_calling pointed convention flags = opening pointed flags ++ cond (hides_convention pointed flags) []
     (cond (is_pointed pointed) (text (spaced_convention convention) ∷ [])
     (space AfterFullWord ∷ text (convention_word convention) ∷ []))
 

@@ -5,11 +5,12 @@ use Rattle.std.specs.Str.Lossy.{utf8_lossy}
 use Rattle.msvc_nodes.specs.Trees.{NameTree, NameTrees, SymbolTree, TypeTree, md5_symbol, operator}
 use Rattle.msvc_nodes.specs.declared.kinds.PlainOperator.TheVariants as plain_operator
 use Rattle.msvc_print.specs.Declaration.{declaration}
-use Rattle.msvc_print.specs.Flags.{has, name_only}
+use Rattle.msvc_print.specs.Flags.{full_style, has, llvm_flags, name_only}
 use Rattle.msvc_print.specs.Operators.{name_kind}
 use Rattle.msvc_print.specs.declared.operators.NameKind.TheVariants as name_kinds
 
--- the bits of all flags that definitions read, and the bit of the style; the bit of DECODE_32_BIT is none of them
+-- the bits of all flags that definitions read in both styles, and the bit of the style; the bit of DECODE_32_BIT is none
+-- of them
 abbrev pub obeyed_flags : ℕ
 obeyed_flags = 0x101F016E6
 
@@ -17,9 +18,10 @@ obeyed_flags = 0x101F016E6
 abbrev pub Agree : ℕ → ℕ → ℕ → Type 0
 Agree bits a b = bit_and a bits ≡ bit_and b bits
 
--- a symbol has the same declaration under two words that differ only in bits that no definition reads
+-- a symbol has the same declaration under two words that differ only in bits that no definition reads in their style
 abbrev pub OtherBitsChangeNothing : Type 0
-OtherBitsChangeNothing = (s : SymbolTree) (a b : ℕ) → Agree obeyed_flags a b → declaration s a ≡ declaration s b
+OtherBitsChangeNothing = (s : SymbolTree) (a b : ℕ) → Agree obeyed_flags a b →
+    (has a full_style ≡ true → Agree llvm_flags a b) → declaration s a ≡ declaration s b
 
 -- under NAME_ONLY symbols that differ only in their types have the same declaration, except conversion operators, of
 -- which the second grammar's style knows templates too

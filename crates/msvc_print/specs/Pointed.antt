@@ -4,7 +4,7 @@ use Rattle.std.specs.Prelude.{ℕ, List, [], ◌∷◌, Bool, true, false, cond,
 use Rattle.msvc_nodes.specs.Trees.{TypeTree, TypeTrees, array, function, member_function, no_types, shape, types}
 use Rattle.msvc_print.specs.Flags.{full_style, has}
 use Rattle.msvc_print.specs.declared.pointed.Pointed.{Pointed}
-use Rattle.msvc_print.specs.declared.pointed.Pointed.TheVariants.{No, Yes, Unaligned}
+use Rattle.msvc_print.specs.declared.pointed.Pointed.TheVariants.{No, Inner, Yes, Unaligned}
 use Rattle.msvc_shapes.specs.Layouts.{Slot, slots}
 use Rattle.msvc_shapes.specs.Layouts as slot
 use Rattle.msvc_shapes.specs.declared.layouts.Side.TheVariants as side
@@ -13,6 +13,7 @@ use Rattle.msvc_shapes.specs.declared.layouts.Side.TheVariants as side
 abbrev pub is_pointed : Pointed → Bool
 is_pointed No = false
 is_pointed Yes = true
+is_pointed Inner = false
 is_pointed Unaligned = true
 
 -- whether it stands under a pointer that is `__unaligned`
@@ -25,9 +26,23 @@ is_unaligned _ = false
 abbrev pub pointed_by : ℕ → ℕ → Pointed
 pointed_by set flags = cond (has flags full_style) (cond (has set 16) Unaligned Yes) Yes
 
+-- how a type stands under one that is no pointer: as that type does, if it is that of a nested symbol
+abbrev pub passed_on : Pointed → Pointed
+passed_on Inner = Inner
+passed_on _ = No
+
 -- how a type stands under a shape with these qualifiers, which is the mark of a pointer or is none
-abbrev pub under : Bool → ℕ → ℕ → Pointed
-under is_mark set flags = cond is_mark (pointed_by set flags) No
+abbrev pub under : Pointed → Bool → ℕ → ℕ → Pointed
+under pointed is_mark set flags = cond is_mark (pointed_by set flags) (passed_on pointed)
+
+-- whether the second grammar's style obeys a flag of llvm-undname, by its bit
+abbrev pub drops : ℕ → ℕ → Bool
+drops bit flags = cond (has flags full_style) (has flags bit) false
+
+-- whether the flag drops something of a type that stands so
+abbrev pub leaves_out : Pointed → ℕ → ℕ → Bool
+leaves_out No bit flags = drops bit flags
+leaves_out _ bit flags = false
 
 -- whether a slot is the parenthesis before the mark of a pointer
 abbrev pub is_opening : Slot → Bool

@@ -2,8 +2,7 @@
 use Rattle.std.specs.Prelude.{ℕ, zero, suc, ◌+◌, List, [], ◌∷◌, ◌++◌, Bool, true, false, cond, codes, drop, ◌==◌}
 use Rattle.std.specs.Fmt.{decimal, digits}
 use Rattle.msvc_nodes.specs.declared.nodes.Number.{Number}
-use Rattle.msvc_print.specs.Flags.{has, no_member_type}
-use Rattle.msvc_print.specs.Functions.{comma, separator}
+use Rattle.msvc_print.specs.Functions.{comma, hides_kind, separator}
 use Rattle.msvc_print.specs.declared.pointed.Pointed.{Pointed}
 use Rattle.msvc_print.specs.Pieces.{Piece, text}
 use Rattle.msvc_print.specs.Strings.{literal_pieces}
@@ -111,13 +110,13 @@ parted w [] first = []
 parted w (x ∷ xs) first = parting w first ++ (x ++ parted w xs false)
 
 -- a word that NO_MEMBER_TYPE drops
-abbrev pub kind_word_pieces : List ℕ → ℕ → List Piece
-kind_word_pieces w flags = cond (has flags no_member_type) [] (text w ∷ [])
+abbrev pub kind_word_pieces : List ℕ → Pointed → ℕ → List Piece
+kind_word_pieces w pointed flags = cond (hides_kind pointed flags) [] (text w ∷ [])
 
 -- the pieces of a slot; `pointed` says whether the shape stands directly under a pointer or a reference
 unfoldable pub slot_pieces : Slot → Pointed → Parts → ℕ → List Piece
 slot_pieces (slot.word w) pointed p flags = text w ∷ []
-slot_pieces (slot.kind_word w) pointed p flags = kind_word_pieces w flags
+slot_pieces (slot.kind_word w) pointed p flags = kind_word_pieces w pointed flags
 slot_pieces (slot.number i) pointed p flags = number_at p.numbers i
 slot_pieces slot.lengths pointed p flags = each_level p.numbers
 slot_pieces slot.qualifiers pointed p flags = qualifiers p.set flags

@@ -10,6 +10,7 @@ use Rattle.msvc_nodes.specs.declared.nodes.TypedSymbol.{TypedSymbol}
 use Rattle.msvc_print.specs.Declaration.{symbol_name, symbol_pieces}
 use Rattle.msvc_print.specs.Halves.{pointed_name}
 use Rattle.msvc_print.specs.Pieces.{Piece}
+use Rattle.msvc_print.specs.declared.pointed.Pointed.{Pointed}
 use Rattle.msvc_print.specs.Weights.{symbol_weight, type_weight, typed_symbol_weight}
 
 -- the type that a symbol without a type is printed with
@@ -38,9 +39,9 @@ abbrev pub class_weight_of : Symbol → ℕ
 class_weight_of s = 3 + symbol_weight_of s no_type
 
 -- the pieces of a symbol, whose type stands on both sides of its name
-abbrev pub symbol_pieces_of : TypedSymbol → ℕ → List Piece
-symbol_pieces_of s flags =
-    symbol_pieces (name_of s.symbol.name.now) (names_in s.symbol.scope.now) (type_of s.symbol_type.now) flags
+abbrev pub symbol_pieces_of : TypedSymbol → Pointed → ℕ → List Piece
+symbol_pieces_of s pointed flags =
+    symbol_pieces (name_of s.symbol.name.now) (names_in s.symbol.scope.now) (type_of s.symbol_type.now) pointed flags
 
 -- the weight of a symbol, whose type stands on both sides of its name
 abbrev pub typed_symbol_weight_of : TypedSymbol → ℕ

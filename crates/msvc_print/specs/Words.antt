@@ -12,7 +12,8 @@ use Rattle.msvc_nodes.specs.declared.kinds.VarStorageKind.{VarStorageKind}
 use Rattle.msvc_nodes.specs.declared.kinds.VarStorageKind.TheVariants.{PrivateStatic, ProtectedStatic, PublicStatic}
 use Rattle.msvc_nodes.specs.declared.kinds.VarStorageKind.TheVariants.{Global, FunctionLocalStatic}
 use Rattle.msvc_print.specs.Flags.{full_style, has, hug_type, ms_type_names, no_class_type, space_before_pointer}
-use Rattle.msvc_print.specs.Pointed.{is_pointed, is_unaligned}
+use Rattle.msvc_print.specs.Flags.{llvm_no_access, llvm_no_member}
+use Rattle.msvc_print.specs.Pointed.{is_pointed, is_unaligned, leaves_out}
 use Rattle.msvc_print.specs.declared.pointed.Pointed.{Pointed}
 use Rattle.msvc_print.specs.Pieces.{Piece, text, space}
 use Rattle.msvc_print.specs.declared.spaces.Space.{Space}
@@ -40,6 +41,28 @@ variable_word ProtectedStatic = codes "protected: static "
 variable_word PublicStatic = codes "public: static "
 variable_word Global = []
 variable_word FunctionLocalStatic = []
+
+-- the word for who may use a variable, alone
+abbrev pub access_word : VarStorageKind → List ℕ
+access_word PrivateStatic = codes "private: "
+access_word ProtectedStatic = codes "protected: "
+access_word PublicStatic = codes "public: "
+access_word Global = []
+access_word FunctionLocalStatic = []
+
+-- `static` of a variable, alone
+abbrev pub static_word : VarStorageKind → List ℕ
+static_word PrivateStatic = codes "static "
+static_word ProtectedStatic = codes "static "
+static_word PublicStatic = codes "static "
+static_word Global = []
+static_word FunctionLocalStatic = []
+
+-- the words of a variable, of which flags may drop those for who may use it, and `static`
+abbrev pub shown_variable_word : Pointed → VarStorageKind → ℕ → List ℕ
+shown_variable_word pointed kind flags = cond (leaves_out pointed llvm_no_access flags)
+    (cond (leaves_out pointed llvm_no_member flags) [] (static_word kind))
+    (cond (leaves_out pointed llvm_no_member flags) (access_word kind) (variable_word kind))
 
 -- the space before the name of a symbol
 abbrev pub name_space : ℕ → Space

@@ -7,7 +7,8 @@ ghost use Rattle.msvc_print.specs.Limited.{Writes};
 ghost use Rattle.msvc_print.specs.Work.{end_pieces};
 
 use crate::item::ListEnd;
-use crate::pointed::{Pointed, is_pointed};
+use crate::llvm_flags::{NO_ACCESS_SPECIFIER, NO_CALLING_CONVENTION, NO_MEMBER_TYPE};
+use crate::pointed::{Pointed, is_pointed, leaves_out};
 use crate::spaces::{
     Space, write_angle_end, write_opening, write_qualifier, write_set_word, write_space,
 };
@@ -74,7 +75,9 @@ fn write_full_calling<W: Wording, A: Allocator>(
     ensures { OnOk result (Writes (spec.full_calling pointed convention flags.bits) out.old out.new) }
 {
     write_opening(out, pointed, flags)?;
-    if flags.contains(DemangleFlags::NO_MS_KEYWORDS) {
+    if leaves_out(pointed, NO_CALLING_CONVENTION, flags)
+        || flags.contains(DemangleFlags::NO_MS_KEYWORDS)
+    {
         return Ok(());
     }
     if is_pointed(pointed) {
@@ -120,15 +123,18 @@ fn write_member_word<A: Allocator>(
     Ok(())
 }
 
-/// Writes who may call a member function. NO_ACCESS_SPECIFIERS drops it.
+/// Writes who may call a member function. NO_ACCESS_SPECIFIERS and NO_ACCESS_SPECIFIER drop it.
 fn write_access_words<W: Wording, A: Allocator>(
     out: &mut Text<A>,
+    pointed: Pointed,
     class: FuncClass,
     flags: Style<W>,
 ) -> Result<(), AllocError>
-    ensures { OnOk result (Writes (spec.access_words class.0 flags.bits) out.old out.new) }
+    ensures { OnOk result (Writes (spec.access_words pointed class.0 flags.bits) out.old out.new) }
 {
-    if flags.contains(DemangleFlags::NO_ACCESS_SPECIFIERS) {
+    if leaves_out(pointed, NO_ACCESS_SPECIFIER, flags)
+        || flags.contains(DemangleFlags::NO_ACCESS_SPECIFIERS)
+    {
         return Ok(());
     }
     write_member_word(out, FuncClass::PRIVATE, b"private: ", class)?;
@@ -158,15 +164,23 @@ fn write_extern_words<W: Wording, A: Allocator>(
     write_member_word(out, bit, b"extern \"C\" ", class)
 }
 
-/// Writes `static`, `virtual` and `extern "C"` of a member function. NO_MEMBER_TYPE drops them.
+/// Returns whether NO_MEMBER_TYPE, of the crate's flags or of LLVM's, drops `static` and the like.
+pub fn hides_kind<W: Wording>(pointed: Pointed, flags: Style<W>) -> bool
+    ensures { result ≡ spec.hides_kind pointed flags.bits }
+{
+    leaves_out(pointed, NO_MEMBER_TYPE, flags) || flags.contains(DemangleFlags::NO_MEMBER_TYPE)
+}
+
+/// Writes `static`, `virtual` and `extern "C"` of a member function, unless a flag drops them.
 fn write_kind_words<W: Wording, A: Allocator>(
     out: &mut Text<A>,
+    pointed: Pointed,
     class: FuncClass,
     flags: Style<W>,
 ) -> Result<(), AllocError>
-    ensures { OnOk result (Writes (spec.kind_words class.0 flags.bits) out.old out.new) }
+    ensures { OnOk result (Writes (spec.kind_words pointed class.0 flags.bits) out.old out.new) }
 {
-    if flags.contains(DemangleFlags::NO_MEMBER_TYPE) {
+    if hides_kind(pointed, flags) {
         return Ok(());
     }
     write_member_word(out, FuncClass::STATIC, b"static ", class)?;
@@ -177,14 +191,15 @@ fn write_kind_words<W: Wording, A: Allocator>(
 /// Writes the words of a member function.
 fn write_member_words<W: Wording, A: Allocator>(
     out: &mut Text<A>,
+    pointed: Pointed,
     class: FuncClass,
     flags: Style<W>,
 ) -> Result<(), AllocError>
-    ensures { OnOk result (Writes (spec.member_words class.0 flags.bits) out.old out.new) }
+    ensures { OnOk result (Writes (spec.member_words pointed class.0 flags.bits) out.old out.new) }
 {
     write_member_word(out, FuncClass::THUNK, b"[thunk]: ", class)?;
-    write_access_words(out, class, flags)?;
-    write_kind_words(out, class, flags)
+    write_access_words(out, pointed, class, flags)?;
+    write_kind_words(out, pointed, class, flags)
 }
 
 /// Writes the words of a member function, unless it is pointed to.
@@ -197,7 +212,7 @@ pub fn write_member_start<W: Wording, A: Allocator>(
     ensures { OnOk result (Writes (spec.member_start pointed class.0 flags.bits) out.old out.new) }
 {
     if !is_pointed(pointed) {
-        write_member_words(out, class, flags)?;
+        write_member_words(out, pointed, class, flags)?;
     }
     Ok(())
 }

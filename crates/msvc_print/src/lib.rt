@@ -16,6 +16,7 @@
 mod function_types;
 mod hexadecimal;
 mod item;
+pub mod llvm_flags;
 mod operators;
 mod pointed;
 mod printer;

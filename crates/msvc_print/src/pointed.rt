@@ -13,10 +13,12 @@ use msvc_nodes::flags::StorageClass;
 use msvc_nodes::nodes::{Shape, Type};
 use msvc_shapes::layouts::{Side, Slot, slots};
 
-/// Tells whether a type stands directly under a pointer or a reference.
+/// Tells how a type stands: directly under a pointer or a reference, or not.
 #[derive(Clone, Copy)]
 pub enum Pointed {
     No,
+    /// It is the type of a nested symbol.
+    Inner,
     Yes,
     /// It stands under a pointer that is `__unaligned`.
     Unaligned,
@@ -28,6 +30,7 @@ pub fn is_pointed(pointed: Pointed) -> bool
 {
     match pointed {
         Pointed::No => false,
+        Pointed::Inner => false,
         Pointed::Yes => true,
         Pointed::Unaligned => true,
     }
@@ -39,6 +42,7 @@ pub fn is_unaligned(pointed: Pointed) -> bool
 {
     match pointed {
         Pointed::No => false,
+        Pointed::Inner => false,
         Pointed::Yes => false,
         Pointed::Unaligned => true,
     }
@@ -56,14 +60,42 @@ pub fn pointed_by<W: Wording>(qualifiers: StorageClass, flags: Style<W>) -> Poin
     }
 }
 
+/// Returns how a type stands under one that is no pointer: as that type does, if it is that of a nested symbol.
+pub fn passed_on(pointed: Pointed) -> Pointed
+    ensures { result ≡ spec.passed_on pointed }
+{
+    match pointed {
+        Pointed::No => Pointed::No,
+        Pointed::Inner => Pointed::Inner,
+        Pointed::Yes => Pointed::No,
+        Pointed::Unaligned => Pointed::No,
+    }
+}
+
 /// Returns how a type stands under a shape with these qualifiers, which is the mark of a pointer or is none.
-pub fn under<W: Wording>(is_mark: bool, qualifiers: StorageClass, flags: Style<W>) -> Pointed
-    ensures { result ≡ spec.under is_mark qualifiers.0 flags.bits }
+pub fn under<W: Wording>(
+    pointed: Pointed,
+    is_mark: bool,
+    qualifiers: StorageClass,
+    flags: Style<W>,
+) -> Pointed
+    ensures { result ≡ spec.under pointed is_mark qualifiers.0 flags.bits }
 {
     if is_mark {
         pointed_by(qualifiers, flags)
     } else {
-        Pointed::No
+        passed_on(pointed)
+    }
+}
+
+/// Returns whether a flag of `llvm-undname` drops something of a type that stands so.
+#[inline(always)]
+pub fn leaves_out<W: Wording>(pointed: Pointed, flag: u64, flags: Style<W>) -> bool
+    ensures { result ≡ spec.leaves_out pointed flag flags.bits }
+{
+    match pointed {
+        Pointed::No => flags.drops(flag),
+        _ => false,
     }
 }
 

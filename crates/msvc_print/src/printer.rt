@@ -10,6 +10,7 @@ ghost use Rattle.msvc_print.specs.Work.{Keeps, Lightens, Prints, finished_after,
 use crate::function_types::write_calling;
 use crate::item::Item;
 use crate::operators::write_spaced_word;
+use crate::pointed::Pointed;
 use crate::qualified_names::push_typed_symbol;
 use crate::spaces::{write_mark, write_qualifiers};
 use crate::style::{Style, Wording};
@@ -135,7 +136,7 @@ pub fn print_styled<'a, 'b, W: Wording, B: Allocator, A: Allocator>(
 {
     out.clear(max);
     let mut stack = Vec::with_capacity(arena, FIRST_ITEMS)?;
-    push_typed_symbol(&mut stack, symbol, style)?;
+    push_typed_symbol(&mut stack, symbol, Pointed::No, style)?;
     let mut printer = Printer {
         stack: &mut stack,
         out,

@@ -20,7 +20,7 @@ ghost use Rattle.msvc_print.specs.Weights.{name_weight, scope_weight, type_weigh
 ghost use Rattle.msvc_print.specs.Work.{AddsAtMost, AddsLess, Keeps, Lightens, Prints, Pushes, full_conversion_to};
 ghost use Rattle.msvc_print.specs.Work.{full_return, member_return, moved_return, some_return};
 ghost use Rattle.msvc_print.specs.declared.spaces.Space.TheVariants.{AfterPointer};
-ghost use Rattle.msvc_print.specs.declared.pointed.Pointed.TheVariants.{No};
+ghost use Rattle.msvc_print.specs.declared.pointed.Pointed.TheVariants.{Inner, No};
 
 use crate::item::{Item, ListEnd, TypeList, push};
 use crate::operators::{
@@ -134,14 +134,15 @@ fn write_anonymous<A: Allocator>(out: &mut Text<A>) -> Result<(), AllocError>
     write_text(out, b"`anonymous namespace'")
 }
 
-/// Pushes a symbol with its type: the name between what the type has before and after it. NAME_ONLY drops both, and
-/// NO_FUNCTION_RETURNS what it has before.
+/// Pushes a symbol with its type, which stands as `pointed` says: the name between what the type has before and after
+/// it. NAME_ONLY drops both, and NO_FUNCTION_RETURNS what it has before.
 pub fn push_typed_symbol<'a, 'b, W: Wording, S: Allocator>(
     stack: &mut Vec<Item<'a, 'b>, S>,
     tree: &'b TypedSymbol<'a, 'b>,
+    pointed: Pointed,
     flags: Style<W>,
 ) -> Result<(), AllocError>
-    ensures text { OnOk result (Pushes (symbol_pieces_of tree.now flags.bits) flags.bits
+    ensures text { OnOk result (Pushes (symbol_pieces_of tree.now pointed flags.bits) flags.bits
         stack.old.items stack.new.items) }
     ensures lighter { OnOk result (AddsLess (typed_symbol_weight_of tree.now) stack.old.items stack.new.items) }
 {
@@ -149,12 +150,12 @@ pub fn push_typed_symbol<'a, 'b, W: Wording, S: Allocator>(
     if flags.contains(DemangleFlags::NAME_ONLY) {
         return push(stack, name);
     }
-    push(stack, Item::After(tree.symbol_type, Pointed::No))?;
+    push(stack, Item::After(tree.symbol_type, pointed))?;
     push(stack, name)?;
     if flags.contains(DemangleFlags::NO_FUNCTION_RETURNS) {
         return Ok(());
     }
-    push(stack, Item::Before(tree.symbol_type, Pointed::No))
+    push(stack, Item::Before(tree.symbol_type, pointed))
 }
 
 impl<'a, 'b, 't, W: Wording, S: Allocator, A: Allocator> Printer<'a, 'b, 't, W, S, A> {
@@ -165,17 +166,17 @@ impl<'a, 'b, 't, W: Wording, S: Allocator, A: Allocator> Printer<'a, 'b, 't, W, 
         of_symbol: bool,
     ) -> Result<(), AllocError>
         ensures text { OnOk result (Prints (spec.quoted_unless of_symbol
-            (symbol_pieces_of tree.now self.old.flags.bits))
+            (symbol_pieces_of tree.now Inner self.old.flags.bits))
             self.old self.new) }
         ensures lighter { OnOk result (Lightens (3 + typed_symbol_weight_of tree.now) self.old self.new) }
         ensures kept { Keeps self.old self.new }
     {
         if of_symbol {
-            return push_typed_symbol(self.stack, tree, self.flags);
+            return push_typed_symbol(self.stack, tree, Pointed::Inner, self.flags);
         }
         write_text(self.out, b"`")?;
         push(self.stack, Item::Text(b"'"))?;
-        push_typed_symbol(self.stack, tree, self.flags)
+        push_typed_symbol(self.stack, tree, Pointed::Inner, self.flags)
     }
 
     /// Prints the descriptor of a type.

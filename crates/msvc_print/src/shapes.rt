@@ -17,7 +17,7 @@ ghost use Rattle.msvc_print.specs.declared.shapes.PartSlot.{PartSlot as PartSlot
 ghost use Rattle.msvc_shapes.specs.Layouts as layouts;
 ghost use Rattle.msvc_print.specs.declared.pointed.Pointed.TheVariants.{No};
 
-use crate::function_types::{comma, write_separator};
+use crate::function_types::{comma, hides_kind, write_separator};
 use crate::hexadecimal::write_hexadecimal;
 use crate::item::{Item, push};
 use crate::pointed::{Pointed, is_unaligned_shape, under};
@@ -30,7 +30,6 @@ use crate::strings::write_string;
 use crate::style::{Style, Wording};
 use crate::text::{Text, write_number, write_text};
 use crate::types::push_suffix;
-use msvc_nodes::flags::DemangleFlags;
 use msvc_nodes::nodes::{Name, Number, Shape, Type};
 use msvc_shapes::layouts::{Side, Slot, around, slots};
 use std::alloc::{AllocError, Allocator};
@@ -198,15 +197,16 @@ fn write_names_word<'a, 'b, A: Allocator>(
     }
 }
 
-/// Writes a word, unless NO_MEMBER_TYPE drops it.
+/// Writes a word, unless a flag drops it as it drops `static`.
 fn write_kind_word<W: Wording, A: Allocator>(
     out: &mut Text<A>,
     word: &[u8],
+    pointed: Pointed,
     flags: Style<W>,
 ) -> Result<(), AllocError>
-    ensures { OnOk result (Writes (spec.kind_word_pieces word.now flags.bits) out.old out.new) }
+    ensures { OnOk result (Writes (spec.kind_word_pieces word.now pointed flags.bits) out.old out.new) }
 {
-    if flags.contains(DemangleFlags::NO_MEMBER_TYPE) {
+    if hides_kind(pointed, flags) {
         return Ok(());
     }
     write_text(out, word)
@@ -230,7 +230,7 @@ fn write_slot<'a, 'b, W: Wording, A: Allocator>(
 {
     match slot {
         Slot::Word(word) => write_text(out, word)?,
-        Slot::KindWord(word) => write_kind_word(out, word, flags)?,
+        Slot::KindWord(word) => write_kind_word(out, word, pointed, flags)?,
         Slot::Number(at) => write_number_at(out, shape.numbers, at)?,
         Slot::Lengths => write_levels(out, shape.numbers)?,
         Slot::Qualifiers => write_qualifiers(out, shape.qualifiers, flags)?,
@@ -485,7 +485,8 @@ impl<'a, 'b, 't, W: Wording, S: Allocator, A: Allocator> Printer<'a, 'b, 't, W, 
                 [] => self.print_slots(shape, Side::Left, pointed, 0),
                 [first, ..] => {
                     push(self.stack, Item::Slots(shape, Side::Left, pointed, 0))?;
-                    self.print_inner(*first, under(is_mark, shape.qualifiers, self.flags))
+                    let beneath = under(pointed, is_mark, shape.qualifiers, self.flags);
+                    self.print_inner(*first, beneath)
                 }
             },
         }
@@ -508,7 +509,7 @@ impl<'a, 'b, 't, W: Wording, S: Allocator, A: Allocator> Printer<'a, 'b, 't, W, 
             Some(is_mark) => match shape.types {
                 [] => self.print_slots(shape, Side::Right, pointed, 0),
                 [first, ..] => {
-                    let beneath = under(is_mark, shape.qualifiers, self.flags);
+                    let beneath = under(pointed, is_mark, shape.qualifiers, self.flags);
                     push_suffix(self.stack, *first, beneath, self.flags)?;
                     self.print_slots(shape, Side::Right, pointed, 0)
                 }

@@ -1,7 +1,8 @@
 //! The style of a declaration: the flags, and whose grammar's spaces and words are printed.
 
 ghost use Rattle.std.specs.Prelude.{◌≡◌, ◌+◌, Bool, false, true};
-ghost use Rattle.msvc_print.specs.Flags.{full_style, has};
+ghost use Rattle.msvc_print.specs.Flags.{full_style, has, with_llvm};
+ghost use Rattle.msvc_print.specs.Pointed.{drops};
 
 use bitflags::Flags;
 use msvc_nodes::flags::DemangleFlags;
@@ -10,6 +11,9 @@ use std::marker::PhantomData;
 
 /// The bit of the second grammar's style, which no word of [`DemangleFlags`] has.
 const FULL: u64 = 0x1_0000_0000;
+
+/// The bits of all flags of `llvm-undname`.
+const LLVM_FLAGS: u64 = 0x3E_0000_0000;
 
 /// Names the grammar whose spaces and words are printed. It is a type, so code for one grammar asks nothing as it runs.
 pub trait Wording: Copy {
@@ -89,6 +93,17 @@ impl Style<FullWording> {
             wording: PhantomData,
         }
     }
+
+    /// Returns the style of the second grammar, under flags and flags of `llvm-undname`. Other bits of `others` count
+    /// for nothing.
+    pub fn full_with(flags: DemangleFlags, others: u64) -> Style<FullWording>
+        ensures { result.bits ≡ with_llvm flags.0 others + full_style }
+    {
+        Style {
+            bits: (u64::from(flags.bits()) | (others & LLVM_FLAGS)) + FULL,
+            wording: PhantomData,
+        }
+    }
 }
 
 impl<W: Wording> Style<W> {
@@ -98,6 +113,14 @@ impl<W: Wording> Style<W> {
     {
         let bits = u64::from(flags.bits());
         self.bits & bits == bits
+    }
+
+    /// Returns whether the style is that of the second grammar and a flag of `llvm-undname` is set.
+    #[inline(always)]
+    pub fn drops(self, flag: u64) -> bool
+        ensures { result ≡ drops flag self.bits }
+    {
+        W::is_full() && self.bits & flag == flag
     }
 
     /// Returns whether the style is that of the second grammar.

@@ -8,19 +8,22 @@ ghost use Rattle.msvc_nodes.specs.NodeView.{names_in, type_of, types_in};
 ghost use Rattle.msvc_nodes.specs.declared.kinds.SpecialTableKind.TheVariants.{Functions};
 ghost use Rattle.msvc_print.specs.Declaration as spec;
 ghost use Rattle.msvc_print.specs.Functions.{calling, function_qualifier};
-ghost use Rattle.msvc_print.specs.Halves.{after, before, function_end, member_pointer_end};
+ghost use Rattle.msvc_print.specs.Flags.{llvm_no_variable};
+ghost use Rattle.msvc_print.specs.Halves.{after, after_called, before, before_called, function_end, member_pointer_end};
 ghost use Rattle.msvc_print.specs.Limited.{Writes};
 ghost use Rattle.msvc_print.specs.Pieces.{text};
 ghost use Rattle.msvc_print.specs.SymbolNodes.{no_type, symbol_name_of, symbol_weight_of};
 ghost use Rattle.msvc_print.specs.Weights.{scope_weight, type_weight, types_weight};
+ghost use Rattle.msvc_print.specs.Pointed as spec_pointed;
 ghost use Rattle.msvc_print.specs.Pointed.{pointed_by, unaligned_mark};
-ghost use Rattle.msvc_print.specs.Words.{closing, marked, opening, qualifiers as qualifier_pieces, variable_word};
+ghost use Rattle.msvc_print.specs.Words.{closing, marked, opening, qualifiers as qualifier_pieces, shown_variable_word};
 ghost use Rattle.msvc_print.specs.Work.{AddsAtMost, Keeps, LeavesAtMost, Lightens, Prints, Pushes, rest_of_parameters};
 ghost use Rattle.msvc_print.specs.declared.pointed.Pointed.TheVariants.{No};
 
 use crate::function_types::{write_calling, write_list_end, write_member_start, write_separator};
 use crate::item::{Item, ListEnd, TypeList, push};
-use crate::pointed::{Pointed, has_unaligned_mark, pointed_by};
+use crate::llvm_flags::{NO_RETURN_TYPE, NO_VARIABLE_TYPE};
+use crate::pointed::{Pointed, has_unaligned_mark, leaves_out, passed_on, pointed_by};
 use crate::printer::Printer;
 use crate::simple_types::{
     write_base, write_simple, write_simple_inner, write_simple_pointer, write_simple_types,
@@ -28,7 +31,7 @@ use crate::simple_types::{
 use crate::spaces::{write_closing, write_opening, write_qualifiers};
 use crate::style::{Style, Wording};
 use crate::text::{Text, write_number, write_text};
-use crate::words::{mark_word, tag_word, variable_word};
+use crate::words::{mark_word, shown_variable_word, tag_word};
 use bitflags::Flags;
 use msvc_nodes::flags::StorageClass;
 use msvc_nodes::kinds::{Convention, NumberedType, PlainType, SpecialTableKind, VarStorageKind};
@@ -72,9 +75,15 @@ impl<'a, 'b, 't, W: Wording, S: Allocator, A: Allocator> Printer<'a, 'b, 't, W, 
                 *inner,
                 *kind,
                 *qualifiers,
+                pointed,
             ),
             Type::Table(_, qualifiers, _) => write_qualifiers(self.out, *qualifiers, self.flags),
-            Type::VcallThunk(_, convention) => write_thunk(self.out, *convention, self.flags),
+            Type::VcallThunk(_, convention) => write_thunk(
+                self.out,
+                pointed,
+                *convention,
+                self.flags,
+            ),
             Type::Shape(shape) => self.print_shape_prefix(*shape, pointed),
         }
     }
@@ -141,13 +150,17 @@ impl<'a, 'b, 't, W: Wording, S: Allocator, A: Allocator> Printer<'a, 'b, 't, W, 
         function: &'b Function<'a, 'b>,
         pointed: Pointed,
     ) -> Result<(), AllocError>
-        ensures text { OnOk result (Prints (before (type_of function.now.returned.now) No self.old.flags.bits
-            ++ (spec.returned_end (type_of function.now.returned.now) self.old.flags.bits
-            ++ calling pointed function.now.convention self.old.flags.bits)) self.old self.new) }
+        ensures text { OnOk result (Prints (before_called pointed function.now.convention
+            (spec.returned_end (type_of function.now.returned.now) self.old.flags.bits)
+            (before (type_of function.now.returned.now) No self.old.flags.bits) self.old.flags.bits)
+            self.old self.new) }
         ensures lighter { OnOk result (Lightens (3 + type_weight (type_of function.now.returned.now))
             self.old self.new) }
         ensures kept { Keeps self.old self.new }
     {
+        if leaves_out(pointed, NO_RETURN_TYPE, self.flags) {
+            return write_calling(self.out, pointed, function.convention, self.flags);
+        }
         if !self.out.is_whole() {
             return Ok(());
         }
@@ -160,20 +173,26 @@ impl<'a, 'b, 't, W: Wording, S: Allocator, A: Allocator> Printer<'a, 'b, 't, W, 
         self.print_inner(function.returned, Pointed::No)
     }
 
-    /// Prints what a variable has before its name: words that no flag drops, its type, and its qualifiers.
+    /// Prints what a variable has before its name: its words, its type, and its qualifiers.
     fn print_variable(
         &mut self,
         inner: &'b Type<'a, 'b>,
         kind: VarStorageKind,
         qualifiers: StorageClass,
+        pointed: Pointed,
     ) -> Result<(), AllocError>
         ensures text { OnOk result
-            (Prints (text (variable_word kind) ∷ (before (type_of inner.now) No self.old.flags.bits
+            (Prints (text (shown_variable_word pointed kind self.old.flags.bits)
+            ∷ cond (spec_pointed.leaves_out pointed llvm_no_variable self.old.flags.bits) []
+            (before (type_of inner.now) No self.old.flags.bits
             ++ qualifier_pieces qualifiers.0 self.old.flags.bits)) self.old self.new) }
         ensures lighter { OnOk result (Lightens (3 + type_weight (type_of inner.now)) self.old self.new) }
         ensures kept { Keeps self.old self.new }
     {
-        write_text(self.out, variable_word(kind))?;
+        write_text(self.out, shown_variable_word(pointed, kind, self.flags))?;
+        if leaves_out(pointed, NO_VARIABLE_TYPE, self.flags) {
+            return Ok(());
+        }
         push_qualifiers(self.stack, qualifiers, self.flags)?;
         self.print_inner(inner, Pointed::No)
     }
@@ -198,7 +217,7 @@ impl<'a, 'b, 't, W: Wording, S: Allocator, A: Allocator> Printer<'a, 'b, 't, W, 
             Type::Function(function) => self.print_function_end(*function, pointed),
             Type::MemberFunction(function) => self.print_function_end(*function, pointed),
             Type::MemberPointer(_, function) => self.print_member_pointer_end(*function),
-            Type::Variable(_, _, inner) => push_suffix(self.stack, *inner, Pointed::No, self.flags),
+            Type::Variable(_, _, inner) => self.print_variable_end(*inner, pointed),
             Type::Table(table, _, scope) => self.print_table_end(*table, scope.names),
             Type::VcallThunk(number, _) => write_thunk_end(self.out, *number, self.flags),
             Type::Shape(shape) => self.print_shape_suffix(*shape, pointed),
@@ -210,6 +229,23 @@ impl<'a, 'b, 't, W: Wording, S: Allocator, A: Allocator> Printer<'a, 'b, 't, W, 
         }
     }
 
+    /// Prints what a variable has after its name: the rest of its type.
+    fn print_variable_end(
+        &mut self,
+        inner: &'b Type<'a, 'b>,
+        pointed: Pointed,
+    ) -> Result<(), AllocError>
+        ensures text { OnOk result (Prints (cond (spec_pointed.leaves_out pointed llvm_no_variable self.old.flags.bits) []
+            (after (type_of inner.now) No self.old.flags.bits)) self.old self.new) }
+        ensures lighter { OnOk result (Lightens (3 + type_weight (type_of inner.now)) self.old self.new) }
+        ensures kept { Keeps self.old self.new }
+    {
+        if leaves_out(pointed, NO_VARIABLE_TYPE, self.flags) {
+            return Ok(());
+        }
+        push_suffix(self.stack, inner, Pointed::No, self.flags)
+    }
+
     /// Prints what a function has after its name: its parameters, its qualifiers, and the rest of what it returns.
     fn print_function_end(
         &mut self,
@@ -219,15 +255,15 @@ impl<'a, 'b, 't, W: Wording, S: Allocator, A: Allocator> Printer<'a, 'b, 't, W, 
         ensures text { OnOk result
             (Prints (function_end pointed
             (spec.parameters (types_in function.now.parameters.now) true self.old.flags.bits) function.now.qualifiers.0
-            self.old.flags.bits (after (type_of function.now.returned.now) No self.old.flags.bits)) self.old
-            self.new) }
+            self.old.flags.bits (after_called pointed (after (type_of function.now.returned.now) No
+            self.old.flags.bits) self.old.flags.bits)) self.old self.new) }
         ensures lighter { OnOk result (Lightens (3 + types_weight (types_in function.now.parameters.now)
             + type_weight (type_of function.now.returned.now)) self.old self.new) }
         ensures kept { Keeps self.old self.new }
     {
         write_closing(self.out, pointed)?;
         write_text(self.out, b"(")?;
-        push_suffix(self.stack, function.returned, Pointed::No, self.flags)?;
+        push_returned_suffix(self.stack, function.returned, pointed, self.flags)?;
         self.print_parameters(
             function.parameters,
             true,
@@ -460,6 +496,23 @@ pub fn push_suffix<'a, 'b, W: Wording, S: Allocator>(
     Ok(())
 }
 
+/// Pushes what the type that a function returns has after the name, unless a flag drops it.
+fn push_returned_suffix<'a, 'b, W: Wording, S: Allocator>(
+    stack: &mut Vec<Item<'a, 'b>, S>,
+    returned: &'b Type<'a, 'b>,
+    pointed: Pointed,
+    flags: Style<W>,
+) -> Result<(), AllocError>
+    ensures text { OnOk result (Pushes (after_called pointed (after (type_of returned.now) No flags.bits) flags.bits)
+        flags.bits stack.old.items stack.new.items) }
+    ensures lighter { OnOk result (AddsAtMost (type_weight (type_of returned.now)) stack.old.items stack.new.items) }
+{
+    if leaves_out(pointed, NO_RETURN_TYPE, flags) {
+        return Ok(());
+    }
+    push_suffix(stack, returned, Pointed::No, flags)
+}
+
 /// Pushes `const`, if a member function that is pointed to has it.
 fn push_const<'a, 'b, W: Wording, S: Allocator>(
     stack: &mut Vec<Item<'a, 'b>, S>,
@@ -573,14 +626,15 @@ fn write_thread_safe_guard<A: Allocator>(out: &mut Text<A>, number: i32) -> Resu
 /// Writes what a thunk into a table of virtual functions has before its name.
 fn write_thunk<W: Wording, A: Allocator>(
     out: &mut Text<A>,
+    pointed: Pointed,
     convention: Convention,
     flags: Style<W>,
 ) -> Result<(), AllocError>
-    ensures { OnOk result (Writes (text (codes "[thunk]: ") ∷ calling No convention flags.bits)
-        out.old out.new) }
+    ensures { OnOk result (Writes (text (codes "[thunk]: ")
+        ∷ calling (spec_pointed.passed_on pointed) convention flags.bits) out.old out.new) }
 {
     write_text(out, b"[thunk]: ")?;
-    write_calling(out, Pointed::No, convention, flags)
+    write_calling(out, passed_on(pointed), convention, flags)
 }
 
 /// Writes what a thunk has after its name: the offset in the table, in bytes, and the memory model.

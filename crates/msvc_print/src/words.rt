@@ -3,6 +3,8 @@
 ghost use Rattle.std.specs.Prelude.{◌≡◌, cond};
 ghost use Rattle.msvc_print.specs.Words as spec;
 
+use crate::llvm_flags::{NO_ACCESS_SPECIFIER, NO_MEMBER_TYPE};
+use crate::pointed::{Pointed, leaves_out};
 use crate::style::{Style, Wording};
 use msvc_nodes::base_types;
 use msvc_nodes::flags::DemangleFlags;
@@ -79,7 +81,7 @@ pub fn mark_word<'t>(affinity: PointerAffinity) -> &'t [u8]
 }
 
 /// Returns the words before a variable, which say who may name it.
-pub fn variable_word<'t>(kind: VarStorageKind) -> &'t [u8]
+fn variable_word<'t>(kind: VarStorageKind) -> &'t [u8]
     ensures { result.now ≡ spec.variable_word kind }
 {
     match kind {
@@ -89,4 +91,51 @@ pub fn variable_word<'t>(kind: VarStorageKind) -> &'t [u8]
         VarStorageKind::Global => b"",
         VarStorageKind::FunctionLocalStatic => b"",
     }
+}
+
+/// Returns the word for who may use a variable, alone.
+fn access_word<'t>(kind: VarStorageKind) -> &'t [u8]
+    ensures { result.now ≡ spec.access_word kind }
+{
+    match kind {
+        VarStorageKind::PrivateStatic => b"private: ",
+        VarStorageKind::ProtectedStatic => b"protected: ",
+        VarStorageKind::PublicStatic => b"public: ",
+        VarStorageKind::Global => b"",
+        VarStorageKind::FunctionLocalStatic => b"",
+    }
+}
+
+/// Returns `static` of a variable, alone.
+fn static_word<'t>(kind: VarStorageKind) -> &'t [u8]
+    ensures { result.now ≡ spec.static_word kind }
+{
+    match kind {
+        VarStorageKind::PrivateStatic => b"static ",
+        VarStorageKind::ProtectedStatic => b"static ",
+        VarStorageKind::PublicStatic => b"static ",
+        VarStorageKind::Global => b"",
+        VarStorageKind::FunctionLocalStatic => b"",
+    }
+}
+
+/// Returns the words of a variable, without those that flags drop.
+pub fn shown_variable_word<'t, W: Wording>(
+    pointed: Pointed,
+    kind: VarStorageKind,
+    flags: Style<W>,
+) -> &'t [u8]
+    ensures { result.now ≡ spec.shown_variable_word pointed kind flags.bits }
+{
+    let without_kind = leaves_out(pointed, NO_MEMBER_TYPE, flags);
+    if leaves_out(pointed, NO_ACCESS_SPECIFIER, flags) {
+        if without_kind {
+            return b"";
+        }
+        return static_word(kind);
+    }
+    if without_kind {
+        return access_word(kind);
+    }
+    variable_word(kind)
 }

@@ -9,15 +9,16 @@ ghost use Rattle.msvc_cursor.specs.Errors.{IsInside};
 ghost use Rattle.msvc_cursor.specs.Failures.{FailsIn};
 ghost use Rattle.msvc_cursor.specs.Limits.{IsWithin, limit_of_number, limits_of};
 ghost use Rattle.msvc_cursor.specs.Notes.{note_of};
+ghost use Rattle.msvc_print.specs.Flags.{with_llvm};
 ghost use Rattle.msvc_symbol.specs.Demangled.{HashesAreShown, IsDeclaredAsIn, IsDeclaredIn, IsDeclaredWithinIn};
 ghost use Rattle.msvc_symbol.specs.Demangled.{IsErrorUnderIn};
 ghost use Rattle.msvc_symbol.specs.Failures.{IsFailureIn};
 ghost use Rattle.msvc_symbol.specs.Grammars.{dialect_of};
-ghost use Rattle.msvc_symbol.specs.declared.grammar.Grammar.TheVariants.{Crate};
+ghost use Rattle.msvc_symbol.specs.declared.grammar.Grammar.TheVariants.{Crate, Full};
 
 use crate::arena::Arena;
 use crate::grammar::Grammar;
-use crate::steps::{copy_references, declare, measure};
+use crate::steps::{copy_references, declare, declare_without, measure};
 use alloc_fuse::Fuse;
 use bumpalo::Bump;
 use msvc_cursor::back_references::BackReference;
@@ -135,6 +136,31 @@ impl<A: Allocator + Copy> Demangler<A> {
     {
         let arena = self.arena.prepared(input, limits)?;
         let done = declare(grammar, arena, input, flags, limits, &mut self.text);
+        self.arena.end(done)
+    }
+
+    /// Does what [`Demangler::declare`] does for a symbol of Full, whatever the demangler's grammar, and leaves out what
+    /// `left_out`, flags of [`llvm_flags`](msvc_print::llvm_flags), drops.
+    ///
+    /// # Errors
+    ///
+    /// Fails where [`Demangler::declare`] does.
+    pub fn declare_without(
+        &mut self,
+        input: &str,
+        flags: DemangleFlags,
+        left_out: u64,
+        limits: Limits,
+    ) -> Result<usize, Failure>
+        ensures declared { IfOk result (λ length.
+            IsDeclaredAsIn Full limits input.now (with_llvm flags.0 left_out) length self.new.text) }
+        ensures fails { IfErr result (λ failure.
+            IsFailureIn Full limits input.now (with_llvm flags.0 left_out) failure) }
+        ensures inside { IfErr result (λ failure. IsInside input.now failure) }
+        ensures keeps { self.new.grammar ≡ self.old.grammar }
+    {
+        let arena = self.arena.prepared(input, limits)?;
+        let done = declare_without(arena, input, flags, left_out, limits, &mut self.text);
         self.arena.end(done)
     }
 

@@ -11,10 +11,13 @@ ghost use Rattle.msvc_cursor.specs.Errors.{IsInside};
 ghost use Rattle.msvc_cursor.specs.Failures.{FailsIn};
 ghost use Rattle.msvc_cursor.specs.Notes.{note_of};
 ghost use Rattle.msvc_cursor.specs.SymbolsRead.{IsSymbolReadIn};
+ghost use Rattle.msvc_print.specs.Declaration.{declaration};
+ghost use Rattle.msvc_print.specs.Flags.{with_llvm};
 ghost use Rattle.msvc_symbol.specs.Demangled.{IsDeclaredAs, IsDeclaredAsIn};
 ghost use Rattle.msvc_symbol.specs.Failures.{IsFailure, IsFailureIn};
 ghost use Rattle.msvc_symbol.specs.Grammars.{declaration_in, dialect_of};
 ghost use Rattle.msvc_symbol.specs.Steps.{IsPrinted, IsUnprinted};
+ghost use Rattle.msvc_symbol.specs.declared.grammar.Grammar.TheVariants.{Full};
 
 use crate::grammar::Grammar;
 use alloc_fuse::Fuse;
@@ -26,7 +29,7 @@ use msvc_cursor::symbol_read::SymbolRead;
 use msvc_nodes::flags::DemangleFlags;
 use msvc_nodes::nodes::TypedSymbol;
 use msvc_nodes::sizes::{arena_to_print, text_of};
-use msvc_print::{Style, Text, print_styled};
+use msvc_print::{Style, Text, Wording, print_styled};
 use std::alloc::{Allocator, Global};
 
 /// Reads the symbol of a grammar that `input` begins with, within the limit on nodes. All memory is the arena's.
@@ -90,16 +93,33 @@ pub fn print<'a, 'b, B: Allocator, A: Allocator>(
     ensures fails { IfErr result (λ failure.
         IsUnprinted limits.bytes (declaration_in grammar (typed_symbol_of symbol.now) flags.0) length failure) }
 {
+    match grammar {
+        Grammar::Crate => print_in(arena, symbol, length, Style::new(flags), limits, text),
+        Grammar::Full => print_in(arena, symbol, length, Style::full(flags), limits, text),
+    }
+}
+
+/// Prints as [`print`] does, in a style.
+#[inline(always)]
+fn print_in<'a, 'b, W: Wording, B: Allocator, A: Allocator>(
+    arena: &'b Bump<B>,
+    symbol: &'b TypedSymbol<'a, 'b>,
+    length: usize,
+    style: Style<W>,
+    limits: Limits,
+    text: &mut Text<A>,
+) -> Result<(), Failure>
+    ensures printed { IfOk result (λ _.
+        IsPrinted limits.bytes (declaration (typed_symbol_of symbol.now) style.bits) text.new.text) }
+    ensures fails { IfErr result (λ failure.
+        IsUnprinted limits.bytes (declaration (typed_symbol_of symbol.now) style.bits) length failure) }
+{
     text.try_reserve_once(text_of(length))?;
     let max = match limits.bytes {
         Some(bytes) => bytes,
         None => usize::MAX,
     };
-    let fits = match grammar {
-        Grammar::Crate => print_styled(arena, symbol, Style::new(flags), max, text)?,
-        Grammar::Full => print_styled(arena, symbol, Style::full(flags), max, text)?,
-    };
-    if fits {
+    if print_styled(arena, symbol, style, max, text)? {
         Ok(())
     } else {
         Err(Failure::TooLong(length))
@@ -128,6 +148,32 @@ pub(crate) fn declare<B: Allocator, A: Allocator>(
 {
     let SymbolRead { symbol, length, .. } = read(grammar, arena, input, limits)?;
     print(grammar, arena, &symbol, length, flags, limits, text)?;
+    Ok(length)
+}
+
+/// Does what [`declare`] does for a symbol of Full, and leaves out what flags of `llvm-undname` drop.
+///
+/// # Errors
+///
+/// Fails where [`declare`] does.
+#[cold]
+pub(crate) fn declare_without<B: Allocator, A: Allocator>(
+    arena: &Bump<B>,
+    input: &str,
+    flags: DemangleFlags,
+    left_out: u64,
+    limits: Limits,
+    text: &mut Text<A>,
+) -> Result<usize, Failure>
+    ensures declared { IfOk result (λ length.
+        IsDeclaredAsIn Full limits input.now (with_llvm flags.0 left_out) length text.new.text) }
+    ensures fails { IfErr result (λ failure.
+        IsFailureIn Full limits input.now (with_llvm flags.0 left_out) failure) }
+    ensures inside { IfErr result (λ failure. IsInside input.now failure) }
+{
+    let SymbolRead { symbol, length, .. } = read_full(arena, input, limits)?;
+    let style = Style::full_with(flags, left_out);
+    print_in(arena, &symbol, length, style, limits, text)?;
     Ok(length)
 }
 

@@ -13,7 +13,7 @@ mod options;
 mod streams;
 
 use clap::{ArgMatches, Command};
-use msvc_demangler::{DemangleFlags, Demangler, Fault, Watched, filter_text_in};
+use msvc_demangler::{DemangleFlags, Demangler, Fault, Watched, filter_text_without};
 use msvc_stdio::{BUFFER_LENGTH, Input, Shared, arguments, ended, failure};
 use options::Settings;
 use std::alloc::Global;
@@ -53,11 +53,12 @@ fn show(rt: &HostRuntime, error: &clap::Error) -> ExitCode {
     }
 }
 
-/// How texts are filtered: with which demangler, and under which flags.
+/// How texts are filtered: with which demangler, under which flags, and what is left out.
 #[derive(Drop)]
 struct Filter {
     demangler: Demangler,
     flags: DemangleFlags,
+    left_out: u64,
 }
 
 impl Filter {
@@ -66,6 +67,7 @@ impl Filter {
         Filter {
             demangler: Demangler::with_grammar(alloc, settings.grammar),
             flags: settings.flags,
+            left_out: settings.left_out,
         }
     }
 
@@ -75,7 +77,7 @@ impl Filter {
         input: &mut Watched<R>,
         out: &mut Watched<W>,
     ) -> Result<(), Fault> {
-        filter_text_in(&mut self.demangler, input, out, self.flags)
+        filter_text_without(&mut self.demangler, input, out, self.flags, self.left_out)
     }
 
     /// Filters a stream to its end.

@@ -2,6 +2,9 @@
 
 use clap::error::ErrorKind;
 use clap::{Arg, ArgAction, ArgMatches, Command, Error};
+use msvc_demangler::llvm_flags::{
+    NO_ACCESS_SPECIFIER, NO_CALLING_CONVENTION, NO_MEMBER_TYPE, NO_RETURN_TYPE, NO_VARIABLE_TYPE,
+};
 use msvc_demangler::{DemangleFlags, Flags, Grammar};
 use std::alloc::{AllocError, Global};
 
@@ -14,9 +17,9 @@ Usage: msvcfilt [OPTIONS] [FILE]..., or msvcfilt [OPTIONS] -s SYMBOL...
   FILE                     What to filter; '-', or no FILE, is standard input
   -s, --symbols            Filter the arguments themselves, each as a line
   -n, --name-only          Print names without types
-  --no-calling-convention  Drop __cdecl and the like, of function pointers too
-  --no-access-specifier    Drop public and the like, of functions alone
-  --no-member-type         Drop static and virtual, of functions alone
+  --no-calling-convention, --no-return-type, --no-access-specifier,
+  --no-member-type, --no-variable-type
+                           Drop what llvm-undname drops with the same option
   --no-function-returns    Drop all that stands before a name
   --no-this-type           Drop const and the like after parameters
   --no-class-type          Drop class, struct, union and enum
@@ -36,12 +39,9 @@ Exit status: 0 if all was read and written, 2 if the arguments are wrong, else 1
 /// The name of a file that means standard input.
 pub(crate) const STANDARD_INPUT: &str = "-";
 
-/// The names of the options that set flags.
-const FLAG_OPTIONS: [(&str, DemangleFlags); 12] = [
+/// The options that set the same flag in both grammars, and that flag.
+const FLAG_OPTIONS: [(&str, DemangleFlags); 9] = [
     ("name-only", DemangleFlags::NAME_ONLY),
-    ("no-calling-convention", DemangleFlags::NO_MS_KEYWORDS),
-    ("no-access-specifier", DemangleFlags::NO_ACCESS_SPECIFIERS),
-    ("no-member-type", DemangleFlags::NO_MEMBER_TYPE),
     ("no-function-returns", DemangleFlags::NO_FUNCTION_RETURNS),
     ("no-this-type", DemangleFlags::NO_THISTYPE),
     ("no-class-type", DemangleFlags::NO_CLASS_TYPE),
@@ -52,10 +52,38 @@ const FLAG_OPTIONS: [(&str, DemangleFlags); 12] = [
     ("space-before-pointer", DemangleFlags::SPACE_BEFORE_POINTER),
 ];
 
+/// The options of `llvm-undname`, what each leaves out in Full, and the flag that is nearest to it in the crate's grammar.
+const LLVM_OPTIONS: [(&str, u64, DemangleFlags); 5] = [
+    (
+        "no-calling-convention",
+        NO_CALLING_CONVENTION,
+        DemangleFlags::NO_MS_KEYWORDS,
+    ),
+    (
+        "no-access-specifier",
+        NO_ACCESS_SPECIFIER,
+        DemangleFlags::NO_ACCESS_SPECIFIERS,
+    ),
+    (
+        "no-member-type",
+        NO_MEMBER_TYPE,
+        DemangleFlags::NO_MEMBER_TYPE,
+    ),
+    (RETURN_TYPE, NO_RETURN_TYPE, DemangleFlags::COMPLETE),
+    (VARIABLE_TYPE, NO_VARIABLE_TYPE, DemangleFlags::COMPLETE),
+];
+
+/// The options of `llvm-undname` that the crate's grammar has no flag for.
+const RETURN_TYPE: &str = "no-return-type";
+
+const VARIABLE_TYPE: &str = "no-variable-type";
+
 /// What the options set: how symbols are read and printed.
 #[derive(Clone, Copy)]
 pub(crate) struct Settings {
     pub(crate) flags: DemangleFlags,
+    /// What Full leaves out.
+    pub(crate) left_out: u64,
     pub(crate) grammar: Grammar,
 }
 
@@ -75,10 +103,16 @@ pub(crate) fn read<'a>(
         let message = "'--symbols' requires a SYMBOL";
         return Err(command.error(ErrorKind::MissingRequiredArgument, message)?);
     }
-    let message = match (flags(&matches), grammar(&matches)) {
-        (Some(flags), Some(grammar)) => return Ok((matches, Settings { flags, grammar })),
+    let message = match (first_flags(&matches), grammar(&matches)) {
         (None, _) => "the value of '--flags <WORD>' is no number of 32 bits",
         (_, None) => "the value of '--grammar <NAME>' is neither 'full' nor 'crate'",
+        (_, Some(Grammar::Crate)) if needs_full(&matches) => {
+            "'--no-return-type' and '--no-variable-type' require '--grammar full'"
+        }
+        (Some(flags), Some(grammar)) => {
+            let settings = all_settings(&matches, flags, grammar);
+            return Ok((matches, settings));
+        }
     };
     Err(command.error(ErrorKind::ValueValidation, message)?)
 }
@@ -110,21 +144,46 @@ fn with_options<'a>(alloc: Global, program: Command<'a>) -> Result<Command<'a>, 
         }
         command = command.arg(option)?;
     }
+    for (name, _, _) in LLVM_OPTIONS {
+        command = command.arg(Arg::new(alloc, name).long(name).action(ArgAction::SetTrue))?;
+    }
     Ok(command)
 }
 
-/// Returns the flags that the options set, or none if the word of `--flags` is unfit.
-fn flags(matches: &ArgMatches<'_>) -> Option<DemangleFlags> {
-    let mut flags = match matches.get_str("flags") {
-        Some(word) => flags_of(word)?,
-        None => DemangleFlags::llvm(),
+/// Returns the flags that other options add to, or none if the word of `--flags` is unfit.
+fn first_flags(matches: &ArgMatches<'_>) -> Option<DemangleFlags> {
+    match matches.get_str("flags") {
+        Some(word) => flags_of(word),
+        None => Some(DemangleFlags::llvm()),
+    }
+}
+
+/// Returns whether an option is given that the crate's grammar has no flag for.
+fn needs_full(matches: &ArgMatches<'_>) -> bool {
+    matches.get_flag(RETURN_TYPE) || matches.get_flag(VARIABLE_TYPE)
+}
+
+/// Returns the settings that add the flags of all options that are given to `flags`.
+fn all_settings(matches: &ArgMatches<'_>, flags: DemangleFlags, grammar: Grammar) -> Settings {
+    let mut settings = Settings {
+        flags,
+        left_out: 0,
+        grammar,
     };
     for (name, flag) in FLAG_OPTIONS {
         if matches.get_flag(name) {
-            flags.insert(flag);
+            settings.flags.insert(flag);
         }
     }
-    Some(flags)
+    for (name, bit, nearest) in LLVM_OPTIONS {
+        if matches.get_flag(name) {
+            match grammar {
+                Grammar::Full => settings.left_out |= bit,
+                Grammar::Crate => settings.flags.insert(nearest),
+            }
+        }
+    }
+    settings
 }
 
 /// Returns the grammar that `--grammar` names, or none if its value is no name of a grammar.

@@ -1,4 +1,4 @@
-use Rattle.msvc_symbol.specs.Grammars.{under}
+use Rattle.msvc_filter.specs.Choices.{chosen}
 use Rattle.msvc_filter.proofs.Failed.{none_within}
 use Rattle.std.proofs.Common.{false, subst}
 use Rattle.std.specs.Prelude.{IsTrue}
@@ -10,7 +10,7 @@ returns-in-Ok-clause-declared g c =
 
 pub returns-else-is_out_of_memory-clause-none : goal.returns-else-is_out_of_memory-clause-none
 returns-else-is_out_of_memory-clause-none g c =
-    none_within (under c.args.grammar c.args.flags.0) c.args.input.now c.in-Err.failure
+    none_within (chosen c.args.how) c.args.input.now c.in-Err.failure
     (λ m.
     let no : IsTrue false = subst IsTrue c.if-is_out_of_memory.false (c.is_out_of_memory.ensures.1 m) in cc)
     c.in-Err.ensures.fails

@@ -1,5 +1,5 @@
 use Rattle.std.proofs.Common.{◌≡◌, ◌+◌, ◌-◌, ◌++◌, ◌∷◌, [], ◌∙◌, drop, take, map, ap, subst, arith, length-drop}
-use Rattle.msvc_symbol.specs.Grammars.{under}
+use Rattle.msvc_filter.specs.Choices.{chosen}
 use Rattle.msvc_filter.specs.Filtered.{declared, kept}
 use Rattle.msvc_filter.specs.WordStates.{ArePartsUpTo}
 use Rattle.msvc_filter.proofs.ScanParts.{parts-further, text-further, text-stays}
@@ -23,7 +23,7 @@ symbols-preserved-in-Some c =
             ∙ ap (λ n. c.symbols.text.items ++ take n (drop at piece)) count)
             ∙ ap (λ t. (c.symbols.text.items ++ stay) ++ t) (c.declared.ensures found.text found.printed)
             ∙ text-further c.symbols.text.items found.text so.1.0 stay so.1.1,
-        parts-further (under c.args.grammar c.args.flags.0) c.args.scan.now c.symbols.scan c.next_symbol.new.scan
+        parts-further (chosen c.args.how) c.args.scan.now c.symbols.scan c.next_symbol.new.scan
             piece c.args.until at
             (before + c.in-Some.found.bytes) so.1.0 (map kept stay ++ declared found.text ∷ []) so.1.2 (omega arith)
             (omega arith) found.parts,
@@ -43,10 +43,10 @@ symbols-preserved c =
       (
         so.1.0 ++ map kept stay,
         c.in_ok-extend_from_slice-in-None.ensures.items ∙ text-stays c.symbols.text.items so.1.0 stay so.1.1,
-        subst (λ n. ArePartsUpTo (under c.args.grammar c.args.flags.0) c.args.scan.now piece until (so.1.0
+        subst (λ n. ArePartsUpTo (chosen c.args.how) c.args.scan.now piece until (so.1.0
             ++ map kept stay) n
             c.next_symbol.new.scan) end
-            (parts-further (under c.args.grammar c.args.flags.0) c.args.scan.now c.symbols.scan c.next_symbol.new.scan
+            (parts-further (chosen c.args.how) c.args.scan.now c.symbols.scan c.next_symbol.new.scan
             piece until at
             (until - at) so.1.0
             (map kept stay) so.1.2 (omega arith) (omega arith) none),

@@ -1,12 +1,12 @@
 use Rattle.std.proofs.Common.{◌≤◌, ◌-◌, map, take}
-use Rattle.msvc_symbol.specs.Grammars.{under}
+use Rattle.msvc_filter.specs.Choices.{chosen}
 use Rattle.msvc_filter.specs.Filtered.{kept}
 use Rattle.msvc_filter.specs.WordStates.{ArePartsUpTo}
 use Rattle.msvc_filter.proofs.filter.next_symbol.Given as goal
 
 abbrev pub invariant-bytes : goal.invariant-bytes
 invariant-bytes g l =
-    (l.at ≤ l.until) × ArePartsUpTo (under l.grammar l.flags.0) l.fn.scan l.left l.until (map kept (take l.at l.left))
+    (l.at ≤ l.until) × ArePartsUpTo (chosen l.how) l.fn.scan l.left l.until (map kept (take l.at l.left))
     l.at l.scan
 
 abbrev pub decreases-bytes : goal.decreases-bytes

@@ -1,6 +1,6 @@
 use Rattle.std.proofs.Common.{◌≡◌, ◌∙◌, ℕ, List, arith, drop, subst, sym}
 use Rattle.std.proofs.lemmas.Result.{err_from_is_err_and}
-use Rattle.msvc_symbol.specs.Grammars.{under}
+use Rattle.msvc_filter.specs.Choices.{chosen}
 use Rattle.msvc_filter.specs.WordStates.{IsDecidedTextOf}
 use Rattle.msvc_filter.proofs.Streamed.{WritesPart-map, put-made}
 use Rattle.msvc_filter.proofs.filter.write_decided.Goals as goal
@@ -9,7 +9,7 @@ pub returns-in_err-write_all-in-Ok-clause-text : goal.returns-in_err-write_all-i
 returns-in_err-write_all-in-Ok-clause-text g c =
     let p = err_from_is_err_and c.from_residual.result c.from_residual.ensures.1 in
     let e = c.in_err-write_all-in-Ok.ensures.text in
-    let how = (under c.args.grammar c.args.flags.0) in
+    let how = (chosen c.args.how) in
     let scan = c.args.scan.now in
     let piece = c.args.piece.now.items in
     let after = c.filter_piece.new.scan in

@@ -1,5 +1,5 @@
 use Rattle.std.proofs.Common.{◌≡◌, ◌∙◌, List, ℕ, length, subst, sym}
-use Rattle.msvc_symbol.specs.Grammars.{under}
+use Rattle.msvc_filter.specs.Choices.{chosen}
 use Rattle.msvc_filter.specs.WordStates.{IsRestText}
 use Rattle.msvc_filter.proofs.ScanParts.{parts-all}
 use Rattle.msvc_streams.proofs.CallSequence.{Writes-map}
@@ -8,7 +8,7 @@ use Rattle.msvc_filter.proofs.filter.write_filtered.Goals as goal
 pub returns-in-Ok-clause-text : goal.returns-in-Ok-clause-text
 returns-in-Ok-clause-text g c =
     let e = c.write_all.ensures.text in
-    let how = (under c.args.grammar c.args.flags.0) in
+    let how = (chosen c.args.how) in
     let scan = c.args.scan in
     let bytes = c.args.piece.now in
     let made = c.in-Ok.ensures in

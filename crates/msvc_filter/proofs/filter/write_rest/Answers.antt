@@ -1,5 +1,5 @@
 use Rattle.std.proofs.Common.{◌≡◌, ◌∙◌, List, ℕ, map, subst, sym}
-use Rattle.msvc_symbol.specs.Grammars.{under}
+use Rattle.msvc_filter.specs.Choices.{chosen}
 use Rattle.msvc_filter.specs.Filtered.{kept}
 use Rattle.msvc_filter.specs.WordStates.{IsRestText}
 use Rattle.msvc_filter.proofs.ScanParts.{text-kept, without_mark}
@@ -9,7 +9,7 @@ use Rattle.msvc_filter.proofs.filter.write_rest.Goals as goal
 pub returns-then-not-has_mark-clause-text : goal.returns-then-not-has_mark-clause-text
 returns-then-not-has_mark-clause-text g c =
     let e = c.write_all.ensures.text in
-    let how = (under c.args.grammar c.args.flags.0) in
+    let how = (chosen c.args.how) in
     let bytes = c.args.piece.now in
     let none = sym c.has_mark.ensures ∙ c.if-not-has_mark.true in
     let text = λ (text : List ℕ) (h : text ≡ bytes).

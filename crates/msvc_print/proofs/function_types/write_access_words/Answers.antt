@@ -2,15 +2,15 @@ use Rattle.std.proofs.Common.{◌≡◌, ap, sym, ◌∙◌, false, rules}
 use Rattle.std.proofs.lemmas.Result.{on_ok_weaker}
 use Rattle.msvc_print.proofs.Dropped.{access_words-kept}
 use Rattle.msvc_print.proofs.Settling.{settled_two}
-use Rattle.msvc_print.specs.Flags.{has, no_access_specifiers}
+use Rattle.msvc_print.specs.Functions.{hides_access}
 use Rattle.msvc_print.specs.Limited.{add_all}
 use Rattle.msvc_print.proofs.function_types.write_access_words.Goals as goal
 
 pub returns : goal.returns
 returns g c =
-    let is : has c.args.flags.bits no_access_specifiers ≡ false = search rules in
+    let is : hides_access c.args.pointed c.args.flags.bits ≡ false = search rules in
     on_ok_weaker c.write_member_word-3.result
     (λ last. settled_two _ _ _ _ _ c.in_ok-write_member_word.ensures
     (settled_two _ _ _ _ _ c.in_ok-write_member_word-2.ensures last)
-    ∙ ap (add_all c.args.out.now) (sym (access_words-kept _ _ is)))
+    ∙ ap (add_all c.args.out.now) (sym (access_words-kept _ _ _ is)))
     c.write_member_word-3.ensures

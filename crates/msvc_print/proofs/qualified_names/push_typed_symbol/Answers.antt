@@ -11,7 +11,7 @@ returns-then-contains-clause-text g c =
     let is : has c.args.flags.bits name_only ≡ true = search rules in
     on_ok_weaker c.push.result
     (λ last out. pushed_one _ _ _ out _ last ∙ same_pieces _ out _ _ _
-    (sym (symbol_pieces-name_only _ _ (type_of c.args.tree.now.symbol_type.now) c.args.flags.bits is)))
+    (sym (symbol_pieces-name_only _ _ (type_of c.args.tree.now.symbol_type.now) c.args.pointed c.args.flags.bits is)))
     c.push.ensures
 
 pub returns-then-contains-clause-lighter : goal.returns-then-contains-clause-lighter
@@ -24,7 +24,7 @@ returns-then-contains-2-clause-text g c =
     let none : has c.args.flags.bits no_function_returns ≡ true = search rules in
     λ out. pushed_two _ _ _ _ _ out _ c.in_ok-push.ensures c.in_ok-push-2.ensures
     ∙ same_pieces _ out _ _ _
-    (sym (symbol_pieces-no_returns _ _ (type_of c.args.tree.now.symbol_type.now) c.args.flags.bits whole none))
+    (sym (symbol_pieces-no_returns _ _ (type_of c.args.tree.now.symbol_type.now) c.args.pointed c.args.flags.bits whole none))
 
 pub returns-then-contains-2-clause-lighter : goal.returns-then-contains-2-clause-lighter
 returns-then-contains-2-clause-lighter g c =
@@ -37,7 +37,7 @@ returns-clause-text g c =
     on_ok_weaker c.push-4.result
     (λ last out. pushed_three _ _ _ _ _ _ _ out _ c.in_ok-push.ensures c.in_ok-push-2.ensures last
     ∙ same_pieces _ out _ _ _
-    (sym (symbol_pieces-all _ _ (type_of c.args.tree.now.symbol_type.now) c.args.flags.bits whole returns)))
+    (sym (symbol_pieces-all _ _ (type_of c.args.tree.now.symbol_type.now) c.args.pointed c.args.flags.bits whole returns)))
     c.push-4.ensures
 
 pub returns-clause-lighter : goal.returns-clause-lighter

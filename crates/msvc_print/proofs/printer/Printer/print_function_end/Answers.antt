@@ -6,7 +6,7 @@ use Rattle.msvc_print.proofs.printer.Printer.print_function_end.Goals as goal
 
 pub returns-clause-text : goal.returns-clause-text
 returns-clause-text g c =
-    on_ok_weaker c.print_parameters.result (λ last. last ∙ c.in_ok-push_suffix.ensures.text _
+    on_ok_weaker c.print_parameters.result (λ last. last ∙ c.in_ok-push_returned_suffix.ensures.text _
     ∙ ap (finished_after c.args.self.now)
     (settled-function_end _ _ _ c.args.function.now.parameters.now c.args.pointed c.args.function.now.qualifiers
     c.args.self.now.flags.bits _ c.in_ok-write_closing.ensures c.in_ok-write_text.ensures))

@@ -30,7 +30,7 @@ returns-in_ok-push-in-len1-up-clause-text g c = on_ok_weaker c.print_inner.resul
     ∙ ap (finished_after c.args.self.now) (sym (add_all-append c.args.self.now.out.now _ _))
     ∙ ap (λ x. finished_after c.args.self.now (add_all c.args.self.now.out.now x))
     (sym (before-around _ _ _ _ _ c.args.shape.now.types.now _ _ _ _ _ c.in-len1-up.len_at_least
-    (sym c.around.ensures ∙ c.in-Some.is) c.under.ensures)))
+    (sym c.around.ensures ∙ c.in-Some.is) c.under-beneath.ensures)))
     c.print_inner.ensures.text
 
 pub returns-in-None-clause-lighter : goal.returns-in-None-clause-lighter
