@@ -8,18 +8,21 @@
 static uint64_t argument_count;
 static char **arguments;
 
-/* Copies an argument without its NUL. Returns its length; -1 if there is no such argument, -2 if it doesn't fit. */
-static int64_t argument(uint64_t index, char *to, uint64_t size)
+/* Copies a text without its NUL. Returns its length, or -2 if it doesn't fit. */
+static int64_t copied(const char *text, char *to, uint64_t size)
 {
-    if (index >= argument_count) {
-        return -1;
-    }
-    size_t length = strlen(arguments[index]);
+    size_t length = strlen(text);
     if (length > size) {
         return -2;
     }
-    memcpy(to, arguments[index], length);
+    memcpy(to, text, length);
     return (int64_t)length;
+}
+
+/* Copies an argument without its NUL. Returns its length; -1 if there is no such argument, -2 if it doesn't fit. */
+static int64_t argument(uint64_t index, char *to, uint64_t size)
+{
+    return index >= argument_count ? -1 : copied(arguments[index], to, size);
 }
 
 /* The result of a leaf of cpuid, in the registers EAX, EBX, ECX and EDX, and the part that the system enables. Both

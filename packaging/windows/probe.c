@@ -1,6 +1,6 @@
 /* Makes the system calls of the programs, and prints each result on a line. It is built for Linux, as they are: over
    glibc it prints the results that system.c and memory.c must return. It prints its arguments, and reads probe.txt,
-   which has 13 bytes. The status is 127. */
+   which has 13 bytes. It reads the variable PROBED of the environment. The status is 127. */
 #include <stddef.h>
 #include <stdint.h>
 
@@ -20,6 +20,8 @@ int __xpg_strerror_r(int number, char *to, size_t size);
 int rattle_errno(void);
 void rattle_set_errno(int number);
 int64_t rattle_arg(uint64_t index, char *to, uint64_t size);
+int64_t rattle_env(const char *name, char *to, uint64_t size);
+int isatty(int file);
 void *malloc(size_t size);
 void *realloc(void *block, size_t size);
 void free(void *block);
@@ -88,6 +90,18 @@ static void arguments(int count)
     end_line();
 }
 
+/* Reads a variable that is set, one that isn't, and one into too small a buffer. */
+static void environment(void)
+{
+    static char value[100];
+    result("the length of a variable", rattle_env("PROBED", value, sizeof value));
+    print(value);
+    end_line();
+    say_number(rattle_env("NOT_PROBED", value, sizeof value));
+    say_number(rattle_env("PROBED", value, 1));
+    end_line();
+}
+
 static void texts(void)
 {
     static const int numbers[] = {2, 4, 5, 9, 11, 12, 13, 16, 20, 21, 22, 24, 28, 30, 32, 34, 36, 40, 123};
@@ -130,6 +144,8 @@ static void files(void)
     int folder = open(".", READ_ONLY);
     result("open a folder", folder);
     result("read a folder", read(folder, bytes, 1));
+    result("a folder is a terminal", isatty(folder));
+    result("what isn't open is a terminal", isatty(77));
     result("write no bytes", write(1, bytes, 0));
 }
 
@@ -168,6 +184,7 @@ int main(int count, char **words)
     __sysv_signal(BROKEN_PIPE, (void *)1);
     result("the number of arguments", count);
     arguments(count);
+    environment();
     texts();
     files();
     processor();

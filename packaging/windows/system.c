@@ -349,6 +349,16 @@ int64_t SYSV(write)(int number, const char *bytes, uint64_t length)
     return count;
 }
 
+/* Returns 1 for a console that shows colours, and has it show them from then on. The programs ask whether they write to
+   a terminal only to colour what they write. */
+int SYSV(isatty)(int number)
+{
+    struct stream *stream = stream_of(number);
+    DWORD mode;
+    return stream != NULL && stream->is_console && GetConsoleMode(stream->handle, &mode) &&
+           SetConsoleMode(stream->handle, mode | ENABLE_VIRTUAL_TERMINAL_PROCESSING);
+}
+
 /* A program reports by this that the processor is too old. */
 int64_t SYSV(__write)(int number, const char *bytes, uint64_t length)
 {
@@ -439,6 +449,14 @@ void *SYSV(__sysv_signal)(int number, void *handler)
 int64_t SYSV(rattle_arg)(uint64_t index, char *to, uint64_t capacity)
 {
     return argument(index, to, capacity);
+}
+
+/* Copies the value of a variable of the environment without its NUL. Returns its length; -1 if there is no such variable,
+   -2 if it doesn't fit. */
+int64_t SYSV(rattle_env)(const char *name, char *to, uint64_t capacity)
+{
+    const char *value = getenv(name);
+    return value == NULL ? -1 : copied(value, to, capacity);
 }
 
 const struct cpuid_feature *SYSV(__x86_get_cpuid_feature_leaf)(unsigned number)

@@ -15,19 +15,19 @@ pub use msvc_cursor::back_references::BackReference;
 pub use msvc_cursor::failure::{Failure, Message};
 pub use msvc_cursor::limits::{DEFAULT_BYTE_LIMIT, DEFAULT_NODE_LIMIT, Limits};
 pub use msvc_filter::{
-    Filtered, filter_slice, filter_slice_as, filter_slice_in, filter_text, filter_text_in,
-    filter_text_without,
+    Filtered, filter_slice, filter_slice_as, filter_slice_in, filter_text, filter_text_colored,
+    filter_text_in, filter_text_without,
 };
 pub use msvc_lines::{undname_lines, undname_one, undname_run};
 pub use msvc_nodes::error::{Error, ErrorRepr, Limit};
 pub use msvc_nodes::flags::{DemangleFlags, FuncClass, StorageClass};
-pub use msvc_print::{Text, llvm_flags};
+pub use msvc_print::{NamePlace, Text, llvm_flags};
 pub use msvc_read::{
     back_references, parse, parse_prefix, parse_within, symbol_length, symbol_length_within,
 };
 pub use msvc_streams::{Fault, Watched};
 use msvc_symbol::declare_once;
-pub use msvc_symbol::{Demangler, Grammar};
+pub use msvc_symbol::{Demangler, Grammar, Named};
 pub use msvc_tree::tree::{
     CallingConv, Name, NameSequence, Operator, Params, ParseResult, Symbol, Type, VarStorageKind,
 };

@@ -59,8 +59,8 @@ if_fits-is flags left x d few true false short ends = record {
   notes = x.2.notes;
   derived = d;
   nodes = few;
-  declared = refl;
   short = leb-true _ _ short;
+  shown = refl;
   takes = refl;
   ends = ends;
 }
@@ -70,7 +70,7 @@ if_fits-is flags left x d few true true short ends = λ bytes text other.
 if_fits-is flags left x d few false goes_on long ends = λ bytes text other.
     let one = symbol-of (under Crate flags) left bytes text x.0 x.1 x.2.notes d other in
     let more = leb-false (length (declaration x.0 flags)) max_declared long in
-    omega (arith, more, other.short, ap length one.4)
+    omega (arith, more, one.5, ap (λ t. length (declaration t flags)) one.1)
 
 if_few-is : (flags : ℕ) (left : List ℕ) (x : Reading) → Derives (candidate left) x.0 x.1 x.2.notes
     → (few : Bool) → nat_le (node_count x.0) max_nodes ≡ few → IsFound flags left (if_few few flags left x)

@@ -10,6 +10,7 @@ use Rattle.msvc_print.specs.Functions.{full_calling, full_function_qualifiers, f
 use Rattle.msvc_print.specs.Functions.{full_wide_word, function_qualifiers, kind_words, member_start, member_words}
 use Rattle.msvc_print.specs.Functions.{separator, wide_qualifier}
 use Rattle.msvc_print.specs.Operators.{base_class_pieces, full_operator_word, guard_number, guard_pieces, name_kind}
+use Rattle.msvc_print.specs.NamePlaces.{before_name, up_to_name}
 use Rattle.msvc_print.specs.Operators.{operator_pieces, operator_word, scoped, template_kind}
 use Rattle.msvc_print.specs.Pieces.{settle_all}
 use Rattle.msvc_print.specs.Pointed.{opens, some_opening, unaligned_shape}
@@ -25,7 +26,7 @@ use Rattle.msvc_facts.specs.FullTexts.{AreFullTexts}
 unfoldable full_printing : ⊤
 unfolding access_words angle_end arguments base_class_pieces base_word calling closing conversion convention_pieces declaration digits each_function_qualifier extern_words full_calling full_conversion full_function_qualifiers full_marked full_operator_word full_qualifiers full_reference_words full_this_words full_wide_word function_qualifiers grown guard_number guard_pieces is_empty_pack is_none kept_left kept_right kind_words mark_qualifiers marked member_start member_words name_kind name_pieces opening operator_pieces operator_word parameters qualifiers quoted_unless returned_end scope_pieces scoped separator settle_all table_end template_kind wide_qualifier each_name each_type grown_around laid layout_of
     slot_pieces slots opens some_opening unaligned_shape table_qualifiers literal narrow_width character
-    character_at escape hex
+    character_at escape hex before_name up_to_name
 full_printing = tt
 
 pub full-texts : AreFullTexts
@@ -102,6 +103,9 @@ full-texts =
       member_pointer_unaligned = refl;
       unaligned_to_array = refl;
       unaligned_to_function = refl;
+      place_in_a_function = refl;
+      place_in_a_pointer = refl;
+      place_of_a_name_alone = refl;
       unaligned_member_to_array = refl;
       descriptor_name = refl;
       displacement = refl;

@@ -18,11 +18,18 @@ use Rattle.msvc_shapes.specs.Rows as rows
 use Rattle.msvc_print.specs.Declaration.{declaration}
 use Rattle.msvc_print.specs.Flags.{full_style}
 use Rattle.msvc_print.specs.Flags as flags
+use Rattle.msvc_print.specs.NamePlaces.{name_place}
 
 -- the declaration of a symbol of this name, scope and type in Full's style, under these flags, is this text
 abbrev pub IsFullText : ℕ → NameTree → NameTrees → TypeTree → String → Type 0
 IsFullText flags n scope t text =
     declaration (record { name = n; scope = scope; symbol_type = t }) (flags + full_style) ≡ codes text
+
+-- in this declaration the name of the symbol stands at this place
+abbrev pub IsPlaced : ℕ → NameTree → NameTrees → TypeTree → (start end : ℕ) → Type 0
+IsPlaced flags n scope t start end =
+    name_place (record { name = n; scope = scope; symbol_type = t }) (flags + full_style)
+    ≡ record { start = start; end = end }
 
 -- a source name
 abbrev pub source : String → NameTree
@@ -259,6 +266,11 @@ pub record AreFullTexts : Type 0 where
       (variable (pointer (levels (plus 14 ∷ [])) 16) Global 0) "int __unaligned (*x)[14]"
   pub unaligned_to_function : IsFullText 0xe00400 (source "x") no_names
       (variable (pointer (function Cdecl void 0 (base Void 0)) 16) Global 0) "void __unaligned (__cdecl *x)(void)"
+  -- where the name stands: in `void __cdecl A::f(void)`, in `int __unaligned (*x)[14]`, and alone
+  pub place_in_a_function : IsPlaced 0xe00400 (source "f") (names (source "A") no_names) (function_of void) 13 17
+  pub place_in_a_pointer : IsPlaced 0xe00400 (source "x") no_names
+      (variable (pointer (levels (plus 14 ∷ [])) 16) Global 0) 18 19
+  pub place_of_a_name_alone : IsPlaced 0x1000 (source "x") (names (source "A") no_names) (variable int Global 0) 0 4
   pub unaligned_member_to_array : IsFullText 0xe00400 (source "x") no_names
       (variable (shape rows.member_pointer 16 [] [] (names class_c no_names) (types (levels (plus 14 ∷ [])) no_types))
       Global 0) "int __unaligned (C::*x)[14]"

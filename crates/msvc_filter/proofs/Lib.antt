@@ -7,3 +7,4 @@ pub mod Starts
 pub mod Streamed
 pub mod SymbolLookahead
 pub mod Symbols
+pub mod Showing

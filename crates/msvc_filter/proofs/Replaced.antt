@@ -16,7 +16,8 @@ use Rattle.msvc_rules.proofs.Laws.{symbol-derived, symbol-rejected}
 use Rattle.msvc_symbol.proofs.Lawful.{lawful_of}
 use Rattle.msvc_symbol.specs.Grammars.{Choice, dialect_of}
 use Rattle.msvc_filter.specs.Filtered.{AreParts, DerivesUnder, IsFilteredFrom, IsFilteredText, IsNoStart, IsSymbol}
-use Rattle.msvc_filter.specs.Filtered.{Part, declaration_under, declared}
+use Rattle.msvc_filter.specs.Colors.{declaration_under, shown_under}
+use Rattle.msvc_filter.specs.Filtered.{Part, declared}
 use Rattle.msvc_filter.specs.Filtered.{kept, max_declared, max_nodes, nothing, replaced, stays, text_of_parts}
 use Rattle.msvc_streams.specs.Runs.{IsLines}
 use Rattle.msvc_filter.specs.WordStates.{AreRest, Keeps, may_start}
@@ -64,15 +65,15 @@ symbol-decided how left =
     by-end tree rest s d few short false ends =
         inl (
           symbol_extent how.grammar left (length (candidate left) - length rest),
-          declaration_under how tree,
+          shown_under how tree,
           record {
             tree = tree;
             rest = rest;
             notes = s.notes;
             derived = d;
             nodes = few;
-            declared = refl;
             short = short;
+            shown = refl;
             takes = refl;
             ends = ends;
           },
@@ -89,7 +90,7 @@ symbol-decided how left =
     by-length tree rest s d few false e = inr (λ bytes text other.
         let one = symbol-of how left bytes text tree rest s.notes d other in
         let long = leb-false (length (declaration_under how tree)) max_declared e in
-        omega (arith, long, other.short, ap length one.4))
+        omega (arith, long, one.5, ap (λ t. length (declaration_under how t)) one.1))
 
     by-nodes : (tree : SymbolTree) (rest : List ℕ) (s : State) → DerivesUnder how (candidate left) tree rest s.notes
         → (few : Bool) → nat_le (node_count tree) max_nodes ≡ few

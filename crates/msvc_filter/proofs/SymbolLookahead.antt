@@ -185,8 +185,8 @@ symbol-more how left more bytes text enough s =
       notes = s.notes;
       derived = subst (λ l. DerivesUnder how l s.tree s.rest s.notes) (sym same) s.derived;
       nodes = s.nodes;
-      declared = s.declared;
       short = s.short;
+      shown = s.shown;
       takes = s.takes ∙ sym extent
           ∙ ap (λ l. symbol_extent how.grammar (left ++ more) (length l - length s.rest)) (sym same);
       ends = continues-some left more bytes inside ∙ s.ends;
@@ -208,8 +208,8 @@ symbol-less how left more bytes text enough s =
       notes = s.notes;
       derived = subst (λ l. DerivesUnder how l s.tree s.rest s.notes) same s.derived;
       nodes = s.nodes;
-      declared = s.declared;
       short = s.short;
+      shown = s.shown;
       takes = takes;
       ends = sym (continues-some left more bytes inside) ∙ s.ends;
     }

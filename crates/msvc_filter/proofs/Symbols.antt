@@ -22,7 +22,8 @@ use Rattle.msvc_symbol.proofs.Lawful.{lawful_of}
 use Rattle.msvc_symbol.specs.Grammars.{Choice, dialect_of}
 use Rattle.msvc_symbol.specs.declared.grammar.Grammar.{Grammar}
 use Rattle.msvc_symbol.specs.declared.grammar.Grammar.TheVariants.{Crate, Full}
-use Rattle.msvc_filter.specs.Filtered.{DerivesUnder, IsNoStart, IsNoneWithin, IsSymbol, declaration_under}
+use Rattle.msvc_filter.specs.Colors.{declaration_under, shown_under}
+use Rattle.msvc_filter.specs.Filtered.{DerivesUnder, IsNoStart, IsNoneWithin, IsSymbol}
 use Rattle.msvc_filter.specs.Filtered.{max_declared, max_nodes}
 use Rattle.msvc_filter.specs.SymbolBounds.{candidate, continues, is_trailing_byte}
 use Rattle.msvc_filter.specs.SymbolBounds.{is_visible, max_bytes, symbol_extent}
@@ -75,7 +76,7 @@ pub symbol-read : (how : Choice) (read : ℕ) (left input : List ℕ) → input 
     → IsSymbolLengthIn (dialect_of how.grammar) read input
     → length (declaration_under how tree) ≤ max_declared
     → continues (drop (symbol_extent how.grammar left read) left) ≡ false
-    → IsSymbol how left (symbol_extent how.grammar left read) (declaration_under how tree)
+    → IsSymbol how left (symbol_extent how.grammar left read) (shown_under how tree)
 symbol-read how read left input same tree is nodes read_length short ends =
     let to = (read_length.read_to tree is.rest is.notes is.derived).0 in
     let so_many : read ≡ length (candidate left) - length is.rest = omega (arith, to, ap length same) in
@@ -85,8 +86,8 @@ symbol-read how read left input same tree is nodes read_length short ends =
       notes = is.notes;
       derived = subst (λ l. DerivesUnder how l tree is.rest is.notes) same is.derived;
       nodes = nodes;
-      declared = refl;
       short = short;
+      shown = refl;
       takes = ap (symbol_extent how.grammar left) so_many;
       ends = ends;
     }
@@ -111,8 +112,8 @@ no_symbol-long : (how : Choice) (left input : List ℕ) → input ≡ candidate 
 no_symbol-long how left input same tree is long bytes other s =
     let here = subst (λ l. DerivesUnder how l tree is.rest is.notes) same is.derived in
     let one = derived-one how (candidate left) s.tree tree s.rest is.rest s.notes is.notes s.derived here in
-    let equal : other ≡ declaration_under how tree = s.declared ∙ ap (declaration_under how) one.0 in
-    larger (length other) (length (declaration_under how tree)) s.short long (ap length equal)
+    larger (length (declaration_under how s.tree)) (length (declaration_under how tree)) s.short long
+    (ap (λ t. length (declaration_under how t)) one.0)
   where
     larger : (a b : ℕ) → a ≤ max_declared → max_declared < b → a ≡ b → ⊥
     larger a b short long equal = omega arith
@@ -149,7 +150,7 @@ pub symbol-only : (how : Choice) (left : List ℕ) (bytes others : ℕ) (text ot
 symbol-only how left bytes others text other s t =
     let one = derived-one how (candidate left) t.tree s.tree t.rest s.rest t.notes s.notes t.derived s.derived in (
       t.takes ∙ as-many how left t.tree s.tree t.rest s.rest t.notes s.notes t.derived s.derived ∙ sym s.takes,
-      t.declared ∙ ap (declaration_under how) one.0 ∙ sym s.declared,
+      t.shown ∙ ap (shown_under how) one.0 ∙ sym s.shown,
     )
 
 -- whatever is a symbol at a start is the one that the grammar derives
@@ -157,14 +158,15 @@ pub symbol-of : (how : Choice) (left : List ℕ) (bytes : ℕ) (text : List ℕ)
     (notes : List Note) → DerivesUnder how (candidate left) tree rest notes → IsSymbol how left bytes text
     → (s : SymbolTree) × (s ≡ tree) × (node_count s ≤ max_nodes)
     × (bytes ≡ symbol_extent how.grammar left (length (candidate left) - length rest))
-    × (text ≡ declaration_under how tree)
+    × (text ≡ shown_under how tree) × (length (declaration_under how s) ≤ max_declared)
 symbol-of how left bytes text tree rest notes d s =
     let one = derived-one how (candidate left) s.tree tree s.rest rest s.notes notes s.derived d in (
       s.tree,
       one.0,
       s.nodes,
       s.takes ∙ as-many how left s.tree tree s.rest rest s.notes notes s.derived d,
-      s.declared ∙ ap (declaration_under how) one.0,
+      s.shown ∙ ap (shown_under how) one.0,
+      s.short,
     )
 
 -- a symbol takes the bytes that were read

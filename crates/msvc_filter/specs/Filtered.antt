@@ -7,8 +7,9 @@ use Rattle.msvc_rules.specs.State.{Note}
 use Rattle.msvc_rules.specs.Parsed.{IsParsedIn}
 use Rattle.msvc_rules.specs.Reads.{DerivesIn}
 use Rattle.msvc_rules.specs.Rejections.{IsNoSymbolIn}
-use Rattle.msvc_symbol.specs.Grammars.{Choice, declaration_in, dialect_of, under}
+use Rattle.msvc_symbol.specs.Grammars.{Choice, dialect_of, under}
 use Rattle.msvc_symbol.specs.declared.grammar.Grammar.TheVariants.{Crate}
+use Rattle.msvc_filter.specs.Colors.{declaration_under, shown_under}
 use Rattle.msvc_filter.specs.SymbolBounds.{candidate, continues, is_start, symbol_extent, utf8_front}
 
 -- the most nodes of a symbol that the filter replaces
@@ -23,10 +24,6 @@ max_declared = 65536
 abbrev pub DerivesUnder : Choice → List ℕ → SymbolTree → List ℕ → List Note → Type 0
 DerivesUnder how text tree rest notes = DerivesIn (dialect_of how.grammar).grammar text tree rest notes
 
--- a tree's declaration, as is chosen
-abbrev pub declaration_under : Choice → SymbolTree → List ℕ
-declaration_under how tree = declaration_in how.grammar tree how.flags
-
 -- The bytes `left` at a start begin with a symbol: the grammar derives a tree from the candidate there, and the tree
 -- and its declaration are not too large. The symbol takes `bytes` bytes and doesn't go on after these.
 pub record IsSymbol (how : Choice) (left : List ℕ) (bytes : ℕ) (text : List ℕ) : Type 0 where
@@ -35,8 +32,8 @@ pub record IsSymbol (how : Choice) (left : List ℕ) (bytes : ℕ) (text : List 
   pub notes : List Note
   pub derived : DerivesUnder how (candidate left) tree rest notes
   pub nodes : node_count tree ≤ max_nodes
-  pub declared : text ≡ declaration_under how tree
-  pub short : length text ≤ max_declared
+  pub short : length (declaration_under how tree) ≤ max_declared
+  pub shown : text ≡ shown_under how tree
   pub takes : bytes ≡ symbol_extent how.grammar left (length (candidate left) - length rest)
   pub ends : continues (drop bytes left) ≡ false
 

@@ -7,15 +7,16 @@ ghost use Rattle.std.specs.Io.KnownBytes.{Appends, Consumes, IsAtEnd};
 ghost use Rattle.msvc_nodes.specs.Trees.{SymbolTree};
 ghost use Rattle.msvc_rules.specs.Counts.{node_count};
 ghost use Rattle.msvc_rules.specs.Parsed.{IsParsedIn, IsSymbolLengthIn};
-ghost use Rattle.msvc_symbol.specs.Demangled.{IsDeclaredAsIn};
 ghost use Rattle.msvc_symbol.specs.Failures.{IsFailureIn};
 ghost use Rattle.msvc_symbol.specs.Grammars.{dialect_of, under};
 ghost use Rattle.msvc_streams.specs.Faults.{SetsFailureFlag, failure_flag, no_stream};
-ghost use Rattle.msvc_filter.specs.Choices.{chosen, without};
+ghost use Rattle.msvc_filter.specs.Choices.{chosen, colored_without, without};
+ghost use Rattle.msvc_filter.specs.Colors as spec;
+ghost use Rattle.msvc_filter.specs.Colors.{declaration_under, shown_under};
+ghost use Rattle.msvc_filter.specs.Shown.{IsShownIn};
 ghost use Rattle.msvc_filter.specs.SliceWriters.{IsSliceWriter, space_after};
 ghost use Rattle.msvc_filter.specs.Filtered.{AreOnlyParts, AreOnlyPartsIn, IsNoStart, IsNoneWithin, Part};
 ghost use Rattle.msvc_filter.specs.Filtered.{declared, fitting, kept, max_declared, max_nodes};
-ghost use Rattle.msvc_filter.specs.Filtered.{declaration_under};
 ghost use Rattle.msvc_filter.specs.Filtered.{text_of_parts};
 ghost use Rattle.msvc_streams.specs.Runs.{Writes, WritesPart};
 ghost use Rattle.msvc_filter.specs.FilterRuns.{WritesFiltered, WritesFilteredIn};
@@ -31,6 +32,7 @@ use crate::symbol_bounds::{
 use msvc_cursor::failure::Failure;
 use msvc_cursor::limits::{DEFAULT_BYTE_LIMIT, DEFAULT_NODE_LIMIT, Limits};
 use msvc_nodes::flags::DemangleFlags;
+use msvc_print::NamePlace;
 use msvc_streams::{Fault, Polls, Taken, Watched, consume, fail, fill_buf, line_end, write_all};
 use msvc_symbol::{Demangler, Grammar};
 use std::alloc::{AllocError, Allocator, Global};
@@ -43,6 +45,7 @@ struct How {
     flags: DemangleFlags,
     /// What Full leaves out: flags of `llvm-undname`.
     left_out: u64,
+    is_colored: bool,
 }
 
 /// The most bytes of a line that are held before a piece of the line is written.
@@ -136,7 +139,7 @@ pub fn filter_text_in<R: BufRead, W: Write>(
 /// let mut input = Watched::new(b"at ?f@@YAHH@Z+0x5\n".as_slice());
 /// let mut out = Watched::new(Vec::new(alloc));
 /// let flags = DemangleFlags::llvm();
-/// let left_out = NO_RETURN_TYPE;
+/// let left_out = llvm_flags::NO_RETURN_TYPE;
 /// assert!(rt; filter_text_without(&mut demangler, &mut input, &mut out, flags, left_out).is_ok());
 /// assert_eq!(rt; out.into_inner().as_slice(), b"at __cdecl f(int)+0x5\n".as_slice());
 /// ```
@@ -154,12 +157,59 @@ pub fn filter_text_without<R: BufRead, W: Write>(
     ensures sets_failed { SetsFailureFlag result (failure_flag input.old input.new) (failure_flag out.old out.new)
         no_stream }
 {
-    let how = How {
+    let how = how_of(demangler, flags, left_out, false);
+    filter_lines(demangler, how, input, out)
+}
+
+/// Copies `input` to `out`, as [`filter_text_without`] does, with declarations in cyan, and the name of each symbol bold,
+/// as control sequences set them in a terminal.
+///
+/// # Errors
+///
+/// Fails where [`filter_text`] does.
+///
+/// # Examples
+///
+/// ```
+/// let mut demangler = Demangler::with_grammar(alloc, Grammar::Full);
+/// let mut input = Watched::new(b"at ?f@@YAHH@Z+0x5\n".as_slice());
+/// let mut out = Watched::new(Vec::new(alloc));
+/// let flags = DemangleFlags::llvm();
+/// assert!(rt; filter_text_colored(&mut demangler, &mut input, &mut out, flags, 0).is_ok());
+/// let expected = b"at \x1b[36mint __cdecl \x1b[1mf\x1b[22m(int)\x1b[39m+0x5\n".as_slice();
+/// assert_eq!(rt; out.into_inner().as_slice(), expected);
+/// ```
+pub fn filter_text_colored<R: BufRead, W: Write>(
+    demangler: &mut Demangler,
+    input: &mut Watched<R>,
+    out: &mut Watched<W>,
+    flags: DemangleFlags,
+    left_out: u64,
+) -> Result<(), Fault>
+    ensures text { (taken text : List ℕ) × Consumes (R.remaining input.old.stream) (R.remaining input.new.stream) taken
+        × Appends (W.contents out.old.stream) (W.contents out.new.stream) text
+        × WritesFilteredIn result (colored_without demangler.old.grammar flags.0 left_out) taken text }
+    ensures end { OnOk result (OnSome (R.remaining input.old.stream) (IsAtEnd (R.remaining input.new.stream))) }
+    ensures sets_failed { SetsFailureFlag result (failure_flag input.old input.new) (failure_flag out.old out.new)
+        no_stream }
+{
+    let how = how_of(demangler, flags, left_out, true);
+    filter_lines(demangler, how, input, out)
+}
+
+/// Returns how symbols are read and shown with the grammar of a demangler.
+fn how_of(demangler: &Demangler, flags: DemangleFlags, left_out: u64, is_colored: bool) -> How
+    ensures grammar { result.grammar ≡ demangler.now.grammar }
+    ensures flags { result.flags ≡ flags }
+    ensures left_out { result.left_out ≡ left_out }
+    ensures is_colored { result.is_colored ≡ is_colored }
+{
+    How {
         grammar: demangler.grammar(),
         flags,
         left_out,
-    };
-    filter_lines(demangler, how, input, out)
+        is_colored,
+    }
 }
 
 /// Copies `input` to `out`, as [`filter_text`] does, with each symbol of a grammar replaced.
@@ -385,6 +435,7 @@ pub fn filter_slice_as<A: Allocator + Copy>(
         grammar,
         flags,
         left_out: 0,
+        is_colored: false,
     };
     let mut scan = WordState::new(b'\n');
     let mut writer = SliceWriter {
@@ -625,9 +676,8 @@ fn match_symbol<A: Allocator + Copy>(
     }
 }
 
-/// Prints the declaration of the symbol that `input` begins with as the demangler's text, and returns the number of
-/// bytes that were read for it. Returns `None` if there is no symbol, or one that exceeds a limit; the text is no
-/// declaration then.
+/// Shows the symbol that `input` begins with as the demangler's text, and returns the number of bytes that were read for
+/// it. Returns `None` if there is no symbol, or one that exceeds a limit; the text is unspecified then.
 fn demangle_candidate<A: Allocator + Copy>(
     demangler: &mut Demangler<A>,
     how: How,
@@ -635,7 +685,7 @@ fn demangle_candidate<A: Allocator + Copy>(
 ) -> Result<Option<usize>, AllocError>
     ensures declared { IfOk result (λ found. IfSome found (λ bytes. (tree : SymbolTree)
         × IsParsedIn (dialect_of how.grammar) input.now tree
-        × (demangler.new.text ≡ Some (declaration_under (chosen how) tree)) × (node_count tree ≤ max_nodes)
+        × (demangler.new.text ≡ Some (shown_under (chosen how) tree)) × (node_count tree ≤ max_nodes)
         × IsSymbolLengthIn (dialect_of how.grammar) bytes input.now
         × (length (declaration_under (chosen how) tree) ≤ max_declared))) }
     ensures none { IfOk result (λ found. IfNone found (IsNoneWithin (chosen how) input.now)) }
@@ -644,7 +694,7 @@ fn demangle_candidate<A: Allocator + Copy>(
         nodes: Some(DEFAULT_NODE_LIMIT),
         bytes: Some(DEFAULT_BYTE_LIMIT),
     };
-    match declare(demangler, how, input, limits) {
+    match show(demangler, how, input, limits) {
         Ok(length) => Ok(Some(length)),
         Err(failure) => {
             if failure.is_out_of_memory() {
@@ -656,24 +706,62 @@ fn demangle_candidate<A: Allocator + Copy>(
     }
 }
 
-/// Prints the declaration of the symbol that `input` begins with as the demangler's text, within limits. Returns the
-/// bytes that the symbol takes.
+/// Shows the symbol that `input` begins with as the demangler's text: its declaration, within limits. Returns the bytes
+/// that the symbol takes.
 #[inline(always)]
-fn declare<A: Allocator + Copy>(
+fn show<A: Allocator + Copy>(
     demangler: &mut Demangler<A>,
     how: How,
     input: &str,
     limits: Limits,
 ) -> Result<usize, Failure>
-    ensures declared { IfOk result (λ length.
-        IsDeclaredAsIn how.grammar limits input.now (chosen how).flags length demangler.new.text) }
+    ensures shown { IfOk result (λ length. IsShownIn (chosen how) limits input.now length demangler.new.text) }
     ensures fails { IfErr result (λ failure.
         IsFailureIn how.grammar limits input.now (chosen how).flags failure) }
 {
-    if how.left_out != 0 {
-        if let Grammar::Full = how.grammar {
-            return demangler.declare_without(input, how.flags, how.left_out, limits);
-        }
+    if how.is_colored || how.left_out != 0 {
+        return show_named(demangler, how, input, limits);
     }
     demangler.declare(how.grammar, input, how.flags, limits)
+}
+
+/// Shows a symbol as [`show`] does, in colors or without what is left out.
+#[cold]
+fn show_named<A: Allocator + Copy>(
+    demangler: &mut Demangler<A>,
+    how: How,
+    input: &str,
+    limits: Limits,
+) -> Result<usize, Failure>
+    ensures shown { IfOk result (λ length. IsShownIn (chosen how) limits input.now length demangler.new.text) }
+    ensures fails { IfErr result (λ failure.
+        IsFailureIn how.grammar limits input.now (chosen how).flags failure) }
+{
+    let named = demangler.declare_named(how.grammar, input, how.flags, how.left_out, limits)?;
+    if how.is_colored {
+        let text = colored(demangler.alloc(), demangler.declared(), named.place)?;
+        demangler.replace(&text)?;
+    }
+    Ok(named.length)
+}
+
+/// Returns a declaration in colors; the name in it stands at `place`.
+fn colored<A: Allocator>(
+    alloc: A,
+    declared: &[u8],
+    place: NamePlace,
+) -> Result<Vec<u8, A>, AllocError>
+    requires ordered { place.start ≤ place.end }
+    requires inside { place.end ≤ length declared.now }
+    ensures { IfOk result (λ text. text.items ≡ spec.colored declared.now place) }
+{
+    let mut text = Vec::new(alloc);
+    text.extend_from_slice(b"\x1b[36m")?;
+    text.extend_from_slice(&declared[..place.start])?;
+    text.extend_from_slice(b"\x1b[1m")?;
+    text.extend_from_slice(&declared[place.start..place.end])?;
+    text.extend_from_slice(b"\x1b[22m")?;
+    text.extend_from_slice(&declared[place.end..])?;
+    text.extend_from_slice(b"\x1b[39m")?;
+    Ok(text)
 }

@@ -10,31 +10,14 @@ use Rattle.msvc_print.specs.Sides.{kept_left, kept_right}
 use Rattle.msvc_print.specs.declared.pointed.Pointed.{Pointed}
 use Rattle.msvc_print.specs.Words.{full_qualifiers, qualifier, qualifier_space, qualifiers, set_word}
 
-pub kept_right-all : (pieces : List Piece) (flags : ℕ) → has flags name_only ≡ false →
-    kept_right pieces flags ≡ pieces
-unfolding kept_right
-kept_right-all pieces flags e = ap (λ b. cond b [] pieces) e
-
 pub kept_right-dropped : (pieces : List Piece) (flags : ℕ) → has flags name_only ≡ true → kept_right pieces flags ≡ []
 unfolding kept_right
 kept_right-dropped pieces flags e = ap (λ b. cond b [] pieces) e
-
-pub kept_left-all : (pieces : List Piece) (flags : ℕ) → has flags name_only ≡ false →
-    has flags no_function_returns ≡ false → kept_left pieces flags ≡ pieces
-unfolding kept_left
-kept_left-all pieces flags e e' =
-    ap (λ b. cond b [] (cond (has flags no_function_returns) [] pieces)) e ∙ ap (λ b. cond b [] pieces) e'
 
 pub kept_left-name_only : (pieces : List Piece) (flags : ℕ) → has flags name_only ≡ true →
     kept_left pieces flags ≡ []
 unfolding kept_left
 kept_left-name_only pieces flags e = ap (λ b. cond b [] (cond (has flags no_function_returns) [] pieces)) e
-
-pub kept_left-no_returns : (pieces : List Piece) (flags : ℕ) → has flags name_only ≡ false →
-    has flags no_function_returns ≡ true → kept_left pieces flags ≡ []
-unfolding kept_left
-kept_left-no_returns pieces flags e e' =
-    ap (λ b. cond b [] (cond (has flags no_function_returns) [] pieces)) e ∙ ap (λ b. cond b [] pieces) e'
 
 pub access_words-kept : (pointed : Pointed) (class flags : ℕ) → hides_access pointed flags ≡ false →
     access_words pointed class flags

@@ -17,9 +17,7 @@ use Rattle.msvc_print.specs.Pieces.{Piece, text}
 use Rattle.msvc_print.specs.Shapes.{laid}
 use Rattle.msvc_print.specs.Sides.{Sides, alone, around, between, kept_left, kept_right}
 use Rattle.msvc_print.specs.Words.{closing, mark_word, marked, opening, qualifiers, shown_variable_word}
-use Rattle.msvc_print.specs.Flags.{has, llvm_no_return, llvm_no_variable, name_only, no_function_returns}
-use Rattle.msvc_print.proofs.Dropped.{kept_left-all, kept_left-name_only, kept_left-no_returns}
-use Rattle.msvc_print.proofs.Dropped.{kept_right-all, kept_right-dropped}
+use Rattle.msvc_print.specs.Flags.{llvm_no_return, llvm_no_variable}
 use Rattle.msvc_print.proofs.Stack.{pushes}
 use Rattle.msvc_shapes.specs.Layouts.{layout_of, slots}
 use Rattle.msvc_shapes.specs.declared.layouts.Side.TheVariants as side
@@ -67,8 +65,8 @@ around_shape-halves (Some is_mark) set t ts more end pointed inside flags h =
     h p (between more inside end) ∙ between-twice (before t p flags) more end (after t p flags) inside
 
 -- the sides of the name of a function, whose returned type a flag may drop
-called-halves : (dropped : Bool) (pointed : Pointed) (convention : Convention) (t : TypeTree) (ps : List Piece) (set : ℕ)
-    (inside : Sides) (flags : ℕ) →
+called-halves : (dropped : Bool) (pointed : Pointed) (convention : Convention) (t : TypeTree) (ps : List Piece)
+    (set : ℕ) (inside : Sides) (flags : ℕ) →
     ((s : Sides) → grown t No s flags ≡ between (before t No flags) s (after t No flags)) →
     cond dropped (called [] pointed convention ps set inside flags)
     (grown t No (called (returned_end t flags) pointed convention ps set inside flags) flags)
@@ -179,30 +177,5 @@ symbol_pieces-halves n scope t p flags =
     (left-before t p flags)
     ∙ ap (λ x. kept_left (before t p flags) flags ++ (symbol_name n scope t flags ++ kept_right x flags))
     (right-after t p flags)
-
--- what flags keep of them
-pub symbol_pieces-name_only : (n : NameTree) (scope : NameTrees) (t : TypeTree) (p : Pointed) (flags : ℕ) →
-    has flags name_only ≡ true → symbol_pieces n scope t p flags ≡ symbol_name n scope t flags
-symbol_pieces-name_only n scope t p flags e =
-    symbol_pieces-halves n scope t p flags
-    ∙ ap (λ x. x ++ (symbol_name n scope t flags ++ kept_right (after t p flags) flags)) (kept_left-name_only _ _ e)
-    ∙ ap (λ x. symbol_name n scope t flags ++ x) (kept_right-dropped _ _ e) ∙ append-nil (symbol_name n scope t flags)
-
-pub symbol_pieces-no_returns : (n : NameTree) (scope : NameTrees) (t : TypeTree) (p : Pointed) (flags : ℕ) →
-    has flags name_only ≡ false → has flags no_function_returns ≡ true →
-    symbol_pieces n scope t p flags ≡ symbol_name n scope t flags ++ after t p flags
-symbol_pieces-no_returns n scope t p flags e e' =
-    symbol_pieces-halves n scope t p flags
-    ∙ ap (λ x. x ++ (symbol_name n scope t flags ++ kept_right (after t p flags) flags))
-    (kept_left-no_returns _ _ e e')
-    ∙ ap (λ x. symbol_name n scope t flags ++ x) (kept_right-all _ _ e)
-
-pub symbol_pieces-all : (n : NameTree) (scope : NameTrees) (t : TypeTree) (p : Pointed) (flags : ℕ) →
-    has flags name_only ≡ false → has flags no_function_returns ≡ false →
-    symbol_pieces n scope t p flags ≡ before t p flags ++ (symbol_name n scope t flags ++ after t p flags)
-symbol_pieces-all n scope t p flags e e' =
-    symbol_pieces-halves n scope t p flags
-    ∙ ap (λ x. x ++ (symbol_name n scope t flags ++ kept_right (after t p flags) flags)) (kept_left-all _ _ e e')
-    ∙ ap (λ x. before t p flags ++ (symbol_name n scope t flags ++ x)) (kept_right-all _ _ e)
 
 pub ruleset pushed_left = (pushes, left-before)

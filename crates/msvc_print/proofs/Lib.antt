@@ -14,6 +14,7 @@ pub mod Nodes
 pub mod OperatorNames
 pub mod Parameters
 pub mod PrinterLoop
+pub mod NamePlaces
 pub mod Laws
 pub mod PieceTexts
 pub mod ShapeTexts

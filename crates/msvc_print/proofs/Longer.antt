@@ -19,7 +19,7 @@ settle-longer before (space s) = at (is_written_after s (last_byte before))
 longer : (a b c : ℕ) → a ≤ b → b ≤ c → a ≤ c
 longer a b c first second = omega arith
 
-settle_all-longer : (before : List ℕ) (pieces : List Piece) → length before ≤ length (settle_all before pieces)
+pub settle_all-longer : (before : List ℕ) (pieces : List Piece) → length before ≤ length (settle_all before pieces)
 unfolding settle_all
 settle_all-longer before [] = omega arith
 settle_all-longer before (piece ∷ pieces) =

@@ -1,6 +1,5 @@
 -- The pieces of words, functions, names and scopes are UTF-8 if the names in them are.
 use Rattle.std.proofs.Common.{ℕ, zero, suc, ◌+◌, ◌<◌, ◌/◌, ◌%◌, ℤ, pos, negsuc, List, [], ◌∷◌, ◌++◌, Bool, true}
-use Rattle.std.proofs.Common.{◌&&◌}
 use Rattle.std.proofs.Common.{false, cond, ◌==◌, Option, Some, None, unwrap_or, refl, arith, codes}
 use Rattle.std.proofs.lemmas.Str.{IsUtf8-append, IsUtf8-from_ascii, IsUtf8-nil}
 use Rattle.std.proofs.lemmas.Str.Ascii.{IsAscii-cons, IsAscii-nil}
@@ -21,7 +20,7 @@ use Rattle.msvc_nodes.specs.declared.kinds.PlainOperator.{PlainOperator}
 use Rattle.msvc_nodes.specs.declared.kinds.PlainOperator.TheVariants as plain_operator
 use Rattle.msvc_nodes.specs.declared.kinds.SpecialTableKind.{SpecialTableKind}
 use Rattle.msvc_nodes.specs.declared.kinds.SpecialTableKind.TheVariants as table_kind
-use Rattle.msvc_nodes.specs.Trees.{NameTrees, TypeTree, operator}
+use Rattle.msvc_nodes.specs.Trees.{NameTrees, TypeTree}
 use Rattle.msvc_nodes.specs.Trees.{no_names, names}
 use Rattle.msvc_nodes.specs.declared.kinds.Convention.{Convention}
 use Rattle.msvc_nodes.specs.declared.kinds.Convention.TheVariants.{Cdecl}

@@ -8,7 +8,7 @@ use Rattle.msvc_print.specs.Declaration.{declaration}
 use Rattle.msvc_print.specs.Limited.{LimitedText, add_all, empty_within, within}
 use Rattle.msvc_print.specs.SymbolNodes.{symbol_pieces_of}
 use Rattle.msvc_print.specs.Within.{IsPrintedWithin}
-use Rattle.msvc_print.specs.Work.{finished, Pushes}
+use Rattle.msvc_print.specs.Work.{finished}
 use Rattle.msvc_print.specs.declared.item.Item.{Item}
 use Rattle.msvc_print.specs.declared.pointed.Pointed.TheVariants.{No}
 
@@ -16,14 +16,12 @@ pub finished-none : (stack : List Item) (out : LimitedText) (flags : ℕ) → st
 unfolding finished
 finished-none stack out flags e = ap (λ s. finished s out flags) e
 
--- a symbol that is pushed alone, once it is finished
-pub printed_typed_symbol : (t : TypedSymbol) (flags max : ℕ) (s s1 : List Item) (out out1 : LimitedText) → s ≡ [] →
-    out ≡ empty_within max → Pushes (symbol_pieces_of t No flags) flags s s1 → out1 ≡ finished s1 out flags →
-    out1.text ≡ within max (declaration (typed_symbol_of t) flags)
+-- a symbol that is written to an empty text
+pub written_typed_symbol : (t : TypedSymbol) (flags max : ℕ) (out out1 : LimitedText) → out ≡ empty_within max →
+    out1 ≡ add_all out (symbol_pieces_of t No flags) → out1.text ≡ within max (declaration (typed_symbol_of t) flags)
 unfolding declaration
-printed_typed_symbol t flags max s s1 out out1 none empty pushed done =
-    ap (λ x. x.text) (done ∙ pushed out ∙ finished-none s _ flags none
-    ∙ ap (λ x. add_all x (symbol_pieces_of t No flags)) empty)
+written_typed_symbol t flags max out out1 empty written =
+    ap (λ x. x.text) (written ∙ ap (λ x. add_all x (symbol_pieces_of t No flags)) empty)
     ∙ add_all-within max [] (symbol_pieces_of t No flags) (omega arith)
 
 -- what stands of a text under a limit, and whether the text has at most so many bytes

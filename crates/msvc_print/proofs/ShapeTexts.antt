@@ -5,7 +5,6 @@ use Rattle.std.proofs.Common.{false, cond, drop, ◌==◌, Option, Some, None, r
 use Rattle.std.proofs.lemmas.Str.{IsUtf8-from_ascii}
 use Rattle.std.proofs.lemmas.Str.Ascii.{IsAscii-cons, IsAscii-nil}
 use Rattle.std.specs.Str.{IsAscii, IsUtf8}
-use Rattle.msvc_nodes.specs.Trees.{names, types}
 use Rattle.msvc_nodes.specs.declared.nodes.Number.{Number}
 use Rattle.msvc_print.specs.Flags.{has, space_after_comma}
 use Rattle.msvc_print.specs.Pieces.{Piece, text}
@@ -17,8 +16,6 @@ use Rattle.msvc_print.specs.Strings.{bytes_of, character, character_at, characte
 use Rattle.msvc_print.specs.Strings.{hex, hex_byte, hex_digit, hex_from, is_printable, literal, literal_pieces}
 use Rattle.msvc_print.specs.Strings.{plain_character, quoted as string, size, start, width}
 use Rattle.msvc_print.specs.Words.{full_space}
-use Rattle.msvc_print.specs.Words.{closing, kind_word}
-use Rattle.msvc_print.specs.Words.{opening, qualifiers, table_qualifiers, unaligned}
 use Rattle.msvc_print.specs.declared.strings.Width.{Width}
 use Rattle.msvc_print.specs.declared.strings.Width.TheVariants.{Wide, One, Two, Four}
 use Rattle.msvc_shapes.proofs.PlainWords.{EachWord, WordOfSlot, slots-ascii}

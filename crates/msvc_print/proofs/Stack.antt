@@ -3,7 +3,7 @@ use Rattle.std.proofs.Common.{◌≡◌, ℕ, ◌+◌, List, [], ◌∷◌, ◌+
 use Rattle.msvc_print.proofs.Settling.{add_all-append, add_all-none, settling}
 use Rattle.msvc_print.specs.Limited.{LimitedText, add_all}
 use Rattle.msvc_print.specs.Pieces.{Piece}
-use Rattle.msvc_print.specs.Work.{item_pieces, item_weight, finished, work}
+use Rattle.msvc_print.specs.Work.{Pushes, item_pieces, item_weight, finished, work}
 use Rattle.msvc_print.specs.declared.item.Item.{Item}
 
 pub finished-push : (stack : List Item) (item : Item) (out : LimitedText) (flags : ℕ) →
@@ -41,6 +41,17 @@ pushed_three s s1 s2 s3 a b c out flags e e' e'' =
     pushed_one s2 s3 c out flags e'' ∙ pushed_two s s1 s2 a b _ flags e e'
     ∙ ap (λ x. finished s x flags)
     (sym (add_all-append out (item_pieces c flags) (item_pieces b flags ++ item_pieces a flags)))
+
+-- what is finished after an item between what two other pushes stand for
+pub pushed_around : (s s1 s2 s3 : List Item) (a : Item) (left right : List Piece) (out : LimitedText) (flags : ℕ) →
+    Pushes right flags s s1 → s2 ≡ s1 ++ a ∷ [] → Pushes left flags s2 s3 →
+    finished s3 out flags ≡ finished s (add_all out (left ++ (item_pieces a flags ++ right))) flags
+pushed_around s s1 s2 s3 a left right out flags after e before =
+    before out ∙ pushed_one s1 s2 a (add_all out left) flags e
+    ∙ after (add_all (add_all out left) (item_pieces a flags))
+    ∙ ap (λ x. finished s x flags)
+    (sym (add_all-append out left (item_pieces a flags ++ right)
+    ∙ add_all-append (add_all out left) (item_pieces a flags) right))
 
 pub work_one : (s s1 : List Item) (a : Item) → s1 ≡ s ++ a ∷ [] → work s1 ≡ item_weight a + work s
 work_one s s1 a e = ap work e ∙ work-push s a

@@ -20,7 +20,7 @@ use Rattle.msvc_print.specs.Declaration.{each_name, each_type, grown_around}
 use Rattle.msvc_print.specs.Operators.{name_kind}
 use Rattle.msvc_print.specs.Flags.{full_style, has, llvm_no_return, llvm_no_variable}
 use Rattle.msvc_print.specs.Pieces.{Piece}
-use Rattle.msvc_print.specs.Sides.{Sides, alone, around, kept}
+use Rattle.msvc_print.specs.Sides.{Sides, alone, kept}
 use Rattle.msvc_shapes.specs.Layouts.{layout_of}
 use Rattle.msvc_shapes.specs.declared.layouts.Side.TheVariants as side
 use Rattle.msvc_print.proofs.PieceTexts.{AreTexts, AreTexts-append, AreTexts-choice, AreTexts-none, AreTexts-space}
@@ -142,7 +142,8 @@ mutual
       let whole = scope_pieces-texts scope flags h in
       between-texts _ s _ (qualifiers-texts set flags) hs (table_end-texts k scope _ whole.path)
   grown-texts (vcall_thunk n convention) pointed s flags hs h = between-texts _ s _
-      (AreTexts-text (codes "[thunk]: ") _ (codes "[thunk]: ", (refl, refl)) (calling-texts (passed_on pointed) convention flags)) hs
+      (AreTexts-text (codes "[thunk]: ") _ (codes "[thunk]: ", (refl, refl))
+      (calling-texts (passed_on pointed) convention flags)) hs
       (thunk_end-texts n flags)
   grown-texts (numbered number_kind.Constant n) pointed s flags hs h =
       before-texts _ s (AreTexts-text _ [] (signed_decimal-utf8 n) AreTexts-none) hs

@@ -9,7 +9,7 @@ use Rattle.msvc_print.specs.Flags.{full_style, has, llvm_flags, name_only}
 use Rattle.msvc_print.specs.Operators.{name_kind}
 use Rattle.msvc_print.specs.declared.operators.NameKind.TheVariants as name_kinds
 
--- the bits of all flags that definitions read in both styles, and the bit of the style; the bit of DECODE_32_BIT is none
+-- the bits of all flags that definitions read in both styles, and the bit of the style; DECODE_32_BIT is none of them
 -- of them
 abbrev pub obeyed_flags : ℕ
 obeyed_flags = 0x101F016E6

@@ -11,6 +11,7 @@ pub mod Strings
 pub mod Shapes
 pub mod Declaration
 pub mod Within
+pub mod NamePlaces
 pub mod Laws
 pub mod Halves
 pub mod SimpleTypes

@@ -8,9 +8,13 @@ use Rattle.msvc_nodes.specs.declared.nodes.Symbol.{Symbol}
 use Rattle.msvc_nodes.specs.declared.nodes.Type.{«Type»}
 use Rattle.msvc_nodes.specs.declared.nodes.TypedSymbol.{TypedSymbol}
 use Rattle.msvc_print.specs.Declaration.{symbol_name, symbol_pieces}
-use Rattle.msvc_print.specs.Halves.{pointed_name}
+use Rattle.msvc_print.specs.Halves.{after, before, pointed_name}
 use Rattle.msvc_print.specs.Pieces.{Piece}
+use Rattle.msvc_print.specs.Sides.{kept_left, kept_right}
 use Rattle.msvc_print.specs.declared.pointed.Pointed.{Pointed}
+use Rattle.msvc_print.specs.declared.pointed.Pointed.TheVariants.{No}
+use Rattle.msvc_print.specs.declared.sides.Part.{Part}
+use Rattle.msvc_print.specs.declared.sides.Part.TheVariants.{All, Left, Name, Right}
 use Rattle.msvc_print.specs.Weights.{symbol_weight, type_weight, typed_symbol_weight}
 
 -- the type that a symbol without a type is printed with
@@ -47,3 +51,20 @@ symbol_pieces_of s pointed flags =
 abbrev pub typed_symbol_weight_of : TypedSymbol → ℕ
 typed_symbol_weight_of s = typed_symbol_weight (symbol_weight_of s.symbol (type_of s.symbol_type.now))
     (type_weight (type_of s.symbol_type.now))
+
+-- the pieces on the left of the name of a symbol, its name, and the pieces on the right
+abbrev pub left_of : TypedSymbol → ℕ → List Piece
+left_of t flags = kept_left (before (type_of t.symbol_type.now) No flags) flags
+
+abbrev pub own_name_of : TypedSymbol → ℕ → List Piece
+own_name_of t flags = symbol_name_of t.symbol (type_of t.symbol_type.now) flags
+
+abbrev pub right_of : TypedSymbol → ℕ → List Piece
+right_of t flags = kept_right (after (type_of t.symbol_type.now) No flags) flags
+
+-- the pieces of a part of a symbol
+abbrev pub part_of : TypedSymbol → Part → ℕ → List Piece
+part_of t All flags = symbol_pieces_of t No flags
+part_of t Left flags = left_of t flags
+part_of t Name flags = own_name_of t flags
+part_of t Right flags = right_of t flags

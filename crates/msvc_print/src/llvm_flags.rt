@@ -1,5 +1,5 @@
-//! Flags of `llvm-undname`, as bits beyond the 32 of [`DemangleFlags`](msvc_nodes::flags::DemangleFlags). Only the second
-//! grammar obeys them. They drop nothing of a function that is pointed to, and nothing of a nested symbol.
+//! Flags of `llvm-undname`, as bits beyond the 32 of [`DemangleFlags`](msvc_nodes::flags::DemangleFlags). Only Full
+//! obeys them. They drop nothing of a function that is pointed to, and nothing of a nested symbol.
 
 /// Drops the calling convention of a function.
 pub const NO_CALLING_CONVENTION: u64 = 0x2_0000_0000;

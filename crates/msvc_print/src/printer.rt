@@ -4,14 +4,15 @@ ghost use Rattle.std.specs.Prelude.{◌≡◌, ◌<◌, OnOk, IfOk, Some, true};
 ghost use Rattle.msvc_nodes.specs.NodeView.{typed_symbol_of};
 ghost use Rattle.msvc_print.specs.Declaration.{declaration};
 ghost use Rattle.msvc_print.specs.Flags.{full_style};
+ghost use Rattle.msvc_print.specs.Limited.{Writes};
+ghost use Rattle.msvc_print.specs.SymbolNodes.{part_of};
 ghost use Rattle.msvc_print.specs.Within.{IsPrintedWithin};
 ghost use Rattle.msvc_print.specs.Work.{Keeps, Lightens, Prints, finished_after, item_pieces, item_weight};
 
 use crate::function_types::write_calling;
 use crate::item::Item;
 use crate::operators::write_spaced_word;
-use crate::pointed::Pointed;
-use crate::qualified_names::push_typed_symbol;
+use crate::sides::{Part, push_part};
 use crate::spaces::{write_mark, write_qualifiers};
 use crate::style::{Style, Wording};
 use crate::text::{Text, write_text};
@@ -84,6 +85,28 @@ impl<'a, 'b, 't, W: Wording, S: Allocator, A: Allocator> Printer<'a, 'b, 't, W, 
     }
 }
 
+/// Prints a part of a symbol after the text of `out`. The stack of the printer is in `arena`.
+///
+/// Fails only if an allocation fails; `out` is then unspecified.
+pub fn print_part<'a, 'b, W: Wording, B: Allocator, A: Allocator>(
+    arena: &'b Bump<B>,
+    symbol: &'b TypedSymbol<'a, 'b>,
+    part: Part,
+    style: Style<W>,
+    out: &mut Text<A>,
+) -> Result<(), AllocError>
+    ensures { OnOk result (Writes (part_of symbol.now part style.bits) out.old out.new) }
+{
+    let mut stack = Vec::with_capacity(arena, FIRST_ITEMS)?;
+    push_part(&mut stack, symbol, part, style)?;
+    let mut printer = Printer {
+        stack: &mut stack,
+        out,
+        flags: style,
+    };
+    printer.run()
+}
+
 /// Replaces the text of `out` with the declaration of `symbol` under `flags`. The stack of the printer is in `arena`.
 ///
 /// Fails only if an allocation fails; `out` is then unspecified.
@@ -123,6 +146,7 @@ pub fn print_within<'a, 'b, B: Allocator, A: Allocator>(
 /// Prints as [`print_within`] does, in any style.
 ///
 /// Fails only if an allocation fails; `out` is then unspecified.
+#[inline(always)]
 pub fn print_styled<'a, 'b, W: Wording, B: Allocator, A: Allocator>(
     arena: &'b Bump<B>,
     symbol: &'b TypedSymbol<'a, 'b>,
@@ -135,15 +159,8 @@ pub fn print_styled<'a, 'b, W: Wording, B: Allocator, A: Allocator>(
     ensures unlimited { IfOk result (λ within. max ≡ usize.MAX → within ≡ true) }
 {
     out.clear(max);
-    let mut stack = Vec::with_capacity(arena, FIRST_ITEMS)?;
-    push_typed_symbol(&mut stack, symbol, Pointed::No, style)?;
-    let mut printer = Printer {
-        stack: &mut stack,
-        out,
-        flags: style,
-    };
-    printer.run()?;
-    let within = printer.out.is_whole();
+    print_part(arena, symbol, Part::All, style, out)?;
+    let within = out.is_whole();
     if !within && max == usize::MAX {
         // No allocation has so many bytes.
         return Err(AllocError);

@@ -28,6 +28,7 @@ use crate::operators::{
 };
 use crate::pointed::Pointed;
 use crate::printer::Printer;
+use crate::sides::{push_left, push_right};
 use crate::spaces::{Space, name_space, write_space};
 use crate::style::{Style, Wording};
 use crate::text::{Text, write_number, write_text};
@@ -135,7 +136,7 @@ fn write_anonymous<A: Allocator>(out: &mut Text<A>) -> Result<(), AllocError>
 }
 
 /// Pushes a symbol with its type, which stands as `pointed` says: the name between what the type has before and after
-/// it. NAME_ONLY drops both, and NO_FUNCTION_RETURNS what it has before.
+/// it.
 pub fn push_typed_symbol<'a, 'b, W: Wording, S: Allocator>(
     stack: &mut Vec<Item<'a, 'b>, S>,
     tree: &'b TypedSymbol<'a, 'b>,
@@ -146,16 +147,9 @@ pub fn push_typed_symbol<'a, 'b, W: Wording, S: Allocator>(
         stack.old.items stack.new.items) }
     ensures lighter { OnOk result (AddsLess (typed_symbol_weight_of tree.now) stack.old.items stack.new.items) }
 {
-    let name = Item::Symbol(&tree.symbol, Some(tree.symbol_type));
-    if flags.contains(DemangleFlags::NAME_ONLY) {
-        return push(stack, name);
-    }
-    push(stack, Item::After(tree.symbol_type, pointed))?;
-    push(stack, name)?;
-    if flags.contains(DemangleFlags::NO_FUNCTION_RETURNS) {
-        return Ok(());
-    }
-    push(stack, Item::Before(tree.symbol_type, pointed))
+    push_right(stack, tree.symbol_type, pointed, flags)?;
+    push(stack, Item::Symbol(&tree.symbol, Some(tree.symbol_type)))?;
+    push_left(stack, tree.symbol_type, pointed, flags)
 }
 
 impl<'a, 'b, 't, W: Wording, S: Allocator, A: Allocator> Printer<'a, 'b, 't, W, S, A> {

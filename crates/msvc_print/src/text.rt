@@ -100,6 +100,16 @@ impl<A: Allocator> Text<A> {
         self.whole = true;
     }
 
+    /// Replaces the text by some bytes, without a limit.
+    ///
+    /// Fails only if an allocation fails; the text is then unspecified.
+    pub fn replace(&mut self, bytes: &[u8]) -> Result<(), AllocError>
+        ensures { OnOk result (self.new.text ≡ Some bytes.now) }
+    {
+        self.clear(usize::MAX);
+        write_text(self, bytes)
+    }
+
     /// Returns whether no piece was left out.
     pub fn is_whole(&self) -> bool
         ensures { result ≡ is_some self.now.text }
@@ -112,6 +122,13 @@ impl<A: Allocator> Text<A> {
         ensures { (bytes : List ℕ) → self.now.text ≡ Some bytes → result.now ≡ bytes }
     {
         &self.bytes[..self.written]
+    }
+
+    /// Returns the length of the text in bytes, which is unspecified if it is not whole.
+    pub(crate) fn len(&self) -> usize
+        ensures { (bytes : List ℕ) → self.now.text ≡ Some bytes → result ≡ length bytes }
+    {
+        self.written
     }
 
     /// Returns the last byte of the text, 0 if it is empty. The byte is unspecified if the text is not whole.

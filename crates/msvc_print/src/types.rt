@@ -217,7 +217,12 @@ impl<'a, 'b, 't, W: Wording, S: Allocator, A: Allocator> Printer<'a, 'b, 't, W, 
             Type::Function(function) => self.print_function_end(*function, pointed),
             Type::MemberFunction(function) => self.print_function_end(*function, pointed),
             Type::MemberPointer(_, function) => self.print_member_pointer_end(*function),
-            Type::Variable(_, _, inner) => self.print_variable_end(*inner, pointed),
+            Type::Variable(_, _, inner) => push_suffix_unless(
+                self.stack,
+                *inner,
+                leaves_out(pointed, NO_VARIABLE_TYPE, self.flags),
+                self.flags,
+            ),
             Type::Table(table, _, scope) => self.print_table_end(*table, scope.names),
             Type::VcallThunk(number, _) => write_thunk_end(self.out, *number, self.flags),
             Type::Shape(shape) => self.print_shape_suffix(*shape, pointed),
@@ -227,23 +232,6 @@ impl<'a, 'b, 't, W: Wording, S: Allocator, A: Allocator> Printer<'a, 'b, 't, W, 
             Type::Numbered(_, _) => Ok(()),
             Type::ConstantString(_) => Ok(()),
         }
-    }
-
-    /// Prints what a variable has after its name: the rest of its type.
-    fn print_variable_end(
-        &mut self,
-        inner: &'b Type<'a, 'b>,
-        pointed: Pointed,
-    ) -> Result<(), AllocError>
-        ensures text { OnOk result (Prints (cond (spec_pointed.leaves_out pointed llvm_no_variable self.old.flags.bits) []
-            (after (type_of inner.now) No self.old.flags.bits)) self.old self.new) }
-        ensures lighter { OnOk result (Lightens (3 + type_weight (type_of inner.now)) self.old self.new) }
-        ensures kept { Keeps self.old self.new }
-    {
-        if leaves_out(pointed, NO_VARIABLE_TYPE, self.flags) {
-            return Ok(());
-        }
-        push_suffix(self.stack, inner, Pointed::No, self.flags)
     }
 
     /// Prints what a function has after its name: its parameters, its qualifiers, and the rest of what it returns.
@@ -263,7 +251,8 @@ impl<'a, 'b, 't, W: Wording, S: Allocator, A: Allocator> Printer<'a, 'b, 't, W, 
     {
         write_closing(self.out, pointed)?;
         write_text(self.out, b"(")?;
-        push_returned_suffix(self.stack, function.returned, pointed, self.flags)?;
+        let is_dropped = leaves_out(pointed, NO_RETURN_TYPE, self.flags);
+        push_suffix_unless(self.stack, function.returned, is_dropped, self.flags)?;
         self.print_parameters(
             function.parameters,
             true,
@@ -496,21 +485,21 @@ pub fn push_suffix<'a, 'b, W: Wording, S: Allocator>(
     Ok(())
 }
 
-/// Pushes what the type that a function returns has after the name, unless a flag drops it.
-fn push_returned_suffix<'a, 'b, W: Wording, S: Allocator>(
+/// Pushes what a type has after the name, unless a flag drops it.
+fn push_suffix_unless<'a, 'b, W: Wording, S: Allocator>(
     stack: &mut Vec<Item<'a, 'b>, S>,
-    returned: &'b Type<'a, 'b>,
-    pointed: Pointed,
+    t: &'b Type<'a, 'b>,
+    is_dropped: bool,
     flags: Style<W>,
 ) -> Result<(), AllocError>
-    ensures text { OnOk result (Pushes (after_called pointed (after (type_of returned.now) No flags.bits) flags.bits)
-        flags.bits stack.old.items stack.new.items) }
-    ensures lighter { OnOk result (AddsAtMost (type_weight (type_of returned.now)) stack.old.items stack.new.items) }
+    ensures text { OnOk result (Pushes (cond is_dropped [] (after (type_of t.now) No flags.bits)) flags.bits
+        stack.old.items stack.new.items) }
+    ensures lighter { OnOk result (AddsAtMost (type_weight (type_of t.now)) stack.old.items stack.new.items) }
 {
-    if leaves_out(pointed, NO_RETURN_TYPE, flags) {
+    if is_dropped {
         return Ok(());
     }
-    push_suffix(stack, returned, Pointed::No, flags)
+    push_suffix(stack, t, Pointed::No, flags)
 }
 
 /// Pushes `const`, if a member function that is pointed to has it.

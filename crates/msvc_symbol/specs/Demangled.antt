@@ -9,9 +9,11 @@ use Rattle.msvc_rules.specs.Parsed.{IsParsedIn, IsRejectedIn, IsSymbolLengthIn}
 use Rattle.msvc_grammar.specs.Grammar.{is_hash}
 use Rattle.msvc_grammar.specs.Hashes.{hashed_text}
 use Rattle.msvc_cursor.specs.declared.limits.Limits.{Limits}
-use Rattle.msvc_symbol.specs.Grammars.{declaration_in, dialect_of}
+use Rattle.msvc_print.specs.NamePlaces.{IsNamePlace}
+use Rattle.msvc_symbol.specs.Grammars.{declaration_in, dialect_of, styled}
 use Rattle.msvc_symbol.specs.declared.grammar.Grammar.{Grammar}
 use Rattle.msvc_symbol.specs.declared.grammar.Grammar.TheVariants.{Crate}
+use Rattle.msvc_symbol.specs.declared.steps.Named.{Named}
 
 -- The input begins with a symbol of this tree, and the text is the tree's declaration under these flags.
 pub record IsDeclaredIn (g : Grammar) (input : List ℕ) (tree : SymbolTree) (flags : ℕ) (text : List ℕ) : Type 0 where
@@ -45,6 +47,12 @@ pub record IsDeclaredAsIn (g : Grammar) (limits : Limits) (input : List ℕ) (fl
 
 abbrev pub IsDeclaredAs : Limits → List ℕ → (flags read : ℕ) → Option (List ℕ) → Type 0
 IsDeclaredAs limits input flags read text = IsDeclaredAsIn Crate limits input flags read text
+
+-- The same, and where the name of the symbol stands in the declaration.
+pub record IsNamedAsIn (g : Grammar) (limits : Limits) (input : List ℕ) (flags : ℕ) (named : Named)
+    (text : Option (List ℕ)) : Type 0 where
+  pub declared : IsDeclaredAsIn g limits input flags named.length text
+  pub name : IsNamePlace declared.tree (styled g flags) named.place
 
 -- The input begins with a symbol whose tree is within the limit on nodes and whose declaration exceeds the limit on
 -- bytes, and this is the error.

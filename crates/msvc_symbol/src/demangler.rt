@@ -1,6 +1,6 @@
 //! A demangler, which keeps its memory from one symbol to the next.
 
-ghost use Rattle.std.specs.Prelude.{◌≡◌, ℕ, List, [], IfErr, IfOk, None, Some, map};
+ghost use Rattle.std.specs.Prelude.{◌≡◌, ℕ, List, [], IfErr, IfOk, None, OnOk, Some, map};
 ghost use Rattle.msvc_nodes.specs.Trees.{SymbolTree};
 ghost use Rattle.msvc_rules.specs.Counts.{node_count};
 ghost use Rattle.msvc_rules.specs.Parsed.{AreReferencesIn, GrammarLawsIn, IsParsedIn, IsRejectedIn};
@@ -9,16 +9,15 @@ ghost use Rattle.msvc_cursor.specs.Errors.{IsInside};
 ghost use Rattle.msvc_cursor.specs.Failures.{FailsIn};
 ghost use Rattle.msvc_cursor.specs.Limits.{IsWithin, limit_of_number, limits_of};
 ghost use Rattle.msvc_cursor.specs.Notes.{note_of};
-ghost use Rattle.msvc_print.specs.Flags.{with_llvm};
 ghost use Rattle.msvc_symbol.specs.Demangled.{HashesAreShown, IsDeclaredAsIn, IsDeclaredIn, IsDeclaredWithinIn};
-ghost use Rattle.msvc_symbol.specs.Demangled.{IsErrorUnderIn};
+ghost use Rattle.msvc_symbol.specs.Demangled.{IsErrorUnderIn, IsNamedAsIn};
 ghost use Rattle.msvc_symbol.specs.Failures.{IsFailureIn};
-ghost use Rattle.msvc_symbol.specs.Grammars.{dialect_of};
-ghost use Rattle.msvc_symbol.specs.declared.grammar.Grammar.TheVariants.{Crate, Full};
+ghost use Rattle.msvc_symbol.specs.Grammars.{dialect_of, word_with};
+ghost use Rattle.msvc_symbol.specs.declared.grammar.Grammar.TheVariants.{Crate};
 
 use crate::arena::Arena;
 use crate::grammar::Grammar;
-use crate::steps::{copy_references, declare, declare_without, measure};
+use crate::steps::{Named, copy_references, declare, declare_named, measure};
 use alloc_fuse::Fuse;
 use bumpalo::Bump;
 use msvc_cursor::back_references::BackReference;
@@ -27,7 +26,7 @@ use msvc_cursor::limits::Limits;
 use msvc_nodes::error::Error;
 use msvc_nodes::flags::DemangleFlags;
 use msvc_print::Text;
-use std::alloc::{Allocator, Global};
+use std::alloc::{AllocError, Allocator, Global};
 use std::marker::Model;
 
 /// A demangler of the symbols of a grammar. It keeps its memory: a symbol that needs no more than those before it makes
@@ -139,29 +138,65 @@ impl<A: Allocator + Copy> Demangler<A> {
         self.arena.end(done)
     }
 
-    /// Does what [`Demangler::declare`] does for a symbol of Full, whatever the demangler's grammar, and leaves out what
-    /// `left_out`, flags of [`llvm_flags`](msvc_print::llvm_flags), drops.
+    /// Does what [`Demangler::declare`] does, and says where in the declaration the name of the symbol stands. In Full it
+    /// leaves out what `left_out`, flags of [`llvm_flags`](msvc_print::llvm_flags), drops.
     ///
     /// # Errors
     ///
     /// Fails where [`Demangler::declare`] does.
-    pub fn declare_without(
+    ///
+    /// # Examples
+    ///
+    /// ```
+    /// let mut demangler = Demangler::new(alloc);
+    /// let input = "?f@S@@QEAAXXZ";
+    /// let (flags, limits) = (DemangleFlags::llvm(), Limits::none());
+    /// let named = demangler.declare_named(Grammar::Full, input, flags, 0, limits);
+    /// assert!(rt; named.is_ok());
+    /// if let Ok(named) = named {
+    ///     let declared = demangler.declared();
+    ///     assert_eq!(rt; declared, b"public: void __cdecl S::f(void)".as_slice());
+    ///     assert_eq!(rt; &declared[named.place.start..named.place.end], b"S::f".as_slice());
+    /// }
+    /// ```
+    pub fn declare_named(
         &mut self,
+        grammar: Grammar,
         input: &str,
         flags: DemangleFlags,
         left_out: u64,
         limits: Limits,
-    ) -> Result<usize, Failure>
-        ensures declared { IfOk result (λ length.
-            IsDeclaredAsIn Full limits input.now (with_llvm flags.0 left_out) length self.new.text) }
+    ) -> Result<Named, Failure>
+        ensures declared { IfOk result (λ named.
+            IsNamedAsIn grammar limits input.now (word_with grammar flags.0 left_out) named self.new.text) }
         ensures fails { IfErr result (λ failure.
-            IsFailureIn Full limits input.now (with_llvm flags.0 left_out) failure) }
+            IsFailureIn grammar limits input.now (word_with grammar flags.0 left_out) failure) }
         ensures inside { IfErr result (λ failure. IsInside input.now failure) }
         ensures keeps { self.new.grammar ≡ self.old.grammar }
     {
         let arena = self.arena.prepared(input, limits)?;
-        let done = declare_without(arena, input, flags, left_out, limits, &mut self.text);
+        let done = declare_named(
+            grammar,
+            arena,
+            input,
+            flags,
+            left_out,
+            limits,
+            &mut self.text,
+        );
         self.arena.end(done)
+    }
+
+    /// Replaces the demangler's text.
+    ///
+    /// # Errors
+    ///
+    /// Fails if an allocation fails; the text is then unspecified.
+    pub fn replace(&mut self, text: &[u8]) -> Result<(), AllocError>
+        ensures text { OnOk result (self.new.text ≡ Some text.now) }
+        ensures keeps { self.new.grammar ≡ self.old.grammar }
+    {
+        self.text.replace(text)
     }
 
     /// Returns the demangler's text: the declaration of the last symbol, in bytes, which are unspecified if that had

@@ -9,4 +9,4 @@ mod steps;
 pub use arena::Arena;
 pub use demangler::Demangler;
 pub use grammar::Grammar;
-pub use steps::{declare_once, print, read};
+pub use steps::{Named, declare_once, print, read};

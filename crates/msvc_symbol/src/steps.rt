@@ -1,6 +1,6 @@
 //! The two steps of all calls: [`read`] reads a symbol, and [`print`] prints its declaration.
 
-ghost use Rattle.std.specs.Prelude.{IfErr, IfOk, None, map};
+ghost use Rattle.std.specs.Prelude.{◌≡◌, IfErr, IfOk, None, map, unwrap_or};
 ghost use Rattle.msvc_nodes.specs.NodeView.{typed_symbol_of};
 ghost use Rattle.msvc_nodes.specs.Trees.{SymbolTree};
 ghost use Rattle.msvc_rules.specs.Counts.{node_count};
@@ -12,12 +12,11 @@ ghost use Rattle.msvc_cursor.specs.Failures.{FailsIn};
 ghost use Rattle.msvc_cursor.specs.Notes.{note_of};
 ghost use Rattle.msvc_cursor.specs.SymbolsRead.{IsSymbolReadIn};
 ghost use Rattle.msvc_print.specs.Declaration.{declaration};
-ghost use Rattle.msvc_print.specs.Flags.{with_llvm};
-ghost use Rattle.msvc_symbol.specs.Demangled.{IsDeclaredAs, IsDeclaredAsIn};
+ghost use Rattle.msvc_print.specs.NamePlaces.{IsNamePlace};
+ghost use Rattle.msvc_symbol.specs.Demangled.{IsDeclaredAs, IsDeclaredAsIn, IsNamedAsIn};
 ghost use Rattle.msvc_symbol.specs.Failures.{IsFailure, IsFailureIn};
-ghost use Rattle.msvc_symbol.specs.Grammars.{declaration_in, dialect_of};
+ghost use Rattle.msvc_symbol.specs.Grammars.{declaration_in, dialect_of, styled, word_with};
 ghost use Rattle.msvc_symbol.specs.Steps.{IsPrinted, IsUnprinted};
-ghost use Rattle.msvc_symbol.specs.declared.grammar.Grammar.TheVariants.{Full};
 
 use crate::grammar::Grammar;
 use alloc_fuse::Fuse;
@@ -29,7 +28,7 @@ use msvc_cursor::symbol_read::SymbolRead;
 use msvc_nodes::flags::DemangleFlags;
 use msvc_nodes::nodes::TypedSymbol;
 use msvc_nodes::sizes::{arena_to_print, text_of};
-use msvc_print::{Style, Text, Wording, print_styled};
+use msvc_print::{NamePlace, Style, Text, Wording, print_named, print_styled};
 use std::alloc::{Allocator, Global};
 
 /// Reads the symbol of a grammar that `input` begins with, within the limit on nodes. All memory is the arena's.
@@ -99,6 +98,17 @@ pub fn print<'a, 'b, B: Allocator, A: Allocator>(
     }
 }
 
+/// Returns the limit on bytes as a number, which is `usize::MAX` without a limit.
+#[inline(always)]
+fn max_bytes(limits: Limits) -> usize
+    ensures { result ≡ unwrap_or limits.bytes usize.MAX }
+{
+    match limits.bytes {
+        Some(bytes) => bytes,
+        None => usize::MAX,
+    }
+}
+
 /// Prints as [`print`] does, in a style.
 #[inline(always)]
 fn print_in<'a, 'b, W: Wording, B: Allocator, A: Allocator>(
@@ -115,11 +125,7 @@ fn print_in<'a, 'b, W: Wording, B: Allocator, A: Allocator>(
         IsUnprinted limits.bytes (declaration (typed_symbol_of symbol.now) style.bits) length failure) }
 {
     text.try_reserve_once(text_of(length))?;
-    let max = match limits.bytes {
-        Some(bytes) => bytes,
-        None => usize::MAX,
-    };
-    if print_styled(arena, symbol, style, max, text)? {
+    if print_styled(arena, symbol, style, max_bytes(limits), text)? {
         Ok(())
     } else {
         Err(Failure::TooLong(length))
@@ -151,30 +157,90 @@ pub(crate) fn declare<B: Allocator, A: Allocator>(
     Ok(length)
 }
 
-/// Does what [`declare`] does for a symbol of Full, and leaves out what flags of `llvm-undname` drop.
+/// What was read and printed of a symbol.
+#[derive(Clone, Copy)]
+pub struct Named {
+    /// Bytes that the symbol takes.
+    pub length: usize,
+    /// Where the name of the symbol stands in its declaration.
+    pub place: NamePlace,
+}
+
+/// Does what [`declare`] does, says where the name stands, and in Full leaves out what flags of `llvm-undname` drop.
 ///
 /// # Errors
 ///
 /// Fails where [`declare`] does.
 #[cold]
-pub(crate) fn declare_without<B: Allocator, A: Allocator>(
+pub(crate) fn declare_named<B: Allocator, A: Allocator>(
+    grammar: Grammar,
     arena: &Bump<B>,
     input: &str,
     flags: DemangleFlags,
     left_out: u64,
     limits: Limits,
     text: &mut Text<A>,
-) -> Result<usize, Failure>
-    ensures declared { IfOk result (λ length.
-        IsDeclaredAsIn Full limits input.now (with_llvm flags.0 left_out) length text.new.text) }
+) -> Result<Named, Failure>
+    ensures declared { IfOk result (λ named.
+        IsNamedAsIn grammar limits input.now (word_with grammar flags.0 left_out) named text.new.text) }
     ensures fails { IfErr result (λ failure.
-        IsFailureIn Full limits input.now (with_llvm flags.0 left_out) failure) }
+        IsFailureIn grammar limits input.now (word_with grammar flags.0 left_out) failure) }
     ensures inside { IfErr result (λ failure. IsInside input.now failure) }
 {
-    let SymbolRead { symbol, length, .. } = read_full(arena, input, limits)?;
-    let style = Style::full_with(flags, left_out);
-    print_in(arena, &symbol, length, style, limits, text)?;
-    Ok(length)
+    let SymbolRead { symbol, length, .. } = read(grammar, arena, input, limits)?;
+    let place = print_with(
+        grammar, arena, &symbol, length, flags, left_out, limits, text,
+    )?;
+    Ok(Named { length, place })
+}
+
+/// Prints as [`print`] does, and returns where the name stands.
+fn print_with<'a, 'b, B: Allocator, A: Allocator>(
+    grammar: Grammar,
+    arena: &'b Bump<B>,
+    symbol: &'b TypedSymbol<'a, 'b>,
+    length: usize,
+    flags: DemangleFlags,
+    left_out: u64,
+    limits: Limits,
+    text: &mut Text<A>,
+) -> Result<NamePlace, Failure>
+    ensures printed { IfOk result (λ _. IsPrinted limits.bytes
+        (declaration_in grammar (typed_symbol_of symbol.now) (word_with grammar flags.0 left_out)) text.new.text) }
+    ensures named { IfOk result (λ place. IsNamePlace (typed_symbol_of symbol.now)
+        (styled grammar (word_with grammar flags.0 left_out)) place) }
+    ensures fails { IfErr result (λ failure. IsUnprinted limits.bytes
+        (declaration_in grammar (typed_symbol_of symbol.now) (word_with grammar flags.0 left_out)) length failure) }
+{
+    match grammar {
+        Grammar::Crate => name_in(arena, symbol, length, Style::new(flags), limits, text),
+        Grammar::Full => {
+            let style = Style::full_with(flags, left_out);
+            name_in(arena, symbol, length, style, limits, text)
+        }
+    }
+}
+
+/// Prints as [`print_in`] does, and returns where the name stands.
+fn name_in<'a, 'b, W: Wording, B: Allocator, A: Allocator>(
+    arena: &'b Bump<B>,
+    symbol: &'b TypedSymbol<'a, 'b>,
+    length: usize,
+    style: Style<W>,
+    limits: Limits,
+    text: &mut Text<A>,
+) -> Result<NamePlace, Failure>
+    ensures printed { IfOk result (λ _.
+        IsPrinted limits.bytes (declaration (typed_symbol_of symbol.now) style.bits) text.new.text) }
+    ensures named { IfOk result (λ place. IsNamePlace (typed_symbol_of symbol.now) style.bits place) }
+    ensures fails { IfErr result (λ failure.
+        IsUnprinted limits.bytes (declaration (typed_symbol_of symbol.now) style.bits) length failure) }
+{
+    text.try_reserve_once(text_of(length))?;
+    match print_named(arena, symbol, style, max_bytes(limits), text)? {
+        Some(place) => Ok(place),
+        None => Err(Failure::TooLong(length)),
+    }
 }
 
 /// Does what [`declare`] does for a symbol of the crate's grammar, in an arena that is made for it.

@@ -1,8 +1,8 @@
 //! `msvcfilt [OPTIONS] [FILE..]` writes each file, or standard input if there is none, with each symbol in it replaced
 //! by its declaration: `foo!void __cdecl crash(void)+0x12` for `foo!?crash@@YAXXZ+0x12`. With `-n` it prints names
 //! without types. With `-s` the arguments are no files but symbols, or other texts, each filtered as a line. It reads
-//! symbols as today's compilers write them, with `--grammar crate` as the Rust crate does. It writes the text of each
-//! line before it waits for the next.
+//! symbols as today's compilers write them, with `--grammar crate` as the Rust crate does. In a terminal declarations
+//! are colored, and names bold. It writes the text of each line before it waits for the next.
 //!
 //! The exit status is 0, or 1 if a file or standard input can't be read, the text can't be written, or an allocation
 //! fails, or 2 if the arguments are wrong. Then standard error has a message, unless the reader of the output pipe has
@@ -13,13 +13,16 @@ mod options;
 mod streams;
 
 use clap::{ArgMatches, Command};
-use msvc_demangler::{DemangleFlags, Demangler, Fault, Watched, filter_text_without};
+use msvc_demangler::{
+    DemangleFlags, Demangler, Fault, Watched, filter_text_colored, filter_text_without,
+};
 use msvc_stdio::{BUFFER_LENGTH, Input, Shared, arguments, ended, failure};
-use options::Settings;
+use options::{Color, Settings};
 use std::alloc::Global;
 use std::cell::{Cell, RefCell};
+use std::env::{self, VarError};
 use std::fs::File;
-use std::io::{BufRead, BufReader, BufWriter, Error, ErrorKind, Read, Write};
+use std::io::{BufRead, BufReader, BufWriter, Error, ErrorKind, IsTerminal, Read, Write};
 use std::process::ExitCode;
 use streams::{Output, Source};
 
@@ -53,21 +56,41 @@ fn show(rt: &HostRuntime, error: &clap::Error) -> ExitCode {
     }
 }
 
-/// How texts are filtered: with which demangler, under which flags, and what is left out.
+/// Returns whether declarations are colored. By default they are in a terminal, unless the environment has `NO_COLOR`
+/// with any value.
+fn is_colored(rt: &HostRuntime, color: Color) -> bool {
+    match color {
+        Color::Auto => rt.stdout().is_terminal() && !has_no_color(rt),
+        Color::Always => true,
+        Color::Never => false,
+    }
+}
+
+/// Returns whether the environment has `NO_COLOR` and it is not empty.
+fn has_no_color(rt: &HostRuntime) -> bool {
+    match env::var(rt, "NO_COLOR") {
+        Ok(value) => !value.is_empty(),
+        Err(error) => error != VarError::NotPresent,
+    }
+}
+
+/// How texts are filtered: with which demangler, under which flags, what is left out, and whether in colors.
 #[derive(Drop)]
 struct Filter {
     demangler: Demangler,
     flags: DemangleFlags,
     left_out: u64,
+    is_colored: bool,
 }
 
 impl Filter {
     /// Makes a filter with these settings. Requests no memory.
-    fn new(alloc: Global, settings: Settings) -> Filter {
+    fn new(rt: &HostRuntime, settings: Settings) -> Filter {
         Filter {
-            demangler: Demangler::with_grammar(alloc, settings.grammar),
+            demangler: Demangler::with_grammar(rt.alloc(), settings.grammar),
             flags: settings.flags,
             left_out: settings.left_out,
+            is_colored: is_colored(rt, settings.color),
         }
     }
 
@@ -77,7 +100,12 @@ impl Filter {
         input: &mut Watched<R>,
         out: &mut Watched<W>,
     ) -> Result<(), Fault> {
-        filter_text_without(&mut self.demangler, input, out, self.flags, self.left_out)
+        let demangler = &mut self.demangler;
+        if self.is_colored {
+            filter_text_colored(demangler, input, out, self.flags, self.left_out)
+        } else {
+            filter_text_without(demangler, input, out, self.flags, self.left_out)
+        }
     }
 
     /// Filters a stream to its end.
@@ -98,7 +126,7 @@ fn run(rt: &HostRuntime, matches: &ArgMatches<'_>, settings: Settings) -> ExitCo
         return failure(rt, PROGRAM, Fault::Memory);
     };
     let output = RefCell::new(Output::new(held));
-    let mut filter = Filter::new(rt.alloc(), settings);
+    let mut filter = Filter::new(rt, settings);
     let done = filter_arguments(rt, matches, &output, &mut filter);
     let mut output = output.into_inner();
     let flushed = output.flush().map_err(|_| Fault::Write);

@@ -26,9 +26,9 @@ Usage: msvcfilt [OPTIONS] [FILE]..., or msvcfilt [OPTIONS] -s SYMBOL...
   --with-ptr64             Print __ptr64 after parameters
   --ms-typenames, --space-after-comma, --hug-type, --space-before-pointer
                            Set by default; --flags can clear them
-  --flags WORD             Start from these flags, not from 0xE00400: a number,
-                           decimal or, after 0x, hexadecimal
+  --flags WORD             Start from these flags (number or 0x..), not 0xE00400
   --grammar NAME           full (default): what compilers write today, or crate
+  --color WHEN             auto (default): in a terminal; or always, or never
   -h, --help               Print this help; -V, --version prints the version
 
 Example: echo 'at ?f@@YAXXZ+0x5' | msvcfilt
@@ -52,7 +52,8 @@ const FLAG_OPTIONS: [(&str, DemangleFlags); 9] = [
     ("space-before-pointer", DemangleFlags::SPACE_BEFORE_POINTER),
 ];
 
-/// The options of `llvm-undname`, what each leaves out in Full, and the flag that is nearest to it in the crate's grammar.
+/// The options of `llvm-undname`, what each leaves out in Full, and the flag nearest to it in the crate's grammar, if
+/// there is one.
 const LLVM_OPTIONS: [(&str, u64, DemangleFlags); 5] = [
     (
         "no-calling-convention",
@@ -69,14 +70,22 @@ const LLVM_OPTIONS: [(&str, u64, DemangleFlags); 5] = [
         NO_MEMBER_TYPE,
         DemangleFlags::NO_MEMBER_TYPE,
     ),
-    (RETURN_TYPE, NO_RETURN_TYPE, DemangleFlags::COMPLETE),
-    (VARIABLE_TYPE, NO_VARIABLE_TYPE, DemangleFlags::COMPLETE),
+    ("no-return-type", NO_RETURN_TYPE, DemangleFlags::COMPLETE),
+    (
+        "no-variable-type",
+        NO_VARIABLE_TYPE,
+        DemangleFlags::COMPLETE,
+    ),
 ];
 
-/// The options of `llvm-undname` that the crate's grammar has no flag for.
-const RETURN_TYPE: &str = "no-return-type";
-
-const VARIABLE_TYPE: &str = "no-variable-type";
+/// When declarations are colored.
+#[derive(Clone, Copy)]
+pub(crate) enum Color {
+    /// In a terminal, unless the environment forbids it.
+    Auto,
+    Always,
+    Never,
+}
 
 /// What the options set: how symbols are read and printed.
 #[derive(Clone, Copy)]
@@ -85,6 +94,7 @@ pub(crate) struct Settings {
     /// What Full leaves out.
     pub(crate) left_out: u64,
     pub(crate) grammar: Grammar,
+    pub(crate) color: Color,
 }
 
 /// Reads the words of the program's command line into its arguments and settings.
@@ -103,14 +113,19 @@ pub(crate) fn read<'a>(
         let message = "'--symbols' requires a SYMBOL";
         return Err(command.error(ErrorKind::MissingRequiredArgument, message)?);
     }
-    let message = match (first_flags(&matches), grammar(&matches)) {
-        (None, _) => "the value of '--flags <WORD>' is no number of 32 bits",
-        (_, None) => "the value of '--grammar <NAME>' is neither 'full' nor 'crate'",
-        (_, Some(Grammar::Crate)) if needs_full(&matches) => {
+    let message = match (
+        first_flags(&matches),
+        grammar(&matches),
+        chosen_color(&matches),
+    ) {
+        (None, _, _) => "the value of '--flags <WORD>' is no number of 32 bits",
+        (_, None, _) => "the value of '--grammar <NAME>' is neither 'full' nor 'crate'",
+        (_, _, None) => "the value of '--color <WHEN>' is not 'auto', 'always' or 'never'",
+        (_, Some(Grammar::Crate), _) if needs_full(&matches) => {
             "'--no-return-type' and '--no-variable-type' require '--grammar full'"
         }
-        (Some(flags), Some(grammar)) => {
-            let settings = all_settings(&matches, flags, grammar);
+        (Some(flags), Some(grammar), Some(color)) => {
+            let settings = all_settings(&matches, flags, grammar, color);
             return Ok((matches, settings));
         }
     };
@@ -130,13 +145,15 @@ fn with_options<'a>(alloc: Global, program: Command<'a>) -> Result<Command<'a>, 
     let grammar = Arg::new(alloc, "grammar")
         .long("grammar")
         .value_name("NAME");
+    let color = Arg::new(alloc, "color").long("color").value_name("WHEN");
     let mut command = program
         .override_help(HELP)
         .args_override_self(true)
         .arg(file)?
         .arg(symbols)?
         .arg(word)?
-        .arg(grammar)?;
+        .arg(grammar)?
+        .arg(color)?;
     for (name, _) in FLAG_OPTIONS {
         let mut option = Arg::new(alloc, name).long(name).action(ArgAction::SetTrue);
         if name == "name-only" {
@@ -160,15 +177,26 @@ fn first_flags(matches: &ArgMatches<'_>) -> Option<DemangleFlags> {
 
 /// Returns whether an option is given that the crate's grammar has no flag for.
 fn needs_full(matches: &ArgMatches<'_>) -> bool {
-    matches.get_flag(RETURN_TYPE) || matches.get_flag(VARIABLE_TYPE)
+    for (name, _, nearest) in LLVM_OPTIONS {
+        if nearest.is_empty() && matches.get_flag(name) {
+            return true;
+        }
+    }
+    false
 }
 
 /// Returns the settings that add the flags of all options that are given to `flags`.
-fn all_settings(matches: &ArgMatches<'_>, flags: DemangleFlags, grammar: Grammar) -> Settings {
+fn all_settings(
+    matches: &ArgMatches<'_>,
+    flags: DemangleFlags,
+    grammar: Grammar,
+    color: Color,
+) -> Settings {
     let mut settings = Settings {
         flags,
         left_out: 0,
         grammar,
+        color,
     };
     for (name, flag) in FLAG_OPTIONS {
         if matches.get_flag(name) {
@@ -191,6 +219,16 @@ fn grammar(matches: &ArgMatches<'_>) -> Option<Grammar> {
     match matches.get_str("grammar") {
         None | Some("full") => Some(Grammar::Full),
         Some("crate") => Some(Grammar::Crate),
+        Some(_) => None,
+    }
+}
+
+/// Returns when `--color` has declarations colored, or none if its value is no name of that.
+fn chosen_color(matches: &ArgMatches<'_>) -> Option<Color> {
+    match matches.get_str("color") {
+        None | Some("auto") => Some(Color::Auto),
+        Some("always") => Some(Color::Always),
+        Some("never") => Some(Color::Never),
         Some(_) => None,
     }
 }

@@ -6,7 +6,7 @@ use Rattle.msvc_filter.proofs.filter.demangle_candidate.Goals as goal
 
 pub returns-in-Ok-clause-declared : goal.returns-in-Ok-clause-declared
 returns-in-Ok-clause-declared g c =
-    let p = c.in-Ok.ensures.declared in (p.tree, p.parsed, p.printed, p.nodes, p.takes, p.bytes)
+    let p = c.in-Ok.ensures.shown in (p.tree, p.parsed, p.shown, p.nodes, p.takes, p.bytes)
 
 pub returns-else-is_out_of_memory-clause-none : goal.returns-else-is_out_of_memory-clause-none
 returns-else-is_out_of_memory-clause-none g c =

@@ -1,4 +1,4 @@
-use Rattle.std.proofs.Common.{arith, rules}
+use Rattle.std.proofs.Common.{arith}
 use Rattle.msvc_print.proofs.Styles.{with_llvm-small, with_llvm-styled}
 use Rattle.msvc_print.proofs.style.Style+FullWording.full_with.Goals as goal
 
