@@ -18,6 +18,7 @@ pub use Rattle.msvc_grammar.specs.Parsed
 pub use Rattle.msvc_grammar.specs.Rejections
 pub use Rattle.msvc_lines.specs.Answers
 pub use Rattle.msvc_lines.specs.Arguments
+pub use Rattle.msvc_lines.specs.Reports
 pub use Rattle.msvc_lines.specs.Lines
 pub use Rattle.msvc_nodes.specs.EachName
 pub use Rattle.msvc_nodes.specs.Errors

@@ -24,12 +24,13 @@ use Rattle.msvc_demangler_in.specs.declared.references.Reference.{Reference}
 
 pub tree_shown : (g : Grammar) (limits : Limits) (symbol : List ℕ) (tree : SymbolTree) (status offset : ℕ)
     (text : List ℕ) → IsUtf8 symbol → IsParsedIn (dialect_of g) symbol tree → IsWithin limits.nodes (node_count tree)
-    → IsTreeText status offset text
+    → IsTreeText tree status offset text
     → IsShown g limits symbol status offset text
-tree_shown g limits symbol tree status offset text u parsed within (made is at) =
+tree_shown g limits symbol tree status offset text u parsed within (made is at says) =
     let Status : ℕ → Type 0 = λ n. IsShown g limits symbol n offset text in
     let At : ℕ → Type 0 = λ n. IsShown g limits symbol 0 n text in
-    subst Status (sym is) (subst At (sym at) (shown u parsed within))
+    let Says : List ℕ → Type 0 = λ t. IsShown g limits symbol 0 0 t in
+    subst Status (sym is) (subst At (sym at) (subst Says (sym says) (shown u parsed within)))
 tree_shown g limits symbol tree status offset text u parsed within (unmade is at same) =
     not_shown (no_memory g limits symbol status offset text u is at same)
 

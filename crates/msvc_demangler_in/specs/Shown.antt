@@ -9,15 +9,16 @@ use Rattle.msvc_demangler.specs.Limits.{IsWithin}
 use Rattle.msvc_demangler.specs.ParsedIn.{AreReferencesIn, IsParsedIn}
 use Rattle.msvc_demangler.specs.State.{Note}
 use Rattle.msvc_demangler.specs.Trees.{SymbolTree}
+use Rattle.msvc_debug.specs.TreeText.{tree_text}
 use Rattle.msvc_c_calls.specs.Calls.{IsNotRead}
 use Rattle.msvc_demangler_in.specs.declared.references.Reference.{Reference}
 
 -- What a call that prints a symbol's tree returns: the status, the offset, and the text of the tree, or the text that
 -- states why there is no tree.
 pub data IsShown (g : Grammar) (limits : Limits) (symbol : List ℕ) : (status offset : ℕ) (text : List ℕ) → Type 0 where
-  -- OK: the text may be any
-  shown : {tree : SymbolTree} {text : List ℕ} → IsUtf8 symbol → IsParsedIn (dialect_of g) symbol tree
-      → IsWithin limits.nodes (node_count tree) → IsShown g limits symbol 0 0 text
+  -- OK
+  shown : {tree : SymbolTree} → IsUtf8 symbol → IsParsedIn (dialect_of g) symbol tree
+      → IsWithin limits.nodes (node_count tree) → IsShown g limits symbol 0 0 (tree_text tree)
   not_shown : {status offset : ℕ} {text : List ℕ} → IsNotRead g limits symbol status offset text
       → IsShown g limits symbol status offset text
 

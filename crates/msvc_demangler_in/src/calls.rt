@@ -1,6 +1,7 @@
 //! The calls in lent memory. What needs no memory of its own is in `msvc_c_calls`.
 
 ghost use Rattle.std.specs.Prelude.{◌≡◌, ℕ, List, length};
+ghost use Rattle.msvc_nodes.specs.NodeView.{typed_symbol_of};
 ghost use Rattle.msvc_c_calls.specs.Buffers.{IsWritten};
 ghost use Rattle.msvc_c_calls.specs.Calls.{IsFilteredInto, IsFound, IsMeasured, grammar_of};
 ghost use Rattle.msvc_demangler_in.specs.Shown.{IsListed, IsShown};
@@ -67,7 +68,7 @@ fn write_tree_of<'a, 'b, A: Allocator>(
     symbol: &'b TypedSymbol<'a, 'b>,
     out: &mut [u8],
 ) -> CallResult
-    ensures { (shown : List ℕ) × IsTreeText result.status result.offset shown
+    ensures { (shown : List ℕ) × IsTreeText (typed_symbol_of symbol.now) result.status result.offset shown
         × (result.length ≡ length shown) × IsWritten shown out.old out.new }
 {
     let mut text = String::new(arena);

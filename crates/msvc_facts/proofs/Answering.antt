@@ -8,7 +8,6 @@ use Rattle.msvc_grammar.proofs.Laws.{derived-only}
 use Rattle.msvc_print.specs.Declaration.{declaration}
 use Rattle.msvc_demangler.specs.Answers.{IsAnswer, IsText, answered, left_out, line_flags, nothing}
 use Rattle.msvc_demangler.specs.Lines.{lines_of}
-use Rattle.msvc_lines.proofs.LineTexts.{the_text}
 use Rattle.msvc_lines.proofs.Texts.{answers-joined}
 use Rattle.msvc_facts.proofs.Symbols.{Reading, read-derived, read-rejected, read_of}
 use Rattle.msvc_facts.specs.Texts.{IsAnswered}
@@ -48,4 +47,4 @@ text_of-is (line ∷ lines) = if_utf8-is line lines (text_of lines) (text_of-is 
 pub is_answered : {bytes text : List ℕ} → text_of (lines_of bytes) ≡ text → IsAnswered bytes text
 is_answered {bytes} {text} e =
     let is : IsText (lines_of bytes) text = subst (IsText (lines_of bytes)) e (text_of-is (lines_of bytes)) in
-    record { answered = the_text answers-joined bytes text is }
+    record { answered = answers-joined.whole bytes text is }

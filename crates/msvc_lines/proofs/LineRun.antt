@@ -10,7 +10,7 @@ use Rattle.msvc_lines.specs.LineRuns.{LeavesOff, WritesText}
 use Rattle.msvc_streams.specs.Runs.{IsLines, IsOfOneLine, IsWithoutEnd, Writes, WritesPart}
 use Rattle.msvc_streams.specs.declared.watched.Fault.{Fault}
 use Rattle.msvc_streams.specs.declared.watched.Fault.TheVariants.{Read, Write, Memory}
-use Rattle.msvc_lines.proofs.LineTexts.{AreJoined, IsTheText, the_text}
+use Rattle.msvc_lines.proofs.LineTexts.{AreJoined}
 use Rattle.msvc_streams.proofs.WholeLines.{IsLines-append}
 
 -- Some lines are finished and their text is written, and a part of the next was taken.
@@ -24,7 +24,7 @@ pub record LineRun (T : List ℕ → List ℕ → Type 0) (reader reads writer w
   pub unended : IsWithoutEnd part
   pub is : T finished text
 
-pub LineRun-start : {T P : List ℕ → List ℕ → Type 0} (laws : AreJoined T P) (reader writer : Option (List ℕ))
+pub LineRun-start : {T P Q : List ℕ → List ℕ → Type 0} (laws : AreJoined T P Q) (reader writer : Option (List ℕ))
     → LineRun T reader reader writer writer []
 LineRun-start laws reader writer = record {
   finished = [];
@@ -63,7 +63,7 @@ ended-some [] (x ∷ xs) e = cc
 ended-some (x ∷ xs) front e = cc
 
 -- the line was answered
-pub LineRun-line : {T P : List ℕ → List ℕ → Type 0} (laws : AreJoined T P)
+pub LineRun-line : {T P Q : List ℕ → List ℕ → Type 0} (laws : AreJoined T P Q)
     (reader reads later writer writes on : Option (List ℕ)) (part front : List ℕ)
     → LineRun T reader reads writer writes part → Consumes reads later (front ++ 10 ∷ []) → IsWithoutEnd front
     → (text : List ℕ) → Appends writes on text → P (part ++ (front ++ 10 ∷ [])) text
@@ -86,10 +86,10 @@ LineRun-line laws reader reads later writer writes on part front so taken unende
     }
 
 -- a fault while the line was answered
-pub LeavesOff-line : {T P : List ℕ → List ℕ → Type 0} (laws : AreJoined T P) (e : Fault)
+pub LeavesOff-line : {T P Q : List ℕ → List ℕ → Type 0} (laws : AreJoined T P Q) (e : Fault)
     (finished part text more : List ℕ) → IsLines finished → part ≢ [] → IsOfOneLine part
     → T finished text → WritesPart e (P part) more
-    → LeavesOff e (IsTheText T) (finished ++ part) (text ++ more)
+    → LeavesOff e Q (finished ++ part) (text ++ more)
 LeavesOff-line laws Read finished part text more lines some one is h = absurd h
 LeavesOff-line laws Write finished part text more lines some one is h =
     let whole = laws.line finished part text (more ++ h.0) lines some one is h.1 in (
@@ -101,12 +101,12 @@ LeavesOff-line laws Write finished part text more lines some one is h =
       refl,
       lines,
       one,
-      the_text laws _ _ is,
+      laws.whole _ _ is,
       refl,
-      the_text laws _ _ (rw (append_assoc text more h.0) whole),
+      laws.whole _ _ (rw (append_assoc text more h.0) whole),
     )
 LeavesOff-line laws Memory finished part text more lines some one is h =
-    (finished, part, refl, lines, one, the_text laws _ _ (rw (h, append-nil text) is))
+    (finished, part, refl, lines, one, laws.whole _ _ (rw (h, append-nil text) is))
 
 -- where there is no writer, none has failed
 no_writer : (IsSet no_stream × Stays no_stream) ⊎ (Stays no_stream × IsSet no_stream) → ⊥
@@ -114,35 +114,35 @@ no_writer (inl out) = let no : false ≡ true = out.0 in cc
 no_writer (inr err) = let no : false ≡ true = err.1 in cc
 
 -- a fault of the reader, or no memory for what it shows
-pub LeavesOff-part : {T P : List ℕ → List ℕ → Type 0} (laws : AreJoined T P) (e : Fault) (reader : FailureFlag)
+pub LeavesOff-part : {T P Q : List ℕ → List ℕ → Type 0} (laws : AreJoined T P Q) (e : Fault) (reader : FailureFlag)
     (finished part text : List ℕ) → SetsFlagOf e reader no_stream no_stream
-    → IsLines finished → IsWithoutEnd part → T finished text → LeavesOff e (IsTheText T) (finished ++ part) text
+    → IsLines finished → IsWithoutEnd part → T finished text → LeavesOff e Q (finished ++ part) text
 LeavesOff-part laws Read reader finished part text marks lines unended is =
-    (finished, part, refl, lines, unended, the_text laws _ _ is)
+    (finished, part, refl, lines, unended, laws.whole _ _ is)
 LeavesOff-part laws Write reader finished part text marks lines unended is = absurd (no_writer marks.1)
 LeavesOff-part laws Memory reader finished part text marks lines unended is =
-    (finished, part, refl, lines, inl unended, the_text laws _ _ is)
+    (finished, part, refl, lines, inl unended, laws.whole _ _ is)
 
 -- the answer to a line, or the fault that came
-pub WritesText-line : {A : Type 0} {T P : List ℕ → List ℕ → Type 0} (laws : AreJoined T P) (r : Result A Fault)
+pub WritesText-line : {A : Type 0} {T P Q : List ℕ → List ℕ → Type 0} (laws : AreJoined T P Q) (r : Result A Fault)
     (finished part text more : List ℕ) → IsLines finished
     → part ≢ []
     → IsOfOneLine part → T finished text → Writes r (P part) more
-    → WritesText r (IsTheText T) (finished ++ part) (text ++ more)
+    → WritesText r Q (finished ++ part) (text ++ more)
 WritesText-line laws (Ok done) finished part text more lines some one is h =
-    the_text laws _ _ (laws.line finished part text more lines some one is h)
+    laws.whole _ _ (laws.line finished part text more lines some one is h)
 WritesText-line laws (Err e) finished part text more lines some one is h =
     LeavesOff-line laws e finished part text more lines some one is h
 
 -- what a run has done, in the words of its contract
-abbrev pub Did : {A : Type 0} → (T : List ℕ → List ℕ → Type 0) → Result A Fault
+abbrev pub Did : {A : Type 0} → (Q : List ℕ → List ℕ → Type 0) → Result A Fault
     → (reader reads writer writes : Option (List ℕ)) → Type 0
-Did T result reader reads writer writes = (taken text : List ℕ) × Consumes reader reads taken
-    × Appends writer writes text × WritesText result (IsTheText T) taken text
+Did Q result reader reads writer writes = (taken text : List ℕ) × Consumes reader reads taken
+    × Appends writer writes text × WritesText result Q taken text
 
-abbrev pub DidPart : (T : List ℕ → List ℕ → Type 0) → Fault → (reader reads writer writes : Option (List ℕ)) → Type 0
-DidPart T e reader reads writer writes = (taken text : List ℕ) × Consumes reader reads taken
-    × Appends writer writes text × LeavesOff e (IsTheText T) taken text
+abbrev pub DidPart : (Q : List ℕ → List ℕ → Type 0) → Fault → (reader reads writer writes : Option (List ℕ)) → Type 0
+DidPart Q e reader reads writer writes = (taken text : List ℕ) × Consumes reader reads taken
+    × Appends writer writes text × LeavesOff e Q taken text
 
 -- nothing more was taken
 Consumes-none : (reader reads later : Option (List ℕ)) (bytes more : List ℕ) → Consumes reader reads bytes
@@ -151,11 +151,11 @@ Consumes-none reader reads later bytes more first second none =
     subst (Consumes reader later) (ap (λ l. bytes ++ l) none ∙ append-nil bytes) (Consumes-trans _ _ _ _ _ first second)
 
 -- it ended where the reader was polled
-pub LineRun-polled : {T P : List ℕ → List ℕ → Type 0} (laws : AreJoined T P) (e : Fault) (flag : FailureFlag)
+pub LineRun-polled : {T P Q : List ℕ → List ℕ → Type 0} (laws : AreJoined T P Q) (e : Fault) (flag : FailureFlag)
     (reader reads later writer writes : Option (List ℕ)) (part more : List ℕ)
     → LineRun T reader reads writer writes part → Consumes reads later more → more ≡ []
     → SetsFlagOf e flag no_stream no_stream
-    → DidPart T e reader later writer writes
+    → DidPart Q e reader later writer writes
 LineRun-polled laws e flag reader reads later writer writes part more so taken none marks = (
   so.finished ++ part,
   so.text,
@@ -165,11 +165,11 @@ LineRun-polled laws e flag reader reads later writer writes part more so taken n
 )
 
 -- it ended where a line was answered
-pub LineRun-fault : {T P : List ℕ → List ℕ → Type 0} (laws : AreJoined T P) (e : Fault)
+pub LineRun-fault : {T P Q : List ℕ → List ℕ → Type 0} (laws : AreJoined T P Q) (e : Fault)
     (reader reads later writer writes on : Option (List ℕ)) (part front : List ℕ)
     → LineRun T reader reads writer writes part → Consumes reads later (front ++ 10 ∷ []) → IsWithoutEnd front
     → (text : List ℕ) → Appends writes on text → WritesPart e (P (part ++ (front ++ 10 ∷ []))) text
-    → DidPart T e reader later writer on
+    → DidPart Q e reader later writer on
 LineRun-fault laws e reader reads later writer writes on part front so taken unended text written is =
     let line = part ++ (front ++ 10 ∷ []) in
     let both = Consumes-trans _ _ _ _ _ so.taken taken in
@@ -182,25 +182,25 @@ LineRun-fault laws e reader reads later writer writes on part front so taken une
     )
 
 -- it ended with the reader, at the end of a line
-pub LineRun-end : {T P : List ℕ → List ℕ → Type 0} (laws : AreJoined T P)
+pub LineRun-end : {T P Q : List ℕ → List ℕ → Type 0} (laws : AreJoined T P Q)
     (reader reads later writer writes : Option (List ℕ)) (part more : List ℕ)
     → LineRun T reader reads writer writes part → Consumes reads later more → more ≡ [] → part ≡ []
-    → (taken text : List ℕ) × Consumes reader later taken × Appends writer writes text × IsTheText T taken text
+    → (taken text : List ℕ) × Consumes reader later taken × Appends writer writes text × Q taken text
 LineRun-end laws reader reads later writer writes part more so taken none empty = (
   so.finished,
   so.text,
   subst (Consumes reader later) (ap (λ l. so.finished ++ l) empty ∙ append-nil so.finished)
       (Consumes-none _ _ _ _ _ so.taken taken none),
   so.written,
-  the_text laws _ _ so.is,
+  laws.whole _ _ so.is,
 )
 
 -- and after a line that no line feed ends
-pub LineRun-rest : {A : Type 0} {T P : List ℕ → List ℕ → Type 0} (laws : AreJoined T P) (r : Result A Fault)
+pub LineRun-rest : {A : Type 0} {T P Q : List ℕ → List ℕ → Type 0} (laws : AreJoined T P Q) (r : Result A Fault)
     (reader reads later writer writes on : Option (List ℕ))
     (part more : List ℕ) → LineRun T reader reads writer writes part → Consumes reads later more → more ≡ [] → part ≢ []
     → (text : List ℕ) → Appends writes on text → Writes r (P part) text
-    → Did T r reader later writer on
+    → Did Q r reader later writer on
 LineRun-rest laws r reader reads later writer writes on part more so taken none some text written is = (
   so.finished ++ part,
   so.text ++ text,

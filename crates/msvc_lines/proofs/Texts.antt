@@ -1,6 +1,6 @@
 -- Lines, and the text of lines that follow one another.
 use Rattle.std.proofs.Common.{◌≡◌, ◌≢◌, ◌++◌, ◌∷◌, [], ℕ, List, ap, sym, subst, refl, ◌∙◌, append_assoc, append-nil}
-use Rattle.std.proofs.Common.{None, inl, inr}
+use Rattle.std.proofs.Common.{Bool, None, inl, inr}
 use Rattle.std.specs.Str.{IsUtf8}
 use Rattle.msvc_nodes.specs.Trees.{SymbolTree}
 use Rattle.msvc_grammar.specs.Parsed.{IsParsed}
@@ -9,8 +9,10 @@ use Rattle.msvc_cursor.specs.declared.failure.Failure.{Failure}
 use Rattle.msvc_cursor.specs.declared.failure.Failure.TheVariants as failure
 use Rattle.msvc_print.specs.Declaration.{declaration}
 use Rattle.msvc_lines.specs.Lines.{line_of, lines_of}
-use Rattle.msvc_lines.specs.Answers.{IsAnswer, IsLineText, IsText, line_flags, nothing, left_out}
-use Rattle.msvc_lines.specs.Answers.{answered}
+use Rattle.msvc_lines.specs.Answers.{IsAnswer, IsFilterText, IsLineText, IsText, IsTextOf, answered, left_out}
+use Rattle.msvc_lines.specs.Answers.{line_flags, nothing}
+use Rattle.msvc_lines.specs.Reports.{AreReports, IsFailureLine, IsReport, tree_line}
+use Rattle.msvc_streams.specs.Runs.{IsLines, IsOfOneLine}
 use Rattle.msvc_lines.proofs.LineTexts.{AreJoined}
 use Rattle.msvc_lines.proofs.Pieces.{lines_of-append, lines_of-nil}
 
@@ -26,18 +28,30 @@ answer_rejected symbol failure.Memory fails other = absurd (other refl)
 answer_rejected symbol (failure.Rejected message left) fails other = inr (fails.none, refl)
 answer_rejected symbol (failure.TooLong read) fails other = absurd fails.none
 
+-- the report on a symbol is the line of its tree
+pub report_declared : (verbose : Bool) (symbol : List ℕ) (tree : SymbolTree) → IsParsed symbol tree
+    → IsReport verbose symbol (tree_line verbose tree)
+report_declared verbose symbol tree is = inl (tree, (is.rest, is.notes, is.derived, is.only), refl)
+
+-- and the line of the error, if it is rejected
+pub report_rejected : (verbose : Bool) (symbol : List ℕ) (reason : Failure) (line : List ℕ) → Fails None symbol reason
+    → IsFailureLine reason symbol line → IsReport verbose symbol line
+report_rejected verbose symbol reason line fails h = inr (h.0, h.1, fails.rejected h.0 h.2, h.3)
+
 -- the text of one line
-pub IsText-one : (line text : List ℕ) → IsUtf8 line → IsLineText line text → IsText (line ∷ []) text
-IsText-one line text utf8 h = subst (IsText (line ∷ [])) (append-nil text) (answered utf8 h nothing)
+pub IsText-one : (P : List ℕ → List ℕ → Type 0) (line text : List ℕ) → IsUtf8 line → P line text
+    → IsTextOf P (line ∷ []) text
+IsText-one P line text utf8 h = subst (IsTextOf P (line ∷ [])) (append-nil text) (answered utf8 h nothing)
 
 -- the text of lines, and then of others
-pub IsText-append : {lines others : List (List ℕ)} {text more : List ℕ} → IsText lines text → IsText others more
-    → IsText (lines ++ others) (text ++ more)
+pub IsText-append : {P : List ℕ → List ℕ → Type 0} {lines others : List (List ℕ)} {text more : List ℕ}
+    → IsTextOf P lines text → IsTextOf P others more → IsTextOf P (lines ++ others) (text ++ more)
 IsText-append nothing h = h
 IsText-append (left_out broken t) h = left_out broken (IsText-append t h)
-IsText-append {others = others} {more = more}
+IsText-append {P = P} {others = others} {more = more}
     (answered {line = line} {lines = lines} {first = first} {text = text} utf8 a t) h =
-    subst (IsText (line ∷ (lines ++ others))) (sym (append_assoc first text more)) (answered utf8 a (IsText-append t h))
+    subst (IsTextOf P (line ∷ (lines ++ others))) (sym (append_assoc first text more))
+    (answered utf8 a (IsText-append t h))
 
 -- a symbol has one answer, and a line one text
 IsAnswer-only : (symbol first second : List ℕ) → IsAnswer symbol first → IsAnswer symbol second → second ≡ first
@@ -68,10 +82,26 @@ AreAnswered bytes text = IsText (lines_of bytes) text
 abbrev pub IsAnswered : List ℕ → List ℕ → Type 0
 IsAnswered piece text = IsText (line_of piece ∷ []) text
 
-pub answers-joined : AreJoined AreAnswered IsAnswered
+lines-joined : (P : List ℕ → List ℕ → Type 0) (finished part text more : List ℕ) → IsLines finished → part ≢ []
+    → IsOfOneLine part → IsTextOf P (lines_of finished) text → IsTextOf P (line_of part ∷ []) more
+    → IsTextOf P (lines_of (finished ++ part)) (text ++ more)
+lines-joined P finished part text more lines some one is h =
+    rw (lines_of-append finished part lines some one) (IsText-append is h)
+
+pub answers-joined : AreJoined AreAnswered IsAnswered IsFilterText
 answers-joined = record {
   none = rw lines_of-nil nothing;
-  line = λ finished part text more lines some one is h.
-      rw (lines_of-append finished part lines some one) (IsText-append is h);
-  only = λ bytes first second a b. IsText-only (lines_of bytes) first second a b;
+  line = lines-joined IsLineText;
+  whole = λ bytes text is. (is, λ other h. IsText-only (lines_of bytes) text other is h);
+}
+
+-- the same of the reports on lines
+abbrev pub IsReported : Bool → List ℕ → List ℕ → Type 0
+IsReported verbose piece text = IsTextOf (IsReport verbose) (line_of piece ∷ []) text
+
+pub reports-joined : (verbose : Bool) → AreJoined (AreReports verbose) (IsReported verbose) (AreReports verbose)
+reports-joined verbose = record {
+  none = rw lines_of-nil nothing;
+  line = lines-joined (IsReport verbose);
+  whole = λ bytes text is. is;
 }

@@ -26,13 +26,17 @@ IsAnswer symbol text = ((tree : SymbolTree) × IsTreeOf symbol tree × (text ≡
 abbrev pub IsLineText : List ℕ → List ℕ → Type 0
 IsLineText symbol text = (answer : List ℕ) × IsAnswer symbol answer × (text ≡ answer ++ 10 ∷ [])
 
--- the text is that of the lines: nothing for a line that is not UTF-8, the answer and a line feed for any other line
-pub data IsText : List (List ℕ) → List ℕ → Type 0 where
-  nothing : IsText [] []
-  left_out : {line : List ℕ} {lines : List (List ℕ)} {text : List ℕ} → ¬ (IsUtf8 line) → IsText lines text
-      → IsText (line ∷ lines) text
-  answered : {line : List ℕ} {lines : List (List ℕ)} {first text : List ℕ} → IsUtf8 line → IsLineText line first
-      → IsText lines text → IsText (line ∷ lines) (first ++ text)
+-- the text is that of the lines, where P states what that of one line is: nothing for a line that is not UTF-8
+pub data IsTextOf (P : List ℕ → List ℕ → Type 0) : List (List ℕ) → List ℕ → Type 0 where
+  nothing : IsTextOf P [] []
+  left_out : {line : List ℕ} {lines : List (List ℕ)} {text : List ℕ} → ¬ (IsUtf8 line) → IsTextOf P lines text
+      → IsTextOf P (line ∷ lines) text
+  answered : {line : List ℕ} {lines : List (List ℕ)} {first text : List ℕ} → IsUtf8 line → P line first
+      → IsTextOf P lines text → IsTextOf P (line ∷ lines) (first ++ text)
+
+-- the text is that of the lines: the answer and a line feed for each
+abbrev pub IsText : List (List ℕ) → List ℕ → Type 0
+IsText lines text = IsTextOf IsLineText lines text
 
 -- the text is that of the lines of some bytes, and no other text is
 abbrev pub IsFilterText : List ℕ → List ℕ → Type 0

@@ -1,16 +1,15 @@
 //! `undname` over one symbol and over lines, from a reader to writers.
 
-ghost use Rattle.std.specs.Prelude.{◌≡◌, ◌∷◌, ◌++◌, ℕ, List, [], IfErr, IfOk, IfSome, None, OnOk, OnSome, Some, codes};
-ghost use Rattle.std.specs.Prelude.{string_bytes};
+ghost use Rattle.std.specs.Prelude.{◌≡◌, ◌∷◌, ◌++◌, ℕ, List, [], IfErr, IfOk, None, OnOk, OnSome, Some, string_bytes};
 ghost use Rattle.std.specs.Io.KnownBytes.{Appends, Consumes, IsAtEnd};
-ghost use Rattle.msvc_nodes.specs.Errors.{error_text};
 ghost use Rattle.msvc_nodes.specs.Trees.{SymbolTree};
 ghost use Rattle.msvc_grammar.specs.Parsed.{IsParsed};
 ghost use Rattle.msvc_cursor.specs.Errors.{IsInside};
 ghost use Rattle.msvc_cursor.specs.Failures.{Fails};
 ghost use Rattle.msvc_print.specs.Declaration.{declaration};
-ghost use Rattle.msvc_lines.specs.Answers.{IsLineText, IsText, line_flags};
+ghost use Rattle.msvc_lines.specs.Answers.{IsLineText, IsText, IsTextOf, line_flags};
 ghost use Rattle.msvc_lines.specs.Lines.{line_of};
+ghost use Rattle.msvc_lines.specs.Reports.{IsErrorLine, IsFailureLine, IsReport, WritesReports, tree_line};
 ghost use Rattle.msvc_streams.specs.Faults.{SetsFailureFlag, failure_flag, no_stream};
 ghost use Rattle.msvc_streams.specs.Runs.{Writes};
 ghost use Rattle.msvc_lines.specs.LineRuns.{WritesLines};
@@ -28,12 +27,15 @@ use std::alloc::{AllocError, Global};
 use std::io::{BufRead, Write};
 use std::str::from_utf8;
 
-/// Bytes to reserve for the line of an error. Few errors of symbols take more.
+/// Bytes to reserve for the text of an error. Few errors of symbols take more.
 const ERROR_TEXT: usize = 256;
 
-/// Demangles one symbol: writes its declaration and a line feed to `out`. If the symbol is rejected, writes the error
-/// to `err`, and then the symbol itself and a line feed to `out`. If `verbose`, writes the symbol's tree to `err`
-/// before its declaration.
+/// Bytes that the line of an error has beside that text.
+const ERROR_AROUND: usize = 8;
+
+/// Demangles one symbol: writes its declaration and a line feed to `out`. If the symbol is rejected, writes `error: `,
+/// the error and a line feed to `err`, and then the symbol itself and a line feed to `out`. If `verbose`, writes the
+/// symbol's tree and a line feed to `err` before its declaration.
 ///
 /// # Errors
 ///
@@ -48,6 +50,8 @@ pub fn undname_one<W: Write, E: Write>(
 ) -> Result<(), Fault>
     ensures text { (text : List ℕ) × Appends (W.contents out.old.stream) (W.contents out.new.stream) text
         × Writes result (IsLineText symbol.now) text }
+    ensures errors { (text : List ℕ) × Appends (E.contents err.old.stream) (E.contents err.new.stream) text
+        × Writes result (IsReport verbose symbol.now) text }
     ensures sets_failed { SetsFailureFlag result no_stream (failure_flag out.old out.new)
         (failure_flag err.old err.new) }
 {
@@ -68,6 +72,8 @@ pub(crate) fn undname_in<W: Write, E: Write>(
 ) -> Result<(), Fault>
     ensures text { (text : List ℕ) × Appends (W.contents out.old.stream) (W.contents out.new.stream) text
         × Writes result (IsLineText symbol.now) text }
+    ensures errors { (text : List ℕ) × Appends (E.contents err.old.stream) (E.contents err.new.stream) text
+        × Writes result (IsReport verbose symbol.now) text }
     ensures sets_failed { SetsFailureFlag result no_stream (failure_flag out.old out.new)
         (failure_flag err.old err.new) }
 {
@@ -99,8 +105,9 @@ fn declare(
     tree: &mut String,
     text: &mut Text,
 ) -> Result<(), Failure>
-    ensures declared { IfOk result (λ _. (tree : SymbolTree) × IsParsed symbol.now tree
-        × (text.new.text ≡ Some (declaration tree line_flags))) }
+    ensures declared { IfOk result (λ _. (t : SymbolTree) × IsParsed symbol.now t
+        × (text.new.text ≡ Some (declaration t line_flags))
+        × (string_bytes tree.new ≡ string_bytes tree.old ++ tree_line verbose t)) }
     ensures fails { IfErr result (λ failure. Fails None symbol.now failure) }
     ensures inside { IfErr result (λ failure. IsInside symbol.now failure) }
 {
@@ -127,6 +134,8 @@ fn report<E: Write>(
     err: &mut Watched<E>,
 ) -> Result<(), Fault>
     requires { IsInside symbol.now failure }
+    ensures errors { (text : List ℕ) × Appends (E.contents err.old.stream) (E.contents err.new.stream) text
+        × Writes result (IsFailureLine failure symbol.now) text }
     ensures sets_failed { SetsFailureFlag result no_stream no_stream (failure_flag err.old err.new) }
 {
     let error = failure.error(alloc, symbol);
@@ -139,13 +148,16 @@ fn report<E: Write>(
     }
 }
 
-/// Returns the line that is written for a rejected symbol: its error and a line feed.
+/// Returns the line that is written for a rejected symbol: `error: `, the error, and a line feed.
 fn error_line(alloc: Global, error: &Error) -> Result<String, AllocError>
-    ensures { IfOk result (λ line. IfSome (error_text error.now) (λ text.
-        string_bytes line ≡ codes "error: " ++ (text ++ codes "\n"))) }
+    ensures { IfOk result (λ line. IsErrorLine error.now (string_bytes line)) }
 {
-    let mut line = String::with_capacity(alloc, ERROR_TEXT)?;
-    write!(line, "error: {error}\n")?;
+    let mut shown = String::with_capacity(alloc, ERROR_TEXT)?;
+    write!(shown, "{error}")?;
+    let mut line = String::with_capacity(alloc, shown.len() + ERROR_AROUND)?;
+    line.push_str("error: ")?;
+    line.push_str(shown.as_str())?;
+    line.push('\n')?;
     Ok(line)
 }
 
@@ -177,6 +189,10 @@ pub fn undname_lines<R: BufRead, W: Write, E: Write>(
 ) -> Result<(), Fault>
     ensures text { (taken text : List ℕ) × Consumes (R.remaining input.old.stream) (R.remaining input.new.stream) taken
         × Appends (W.contents out.old.stream) (W.contents out.new.stream) text × WritesLines result taken text }
+    ensures errors { (taken text : List ℕ)
+        × Consumes (R.remaining input.old.stream) (R.remaining input.new.stream) taken
+        × Appends (E.contents err.old.stream) (E.contents err.new.stream) text
+        × WritesReports result verbose taken text }
     ensures end { OnOk result (OnSome (R.remaining input.old.stream) (IsAtEnd (R.remaining input.new.stream))) }
     ensures sets_failed { SetsFailureFlag result (failure_flag input.old input.new) (failure_flag out.old out.new)
         (failure_flag err.old err.new) }
@@ -214,6 +230,8 @@ fn undname_line<W: Write, E: Write>(
 ) -> Result<(), Fault>
     ensures text { (text : List ℕ) × Appends (W.contents out.old.stream) (W.contents out.new.stream) text
         × Writes result (IsText (line_of piece.now ∷ [])) text }
+    ensures errors { (text : List ℕ) × Appends (E.contents err.old.stream) (E.contents err.new.stream) text
+        × Writes result (IsTextOf (IsReport verbose) (line_of piece.now ∷ [])) text }
     ensures sets_failed { SetsFailureFlag result no_stream (failure_flag out.old out.new)
         (failure_flag err.old err.new) }
 {

@@ -3,7 +3,9 @@
 ghost use Rattle.std.specs.Prelude.{◌≡◌, [], ℕ, List, OnOk, OnSome, map, string_bytes};
 ghost use Rattle.std.specs.Io.KnownBytes.{Appends, Consumes, IsAtEnd};
 ghost use Rattle.msvc_streams.specs.Faults.{SetsFailureFlag, failure_flag, no_stream};
-ghost use Rattle.msvc_lines.specs.Arguments.{WritesAnswers, WritesSymbols, symbols_of};
+ghost use Rattle.msvc_lines.specs.Answers.{IsLineText};
+ghost use Rattle.msvc_lines.specs.Arguments.{WritesAnswers, WritesRemarks, WritesSymbols, is_verbose, symbols_of};
+ghost use Rattle.msvc_lines.specs.Reports.{IsReport};
 
 use crate::lines::{undname_in, undname_lines};
 use msvc_print::Text;
@@ -29,6 +31,11 @@ pub fn undname_run<R: BufRead, W: Write, E: Write>(
     ensures text { (taken text : List ℕ) × Consumes (R.remaining input.old.stream) (R.remaining input.new.stream) taken
         × Appends (W.contents out.old.stream) (W.contents out.new.stream) text
         × WritesAnswers result (symbols_of (map string_bytes words.now)) taken text }
+    ensures errors { (taken text : List ℕ)
+        × Consumes (R.remaining input.old.stream) (R.remaining input.new.stream) taken
+        × Appends (E.contents err.old.stream) (E.contents err.new.stream) text
+        × WritesRemarks result (is_verbose (map string_bytes words.now)) (symbols_of (map string_bytes words.now))
+        taken text }
     ensures end { symbols_of (map string_bytes words.now) ≡ []
         → OnOk result (OnSome (R.remaining input.old.stream) (IsAtEnd (R.remaining input.new.stream))) }
     ensures sets_failed { SetsFailureFlag result (failure_flag input.old input.new) (failure_flag out.old out.new)
@@ -43,7 +50,8 @@ pub fn undname_run<R: BufRead, W: Write, E: Write>(
 
 /// Splits the arguments into the symbols and whether the first argument is `-v`.
 fn options(words: &[String]) -> (&[String], bool)
-    ensures { map string_bytes result.0.now ≡ symbols_of (map string_bytes words.now) }
+    ensures symbols { map string_bytes result.0.now ≡ symbols_of (map string_bytes words.now) }
+    ensures verbose { result.1 ≡ is_verbose (map string_bytes words.now) }
 {
     match words.split_first() {
         Some((first, symbols)) if first.as_str() == "-v" => (symbols, true),
@@ -60,7 +68,9 @@ fn undname_all<W: Write, E: Write>(
     verbose: bool,
 ) -> Result<(), Fault>
     ensures text { (text : List ℕ) × Appends (W.contents out.old.stream) (W.contents out.new.stream) text
-        × WritesSymbols result (map string_bytes symbols.now) text }
+        × WritesSymbols result IsLineText (map string_bytes symbols.now) text }
+    ensures errors { (text : List ℕ) × Appends (E.contents err.old.stream) (E.contents err.new.stream) text
+        × WritesSymbols result (IsReport verbose) (map string_bytes symbols.now) text }
     ensures sets_failed { SetsFailureFlag result no_stream (failure_flag out.old out.new)
         (failure_flag err.old err.new) }
 {

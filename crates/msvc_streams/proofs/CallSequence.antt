@@ -1,6 +1,6 @@
 -- What is written when one call follows another.
 use Rattle.std.proofs.Common.{◌≡◌, ◌++◌, [], ℕ, List, Result, Ok, Err, IfErr, true, false, ap, sym, refl}
-use Rattle.std.proofs.Common.{◌∙◌, append_assoc, take, drop, length, ◌-◌, length-drop, take_all, arith}
+use Rattle.std.proofs.Common.{◌∙◌, append-nil, append_assoc, take, drop, length, ◌-◌, length-drop, subst, take_all, arith}
 use Rattle.msvc_streams.specs.Faults.{FailureFlag, SetsFlagOf, no_stream}
 use Rattle.msvc_streams.specs.Runs.{Writes, WritesPart}
 use Rattle.msvc_streams.specs.declared.watched.Fault.{Fault}
@@ -34,6 +34,14 @@ Writes-second (Ok done) bytes end text e h = ap (λ l. bytes ++ l) h
 Writes-second (Err Read) bytes end text e h = absurd h
 Writes-second (Err Write) bytes end text e h = (h.0, append_assoc bytes text h.0 ∙ ap (λ l. bytes ++ l) h.1)
 Writes-second (Err Memory) bytes end text e h = let no : Memory ≡ Write = e in cc
+
+-- all that one stream is given, where only a write to another may have failed
+pub Writes-whole : {A : Type 0} (r : Result A Fault) (P : List ℕ → Type 0) (text : List ℕ) → IfErr r (λ e. e ≡ Write)
+    → P text → Writes r P text
+Writes-whole (Ok done) P text e h = h
+Writes-whole (Err Read) P text e h = let no : Read ≡ Write = e in cc
+Writes-whole (Err Write) P text e h = ([], subst P (sym (append-nil text)) h)
+Writes-whole (Err Memory) P text e h = let no : Memory ≡ Write = e in cc
 
 -- nothing, where a fault came before the first byte
 pub WritesPart-nothing : (e : Fault) (out err : FailureFlag) (P : List ℕ → Type 0) (whole : List ℕ) → P whole

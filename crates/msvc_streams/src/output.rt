@@ -26,6 +26,7 @@ pub fn write_all<W: Write>(out: &mut Watched<W>, bytes: &[u8]) -> Result<(), Fau
 pub fn write_line<W: Write>(out: &mut Watched<W>, bytes: &[u8]) -> Result<(), Fault>
     ensures text { (written : List ℕ) × Appends (W.contents out.old.stream) (W.contents out.new.stream) written
         × Writes result (λ whole. whole ≡ bytes.now ++ 10 ∷ []) written }
+    ensures fault { IfErr result (λ fault. fault ≡ Fault.Write) }
     ensures sets_failed { SetsFailureFlag result no_stream (failure_flag out.old out.new) no_stream }
 {
     write_all(out, bytes)?;

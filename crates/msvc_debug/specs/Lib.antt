@@ -1,0 +1,4 @@
+pub mod Items
+pub mod Literals
+pub mod TreeText
+pub mod Words
