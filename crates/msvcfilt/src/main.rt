@@ -56,8 +56,8 @@ fn show(rt: &HostRuntime, error: &clap::Error) -> ExitCode {
     }
 }
 
-/// Returns whether declarations are colored. By default they are in a terminal, unless the environment has `NO_COLOR`
-/// with any value.
+/// Returns whether declarations are colored. By default they are in a terminal, unless `NO_COLOR` of the environment is
+/// set and not empty.
 fn is_colored(rt: &HostRuntime, color: Color) -> bool {
     match color {
         Color::Auto => rt.stdout().is_terminal() && !has_no_color(rt),

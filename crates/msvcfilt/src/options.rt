@@ -78,7 +78,7 @@ const LLVM_OPTIONS: [(&str, u64, DemangleFlags); 5] = [
     ),
 ];
 
-/// When declarations are colored.
+/// Says when declarations are colored.
 #[derive(Clone, Copy)]
 pub(crate) enum Color {
     /// In a terminal, unless the environment forbids it.
