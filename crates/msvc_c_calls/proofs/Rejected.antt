@@ -8,6 +8,7 @@ use Rattle.msvc_demangler.specs.Errors as errors
 use Rattle.msvc_demangler.specs.Errors.{message_limit}
 use Rattle.msvc_demangler.specs.GrammarNames.{Grammar}
 use Rattle.msvc_demangler.specs.Limit.{Limit}
+use Rattle.msvc_demangler.specs.Limits.{limit_meant}
 use Rattle.msvc_demangler.specs.Limit.TheVariants.{Bytes, Nodes}
 use Rattle.msvc_c_calls.specs.Calls.{IsNone, IsNotRead, IsRejection, invalid, too_many_nodes}
 use Rattle.msvc_c_calls.specs.Reasons.{IsStatusOf}
@@ -32,7 +33,7 @@ set-nodes (Some most) set = refl
 
 pub rejected : (g : Grammar) (limits : Limits) (symbol : List ℕ) (status offset : ℕ) (message text : List ℕ)
     (limit : Option Limit)
-    → IsUtf8 symbol → IsNone g limits.nodes symbol → IsRejection g symbol message offset text
+    → IsUtf8 symbol → IsNone g (limit_meant limit limits.nodes) symbol → IsRejection g symbol message offset text
     → message_limit message ≡ limit → limit ≢ Some Bytes → (limits.nodes ≡ None → limit ≡ None)
     → IsStatusOf limit status → IsNotRead g limits symbol status offset text
 rejected g limits symbol status offset message text None u none rejection about other set is =

@@ -57,9 +57,8 @@ pub record IsRejection (g : Grammar) (symbol message : List ℕ) (offset : ℕ) 
 -- The status, the offset and the text for a symbol that is not read in a grammar.
 pub data IsNotRead (g : Grammar) (limits : Limits) (symbol : List ℕ) : (status offset : ℕ) (text : List ℕ)
     → Type 0 where
-  -- INVALID: the message is about no limit
-  invalid : {offset : ℕ} {message text : List ℕ} → IsUtf8 symbol → IsNone g limits.nodes symbol
-      → message_limit message ≡ None
+  -- INVALID: no beginning of the symbol is one, however many nodes it has, and the message is about no limit
+  invalid : {offset : ℕ} {message text : List ℕ} → IsUtf8 symbol → IsNone g None symbol → message_limit message ≡ None
       → IsRejection g symbol message offset text
       → IsNotRead g limits symbol 1 offset text
   -- NOT_UTF8: the symbol is UTF-8 up to the offset

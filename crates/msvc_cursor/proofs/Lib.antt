@@ -4,7 +4,9 @@ pub mod GuardSteps
 pub mod Messages
 pub mod NameSteps
 pub mod Nodes
+pub mod NotedTypes
 pub mod NumberSteps
+pub mod Rejecting
 pub mod RowSteps
 pub mod SpecialSteps
 pub mod Steps

@@ -36,6 +36,14 @@ encoded_string_parts left l1 l2 l3 l4 l5 s s1 s2 s3 s4 s5 size count long droppe
     read =
     encoded_string_step left s ∙ rw (counted, sized, first, second, sym many, read) refl
 
+pub encoded_string_rejected : (left l1 l2 l3 l4 : List ℕ) (s s1 s2 s3 s4 : State) (size count : ℕ) (long dropped : ℤ)
+    → counting s.count.weight left s ≡ Some (tt, l1, s1)
+    → letter_here character_sizes l1 s1 ≡ Some (size, l2, s2) → read_name number l2 s2 ≡ Some (long, l3, s3)
+    → read_name number l3 s3 ≡ Some (dropped, l4, s4) → count ≡ string_length size long
+    → read_name (characters count) l4 s4 ≡ None → read_name (encoding_after encoded_string) left s ≡ None
+encoded_string_rejected left l1 l2 l3 l4 s s1 s2 s3 s4 size count long dropped counted sized first second many none =
+    encoded_string_step left s ∙ rw (counted, sized, first, second, sym many, none) refl
+
 characters_step : (n : ℕ) (left : List ℕ) (s : State) → read_name (characters (suc n)) left s
     ≡ and_then (read_name character left s)
     (λ c l t. and_then (read_name (characters n) l t) (λ cs k u. Some (c ∷ cs, k, u)))

@@ -1,8 +1,9 @@
 -- Reads a whole text in a dialect: what is read is the one tree that the grammar derives, and where nothing is read it
 -- derives none.
 use Rattle.std.proofs.Common.{ℕ, List, [], ◌++◌, length, length-append, take, Option, Some, None, Result, Ok, Err, ◌≡◌}
-use Rattle.std.proofs.Common.{◌≤◌, ◌-◌, ◌⊎◌, inl, inr, refl}
+use Rattle.std.proofs.Common.{◌≤◌, ◌<◌, ◌+◌, ◌-◌, ◌⊎◌, cond, inl, inr, refl}
 use Rattle.std.proofs.Common.{sym, ap, ◌∙◌, subst, arith}
+use Rattle.std.specs.Cow.{cow_str_bytes}
 use Rattle.std.specs.Prelude.{IfErr, IfOk}
 use Rattle.std.specs.Str.{IsCharBoundary, IsUtf8}
 use Rattle.msvc_nodes.specs.Errors.{context_of, limit_of, message_limit}
@@ -10,18 +11,18 @@ use Rattle.msvc_nodes.specs.Trees.{SymbolTree}
 use Rattle.msvc_nodes.specs.declared.error.ErrorRepr.{ErrorRepr}
 use Rattle.msvc_nodes.specs.declared.error.ErrorRepr.TheVariants as error
 use Rattle.msvc_nodes.specs.declared.error.Limit.{Limit}
-use Rattle.msvc_nodes.specs.declared.error.Limit.TheVariants.{Bytes}
+use Rattle.msvc_nodes.specs.declared.error.Limit.TheVariants.{Bytes, Nodes}
 use Rattle.std.proofs.lemmas.Str.{IsCharBoundary-at_seam}
 use Rattle.std.proofs.Math.Seq.{take-append_seam}
 use Rattle.msvc_rules.specs.Counts.{node_count}
 use Rattle.msvc_rules.specs.Dialects.{Dialect}
-use Rattle.msvc_rules.specs.Limits.{IsWithin, MayBeAbout}
+use Rattle.msvc_rules.specs.Limits.{IsWithin, MayBeAbout, limit_meant}
 use Rattle.msvc_rules.specs.Parsed.{AreReferencesIn, IsParsedIn, IsRejectedIn, IsSymbolLengthIn}
 use Rattle.msvc_rules.specs.Prefix.{IsReadToIn}
 use Rattle.msvc_rules.specs.Readers.{Found, read_name_in}
 use Rattle.msvc_rules.specs.Reads.{DerivesIn}
 use Rattle.msvc_rules.specs.Rejections.{IsNoSymbolIn, IsRejectedRightlyIn, IsRejectionAt}
-use Rattle.msvc_rules.specs.State.{Count, State, Note, beginning, beginning_with, uncounted}
+use Rattle.msvc_rules.specs.State.{Count, State, Note, beginning, beginning_with}
 use Rattle.msvc_rules.proofs.Dialects.{Lawful}
 use Rattle.msvc_rules.proofs.Laws.{derived-alone, derived-only, symbol-derived, symbol-rejected}
 use Rattle.msvc_rules.proofs.NamesInText.{derived-parts, derived-utf8, rest-utf8}
@@ -33,7 +34,7 @@ use Rattle.msvc_cursor.proofs.Messages.{not-bytes, words-limit}
 use Rattle.msvc_cursor.specs.Errors.{IsErrorOf, IsInside, IsSaid}
 use Rattle.msvc_cursor.specs.Failures.{FailsIn, UnlessMemory}
 use Rattle.msvc_cursor.specs.Messages.{limit_of_failure, limit_of_message}
-use Rattle.msvc_cursor.specs.Parser.{IsRead, Rejects, with_length}
+use Rattle.msvc_cursor.specs.Parser.{IsRead, Rejects, reads_on, with_length}
 use Rattle.msvc_cursor.specs.SymbolsRead.{IsSymbolReadIn}
 use Rattle.msvc_cursor.specs.declared.failure.Failure.{Failure}
 use Rattle.msvc_cursor.specs.declared.failure.Failure.TheVariants as failure
@@ -121,15 +122,16 @@ module _ {D : Dialect} (L : Lawful D) where
 
   -- What a reader returns
 
-  -- how nodes are counted under a limit
-  abbrev pub count_under : Option ℕ → Count
-  count_under None = uncounted
-  count_under (Some max) = at_most max
+  -- how nodes are counted where so many more are allowed than the limit
+  abbrev pub count_under : (extra : ℕ) → Option ℕ → Count
+  count_under extra None = record { weight = 0; used = 0; max = 0 + extra }
+  count_under extra (Some max) = at_most (max + extra)
 
-  -- what is read of a text under a limit: the tree, how many bytes, and the digits that were read as whole parameters
-  abbrev pub symbol_under : Option ℕ → List ℕ → Option (SymbolTree × ℕ × List Note)
-  symbol_under nodes text =
-      with_length text (read_name_in D.grammar D.grammar.start text (beginning_with (count_under nodes) text))
+  -- what is read of a text where so many nodes more are allowed than the limit: the tree, how many bytes, and the digits
+  -- that were read as whole parameters
+  abbrev pub symbol_under : (extra : ℕ) → Option ℕ → List ℕ → Option (SymbolTree × ℕ × List Note)
+  symbol_under extra nodes text =
+      with_length text (read_name_in D.grammar D.grammar.start text (beginning_with (count_under extra nodes) text))
 
   whole : (text : List ℕ) (r : Found SymbolTree) (tree : SymbolTree) (n : ℕ) (notes : List Note)
       → with_length text r ≡ Some (tree, n, notes)
@@ -152,7 +154,7 @@ module _ {D : Dialect} (L : Lawful D) where
       × IsWithin nodes (node_count tree)
 
   read-derived : (nodes : Option ℕ) (text : List ℕ) (tree : SymbolTree) (n : ℕ) (notes : List Note)
-      → symbol_under nodes text ≡ Some (tree, n, notes) → DerivedWithin nodes text tree n notes
+      → symbol_under 0 nodes text ≡ Some (tree, n, notes) → DerivedWithin nodes text tree n notes
   read-derived None text tree n notes e =
       let found = whole text (read_name_in D.grammar D.grammar.start text (beginning text)) tree n notes e in (
         found.0,
@@ -162,12 +164,16 @@ module _ {D : Dialect} (L : Lawful D) where
       )
   read-derived (Some max) text tree n notes e =
       let found = whole text
-      (read_name_in D.grammar D.grammar.start text (beginning_with (at_most max) text)) tree n notes e in
-      let within = within_derived L.fit L.counted text max tree found.0 found.1 found.2 in
-      (found.0, subst (DerivesIn D.grammar text tree found.0) found.4 within.0, found.3, within.1)
+      (read_name_in D.grammar D.grammar.start text (beginning_with (at_most (max + 0)) text)) tree n notes e in
+      let within = within_derived L.fit L.counted text (max + 0) tree found.0 found.1 found.2 in (
+        found.0,
+        subst (DerivesIn D.grammar text tree found.0) found.4 within.0,
+        found.3,
+        omega (arith, within.1),
+      )
 
   symbol-read : (nodes : Option ℕ) (text : List ℕ) (tree : SymbolTree) (n : ℕ) (notes : List Note) → IsUtf8 text
-      → symbol_under nodes text ≡ Some (tree, n, notes) → IsSymbolReadIn D nodes text tree n notes
+      → symbol_under 0 nodes text ≡ Some (tree, n, notes) → IsSymbolReadIn D nodes text tree n notes
   unfolding derived_references
   symbol-read nodes text tree n notes utf8 e =
       let read = read-derived nodes text tree n notes e in
@@ -183,10 +189,11 @@ module _ {D : Dialect} (L : Lawful D) where
 
   -- seen by a view, as the result of a reader
   pub result-read : {A : Type 0} (nodes : Option ℕ) (text : List ℕ) (view : A → SymbolTree × ℕ × List Note)
-      (result : Result A Failure) → IsUtf8 text → IsRead view result (symbol_under nodes text)
+      (result : Result A Failure) → IsUtf8 text
+      → ((extra : ℕ) → IsRead extra view result (symbol_under extra nodes text))
       → IfOk result (λ r. IsSymbolReadIn D nodes text (view r).0 (view r).1 (view r).2)
   result-read nodes text view (Err reason) utf8 is = tt
-  result-read nodes text view (Ok r) utf8 is = symbol-read nodes text (view r).0 (view r).1 (view r).2 utf8 is
+  result-read nodes text view (Ok r) utf8 is = symbol-read nodes text (view r).0 (view r).1 (view r).2 utf8 (is 0)
 
   -- Where nothing is read
 
@@ -194,31 +201,61 @@ module _ {D : Dialect} (L : Lawful D) where
   none text None k = refl
   none text (Some x) k = absurd (cc)
 
-  read-none : (nodes : Option ℕ) (text : List ℕ) → symbol_under nodes text ≡ None → IsNoSymbolIn D.grammar nodes text
-  read-none None text e =
-      symbol-rejected L.fit text (none text (read_name_in D.grammar D.grammar.start text (beginning text)) e)
-  read-none (Some max) text e =
+  -- where at most so many nodes are allowed and nothing is read, what is derived has more
+  more-than : (max : ℕ) (text : List ℕ)
+      → with_length text (read_name_in D.grammar D.grammar.start text (beginning_with (at_most max) text)) ≡ None
+      → (tree : SymbolTree) (rest : List ℕ) (notes : List Note) → DerivesIn D.grammar text tree rest notes
+      → max < node_count tree
+  more-than max text e =
       within_rejected L.fit L.counted text max
       (none text (read_name_in D.grammar D.grammar.start text (beginning_with (at_most max) text)) e)
 
-  at_rejected : (nodes : Option ℕ) (text : List ℕ) (left : ℕ) (e : ErrorRepr) → IsNoSymbolIn D.grammar nodes text
-      → IsRejectionAt text (length text - left) e → IsRejectedRightlyIn D.grammar nodes text e
-  at_rejected nodes text left (error.ParseError m c at) none h =
+  none-within : (nodes : Option ℕ) (text : List ℕ) → symbol_under 0 nodes text ≡ None
+      → IsNoSymbolIn D.grammar nodes text
+  none-within None text e =
+      symbol-rejected L.fit text (none text (read_name_in D.grammar D.grammar.start text (beginning text)) e)
+  none-within (Some max) text e = λ tree rest notes d.
+      let more : max + 0 < node_count tree = more-than (max + 0) text e tree rest notes d in omega (arith, more)
+
+  -- a tree would be read where as many nodes more are allowed as it has
+  none-at-all : (nodes : Option ℕ) (text : List ℕ) → ((extra : ℕ) → symbol_under extra nodes text ≡ None)
+      → IsNoSymbolIn D.grammar None text
+  none-at-all None text e = none-within None text (e 0)
+  none-at-all (Some max) text e = λ tree rest notes d.
+      let n : ℕ = node_count tree in
+      let more : max + n < n = more-than (max + n) text (e n) tree rest notes d in absurd (omega (arith, more))
+
+  none-meant : (about : Option Limit) (nodes : Option ℕ) (text : List ℕ)
+      → ((extra : ℕ) → cond (reads_on extra about) (Unit {0}) (symbol_under extra nodes text ≡ None))
+      → IsNoSymbolIn D.grammar (limit_meant about nodes) text
+  none-meant (Some Nodes) nodes text e = none-within nodes text (e 0)
+  none-meant (Some Bytes) nodes text e = none-at-all nodes text e
+  none-meant None nodes text e = none-at-all nodes text e
+
+  at_rejected : (nodes : Option ℕ) (text : List ℕ) (m : Message) (left : ℕ) (e : ErrorRepr)
+      → IsNoSymbolIn D.grammar (limit_meant (limit_of_message m) nodes) text
+      → IsRejectionAt text (length text - left) e → IsSaid m e → IsRejectedRightlyIn D.grammar nodes text e
+  at_rejected nodes text m left (error.ParseError said c at) none h is =
       let inside : at ≤ length text = omega (arith, h.0) in
-      (inside, none, λ ascii. h.1 ascii ∙ ap (context_of text) (sym h.0))
-  at_rejected nodes text left error.Memory none h = tt
-  at_rejected nodes text left (error.Other m) none h = absurd h
-  at_rejected nodes text left (error.Utf8 m) none h = absurd h
-  at_rejected nodes text left (error.FromUtf8 m) none h = absurd h
+      let about : message_limit (cow_str_bytes said) ≡ limit_of_message m = ap message_limit is ∙ words-limit m in (
+        inside,
+        subst (λ o. IsNoSymbolIn D.grammar (limit_meant o nodes) text) (sym about) none,
+        λ ascii. h.1 ascii ∙ ap (context_of text) (sym h.0),
+      )
+  at_rejected nodes text m left error.Memory none h is = tt
+  at_rejected nodes text m left (error.Other said) none h is = absurd h
+  at_rejected nodes text m left (error.Utf8 cause) none h is = absurd h
+  at_rejected nodes text m left (error.FromUtf8 cause) none h is = absurd h
 
   -- the error that a caller sees says what the failure inside the reader says
   error-rejected : (nodes : Option ℕ) (text : List ℕ) (r : Failure) (e : ErrorRepr)
-      → Rejects r (symbol_under nodes text) → IsErrorOf r text e → IsRejectedRightlyIn D.grammar nodes text e
+      → ((extra : ℕ) → Rejects extra r (symbol_under extra nodes text)) → IsErrorOf r text e
+      → IsRejectedRightlyIn D.grammar nodes text e
   error-rejected nodes text failure.Memory e h is =
       subst (λ (x : ErrorRepr). IsRejectedRightlyIn D.grammar nodes text x) (sym is) tt
   error-rejected nodes text (failure.Rejected message left) e h is =
-      at_rejected nodes text left e (read-none nodes text h) is.0
-  error-rejected nodes text (failure.TooLong read) e h is = absurd h
+      at_rejected nodes text message left e (none-meant (limit_of_message message) nodes text h) is.0 is.1
+  error-rejected nodes text (failure.TooLong read) e h is = absurd (h 0)
 
   -- what an error says is about the limit that the failure is about
   said-limit : (m : Message) (e : ErrorRepr) → IsSaid m e → (limit_of e ≡ limit_of_message m) ⊎ (limit_of e ≡ None)
@@ -228,13 +265,13 @@ module _ {D : Dialect} (L : Lawful D) where
   said-limit m (error.Utf8 cause) is = inr refl
   said-limit m (error.FromUtf8 cause) is = inr refl
 
-  error-limit : {Y : Type 0} (text : List ℕ) (r : Failure) (e : ErrorRepr) (read : Option Y) → Rejects r read
+  error-limit : {Y : Type 0} (text : List ℕ) (r : Failure) (e : ErrorRepr) (read : Option Y) → Rejects 0 r read
       → IsErrorOf r text e → (limit_of e ≡ limit_of_failure r) ⊎ (limit_of e ≡ None)
   error-limit text failure.Memory e read h is = inr (ap limit_of is)
   error-limit text (failure.Rejected message left) e read h is = said-limit message e is.1
   error-limit text (failure.TooLong length) e read h is = absurd h
 
-  failure-about : {Y : Type 0} (nodes : Option ℕ) (r : Failure) (read : Option Y) → Rejects r read
+  failure-about : {Y : Type 0} (nodes : Option ℕ) (r : Failure) (read : Option Y) → Rejects 0 r read
       → (nodes ≡ None → limit_of_failure r ≡ None) → MayBeAbout nodes (limit_of_failure r)
   failure-about None r read h unlimited = unlimited refl
   failure-about (Some max) failure.Memory read h unlimited = λ e. let no : None ≡ Some Bytes = e in absurd (cc)
@@ -266,7 +303,7 @@ module _ {D : Dialect} (L : Lawful D) where
 
   -- each error that is made of a failure to read rejects the text
   rejected : {A : Type 0} (nodes : Option ℕ) (text : List ℕ) (r : Failure) (e : ErrorRepr)
-      → Rejects r (symbol_under nodes text)
+      → ((extra : ℕ) → Rejects extra r (symbol_under extra nodes text))
       → ((D.Begins text → ⊥)
       → ◌≡◌ {A = Result A Failure} (Err r) (Err (failure.Rejected message.NoQuestionMark (length text))))
       → (nodes ≡ None → limit_of_failure r ≡ None) → IsErrorOf r text e → IsRejectedIn D nodes text e
@@ -277,18 +314,19 @@ module _ {D : Dialect} (L : Lawful D) where
         begins = rejected-at-once text r e start is;
         hashes = hashes-under nodes text e rightly;
         limit =
-            error-about nodes e (limit_of_failure r) (failure-about nodes r _ h unlimited)
-            (error-limit text r e _ h is);
+            error-about nodes e (limit_of_failure r) (failure-about nodes r _ (h 0) unlimited)
+            (error-limit text r e _ (h 0) is);
       }
 
   -- where no symbol is read, none is derived, and a text without a question mark at its beginning is rejected there
-  unread-none : (nodes : Option ℕ) (text : List ℕ) (r : Failure) → Rejects r (symbol_under nodes text)
-      → UnlessMemory text r (λ offset. IsNoSymbolIn D.grammar nodes text)
+  unread-none : (nodes : Option ℕ) (text : List ℕ) (r : Failure)
+      → ((extra : ℕ) → Rejects extra r (symbol_under extra nodes text))
+      → UnlessMemory text r (λ offset. IsNoSymbolIn D.grammar (limit_meant (limit_of_failure r) nodes) text)
   unread-none nodes text failure.Memory h = tt
-  unread-none nodes text (failure.Rejected message left) h = read-none nodes text h
-  unread-none nodes text (failure.TooLong read) h = absurd h
+  unread-none nodes text (failure.Rejected message left) h = none-meant (limit_of_message message) nodes text h
+  unread-none nodes text (failure.TooLong read) h = absurd (h 0)
 
-  unread-begins : {A Y : Type 0} (text : List ℕ) (r : Failure) (read : Option Y) → Rejects r read
+  unread-begins : {A Y : Type 0} (text : List ℕ) (r : Failure) (read : Option Y) → Rejects 0 r read
       → ((D.Begins text → ⊥)
       → ◌≡◌ {A = Result A Failure} (Err r) (Err (failure.Rejected message.NoQuestionMark (length text))))
       → UnlessMemory text r (λ offset. (D.Begins text → ⊥) → offset ≡ 0)
@@ -299,7 +337,8 @@ module _ {D : Dialect} (L : Lawful D) where
       let same : left ≡ length text = cc in
       omega (arith, same)
 
-  fails : {A : Type 0} (nodes : Option ℕ) (text : List ℕ) (r : Failure) → Rejects r (symbol_under nodes text)
+  fails : {A : Type 0} (nodes : Option ℕ) (text : List ℕ) (r : Failure)
+      → ((extra : ℕ) → Rejects extra r (symbol_under extra nodes text))
       → ((D.Begins text → ⊥)
       → ◌≡◌ {A = Result A Failure} (Err r) (Err (failure.Rejected message.NoQuestionMark (length text))))
       → (nodes ≡ None → limit_of_failure r ≡ None) → FailsIn D nodes text r
@@ -307,13 +346,13 @@ module _ {D : Dialect} (L : Lawful D) where
       record {
         rejected = λ e is. rejected nodes text r e h start unlimited is;
         none = unread-none nodes text r h;
-        begins = unread-begins text r _ h start;
-        limit = failure-about nodes r _ h unlimited;
+        begins = unread-begins text r _ (h 0) start;
+        limit = failure-about nodes r _ (h 0) unlimited;
       }
 
   -- seen as the result of a reader
   pub result-fails : {A : Type 0} (nodes : Option ℕ) (text : List ℕ) (view : A → SymbolTree × ℕ × List Note)
-      (result : Result A Failure) → IsRead view result (symbol_under nodes text)
+      (result : Result A Failure) → ((extra : ℕ) → IsRead extra view result (symbol_under extra nodes text))
       → ((D.Begins text → ⊥) → result ≡ Err (failure.Rejected message.NoQuestionMark (length text)))
       → (nodes ≡ None → IfErr result (λ reason. limit_of_failure reason ≡ None))
       → IfErr result (λ reason. FailsIn D nodes text reason)

@@ -2,7 +2,7 @@
 use Rattle.std.specs.Prelude.{ℕ, List, ◌-◌, ◌≡◌, Option, length}
 use Rattle.msvc_nodes.specs.declared.error.ErrorRepr.{ErrorRepr}
 use Rattle.msvc_rules.specs.Dialects.{Dialect}
-use Rattle.msvc_rules.specs.Limits.{MayBeAbout}
+use Rattle.msvc_rules.specs.Limits.{MayBeAbout, limit_meant}
 use Rattle.msvc_rules.specs.Parsed.{IsRejectedIn}
 use Rattle.msvc_rules.specs.Rejections.{IsNoSymbolIn}
 use Rattle.msvc_grammar.specs.Parsed.{crate_dialect}
@@ -21,8 +21,9 @@ UnlessMemory text (failure.TooLong read) holds = ⊥
 pub record FailsIn (D : Dialect) (nodes : Option ℕ) (text : List ℕ) (reason : Failure) : Type 0 where
   -- each error that is made of the reason rejects the text
   pub rejected : (e : ErrorRepr) → IsErrorOf reason text e → IsRejectedIn D nodes text e
-  -- no beginning of the text is a symbol within the limit
-  pub none : UnlessMemory text reason (λ offset. IsNoSymbolIn D.grammar nodes text)
+  -- no beginning of the text is a symbol, or none within the limit, if the reason is the limit on nodes
+  pub none : UnlessMemory text reason
+      (λ offset. IsNoSymbolIn D.grammar (limit_meant (limit_of_failure reason) nodes) text)
   -- a text without a question mark at its beginning is rejected at offset 0
   pub begins : UnlessMemory text reason (λ offset. (D.Begins text → ⊥) → offset ≡ 0)
   -- the reason is no limit, if there is none

@@ -1,5 +1,9 @@
 -- The state of the grammar that a parser holds, and what contracts of readers say about it.
 use Rattle.std.specs.Prelude.{ℕ, List, [], ◌∷◌, Option, Some, None, Result, Ok, Err, Bool, true, false, ◌≡◌, ◌==◌, ◌+◌}
+use Rattle.std.specs.Prelude.{cond, nat_lt}
+use Rattle.msvc_nodes.specs.declared.error.Limit.{Limit}
+use Rattle.msvc_nodes.specs.declared.error.Limit.TheVariants.{Nodes}
+use Rattle.msvc_cursor.specs.Messages.{limit_of_message}
 use Rattle.std.specs.Prelude.{◌<◌, ◌≤◌, ◌-◌, IfOk, length, map, position, slice_get, take, drop, if◌then◌else◌}
 use Rattle.std.specs.Option.{option_map}
 use Rattle.msvc_nodes.specs.declared.kinds.PlainType.TheVariants as plain_kind
@@ -80,30 +84,54 @@ frame_of p =
       types_before = enclosing p.listed_types;
     }
 
--- a rejection means that the rule reads nothing; no reader fails for the length of a declaration
-abbrev pub Rejects : {Y : Type 0} → Failure → Option Y → Type 0
-Rejects failure.Memory read = Unit {0}
-Rejects (failure.Rejected message left) read = read ≡ None
-Rejects (failure.TooLong length) read = ⊥
+-- a state in which so many nodes more may be made
+abbrev pub beyond : ℕ → state.State → state.State
+beyond extra s = record s { count = record s.count { max = s.count.max + extra } }
+
+-- whether a rule that may make so many nodes more may read on where a reader stops at this limit, or at none
+abbrev pub reads_on : (extra : ℕ) → Option Limit → Bool
+reads_on extra (Some Nodes) = nat_lt 0 extra
+reads_on extra about = false
+
+-- A rejection means that the rule reads nothing. Where the rule may make so many nodes more than the reader, it does so
+-- unless the reader stops at the limit on nodes. No reader fails for the length of a declaration.
+abbrev pub Rejects : {Y : Type 0} → (extra : ℕ) → Failure → Option Y → Type 0
+Rejects extra failure.Memory read = Unit {0}
+Rejects extra (failure.Rejected message left) read = cond (reads_on extra (limit_of_message message)) (Unit {0}) (read ≡ None)
+Rejects extra (failure.TooLong length) read = ⊥
 
 -- the result of a reader, seen by view, is what its rule reads; on failure, last_error is the reason
-abbrev pub Gives : {X Y : Type 0} → (X → Y) → Failure → Result X Failed → Option Y → Type 0
-Gives view last_error (Ok x) read = read ≡ Some (view x)
-Gives view last_error (Err e) read = Rejects last_error read
+abbrev pub Gives : {X Y : Type 0} → ℕ → (X → Y) → Failure → Result X Failed → Option Y → Type 0
+Gives extra view last_error (Ok x) read = read ≡ Some (view x)
+Gives extra view last_error (Err e) read = Rejects extra last_error read
 
 -- the result of a function that returns the reason of its failure, seen by view, is what a rule reads
-abbrev pub IsRead : {X Y : Type 0} → (X → Y) → Result X Failure → Option Y → Type 0
-IsRead view (Ok x) read = read ≡ Some (view x)
-IsRead view (Err e) read = Rejects e read
+abbrev pub IsRead : {X Y : Type 0} → ℕ → (X → Y) → Result X Failure → Option Y → Type 0
+IsRead extra view (Ok x) read = read ≡ Some (view x)
+IsRead extra view (Err e) read = Rejects extra e read
 
 -- The result of a reader, seen by view, is what its rule reads of the unread bytes: its value, the bytes left and the
 -- state after it.
 abbrev pub ReadsAs : {L A : Type 0} {g h : _} {X Y : Type 0} → (X → Y) → Parser L A g h → Parser L A g h → Result X
     Failed
     → (List ℕ → state.State → Found Y) → Type 0
-ReadsAs view before after result reading =
-    Gives (λ x. (view x, after.rest.now, state_of after)) after.last_error.reason result
-    (reading before.rest.now (state_of before))
+ReadsAs view before after result reading = (extra : ℕ)
+    → Gives extra (λ x. (view x, after.rest.now, beyond extra (state_of after))) after.last_error.reason result
+    (reading before.rest.now (beyond extra (state_of before)))
+
+-- a reader that cannot fail reads a value of the unread bytes, as its rule does
+abbrev pub AlwaysReads : {L A : Type 0} {g h : _} {Y : Type 0} → Parser L A g h → Parser L A g h → Y
+    → (List ℕ → state.State → Found Y) → Type 0
+AlwaysReads before after value reading = (extra : ℕ)
+    → reading before.rest.now (beyond extra (state_of before))
+    ≡ Some (value, after.rest.now, beyond extra (state_of after))
+
+-- a reader that may find nothing finds what its rule reads of the unread bytes, seen by view
+abbrev pub MayRead : {L A : Type 0} {g h : _} {X Y : Type 0} → (X → Y) → Parser L A g h → Parser L A g h → Option X
+    → (List ℕ → state.State → Found Y) → Type 0
+MayRead view before after result reading = (extra : ℕ)
+    → reading before.rest.now (beyond extra (state_of before))
+    ≡ option_map (λ x. (view x, after.rest.now, beyond extra (state_of after))) result
 
 -- on success, a reader has read at least one byte and has left the frame unchanged
 abbrev pub Consumes : {L A : Type 0} {g h : _} {X : Type 0} → Parser L A g h → Parser L A g h → Result X Failed → Type 0

@@ -17,9 +17,8 @@ ghost use Rattle.msvc_rules.specs.State.{beginning_with, place};
 ghost use Rattle.msvc_grammar.specs.Letters.{digits};
 ghost use Rattle.msvc_grammar.specs.Reading.{read};
 ghost use Rattle.msvc_cursor.specs.Messages.{limit_of_message};
-ghost use Rattle.msvc_cursor.specs.Parser.{byte_here, consumed, Consumes};
-ghost use Rattle.msvc_cursor.specs.Parser.{frame_of, optional_letters, ReadsAs, state_of};
-ghost use Rattle.msvc_cursor.specs.Parser.{Stays};
+ghost use Rattle.msvc_cursor.specs.Parser.{AlwaysReads, byte_here, consumed, Consumes, frame_of, MayRead};
+ghost use Rattle.msvc_cursor.specs.Parser.{optional_letters, ReadsAs, state_of, Stays};
 
 use crate::back_references::{BackReference, BackrefTables};
 use crate::budget::NodeBudget;
@@ -131,7 +130,10 @@ impl<'a, 'b, L: NodeBudget, A: Allocator> Parser<'a, 'b, L, A> {
     #[inline(always)]
     pub fn put_name(&mut self, name: Name<'a, 'b>) -> Result<&'b Name<'a, 'b>, Failed>
         ensures value { ReadsAs name_at self.old self.new result (with_value (Some (name_of name.entry))) }
+        ensures node { IfOk result (λ n. name_at n ≡ name_of name.entry) }
+        ensures state { IfOk result (λ _. state_of self.new ≡ state_of self.old) }
         ensures stays { Stays self.old self.new result }
+        ensures last_error { IfErr result (λ _. self.new.last_error.reason ≡ Failure.Memory) }
     {
         self.put(name)
     }
@@ -140,7 +142,10 @@ impl<'a, 'b, L: NodeBudget, A: Allocator> Parser<'a, 'b, L, A> {
     #[inline(always)]
     pub fn put_type(&mut self, node: Type<'a, 'b>) -> Result<&'b Type<'a, 'b>, Failed>
         ensures value { ReadsAs type_at self.old self.new result (with_value (Some (type_of node.entry))) }
+        ensures node { IfOk result (λ t. type_at t ≡ type_of node.entry) }
+        ensures state { IfOk result (λ _. state_of self.new ≡ state_of self.old) }
         ensures stays { Stays self.old self.new result }
+        ensures last_error { IfErr result (λ _. self.new.last_error.reason ≡ Failure.Memory) }
     {
         self.put(node)
     }
@@ -205,8 +210,7 @@ impl<'a, 'b, L: NodeBudget, A: Allocator> Parser<'a, 'b, L, A> {
 
     /// Reads the next byte, if there is one.
     pub fn next_byte(&mut self) -> Option<u8>
-        ensures value { option_map (λ b. (b, self.new.rest.now, state_of self.new)) result
-            ≡ byte_here self.old.rest.now (state_of self.old) }
+        ensures value { MayRead (λ b. b) self.old self.new result byte_here }
         ensures shorter { IfSome result (λ b. length self.new.rest.now < length self.old.rest.now) }
         ensures still { MatchOption result (self.new.rest.now ≡ self.old.rest.now) (λ b. Unit {0}) }
         ensures state { state_of self.new ≡ state_of self.old }
@@ -314,8 +318,7 @@ impl<'a, 'b, L: NodeBudget, A: Allocator> Parser<'a, 'b, L, A> {
 
     /// Reads a letter of a table of qualifiers, and returns no qualifiers if the next byte is none.
     pub fn optional(&mut self, letters: OptionalLetters) -> StorageClass
-        ensures value { read (optional (optional_letters letters)) self.old.rest.now (state_of self.old)
-            ≡ Some (result.0, self.new.rest.now, state_of self.new) }
+        ensures value { AlwaysReads self.old self.new result.0 (read (optional (optional_letters letters))) }
         ensures shorter { length self.new.rest.now ≤ length self.old.rest.now }
         ensures kept { frame_of self.new ≡ frame_of self.old }
     {
@@ -335,8 +338,7 @@ impl<'a, 'b, L: NodeBudget, A: Allocator> Parser<'a, 'b, L, A> {
 
     /// Reads `letter` and returns `bits`, or returns no bits if another byte is next.
     pub fn optional_flag(&mut self, letter: u8, bits: StorageClass) -> StorageClass
-        ensures value { read (optional ((letter, bits.0) ∷ [])) self.old.rest.now (state_of self.old)
-            ≡ Some (result.0, self.new.rest.now, state_of self.new) }
+        ensures value { AlwaysReads self.old self.new result.0 (read (optional ((letter, bits.0) ∷ []))) }
         ensures shorter { length self.new.rest.now ≤ length self.old.rest.now }
         ensures kept { frame_of self.new ≡ frame_of self.old }
     {

@@ -34,8 +34,10 @@ impl<'a, 'b, L: NodeBudget, A: Allocator> Parser<'a, 'b, L, A> {
         requires { checkpoint.from ≤ length (enclosing self.old.listed_names) }
         ensures value { ReadsAs named_at self.old self.new result
             (with_value (Some (name_of name.now, map name_at (current self.old.listed_names)))) }
+        ensures state { IfOk result (λ _. state_of self.new ≡ state_of self.old) }
         ensures rest { IfOk result (λ _. self.new.rest.now ≡ self.old.rest.now) }
         ensures kept { EndsNames checkpoint self.old self.new result }
+        ensures last_error { IfErr result (λ _. self.new.last_error.reason ≡ Failure.Memory) }
     {
         let Some(scope) = self.listed_names.end_in(self.arena, checkpoint) else {
             return Err(self.no_memory());
@@ -132,6 +134,7 @@ impl<'a, 'b, L: NodeBudget, A: Allocator> Parser<'a, 'b, L, A> {
     pub fn new_plain(&mut self, kind: PlainType) -> Result<&'b Type<'a, 'b>, Failed>
         ensures value { ReadsAs type_at self.old self.new result
             (λ left s. in_node left s (with_value (Some (plain kind)))) }
+        ensures node { IfOk result (λ t. type_at t ≡ plain kind) }
         ensures stays { Stays self.old self.new result }
     {
         self.count_node()?;
@@ -167,8 +170,12 @@ impl<'a, 'b, L: NodeBudget, A: Allocator> Parser<'a, 'b, L, A> {
         ensures value { ReadsAs parts_at self.old self.new result
             (with_value (Some (convention, (type_of returned.now, map type_at (current self.old.listed_types))))) }
         ensures given { IfOk result (λ f. (f.now.class.0 ≡ class.0) × (f.now.qualifiers.0 ≡ this_qualifiers.0)) }
+        ensures seen { IfOk result (λ f. parts_at f
+            ≡ (convention, (type_of returned.now, map type_at (current self.old.listed_types)))) }
+        ensures state { IfOk result (λ _. state_of self.new ≡ state_of self.old) }
         ensures rest { IfOk result (λ _. self.new.rest.now ≡ self.old.rest.now) }
         ensures kept { EndsTypes checkpoint self.old self.new result }
+        ensures last_error { IfErr result (λ _. self.new.last_error.reason ≡ Failure.Memory) }
     {
         let Some(parameters) = self.listed_types.end_in(self.arena, checkpoint) else {
             return Err(self.no_memory());

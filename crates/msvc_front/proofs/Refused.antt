@@ -1,5 +1,5 @@
 -- A name that is rejected, and not for want of memory, has no declaration within the default limits.
-use Rattle.std.proofs.Common.{ℕ, List, Some, ◌≡◌, inl, inr, refl, subst}
+use Rattle.std.proofs.Common.{ℕ, List, Option, Some, None, ◌≡◌, inl, inr, refl, subst}
 use Rattle.msvc_demangler.specs.ErrorRepr.{ErrorRepr}
 use Rattle.msvc_demangler.specs.ErrorRepr.TheVariants as error
 use Rattle.msvc_demangler.specs.Answers.{line_flags}
@@ -7,13 +7,24 @@ use Rattle.msvc_demangler.specs.Demangled.{IsErrorUnder}
 use Rattle.msvc_demangler.specs.Filtered.{IsNoneWithin, max_declared, max_nodes}
 use Rattle.msvc_demangler.specs.GrammarNames.TheVariants.{Crate}
 use Rattle.msvc_demangler.specs.Grammars.{under}
-use Rattle.msvc_demangler.specs.Limits.{limits_of}
+use Rattle.msvc_demangler.specs.Errors.{limit_of}
+use Rattle.msvc_demangler.specs.Limit.{Limit}
+use Rattle.msvc_demangler.specs.Limit.TheVariants.{Bytes, Nodes}
+use Rattle.msvc_demangler.specs.Limits.{limit_meant, limits_of}
 use Rattle.msvc_demangler.specs.Rejections.{IsNoSymbol, IsRejectedRightly}
 use Rattle.msvc_front.specs.Readable.{IsReadable}
 
+-- a rejection means that no symbol is within the limit, whatever limit it is about
+within : (about : Option Limit) (name : List ℕ) → IsNoSymbol (limit_meant about (Some max_nodes)) name
+    → IsNoSymbol (Some max_nodes) name
+within (Some Nodes) name none = none
+within (Some Bytes) name none = λ tree rest notes d. absurd (none tree rest notes d)
+within None name none = λ tree rest notes d. absurd (none tree rest notes d)
+
 no_symbol : (name : List ℕ) (e : ErrorRepr) → (e ≡ error.Memory → ⊥) → IsRejectedRightly (Some max_nodes) name e
     → IsNoSymbol (Some max_nodes) name
-no_symbol name (error.ParseError message context at) other refused = refused.1
+no_symbol name (error.ParseError message context at) other refused =
+    within (limit_of (error.ParseError message context at)) name refused.1
 no_symbol name error.Memory other refused = absurd (other refl)
 no_symbol name (error.Utf8 cause) other refused = absurd refused
 no_symbol name (error.FromUtf8 cause) other refused = absurd refused

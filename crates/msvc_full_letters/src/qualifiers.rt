@@ -8,7 +8,7 @@ ghost use Rattle.msvc_full_grammar.specs.Fragments.{managed_mark, own_of_class};
 ghost use Rattle.msvc_full_grammar.specs.Letters.{conventions, qualifiers};
 ghost use Rattle.msvc_full_grammar.specs.Productions as production;
 ghost use Rattle.msvc_full_grammar.specs.Reading.{read, read_name};
-ghost use Rattle.msvc_cursor.specs.Parser.{Consumes, frame_of, MayConsume, ReadsAs, state_of};
+ghost use Rattle.msvc_cursor.specs.Parser.{AlwaysReads, Consumes, frame_of, MayConsume, ReadsAs, state_of};
 
 use crate::letters;
 use bitflags::Flags;
@@ -119,8 +119,7 @@ pub fn convention<'a, 'b, L: NodeBudget, A: Allocator>(
 
 /// Reads `MARKS = ["E"] ["I"] ["F"]`.
 pub fn marks<'a, 'b, L: NodeBudget, A: Allocator>(parser: &mut Parser<'a, 'b, L, A>) -> StorageClass
-    ensures value { read_name production.marks parser.old.rest.now (state_of parser.old)
-        ≡ Some (result.0, parser.new.rest.now, state_of parser.new) }
+    ensures value { AlwaysReads parser.old parser.new result.0 (read_name production.marks) }
     ensures shorter { length parser.new.rest.now ≤ length parser.old.rest.now }
     ensures kept { frame_of parser.new ≡ frame_of parser.old }
 {
@@ -132,8 +131,7 @@ pub fn marks<'a, 'b, L: NodeBudget, A: Allocator>(parser: &mut Parser<'a, 'b, L,
 
 /// Reads `["$A"]`, the mark of a function of managed code, which has no meaning.
 fn managed_mark<'a, 'b, L: NodeBudget, A: Allocator>(parser: &mut Parser<'a, 'b, L, A>)
-    ensures value { read managed_mark parser.old.rest.now (state_of parser.old)
-        ≡ Some (tt, parser.new.rest.now, state_of parser.new) }
+    ensures value { AlwaysReads parser.old parser.new tt (read managed_mark) }
     ensures shorter { length parser.new.rest.now ≤ length parser.old.rest.now }
     ensures kept { frame_of parser.new ≡ frame_of parser.old }
 {

@@ -21,14 +21,16 @@ use Rattle.msvc_cursor.specs.declared.failure.Failure.{Failure}
 use Rattle.msvc_cursor.specs.declared.failure.Failure.TheVariants as failure
 use Rattle.msvc_cursor.specs.declared.failure.Message.TheVariants as message
 
--- what is read of a text under a limit: the tree, how many bytes, and the digits that were read as whole parameters
-abbrev pub symbol_under : Option ℕ → List ℕ → Option (SymbolTree × ℕ × List Note)
-symbol_under nodes text =
-    with_length text (read_name whole_text text (beginning_with (whole.count_under full_lawful nodes) text))
+-- what is read of a text where so many nodes more are allowed than the limit: the tree, how many bytes, and the digits
+-- that were read as whole parameters
+abbrev pub symbol_under : (extra : ℕ) → Option ℕ → List ℕ → Option (SymbolTree × ℕ × List Note)
+symbol_under extra nodes text =
+    with_length text (read_name whole_text text (beginning_with (whole.count_under full_lawful extra nodes) text))
 
 -- seen by a view, as the result of a reader
 pub result-read : {A : Type 0} (nodes : Option ℕ) (text : List ℕ) (view : A → SymbolTree × ℕ × List Note)
-    (result : Result A Failure) → IsUtf8 text → IsRead view result (symbol_under nodes text)
+    (result : Result A Failure) → IsUtf8 text
+    → ((extra : ℕ) → IsRead extra view result (symbol_under extra nodes text))
     → IfOk result (λ r. IsSymbolReadIn full_dialect nodes text (view r).0 (view r).1 (view r).2)
 unfolding read_name
 result-read nodes text view result utf8 is = whole.result-read full_lawful nodes text view result utf8 is
@@ -48,7 +50,7 @@ at-once text result start never = go (after (codes ".") text) refl (after (codes
 
 -- seen as the result of a reader that fails
 pub result-fails : {A : Type 0} (nodes : Option ℕ) (text : List ℕ) (view : A → SymbolTree × ℕ × List Note)
-    (result : Result A Failure) → IsRead view result (symbol_under nodes text)
+    (result : Result A Failure) → ((extra : ℕ) → IsRead extra view result (symbol_under extra nodes text))
     → (after (codes ".") text ≡ None → after (codes "?") text ≡ None
     → result ≡ Err (failure.Rejected message.NoQuestionMark (length text)))
     → (nodes ≡ None → IfErr result (λ reason. limit_of_failure reason ≡ None))

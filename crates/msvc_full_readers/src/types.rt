@@ -1,14 +1,14 @@
 //! Types.
 
 ghost use Rattle.std.specs.Option.{option_map};
-ghost use Rattle.std.specs.Prelude.{◌≡◌, ◌<◌, ◌≤◌, IfSome, length};
+ghost use Rattle.std.specs.Prelude.{◌≡◌, ◌<◌, ◌≤◌, IfSome, length, ℕ};
 ghost use Rattle.msvc_nodes.specs.NodeView.{type_at};
 ghost use Rattle.msvc_full_grammar.specs.Forms.{qualified};
 ghost use Rattle.msvc_full_grammar.specs.Productions as production;
 ghost use Rattle.msvc_full_grammar.specs.Reading.{read, read_name};
 ghost use Rattle.msvc_full_grammar.specs.declared.forms.TypeRow.TheVariants as rows_of;
 ghost use Rattle.msvc_full_letters.specs.Views.{type_form_of};
-ghost use Rattle.msvc_cursor.specs.Parser.{Consumes, MayConsume, ReadsAs, frame_of, state_of};
+ghost use Rattle.msvc_cursor.specs.Parser.{Consumes, MayConsume, ReadsAs, beyond, frame_of, state_of};
 ghost use Rattle.msvc_full_readers.specs.Readings.{array_lengths, elements, tagged_type, type_from};
 
 use crate::base_types::{base_type, extended_type};
@@ -57,8 +57,9 @@ fn type_start<'a, 'b, L: NodeBudget, A: Allocator>(
     parser: &mut Parser<'a, 'b, L, A>,
     qualifiers: StorageClass,
 ) -> (Option<TypeForm>, StorageClass)
-    ensures value { read_name (production.type_ qualifiers.0) parser.old.rest.now (state_of parser.old)
-        ≡ type_from (option_map type_form_of result.0) result.1.0 parser.new.rest.now (state_of parser.new) }
+    ensures value { (extra : ℕ)
+        → read_name (production.type_ qualifiers.0) parser.old.rest.now (beyond extra (state_of parser.old))
+        ≡ type_from (option_map type_form_of result.0) result.1.0 parser.new.rest.now (beyond extra (state_of parser.new)) }
     ensures shorter { length parser.new.rest.now ≤ length parser.old.rest.now }
     ensures text { IfSome result.0 (λ _. length parser.new.rest.now < length parser.old.rest.now) }
     ensures kept { frame_of parser.new ≡ frame_of parser.old }

@@ -1,13 +1,15 @@
 -- The symbol of a hash: of ??@, the digits, an @ and any bytes, the part up to that @ is derived as a name, and nothing
 -- else is.
 use Rattle.std.proofs.Common.{ℕ, List, [], ◌∷◌, ◌++◌, Bool, true, false, not, ◌≡◌, ◌==◌, length, refl, sym, ap}
-use Rattle.std.proofs.Common.{◌∙◌, None, subst}
+use Rattle.std.proofs.Common.{◌∙◌, Option, None, subst}
 use Rattle.std.proofs.lemmas.Bool.{eqb-true}
 use Rattle.std.specs.Prelude.{is_some}
+use Rattle.msvc_nodes.specs.Errors.{limit_of}
 use Rattle.msvc_nodes.specs.Trees.{SymbolTree}
 use Rattle.msvc_nodes.specs.declared.error.ErrorRepr.{ErrorRepr}
 use Rattle.msvc_nodes.specs.declared.error.ErrorRepr.TheVariants as error
 use Rattle.msvc_nodes.specs.Trees.{md5_symbol}
+use Rattle.msvc_nodes.specs.declared.error.Limit.{Limit}
 use Rattle.msvc_rules.specs.Reads.{Reads, a_literal, a_node, a_part, called, given, in_a_row, the_first}
 use Rattle.msvc_rules.specs.Rules.{call, every, lookup}
 use Rattle.msvc_rules.specs.Sorts.{symbol_tree}
@@ -19,6 +21,7 @@ use Rattle.msvc_grammar.specs.Letters.{hexadecimal_codes}
 use Rattle.msvc_grammar.specs.Productions.{required}
 use Rattle.msvc_grammar.specs.Rejections.{IsRejectedRightly}
 use Rattle.msvc_rules.proofs.FirstSets.{both_if, if_both}
+use Rattle.msvc_rules.proofs.Rejections.{none-within-limit}
 use Rattle.msvc_grammar.proofs.Laws.{derived-only}
 
 -- no digit is an @
@@ -84,7 +87,9 @@ hashes-read text e rejected digits rest hash begins = go e rejected
     derived = subst (λ z. Derives z (md5_symbol digits) rest []) (sym begins) (hash_derived digits rest hash)
 
     go : (e : ErrorRepr) → IsRejectedRightly None text e → e ≡ error.Memory
-    go (error.ParseError message context at) h = absurd (h.1 (md5_symbol digits) rest [] derived)
+    go (error.ParseError message context at) h =
+        let about : Option Limit = limit_of (error.ParseError message context at) in
+        absurd (none-within-limit crate_grammar about None text h.1 (md5_symbol digits) rest [] derived)
     go error.Memory h = refl
     go (error.Other m) h = absurd h
     go (error.Utf8 m) h = absurd h

@@ -3,8 +3,11 @@ use Rattle.std.proofs.Common.{◌≡◌, ◌≢◌, ◌++◌, ◌∷◌, [], ℕ
 use Rattle.std.proofs.Common.{Bool, None, inl, inr}
 use Rattle.std.specs.Str.{IsUtf8}
 use Rattle.msvc_nodes.specs.Trees.{SymbolTree}
+use Rattle.msvc_rules.proofs.Rejections.{none-within-limit}
+use Rattle.msvc_grammar.specs.Grammar.{crate_grammar}
 use Rattle.msvc_grammar.specs.Parsed.{IsParsed}
 use Rattle.msvc_cursor.specs.Failures.{Fails}
+use Rattle.msvc_cursor.specs.Messages.{limit_of_message}
 use Rattle.msvc_cursor.specs.declared.failure.Failure.{Failure}
 use Rattle.msvc_cursor.specs.declared.failure.Failure.TheVariants as failure
 use Rattle.msvc_print.specs.Declaration.{declaration}
@@ -25,7 +28,8 @@ answer_declared symbol tree is = inl (tree, (is.rest, is.notes, is.derived, is.o
 pub answer_rejected : (symbol : List ℕ) (reason : Failure) → Fails None symbol reason
     → reason ≢ failure.Memory → IsAnswer symbol symbol
 answer_rejected symbol failure.Memory fails other = absurd (other refl)
-answer_rejected symbol (failure.Rejected message left) fails other = inr (fails.none, refl)
+answer_rejected symbol (failure.Rejected message left) fails other =
+    inr (none-within-limit crate_grammar (limit_of_message message) None symbol fails.none, refl)
 answer_rejected symbol (failure.TooLong read) fails other = absurd fails.none
 
 -- the report on a symbol is the line of its tree

@@ -10,7 +10,7 @@ ghost use Rattle.msvc_grammar.specs.Grammar.{has, pointed_return_qualifiers, qua
 ghost use Rattle.msvc_grammar.specs.Letters.{conventions, thunk};
 ghost use Rattle.msvc_grammar.specs.Reading.{read, read_name};
 ghost use Rattle.msvc_grammar.specs.Productions as production;
-ghost use Rattle.msvc_cursor.specs.Parser.{Consumes, frame_of, MayConsume, ReadsAs, state_of, Stays};
+ghost use Rattle.msvc_cursor.specs.Parser.{AlwaysReads, Consumes, frame_of, MayConsume, ReadsAs, state_of, Stays};
 ghost use Rattle.msvc_cursor.specs.Rows.{parts_at};
 
 use crate::parameters::function_parameters;
@@ -125,8 +125,7 @@ fn put_member_pointer<'a, 'b, L: NodeBudget, A: Allocator>(
 fn pointed_return_qualifiers<'a, 'b, L: NodeBudget, A: Allocator>(
     parser: &mut Parser<'a, 'b, L, A>,
 ) -> StorageClass
-    ensures value { read pointed_return_qualifiers parser.old.rest.now (state_of parser.old)
-        ≡ Some (result.0, parser.new.rest.now, state_of parser.new) }
+    ensures value { AlwaysReads parser.old parser.new result.0 (read pointed_return_qualifiers) }
     ensures shorter { length parser.new.rest.now ≤ length parser.old.rest.now }
     ensures kept { frame_of parser.new ≡ frame_of parser.old }
 {
@@ -191,8 +190,8 @@ fn this_qualifiers<'a, 'b, L: NodeBudget, A: Allocator>(
     parser: &mut Parser<'a, 'b, L, A>,
     qualifiers: ObjectQualifiers,
 ) -> StorageClass
-    ensures value { read_name (production.this_qualifiers qualifiers) parser.old.rest.now (state_of parser.old)
-        ≡ Some (result.0, parser.new.rest.now, state_of parser.new) }
+    ensures value { AlwaysReads parser.old parser.new result.0
+        (read_name (production.this_qualifiers qualifiers)) }
     ensures shorter { length parser.new.rest.now ≤ length parser.old.rest.now }
     ensures kept { frame_of parser.new ≡ frame_of parser.old }
 {
@@ -289,8 +288,7 @@ fn member_returned<'a, 'b, L: NodeBudget, A: Allocator>(
 fn function_qualifiers<'a, 'b, L: NodeBudget, A: Allocator>(
     parser: &mut Parser<'a, 'b, L, A>,
 ) -> StorageClass
-    ensures value { read_name production.function_qualifiers parser.old.rest.now (state_of parser.old)
-        ≡ Some (result.0, parser.new.rest.now, state_of parser.new) }
+    ensures value { AlwaysReads parser.old parser.new result.0 (read_name production.function_qualifiers) }
     ensures shorter { length parser.new.rest.now ≤ length parser.old.rest.now }
     ensures kept { frame_of parser.new ≡ frame_of parser.old }
 {

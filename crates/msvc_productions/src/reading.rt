@@ -1,6 +1,6 @@
 //! Reads the symbol that a text begins with, into nodes of an arena.
 
-ghost use Rattle.std.specs.Prelude.{◌≡◌, codes, IfErr, IfOk, None, Err, length, map, true};
+ghost use Rattle.std.specs.Prelude.{◌≡◌, ◌+◌, codes, IfErr, IfOk, None, Err, length, map, true, ℕ};
 ghost use Rattle.msvc_nodes.specs.NodeView.{typed_symbol_of};
 ghost use Rattle.msvc_rules.specs.Rules.{after};
 ghost use Rattle.msvc_rules.specs.State.{beginning_with};
@@ -53,11 +53,12 @@ fn read_counted<'a, 'b, L: NodeBudget, A: Allocator>(
     input: &'a str,
     budget: L,
 ) -> Result<SymbolRead<'a, 'b, A>, Failure>
-    ensures value { IsRead (λ r. (typed_symbol_of r.symbol, r.length, map note_of r.references.items)) result
+    ensures value { (extra : ℕ)
+        → IsRead extra (λ r. (typed_symbol_of r.symbol, r.length, map note_of r.references.items)) result
         (with_length input.now (read_name symbol input.now (beginning_with (record {
           weight = L.weight;
           used = L.used budget;
-          max = L.max budget;
+          max = L.max budget + extra;
         }) input.now))) }
     ensures start { after (codes "?") input.now ≡ None
         → result ≡ Err (Failure.Rejected Message.NoQuestionMark (length input.now)) }

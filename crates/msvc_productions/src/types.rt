@@ -1,7 +1,7 @@
 //! Types.
 
 ghost use Rattle.std.specs.Int.{int_wrapping_neg, w32};
-ghost use Rattle.std.specs.Prelude.{codes, Some};
+ghost use Rattle.std.specs.Prelude.{◌≡◌, codes, IfErr, IfOk, Some};
 ghost use Rattle.msvc_nodes.specs.NodeView.{type_at, type_of};
 ghost use Rattle.msvc_nodes.specs.Trees.{name_trees, numbered, pointing, tagged};
 ghost use Rattle.msvc_nodes.specs.declared.kinds.NumberedType.TheVariants as number_kind;
@@ -11,14 +11,14 @@ ghost use Rattle.msvc_grammar.specs.Letters.{qualifiers};
 ghost use Rattle.msvc_grammar.specs.Reading.{read, read_name};
 ghost use Rattle.msvc_rules.specs.Rules as rules;
 ghost use Rattle.msvc_grammar.specs.Productions as production;
-ghost use Rattle.msvc_cursor.specs.Parser.{Consumes, MayConsume, ReadsAs, Stays};
+ghost use Rattle.msvc_cursor.specs.Parser.{Consumes, MayConsume, ReadsAs, state_of, Stays};
 
 use crate::function_types::{function_type, member_pointer};
 use crate::qualified_names::qualified_name;
 use bitflags::Flags;
 use bumpalo::collections::into_bump_slice;
 use msvc_cursor::budget::NodeBudget;
-use msvc_cursor::failure::{Failed, Message};
+use msvc_cursor::failure::{Failed, Failure, Message};
 use msvc_cursor::letters::{self, OptionalLetters};
 use msvc_cursor::parser::Parser;
 use msvc_cursor::type_prefixes::type_prefix;
@@ -319,7 +319,10 @@ fn nested_arrays<'a, 'b, L: NodeBudget, A: Allocator>(
 ) -> Result<&'b Type<'a, 'b>, Failed>
     ensures value { ReadsAs type_at parser.old parser.new result
         (with_value (Some (arrays lengths.now (type_of element.now) class.0))) }
+    ensures node { IfOk result (λ t. type_at t ≡ arrays lengths.now (type_of element.now) class.0) }
+    ensures state { IfOk result (λ _. state_of parser.new ≡ state_of parser.old) }
     ensures stays { Stays parser.old parser.new result }
+    ensures last_error { IfErr result (λ _. parser.new.last_error.reason ≡ Failure.Memory) }
 {
     let [length, inner @ ..] = lengths else {
         return Ok(element);

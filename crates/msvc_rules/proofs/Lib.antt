@@ -15,6 +15,7 @@ pub mod NodesCounted
 pub mod NotesIncreasing
 pub mod PrefixClosed
 pub mod Progress
+pub mod Rejections
 pub mod Soundness
 pub mod TableGrowth
 pub mod TypeStarts

@@ -49,7 +49,8 @@ pub record GrammarLawsIn (D : Dialect) (text : List ℕ) : Type 0 where
 
 -- Reading the text fails with this error, under a limit on nodes or without one.
 pub record IsRejectedIn (D : Dialect) (nodes : Option ℕ) (text : List ℕ) (e : ErrorRepr) : Type 0 where
-  -- out of memory, or the text begins with no symbol within the limit: then the error has an offset in the text
+  -- out of memory, or the text begins with no symbol, or none within the limit that the error is about: then the error
+  -- has an offset in the text
   pub rejected : IsRejectedRightlyIn D.grammar nodes text e
   -- a text without a question mark at its beginning is rejected at offset 0
   pub begins : (D.Begins text → ⊥) → IsRejectionAt text 0 e

@@ -1,12 +1,12 @@
 -- What a rejection is to callers.
 use Rattle.std.specs.Prelude.{ℕ, List, ◌++◌, ◌≤◌, ◌≡◌, Option, length, string_bytes}
 use Rattle.std.specs.Str.{IsAscii}
-use Rattle.msvc_nodes.specs.Errors.{context_of}
+use Rattle.msvc_nodes.specs.Errors.{context_of, limit_of}
 use Rattle.msvc_nodes.specs.Trees.{SymbolTree}
 use Rattle.msvc_nodes.specs.declared.error.ErrorRepr.{ErrorRepr}
 use Rattle.msvc_nodes.specs.declared.error.ErrorRepr.TheVariants as error
 use Rattle.msvc_rules.specs.Counts.{node_count}
-use Rattle.msvc_rules.specs.Limits.{IsBeyond}
+use Rattle.msvc_rules.specs.Limits.{IsBeyond, limit_meant}
 use Rattle.msvc_rules.specs.Reads.{DerivesIn}
 use Rattle.msvc_rules.specs.Rules.{Grammar}
 use Rattle.msvc_rules.specs.State.{Note}
@@ -26,10 +26,12 @@ abbrev pub IsNoSymbolIn : Grammar → (nodes : Option ℕ) → List ℕ → Type
 IsNoSymbolIn G nodes text = (tree : SymbolTree) (rest : List ℕ) (notes : List Note) → DerivesIn G text tree rest notes
     → IsBeyond nodes (node_count tree)
 
--- A text is rejected out of memory, or at an offset, because no beginning of the text is a symbol within the limit on
--- nodes. Of an ASCII text the rejection shows what stands at the offset.
+-- A text is rejected out of memory, or at an offset. Then no beginning of the text is a symbol, however many nodes it
+-- has; if the rejection is about the limit on nodes, none is within it. Of an ASCII text the rejection shows what stands
+-- at the offset.
 abbrev pub IsRejectedRightlyIn : Grammar → (nodes : Option ℕ) → List ℕ → ErrorRepr → Type 0
 IsRejectedRightlyIn G nodes text (error.ParseError message context at) =
-    (at ≤ length text) × IsNoSymbolIn G nodes text × (IsAscii text → string_bytes context ≡ context_of text at)
+    (at ≤ length text) × IsNoSymbolIn G (limit_meant (limit_of (error.ParseError message context at)) nodes) text
+    × (IsAscii text → string_bytes context ≡ context_of text at)
 IsRejectedRightlyIn G nodes text error.Memory = Unit {0}
 IsRejectedRightlyIn G nodes text _ = ⊥

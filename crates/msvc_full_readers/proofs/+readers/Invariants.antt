@@ -3,7 +3,7 @@ use Rattle.std.specs.Prelude.{map}
 use Rattle.msvc_nodes.specs.NodeView.{name_at, type_at}
 use Rattle.msvc_full_grammar.specs.Productions.{listed, parameters, scope, targets}
 use Rattle.msvc_full_grammar.specs.Reading.{read_name}
-use Rattle.msvc_cursor.specs.Parser.{frame_of, state_of}
+use Rattle.msvc_cursor.specs.Parser.{beyond, frame_of, state_of}
 use Rattle.msvc_cursor.specs.NestedList.{current, enclosing}
 use Rattle.msvc_cursor.specs.Rows.{with_front}
 use Rattle.msvc_full_readers.specs.Readings.{parameters_behind}
@@ -266,8 +266,8 @@ decreases-arguments::member_by_name g l = level l.parser.now.rest.now 2
 -- the names so far, before what is read of the rest, are what is read of all; those that others gather stay
 abbrev pub invariant-names::scope-names : goal.invariant-names::scope-names
 invariant-names::scope-names g l =
-    (with_front (map name_at (current l.parser.listed_names)) (read_name scope l.parser.rest.now (state_of l.parser))
-    ≡ read_name scope l.fn.parser.rest.now (state_of l.fn.parser))
+    ((extra : ℕ) → with_front (map name_at (current l.parser.listed_names)) (read_name scope l.parser.rest.now (beyond extra (state_of l.parser)))
+    ≡ read_name scope l.fn.parser.rest.now (beyond extra (state_of l.fn.parser)))
     × (length l.parser.rest.now ≤ length l.fn.parser.rest.now)
     × (l.checkpoint.from ≡ length (enclosing l.fn.parser.listed_names))
     × (frame_of l.parser
@@ -282,8 +282,8 @@ decreases-names::scope-names g l = length l.parser.rest.now
 -- and the classes that a table is for
 abbrev pub invariant-names::targets-names : goal.invariant-names::targets-names
 invariant-names::targets-names g l =
-    (with_front (map name_at (current l.parser.listed_names)) (read_name targets l.parser.rest.now (state_of l.parser))
-    ≡ read_name targets l.fn.parser.rest.now (state_of l.fn.parser))
+    ((extra : ℕ) → with_front (map name_at (current l.parser.listed_names)) (read_name targets l.parser.rest.now (beyond extra (state_of l.parser)))
+    ≡ read_name targets l.fn.parser.rest.now (beyond extra (state_of l.fn.parser)))
     × (length l.parser.rest.now ≤ length l.fn.parser.rest.now)
     × (l.checkpoint.from ≡ length (enclosing l.fn.parser.listed_names))
     × (frame_of l.parser
@@ -298,9 +298,9 @@ decreases-names::targets-names g l = length l.parser.rest.now
 -- the parameters so far, before what is read of the rest, are what is read of all behind the first ones
 abbrev pub invariant-parameters::parameters-parameters : goal.invariant-parameters::parameters-parameters
 invariant-parameters::parameters-parameters g l =
-    (with_front (map type_at (current l.parser.listed_types))
-    (read_name parameters l.parser.rest.now (state_of l.parser))
-    ≡ parameters_behind (map type_at (current l.fn.parser.listed_types)) l.fn.parser.rest.now (state_of l.fn.parser))
+    ((extra : ℕ) → with_front (map type_at (current l.parser.listed_types))
+    (read_name parameters l.parser.rest.now (beyond extra (state_of l.parser)))
+    ≡ parameters_behind (map type_at (current l.fn.parser.listed_types)) l.fn.parser.rest.now (beyond extra (state_of l.fn.parser)))
     × (length l.parser.rest.now ≤ length l.fn.parser.rest.now)
     × (frame_of l.parser ≡ record (frame_of l.fn.parser) { listed_types = current l.parser.listed_types })
 
@@ -310,9 +310,9 @@ decreases-parameters::parameters-parameters g l = length l.parser.rest.now
 -- and the arguments, the members and the elements
 abbrev pub invariant-arguments::listed-listed : goal.invariant-arguments::listed-listed
 invariant-arguments::listed-listed g l =
-    (with_front (map type_at (current l.parser.listed_types))
-    (read_name (listed l.fn.kind) l.parser.rest.now (state_of l.parser))
-    ≡ read_name (listed l.fn.kind) l.fn.parser.rest.now (state_of l.fn.parser))
+    ((extra : ℕ) → with_front (map type_at (current l.parser.listed_types))
+    (read_name (listed l.fn.kind) l.parser.rest.now (beyond extra (state_of l.parser)))
+    ≡ read_name (listed l.fn.kind) l.fn.parser.rest.now (beyond extra (state_of l.fn.parser)))
     × (length l.parser.rest.now ≤ length l.fn.parser.rest.now)
     × (l.checkpoint.from ≡ length (enclosing l.fn.parser.listed_types))
     × (frame_of l.parser

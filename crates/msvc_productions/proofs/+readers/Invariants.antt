@@ -3,7 +3,7 @@ use Rattle.std.specs.Prelude.{map}
 use Rattle.msvc_nodes.specs.NodeView.{name_at, type_at}
 use Rattle.msvc_grammar.specs.Productions.{parameters, scope}
 use Rattle.msvc_grammar.specs.Reading.{read_name}
-use Rattle.msvc_cursor.specs.Parser.{frame_of, state_of}
+use Rattle.msvc_cursor.specs.Parser.{beyond, frame_of, state_of}
 use Rattle.msvc_cursor.specs.NestedList.{current, enclosing}
 use Rattle.msvc_cursor.specs.Rows.{with_front}
 use Rattle.msvc_productions.proofs.+readers.Given as goal
@@ -121,8 +121,8 @@ decreases-types::pointed_function g l = level l.parser.now.rest.now 5
 -- the names so far, before what is read of the rest, are what is read of all; those that others gather stay
 abbrev pub invariant-qualified_names::scope-names : goal.invariant-qualified_names::scope-names
 invariant-qualified_names::scope-names g l =
-    (with_front (map name_at (current l.parser.listed_names)) (read_name scope l.parser.rest.now (state_of l.parser))
-    ≡ read_name scope l.fn.parser.rest.now (state_of l.fn.parser))
+    ((extra : ℕ) → with_front (map name_at (current l.parser.listed_names)) (read_name scope l.parser.rest.now (beyond extra (state_of l.parser)))
+    ≡ read_name scope l.fn.parser.rest.now (beyond extra (state_of l.fn.parser)))
     × (length l.parser.rest.now ≤ length l.fn.parser.rest.now)
     × (l.checkpoint.from ≡ length (enclosing l.fn.parser.listed_names))
     × (frame_of l.parser
@@ -137,9 +137,8 @@ decreases-qualified_names::scope-names g l = length l.parser.rest.now
 -- the parameters so far, before what is read of the rest, are what is read of all; those that others gather stay
 abbrev pub invariant-parameters::parameters-parameters : goal.invariant-parameters::parameters-parameters
 invariant-parameters::parameters-parameters g l =
-    (with_front (map type_at (current l.parser.listed_types)) (read_name parameters l.parser.rest.now (state_of
-    l.parser))
-    ≡ read_name parameters l.fn.parser.rest.now (state_of l.fn.parser))
+    ((extra : ℕ) → with_front (map type_at (current l.parser.listed_types)) (read_name parameters l.parser.rest.now (beyond extra (state_of l.parser)))
+    ≡ read_name parameters l.fn.parser.rest.now (beyond extra (state_of l.fn.parser)))
     × (length l.parser.rest.now ≤ length l.fn.parser.rest.now)
     × (l.checkpoint.from ≡ length (enclosing l.fn.parser.listed_types))
     × (frame_of l.parser

@@ -1,14 +1,14 @@
-use Rattle.std.proofs.Common.{◌≡◌, ◌≤◌, ◌-◌, length}
+use Rattle.std.proofs.Common.{ℕ, ◌≡◌, ◌≤◌, ◌-◌, length}
 use Rattle.msvc_full_grammar.specs.Productions.{numbers}
 use Rattle.msvc_full_grammar.specs.Reading.{read_name}
-use Rattle.msvc_cursor.specs.Parser.{frame_of, state_of}
+use Rattle.msvc_cursor.specs.Parser.{beyond, frame_of, state_of}
 use Rattle.msvc_cursor.specs.Rows.{with_front}
 use Rattle.msvc_full_letters.proofs.offsets.numbers.Given as goal
 
 -- the numbers so far, before those that are still to be read, are all the numbers
 abbrev pub invariant-loop : goal.invariant-loop
 invariant-loop g l =
-    (with_front l.numbers.items (read_name (numbers (l.count - l.counter)) l.parser.rest.now (state_of l.parser))
-    ≡ read_name (numbers l.count) l.initial.parser.rest.now (state_of l.initial.parser))
+    ((extra : ℕ) → with_front l.numbers.items (read_name (numbers (l.count - l.counter)) l.parser.rest.now (beyond extra (state_of l.parser)))
+    ≡ read_name (numbers l.count) l.initial.parser.rest.now (beyond extra (state_of l.initial.parser)))
     × (length l.parser.rest.now ≤ length l.initial.parser.rest.now)
     × (frame_of l.parser ≡ frame_of l.initial.parser)

@@ -1,12 +1,12 @@
 use Rattle.std.proofs.Common.{rules, ◌≡◌, to_z, of_z, w32}
 use Rattle.std.proofs.lemmas.Int.{to_z-of_z}
-use Rattle.msvc_cursor.specs.Parser.{state_of}
+use Rattle.msvc_cursor.specs.Parser.{beyond, state_of}
 use Rattle.msvc_full_readers.proofs.NameSteps.{base_class_reads}
 use Rattle.msvc_full_readers.proofs.names.base_class_descriptor.Goals as goal
 
 -- four numbers, one after another
 pub returns-clause-value : goal.returns-clause-value
-returns-clause-value g c =
+returns-clause-value g c = λ extra.
     let first_same : to_z w32 (of_z w32 c.in_ok-member.member) ≡ c.in_ok-member.member = search (rules, to_z-of_z) in
     let second_same : to_z w32 (of_z w32 c.in_ok-pointer.pointer) ≡ c.in_ok-pointer.pointer =
     search (rules, to_z-of_z) in
@@ -16,12 +16,12 @@ returns-clause-value g c =
     let read = base_class_reads c.args.parser.now.rest.now c.count_node.new.self.rest.now
     c.small_number.new.parser.rest.now
     c.small_number-2.new.parser.rest.now
-    c.small_number-3.new.parser.rest.now c.small_number-4.new.parser.rest.now (state_of c.args.parser.now)
-    (state_of c.count_node.new.self) (state_of c.small_number.new.parser)
-    (state_of c.small_number-2.new.parser) (state_of c.small_number-3.new.parser)
-    (state_of c.small_number-4.new.parser)
+    c.small_number-3.new.parser.rest.now c.small_number-4.new.parser.rest.now (beyond extra (state_of c.args.parser.now))
+    (beyond extra (state_of c.count_node.new.self)) (beyond extra (state_of c.small_number.new.parser))
+    (beyond extra (state_of c.small_number-2.new.parser)) (beyond extra (state_of c.small_number-3.new.parser))
+    (beyond extra (state_of c.small_number-4.new.parser))
     c.in_ok-member.member c.in_ok-pointer.pointer c.in_ok-entry.entry c.in_ok-attributes.attributes
-    c.in_ok-count_node.ensures.value c.in_ok-member.ensures.value c.in_ok-pointer.ensures.value
-    c.in_ok-entry.ensures.value
-    c.in_ok-attributes.ensures.value in
-    rw read (rw (first_same, second_same, third_same, last_same) at c.put_base_class.ensures.value)
+    (c.in_ok-count_node.ensures.value extra) (c.in_ok-member.ensures.value extra) (c.in_ok-pointer.ensures.value extra)
+    (c.in_ok-entry.ensures.value extra)
+    (c.in_ok-attributes.ensures.value extra) in
+    rw read (rw (first_same, second_same, third_same, last_same) at (c.put_base_class.ensures.value extra))

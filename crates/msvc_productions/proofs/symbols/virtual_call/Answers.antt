@@ -11,7 +11,7 @@ use Rattle.msvc_grammar.specs.Letters.{conventions}
 use Rattle.msvc_grammar.specs.Productions.{encoding_after, number}
 use Rattle.msvc_grammar.specs.Reading.{read, read_name}
 use Rattle.msvc_cursor.proofs.SymbolSteps.{virtual_call_step}
-use Rattle.msvc_cursor.specs.Parser.{Gives, state_of}
+use Rattle.msvc_cursor.specs.Parser.{Gives, beyond, state_of}
 use Rattle.msvc_productions.proofs.symbols.virtual_call.Goals as goal
 
 -- what the production reads, by what its parts read
@@ -25,14 +25,14 @@ parts left l1 l2 l3 l4 l5 s s1 s2 s3 s4 s5 offset convention counted b n a c =
 
 pub returns-clause-value : goal.returns-clause-value
 unfolding type_of
-returns-clause-value g c =
+returns-clause-value g c = λ extra.
     let after = c.put_type.new.self in
     let Is : Found TypeTree → Type 0 = λ found.
-    Gives (λ x. (type_at x, after.rest.now, state_of after)) after.last_error.reason c.put_type.result found in
+    Gives extra (λ x. (type_at x, after.rest.now, beyond extra (state_of after))) after.last_error.reason c.put_type.result found in
     let before = c.convention.new.parser in
     let thunk = vcall_thunk c.in_ok-offset.offset c.in_ok-convention.convention in
-    let put : Is (Some (thunk, before.rest.now, state_of before)) = search rules in
+    let put : Is (Some (thunk, before.rest.now, beyond extra (state_of before))) = search rules in
     subst Is
-    (sym (parts _ _ _ _ _ _ _ _ _ _ _ _ _ _ c.in_ok-count_node.ensures.value c.in_ok-expect.ensures.value
-    c.in_ok-offset.ensures.value c.in_ok-expect-2.ensures.value c.in_ok-convention.ensures.value))
+    (sym (parts _ _ _ _ _ _ _ _ _ _ _ _ _ _ (c.in_ok-count_node.ensures.value extra) (c.in_ok-expect.ensures.value extra)
+    (c.in_ok-offset.ensures.value extra) (c.in_ok-expect-2.ensures.value extra) (c.in_ok-convention.ensures.value extra)))
     put

@@ -1,0 +1,17 @@
+use Rattle.std.proofs.Common.{rules}
+use Rattle.msvc_nodes.specs.NodeView.{name_of, type_of}
+use Rattle.msvc_full_readers.proofs.Steps.{steps}
+use Rattle.msvc_full_readers.proofs.made_symbols.described_symbol.Goals as goal
+
+pub returns-in_err-name-clause-value : goal.returns-in_err-name-clause-value
+unfolding name_of type_of
+returns-in_err-name-clause-value g c = λ extra.
+    let name = c.in_err-name.ensures.value extra in
+    search (rules, steps)
+
+pub returns-clause-value : goal.returns-clause-value
+unfolding name_of type_of
+returns-clause-value g c = λ extra.
+    let name = c.in_ok-name.ensures.value extra in
+    let described = c.put_described.ensures.value extra in
+    search (rules, steps)
