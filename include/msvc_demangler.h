@@ -33,7 +33,8 @@
  * - The calls use malloc, realloc and free, so they must not be called where malloc must not be, as in a signal
  *   handler. They throw no exceptions.
  *
- * Within soname 0 no symbol, status number, flag or field of the struct changes. docs/c.md has more.
+ * Within soname 0 no symbol, status number, flag or field of the struct changes; new ones may be added. docs/c.md has
+ * more.
  */
 #ifndef MSVC_DEMANGLER_H
 #define MSVC_DEMANGLER_H
@@ -64,24 +65,42 @@
  * MSVC_DEMANGLER_CRATE what an exported call reads. Flags combine with |; 0 is none. docs/flags.md describes each.
  * @{
  */
-#define MSVC_DEMANGLER_NO_MS_KEYWORDS 0x2u         /**< drops __cdecl and the like */
-#define MSVC_DEMANGLER_NO_FUNCTION_RETURNS 0x4u    /**< drops everything before the name */
-#define MSVC_DEMANGLER_NO_MS_THISTYPE 0x20u        /**< with the next one drops const after a member function */
-#define MSVC_DEMANGLER_NO_CV_THISTYPE 0x40u        /**< changes nothing alone */
-#define MSVC_DEMANGLER_NO_THISTYPE 0x60u           /**< both of these */
-#define MSVC_DEMANGLER_NO_ACCESS_SPECIFIERS 0x80u  /**< drops public:, protected: and private: of functions */
-#define MSVC_DEMANGLER_NO_MEMBER_TYPE 0x200u       /**< drops static and virtual of functions */
-#define MSVC_DEMANGLER_MS_TYPENAMES 0x400u         /**< prints __int64 in place of int64_t */
-#define MSVC_DEMANGLER_DECODE_32_BIT 0x800u        /**< changes nothing */
-#define MSVC_DEMANGLER_NAME_ONLY 0x1000u           /**< prints the name only */
-#define MSVC_DEMANGLER_NO_CLASS_TYPE 0x100000u     /**< drops class, struct, union and enum */
-#define MSVC_DEMANGLER_SPACE_AFTER_COMMA 0x200000u /**< prints (int, int) in place of (int,int) */
-#define MSVC_DEMANGLER_HUG_TYPE 0x400000u          /**< prints int*x in place of int *x */
-#define MSVC_DEMANGLER_SPACE_BEFORE_POINTER 0x800000u /**< prints int *const x in place of int * const x */
-#define MSVC_DEMANGLER_WITH_PTR64 0x1000000u       /**< prints __ptr64 */
-#define MSVC_DEMANGLER_LLVM 0xE00400u              /**< four of these: spelling near llvm-undname's */
-#define MSVC_DEMANGLER_FULL 0x80000000u            /**< reads Full, the grammar of today's compilers */
-#define MSVC_DEMANGLER_CRATE 0x40000000u           /**< of inline calls alone: reads the crate's grammar */
+/** Drops __cdecl and the like, of pointers to functions too. */
+#define MSVC_DEMANGLER_NO_MS_KEYWORDS 0x2u
+/** Drops everything before the name. */
+#define MSVC_DEMANGLER_NO_FUNCTION_RETURNS 0x4u
+/** Changes nothing alone. */
+#define MSVC_DEMANGLER_NO_MS_THISTYPE 0x20u
+/** Changes nothing alone. */
+#define MSVC_DEMANGLER_NO_CV_THISTYPE 0x40u
+/** NO_MS_THISTYPE and NO_CV_THISTYPE: drops const and the like of member functions. */
+#define MSVC_DEMANGLER_NO_THISTYPE 0x60u
+/** Drops public and the like, of functions only. */
+#define MSVC_DEMANGLER_NO_ACCESS_SPECIFIERS 0x80u
+/** Drops static and virtual, of functions only. */
+#define MSVC_DEMANGLER_NO_MEMBER_TYPE 0x200u
+/** Prints __int64 and __int128. */
+#define MSVC_DEMANGLER_MS_TYPENAMES 0x400u
+/** Changes nothing. */
+#define MSVC_DEMANGLER_DECODE_32_BIT 0x800u
+/** Prints the name only. */
+#define MSVC_DEMANGLER_NAME_ONLY 0x1000u
+/** Drops class, struct, union and enum. */
+#define MSVC_DEMANGLER_NO_CLASS_TYPE 0x100000u
+/** Prints a space after each comma. */
+#define MSVC_DEMANGLER_SPACE_AFTER_COMMA 0x200000u
+/** Drops the space before * and &. */
+#define MSVC_DEMANGLER_HUG_TYPE 0x400000u
+/** Drops the space after * and &; under HUG_TYPE prints one before them after a word. */
+#define MSVC_DEMANGLER_SPACE_BEFORE_POINTER 0x800000u
+/** Prints __ptr64 after the parameters of a member function. */
+#define MSVC_DEMANGLER_WITH_PTR64 0x1000000u
+/** Four of these: spelling near that of llvm-undname. */
+#define MSVC_DEMANGLER_LLVM 0xE00400u
+/** Reads Full, the grammar of today's compilers. */
+#define MSVC_DEMANGLER_FULL 0x80000000u
+/** Of inline calls alone: reads the crate's grammar. */
+#define MSVC_DEMANGLER_CRATE 0x40000000u
 /** @} */
 
 /**
@@ -112,10 +131,12 @@
 #endif
 
 /* With MSVC_DEMANGLER_DLL defined a program for Windows calls msvc_demangler.dll without a jump in between. */
+#ifndef MSVC_DEMANGLER_API
 #if defined(_WIN32) && defined(MSVC_DEMANGLER_DLL)
 #define MSVC_DEMANGLER_API __declspec(dllimport)
 #else
 #define MSVC_DEMANGLER_API
+#endif
 #endif
 
 #ifdef __cplusplus
@@ -125,10 +146,10 @@ extern "C" {
 /** Status of a call. */
 enum msvc_demangler_status {
     MSVC_DEMANGLER_OK = 0,
-    MSVC_DEMANGLER_INVALID = 1,        /**< the input begins with no symbol within the limit on nodes */
+    MSVC_DEMANGLER_INVALID = 1,        /**< the input begins with no symbol, whatever the limits are */
     MSVC_DEMANGLER_NOT_UTF8 = 2,       /**< the input is not UTF-8 */
-    MSVC_DEMANGLER_OUT_OF_MEMORY = 3,  /**< malloc or realloc returned null */
-    MSVC_DEMANGLER_TOO_MANY_NODES = 4, /**< the symbol has more than max_nodes nodes */
+    MSVC_DEMANGLER_OUT_OF_MEMORY = 3,  /**< there is too little memory */
+    MSVC_DEMANGLER_TOO_MANY_NODES = 4, /**< what was read has more than max_nodes nodes */
     MSVC_DEMANGLER_TOO_LONG = 5        /**< the declaration has more than max_bytes bytes */
 };
 
@@ -145,10 +166,10 @@ struct msvc_demangler_result {
 #define MSVC_DEMANGLER_ASSERT(holds) _Static_assert(holds, "msvc_demangler_result has another layout")
 #endif
 #ifdef MSVC_DEMANGLER_ASSERT
-MSVC_DEMANGLER_ASSERT(sizeof(struct msvc_demangler_result) == 24);
+MSVC_DEMANGLER_ASSERT(sizeof(struct msvc_demangler_result) == 3 * sizeof(size_t));
 MSVC_DEMANGLER_ASSERT(offsetof(struct msvc_demangler_result, status) == 0);
-MSVC_DEMANGLER_ASSERT(offsetof(struct msvc_demangler_result, offset) == 8);
-MSVC_DEMANGLER_ASSERT(offsetof(struct msvc_demangler_result, length) == 16);
+MSVC_DEMANGLER_ASSERT(offsetof(struct msvc_demangler_result, offset) == sizeof(size_t));
+MSVC_DEMANGLER_ASSERT(offsetof(struct msvc_demangler_result, length) == 2 * sizeof(size_t));
 #undef MSVC_DEMANGLER_ASSERT
 #endif
 
@@ -174,9 +195,10 @@ MSVC_DEMANGLER_ASSERT(offsetof(struct msvc_demangler_result, length) == 16);
  * | TOO_MANY_NODES | more nodes than allowed (offset: 9, remaining: "EA") | where reading stopped          |
  * | TOO_LONG       | longer than allowed (offset: 10, remaining: "")      | end of the symbol              |
  *
- * The texts of INVALID, TOO_MANY_NODES and TOO_LONG are examples, and may change; no two statuses share a message. If
- * the input may be no symbol, as "main", print the input itself unless the status is OK. Each limit may be
- * MSVC_DEMANGLER_UNLIMITED; the other one still holds.
+ * The texts of INVALID, TOO_MANY_NODES and TOO_LONG are examples, and may change; no two statuses share a message.
+ * INVALID means that the input has no declaration under any limit; after TOO_MANY_NODES a call with a larger limit may
+ * return one. If the input may be no symbol, as "main", print the input itself unless the status is OK. Each limit may
+ * be MSVC_DEMANGLER_UNLIMITED; the other one still holds.
  *
  * @code
  * const char symbol[] = "?f@@YAXH@Z and more";

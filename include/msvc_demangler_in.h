@@ -270,8 +270,8 @@ static inline struct msvc_demangler_result msvc_demangler_filter_in(const char *
 
 /**
  * Writes the tree of a symbol on one line, for a person to read, in the form of `undname -v` without the line feed; if
- * there is none, the text of the error. It reads Full, or the crate's grammar with MSVC_DEMANGLER_CRATE. OK is proved
- * to mean that the symbol has a tree within the limit; the text of the tree is only tested, and its form may change.
+ * there is none, the text of the error. It reads Full, or the crate's grammar with MSVC_DEMANGLER_CRATE. With OK the
+ * text is proved to be that of a tree within the limit; its form may change.
  * Statuses, offsets and the rules of the buffer are those of msvc_demangler_demangle without a limit on bytes. The text
  * is made in the workspace, so a tree with long names may need a larger one than the sizes above.
  */

@@ -79,7 +79,8 @@ def page(library, version):
 def main(module, out):
     """Writes the page and the folder."""
     out = pathlib.Path(out)
-    version = read(HERE.parent / "VERSION").strip()
+    version, revision = (read(HERE.parent / name).strip() for name in ("VERSION", "REVISION"))
+    repository = re.search("^Vcs-Git: (.*)", read(HERE.parent / "packaging/deb/control"), re.MULTILINE)[1]
     encoded = base64.b64encode(pathlib.Path(module).read_bytes()).decode()
     library = filled(read(HERE / "msvc-demangler.mjs"), module=encoded, version=version)
     types = read(HERE / "msvc-demangler.d.ts")
@@ -89,7 +90,8 @@ def main(module, out):
         "msvc-demangler/index.d.ts": types,
         "msvc-demangler/index.cjs": common(library),
         "msvc-demangler/index.d.cts": types,
-        "msvc-demangler/package.json": filled(read(HERE / "package.json"), version=version),
+        "msvc-demangler/package.json": filled(read(HERE / "package.json"), version=f"{version}-{revision}",
+                                              repository=repository),
         "msvc-demangler/README.md": read(HERE / "README.md"),
     }
     for name, text in files.items():

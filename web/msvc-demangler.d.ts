@@ -5,36 +5,37 @@ export declare const version: string;
 
 /** Chooses how a declaration is printed. Flags are combined with |. */
 export declare const Flags: {
-  /** No `__cdecl` and the like. */
+  /** Drops `__cdecl` and the like, of pointers to functions too. */
   readonly NO_MS_KEYWORDS: 0x2;
-  /** Of functions the name and the parameters alone. */
+  /** Drops everything before the name. */
   readonly NO_FUNCTION_RETURNS: 0x4;
-  /** This one and the next: no `const` after a member function. */
+  /** Changes nothing alone. */
   readonly NO_MS_THISTYPE: 0x20;
+  /** Changes nothing alone. */
   readonly NO_CV_THISTYPE: 0x40;
-  /** Both of these. */
+  /** NO_MS_THISTYPE and NO_CV_THISTYPE: drops `const` and the like of member functions. */
   readonly NO_THISTYPE: 0x60;
-  /** No `public:`, `protected:` and `private:` of functions. */
+  /** Drops `public` and the like, of functions only. */
   readonly NO_ACCESS_SPECIFIERS: 0x80;
-  /** No `static` and `virtual` of functions. */
+  /** Drops `static` and `virtual`, of functions only. */
   readonly NO_MEMBER_TYPE: 0x200;
-  /** `__int64`, and not `int64_t`. */
+  /** Prints `__int64` and `__int128`. */
   readonly MS_TYPENAMES: 0x400;
   /** Changes nothing. */
   readonly DECODE_32_BIT: 0x800;
-  /** The name alone. */
+  /** Prints the name only. */
   readonly NAME_ONLY: 0x1000;
-  /** No `class`, `struct`, `union` and `enum` before names. */
+  /** Drops `class`, `struct`, `union` and `enum`. */
   readonly NO_CLASS_TYPE: 0x100000;
-  /** `(int, int)`. */
+  /** Prints a space after each comma. */
   readonly SPACE_AFTER_COMMA: 0x200000;
-  /** `int*x`, and not `int *x`. */
+  /** Drops the space before `*` and `&`. */
   readonly HUG_TYPE: 0x400000;
-  /** With HUG_TYPE `int *x`. */
+  /** Drops the space after `*` and `&`; under HUG_TYPE prints one before them after a word. */
   readonly SPACE_BEFORE_POINTER: 0x800000;
-  /** `__ptr64` after the parameters of a member function. */
+  /** Prints `__ptr64` after the parameters of a member function. */
   readonly WITH_PTR64: 0x1000000;
-  /** As llvm-undname prints: four of them. */
+  /** Four of these: spelling near that of `llvm-undname`. */
   readonly LLVM: 0xE00400;
 };
 

@@ -23,7 +23,8 @@ SETS = {
     "programs": ["docs/undname.md", "docs/msvcfilt.md", "docs/flags.md", "docs/limits.md", "docs/statuses.md",
                  "docs/DIFFERENCES.md", "docs/differences.txt"],
     "jobs": ["docs/scale.md", "examples/dask"],
-    "library": ["docs/install.md", "docs/c.md", "examples/c", "packaging/rust/crate", "packaging/wheel/README.md",
+    "library": ["docs/install.md", "docs/c.md", "examples/c", "examples/cpp", "examples/csharp", "examples/go",
+                "examples/python", "examples/rust", "packaging/rust/crate", "packaging/wheel/README.md",
                 "packaging/wheel/src"],
 }
 

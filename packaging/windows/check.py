@@ -1,11 +1,11 @@
-#!/usr/bin/env python3
+#!/usr/bin/python3
 """Checks what the packages for Windows rest on, and prints a line on what was seen; or what is wrong, with status 1.
 
-    python3 packaging/windows/check.py code OBJECT [FUNCTIONS]
-    python3 packaging/windows/check.py image OBJECT IMAGE
+    /usr/bin/python3 packaging/windows/check.py code OBJECT [FUNCTIONS]
+    /usr/bin/python3 packaging/windows/check.py image OBJECT IMAGE
 
-OBJECT is the object for Linux that is turned into one for Windows: its sections are those of merge.ld, and sysv_ stands
-before its global names.
+OBJECT is the object for Linux that is linked for Windows: its sections are those of merge.ld, and sysv_ stands before
+its global names.
 
 code: its code may run under Windows. No function has a frame of a page or more that it doesn't write in between, since
 Windows needs each page of a stack to be touched in order; none moves the stack pointer by a number that isn't known
@@ -14,13 +14,17 @@ thread-local data do. None reads or writes below the stack pointer, where Window
 FUNCTIONS, which are no part of the demangler's own crates.
 
 image: IMAGE, a program or DLL that was linked of it, has its code and data once, with the same bytes but where they are
-relocated; and each of these places leads to the one address that the symbol has. It needs objdump.
+relocated; and each of these places leads to the one address that the symbol has.
+
+It needs objdump, and Debian's python3-pyelftools and python3-pefile.
 """
 import os
 import re
 import struct
 import subprocess
 import sys
+
+import pefile
 
 import elf
 
@@ -51,8 +55,7 @@ BELOW = re.compile(r"-0x[0-9a-f]+\(%rsp(,[^)]*)?\)")
 BELOW_FRAME = re.compile(r"-0x([0-9a-f]+)\(%rbp\)")
 LISTED = re.compile("::<.*")
 
-# A PE file: the places of its headers, and the numbers of its tables that are used.
-PE_OFFSET, OPTIONAL_HEADER, BASE_RELOCATIONS = 0x3C, 24, 5
+# The numbers of the PE format that are known here.
 TO_64_BITS = 10
 EXECUTABLE, ZEROS = 0x20000000, 0x80000080
 
@@ -171,24 +174,22 @@ def check_code(path, listed):
 
 
 class Image:
-    """A program or DLL."""
+    """A program or DLL. At the addresses `moved` are the pointers that change if Windows loads it elsewhere."""
 
     def __init__(self, data):
-        self.data = data
-        header = struct.unpack_from("<I", data, PE_OFFSET)[0]
-        if data[header : header + 4] != b"PE\0\0":
-            raise Wrong("not a PE file")
-        machine, count, _, _, _, optional = struct.unpack_from("<HHIIIH", data, header + 4)
-        begin = header + OPTIONAL_HEADER
-        if machine != 0x8664 or struct.unpack_from("<H", data, begin)[0] != 0x20B:
+        try:
+            file = pefile.PE(data=data, fast_load=True)
+            file.parse_data_directories([pefile.DIRECTORY_ENTRY["IMAGE_DIRECTORY_ENTRY_BASERELOC"]])
+        except pefile.PEFormatError as error:
+            raise Wrong(f"not a PE file: {error}") from None
+        if (file.FILE_HEADER.Machine, file.OPTIONAL_HEADER.Magic) != (0x8664, 0x20B):
             raise Wrong("not for x86-64")
-        self.base = struct.unpack_from("<Q", data, begin + 24)[0]
-        self.relocations = struct.unpack_from("<II", data, begin + 112 + 8 * BASE_RELOCATIONS)
-        self.sections = []
-        for at in range(begin + optional, begin + optional + 40 * count, 40):
-            _, size, address, length, offset = struct.unpack_from("<8sIIII", data, at)
-            flags = struct.unpack_from("<I", data, at + 36)[0]
-            self.sections.append((address, size, data[offset : offset + min(size, length)], flags))
+        self.base = file.OPTIONAL_HEADER.ImageBase
+        self.moved = {entry.rva for page in getattr(file, "DIRECTORY_ENTRY_BASERELOC", []) for entry in page.entries
+                      if entry.type == TO_64_BITS}
+        self.sections = [(section.VirtualAddress, section.Misc_VirtualSize,
+                          section.get_data()[: section.Misc_VirtualSize] if section.SizeOfRawData else b"",
+                          section.Characteristics) for section in file.sections]
 
     def read(self, address, length):
         """Returns the bytes at an address from the beginning of the image."""
@@ -202,26 +203,13 @@ class Image:
         return any(begin <= address and address + length <= begin + size and found & flags == flags
                    for begin, size, _, found in self.sections)
 
-    def moved(self):
-        """Returns the addresses of all pointers that Windows changes when it loads the image elsewhere."""
-        found = set()
-        at, left = self.relocations
-        while left:
-            page, size = struct.unpack("<II", self.read(at, 8))
-            for (entry,) in struct.iter_unpack("<H", self.read(at + 8, size - 8)):
-                if entry >> 12 == TO_64_BITS:
-                    found.add(page + (entry & 0xFFF))
-            at += size
-            left -= size
-        return found
-
 
 def stretches(section):
     """Returns the parts of a section that aren't relocated, each with its offset."""
     found, at = [], 0
     for relocation in sorted(section.relocations, key=lambda relocation: relocation.offset):
         found.append((at, section.content[at : relocation.offset]))
-        at = relocation.offset + elf.RELOCATIONS[relocation.kind][1]
+        at = relocation.offset + elf.RELOCATIONS[relocation.kind]
     return found + [(at, section.content[at:])]
 
 
@@ -247,9 +235,8 @@ class Linked:
 
     def __init__(self, object_, image):
         self.symbols = object_.symbols
-        self.sections = {number: section for number, section in object_.sections.items() if section.size}
+        self.sections = object_.sections
         self.image = image
-        self.moved = image.moved()
         self.places = {number: self.placed(section) for number, section in self.sections.items() if section.content}
         self.outside = {}
 
@@ -264,7 +251,7 @@ class Linked:
         """Returns the address of the symbol of a relocation, that the bytes there have."""
         if relocation.kind != elf.R_64:
             return struct.unpack("<i", self.image.read(at, 4))[0] - relocation.addend + at
-        if at not in self.moved:
+        if at not in self.image.moved:
             raise Wrong(f"the pointer at {at:#x} stays as it is when the image is loaded elsewhere")
         return struct.unpack("<Q", self.image.read(at, 8))[0] - relocation.addend - self.image.base
 
@@ -273,7 +260,8 @@ class Linked:
         has, if a function is there, or zeros."""
         if symbol.section in self.places:
             return self.places[symbol.section] + symbol.value
-        place = self.outside.setdefault(symbol.section or symbol.name, address - symbol.value)
+        key = symbol.name if symbol.section == elf.UNDEFINED else symbol.section
+        place = self.outside.setdefault(key, address - symbol.value)
         if symbol.section == elf.UNDEFINED and not self.image.is_part(EXECUTABLE, place):
             raise Wrong(f"{symbol.name} is no function")
         if symbol.section in self.sections and not self.image.is_part(ZEROS, place, self.sections[symbol.section].size):

@@ -1,33 +1,32 @@
-"""Reads an object for Linux on x86-64, an ELF file, and rejects by name whatever it doesn't know."""
+"""Reads an object for Linux on x86-64, an ELF file of merge.ld, and rejects by name whatever it doesn't know. It needs
+Debian's python3-pyelftools."""
 import dataclasses
-import struct
-from typing import Dict, List
+import io
+from typing import Dict, List, Union
 
-# The numbers of the ELF format that are known here; any other is rejected.
-NULL, PROGBITS, SYMTAB, STRTAB, RELA, NOBITS = 0, 1, 2, 3, 4, 8
-WRITE, ALLOC, EXECUTE, MERGE, STRINGS, INFO_LINK = 1, 2, 4, 0x10, 0x20, 0x40
-LOCAL, GLOBAL = 0, 1
-NOTYPE, OBJECT, FUNC, SECTION, FILE = range(5)
-UNDEFINED, FIRST_RESERVED, ABSOLUTE = 0, 0xFF00, 0xFFF1
-R_64, R_PC32, R_PLT32 = 1, 2, 4
+from elftools.common.exceptions import ELFError
+from elftools.elf.elffile import ELFFile
+from elftools.elf.enums import ENUM_RELOC_TYPE_x64
 
-# The name of each kind of relocation, and how many bytes it writes.
-RELOCATIONS = {R_64: ("R_X86_64_64", 8), R_PC32: ("R_X86_64_PC32", 4), R_PLT32: ("R_X86_64_PLT32", 4)}
+# What is known here, by its names in the ELF format.
+KINDS = ("SHT_NULL", "SHT_PROGBITS", "SHT_NOBITS", "SHT_SYMTAB", "SHT_STRTAB", "SHT_RELA")
+TYPES = ("STT_NOTYPE", "STT_OBJECT", "STT_FUNC", "STT_SECTION", "STT_FILE")
+GLOBAL, UNDEFINED, R_64 = "STB_GLOBAL", "SHN_UNDEF", "R_X86_64_64"
+WRITE, ALLOC, EXECUTE, MERGE, STRINGS = 1, 2, 4, 0x10, 0x20
 
-# Names of rejected kinds, for messages.
-SECTION_TYPES = {
-    6: "DYNAMIC", 7: "NOTE", 9: "REL", 11: "DYNSYM", 14: "INIT_ARRAY", 15: "FINI_ARRAY", 16: "PREINIT_ARRAY",
-    17: "GROUP", 18: "SYMTAB_SHNDX",
+# How many bytes each kind of relocation writes.
+RELOCATIONS = {R_64: 8, "R_X86_64_PC32": 4, "R_X86_64_PLT32": 4}
+NAMES = {number: name for name, number in ENUM_RELOC_TYPE_x64.items()}
+
+# The sections that merge.ld leaves: the kind of each, and its flags, with or without the one for writing if what it
+# contains is relocated.
+SECTIONS = {
+    ".text": ("SHT_PROGBITS", (ALLOC | EXECUTE,)),
+    ".rdata": ("SHT_PROGBITS", (ALLOC, ALLOC | WRITE)),
+    ".data": ("SHT_PROGBITS", (ALLOC | WRITE,)),
+    ".bss": ("SHT_NOBITS", (ALLOC | WRITE,)),
 }
-SECTION_FLAGS = {0x80: "LINK_ORDER", 0x200: "GROUP", 0x400: "TLS", 0x800: "COMPRESSED"}
-SYMBOL_TYPES = {5: "COMMON", 6: "TLS", 10: "GNU_IFUNC"}
-BINDINGS = {2: "WEAK", 10: "GNU_UNIQUE"}
-PLACES = {ABSOLUTE: "ABS", 0xFFF2: "COMMON", 0xFFFF: "XINDEX"}
-RELOCATION_NAMES = {
-    3: "GOT32", 5: "COPY", 9: "GOTPCREL", 10: "32", 11: "32S", 12: "16", 13: "PC16", 14: "8", 15: "PC8", 16: "DTPMOD64",
-    17: "DTPOFF64", 18: "TPOFF64", 19: "TLSGD", 20: "TLSLD", 21: "DTPOFF32", 22: "GOTTPOFF", 23: "TPOFF32", 24: "PC64",
-    25: "GOTOFF64", 26: "GOTPC32", 32: "SIZE32", 33: "SIZE64", 41: "GOTPCRELX", 42: "REX_GOTPCRELX",
-}
+MOST_ALIGNMENT = 8192
 
 
 class Unknown(Exception):
@@ -39,7 +38,7 @@ class Relocation:
     """A place in a section that is written when addresses are known: that of a symbol, and a number added to it."""
 
     offset: int
-    kind: int
+    kind: str
     symbol: int
     addend: int
 
@@ -49,7 +48,6 @@ class Section:
     """A section. One without bytes, as .bss, has a size alone."""
 
     name: str
-    kind: int
     flags: int
     size: int
     align: int
@@ -59,113 +57,87 @@ class Section:
 
 @dataclasses.dataclass
 class Symbol:
-    """A symbol: in which section it stands, and where there."""
+    """A symbol: in which section it stands, by number or name, and where there."""
 
     name: str
-    kind: int
-    binding: int
-    section: int
+    binding: str
+    section: Union[int, str]
     value: int
-    size: int
 
 
 @dataclasses.dataclass
 class Elf:
-    """An object: the sections that a program has in memory, by their numbers, and all symbols."""
+    """An object: the sections that have a size in memory, by their numbers, and all symbols."""
 
     sections: Dict[int, Section]
     symbols: List[Symbol]
 
 
-def known(number, names, what, known_ones):
-    """Rejects a number that isn't one of those known, by its name if it has one here."""
-    if number not in known_ones:
-        raise Unknown(f"{what}: {names.get(number, hex(number))}")
+def check(what, found, known):
+    """Rejects what isn't known."""
+    if found not in known:
+        raise Unknown(f"{what}: {found}")
 
 
-def text(table, offset):
-    """Returns the text that begins at this offset of a table of texts."""
-    return table[offset : table.index(b"\0", offset)].decode()
+def read_section(section):
+    """Returns a section that is in memory. Rejects one that Windows has no place for."""
+    what, size, align = f"section {section.name}", section["sh_size"], section["sh_addralign"]
+    check(what, section.name, SECTIONS)
+    kind, flags = SECTIONS[section.name]
+    check(f"{what}, its kind", section["sh_type"], (kind,))
+    check(f"{what}, its flags", section["sh_flags"] & ~(MERGE | STRINGS), flags)
+    if not 0 < align <= MOST_ALIGNMENT or align & (align - 1):
+        raise Unknown(f"{what}, its alignment: {align}")
+    content = b"" if kind == "SHT_NOBITS" else section.data()
+    return Section(section.name, section["sh_flags"], size, align, content, [])
 
 
-def header(data):
-    """Returns where the table of sections stands, how many it has, and which one holds their names."""
-    if data[:7] != b"\x7fELF\2\1\1":
-        raise Unknown("the file: not ELF of 64 bits, little-endian")
-    kind, machine, _, _, _, table, _, _, _, _, entry, count, names = struct.unpack_from("<HHIQQQIHHHHHH", data, 16)
-    if (kind, machine, entry) != (1, 62, 64):
-        raise Unknown("the file: not an object for x86-64")
-    if not 0 < count < FIRST_RESERVED:
-        raise Unknown(f"the file: {count} sections")
-    return table, count, names
-
-
-def read_section(data, at):
-    """Returns the section whose header stands at this offset, without its name, and the numbers that it links to."""
-    name, kind, flags, _, offset, size, link, info, align, _ = struct.unpack_from("<IIQQQQIIQQ", data, at)
-    content = b"" if kind in (NULL, NOBITS) else data[offset : offset + size]
-    if kind not in (NULL, NOBITS) and len(content) != size:
-        raise Unknown("the file: cut short")
-    return Section("", kind, flags, size, align, content, []), name, link, info
-
-
-def check_section(section):
-    """Rejects a section of an unknown kind, or with an unknown flag."""
-    what = f"section {section.name}"
-    known(section.kind, SECTION_TYPES, f"{what}, its type", (NULL, PROGBITS, SYMTAB, STRTAB, RELA, NOBITS))
-    for bit in (1 << number for number in range(64)):
-        if section.flags & bit:
-            known(bit, SECTION_FLAGS, f"{what}, its flag", (WRITE, ALLOC, EXECUTE, MERGE, STRINGS, INFO_LINK))
-
-
-def read_symbols(table, names):
-    """Returns the symbols of a table."""
-    symbols = []
-    for name, info, _, section, value, size in struct.iter_unpack("<IBBHQQ", table.content):
-        symbols.append(Symbol(text(names.content, name), info & 15, info >> 4, section, value, size))
-    return symbols
-
-
-def check_symbol(symbol, sections):
-    """Rejects a symbol of an unknown kind, or that stands in no section."""
-    what = f"symbol {symbol.name}"
-    known(symbol.kind, SYMBOL_TYPES, f"{what}, its type", (NOTYPE, OBJECT, FUNC, SECTION, FILE))
-    known(symbol.binding, BINDINGS, f"{what}, its binding", (LOCAL, GLOBAL))
-    if symbol.kind != FILE and symbol.section >= FIRST_RESERVED:
-        known(symbol.section, PLACES, f"{what}, its place", ())
-    if symbol.section in sections and symbol.value > sections[symbol.section].size:
+def read_symbol(symbol, sections):
+    """Returns a symbol. Rejects one of an unknown kind, or that is in no section."""
+    what, info, place = f"symbol {symbol.name}", symbol["st_info"], symbol["st_shndx"]
+    check(f"{what}, its type", info["type"], TYPES)
+    check(f"{what}, its binding", info["bind"], ("STB_LOCAL", GLOBAL))
+    if not isinstance(place, int) and info["type"] != "STT_FILE":
+        check(f"{what}, its place", place, (UNDEFINED,))
+    if place in sections and symbol["st_value"] > sections[place].size:
         raise Unknown(f"{what}, its place: beyond the section")
+    return Symbol(symbol.name, info["bind"], place, symbol["st_value"])
 
 
-def read_relocations(table, target, symbols):
-    """Adds the relocations of a table to the section that they change."""
-    for offset, info, addend in struct.iter_unpack("<QQq", table.content):
-        kind, symbol = info & 0xFFFFFFFF, info >> 32
-        what = f"section {target.name}, relocation at {offset:#x}"
-        known(kind, RELOCATION_NAMES, f"{what}, its type", RELOCATIONS)
-        if offset + RELOCATIONS[kind][1] > len(target.content):
-            raise Unknown(f"{what}: beyond the section")
-        if not 0 < symbol < len(symbols):
-            raise Unknown(f"{what}: of no symbol")
-        target.relocations.append(Relocation(offset, kind, symbol, addend))
+def read_relocation(relocation, section, object_):
+    """Returns a relocation of a section. Rejects one of a local symbol outside of the sections."""
+    what = f"section {section.name}, relocation at {relocation['r_offset']:#x}"
+    kind, number = NAMES.get(relocation["r_info_type"]), relocation["r_info_sym"]
+    check(f"{what}, its type", kind, RELOCATIONS)
+    if relocation["r_offset"] + RELOCATIONS[kind] > len(section.content):
+        raise Unknown(f"{what}: beyond the section")
+    if not 0 < number < len(object_.symbols):
+        raise Unknown(f"{what}: of no symbol")
+    symbol = object_.symbols[number]
+    if symbol.binding != GLOBAL:
+        check(f"{what}, the section of its symbol {symbol.name}", symbol.section, object_.sections)
+    return Relocation(relocation["r_offset"], kind, number, relocation["r_addend"])
 
 
 def read(data):
     """Returns what an object has."""
-    at, count, names = header(data)
-    headers = [read_section(data, at + 64 * number) for number in range(count)]
-    sections = [section for section, _, _, _ in headers]
-    for section, name, _, _ in headers:
-        section.name = text(sections[names].content, name)
-        check_section(section)
-    tables = [(section, link) for section, _, link, _ in headers if section.kind == SYMTAB]
-    if len(tables) != 1:
-        raise Unknown(f"the file: {len(tables)} tables of symbols")
-    symbols = read_symbols(tables[0][0], sections[tables[0][1]])
-    loaded = {number: section for number, section in enumerate(sections) if section.flags & ALLOC}
-    for symbol in symbols:
-        check_symbol(symbol, loaded)
-    for section, _, _, info in headers:
-        if section.kind == RELA:
-            read_relocations(section, sections[info], symbols)
-    return Elf(loaded, symbols)
+    try:
+        file = ELFFile(io.BytesIO(data))
+    except ELFError as error:
+        raise Unknown(f"the file: {error}") from None
+    check("the file", (file.elfclass, file["e_type"], file["e_machine"]), ((64, "ET_REL", "EM_X86_64"),))
+    parts = list(file.iter_sections())
+    for section in parts:
+        check(f"section {section.name}, its type", section["sh_type"], KINDS)
+    loaded = {number: read_section(section) for number, section in enumerate(parts)
+              if section["sh_flags"] & ALLOC and section["sh_size"]}
+    check("sections of one name", len(loaded) - len({section.name for section in loaded.values()}), (0,))
+    tables = [section for section in parts if section["sh_type"] == "SHT_SYMTAB"]
+    check("tables of symbols", len(tables), (1,))
+    object_ = Elf(loaded, [read_symbol(symbol, loaded) for symbol in tables[0].iter_symbols()])
+    for section in parts:
+        if section["sh_type"] == "SHT_RELA" and section["sh_info"] in loaded:
+            target = loaded[section["sh_info"]]
+            target.relocations += [read_relocation(relocation, target, object_)
+                                   for relocation in section.iter_relocations()]
+    return object_

@@ -1,5 +1,5 @@
-//! Tests the public calls on errors and sets, each once, with ample memory, against the documents. `.ci/trees.rs` tests
-//! the debug text of trees, without a proof.
+//! Tests the public calls on errors and sets, each once, with ample memory, against the documents.
+//! `tests/library/trees.rs` tests the debug text of trees, without a proof.
 
 #[cfg(test)]
 mod tests {

@@ -1,6 +1,6 @@
 //! Measures the time of the demangler for names, in one process: `msvc_bench measure ROUNDS` with the names as lines of
 //! standard input, `msvc_bench kept ROUNDS` with one kept demangler, `msvc_bench kept-full ROUNDS` with one of Full.
-//! `tools/measure/run` compares the first two with LLVM's library.
+//! `measure/run` compares the first two with LLVM's library.
 
 use msvc_demangler::{DemangleFlags, Demangler, Grammar, demangle};
 use std::alloc::Global;

@@ -30,8 +30,10 @@ fn folder() -> Result<(PathBuf, &'static str), Box<dyn Error>> {
 /// Returns the folder of the library that pkg-config prints.
 fn installed() -> Result<String, Box<dyn Error>> {
     let program = env::var_os("PKG_CONFIG").unwrap_or_else(|| "pkg-config".into());
-    let wanted = concat!("msvc-demangler >= ", env!("CARGO_PKG_VERSION"));
-    let words = ["--print-errors", "--variable=libdir", wanted];
+    // A revision of the crate stands after a plus.
+    let version = env!("CARGO_PKG_VERSION").split('+').next().unwrap_or_default();
+    let wanted = format!("msvc-demangler >= {version}");
+    let words = ["--print-errors", "--variable=libdir", &wanted];
     let output = Command::new(program).args(words).output()?;
     if !output.status.success() {
         return Err(String::from_utf8(output.stderr)?.into());

@@ -32,42 +32,44 @@ macro_rules! flags {
 flags! {
     /// No flag.
     COMPLETE = 0x0;
-    /// No words of calling conventions: of `?f@@YAXXZ`, `void f(void)` in place of `void __cdecl f(void)`.
+    /// Drops `__cdecl` and the like, of pointers to functions too. Turns `void __cdecl f(void)` of `?f@@YAXXZ` into
+    /// `void f(void)`.
     NO_MS_KEYWORDS = 0x2;
-    /// Nothing that stands before a name: of `?f@A@@SAHXZ`, `A::f(void)` in place of
-    /// `public: static int __cdecl A::f(void)`.
+    /// Drops everything before the name. Turns `public: static int __cdecl A::f(void)` of `?f@A@@SAHXZ` into
+    /// `A::f(void)`.
     NO_FUNCTION_RETURNS = 0x4;
-    /// One half of `NO_THISTYPE`; alone it changes nothing.
+    /// Changes nothing alone.
     NO_MS_THISTYPE = 0x20;
-    /// One half of `NO_THISTYPE`; alone it changes nothing.
+    /// Changes nothing alone.
     NO_CV_THISTYPE = 0x40;
-    /// No qualifiers after a function: of `?f@A@@QBEHXZ`, `public: int __thiscall A::f(void)` in place of
-    /// `public: int __thiscall A::f(void) const`.
+    /// NO_MS_THISTYPE and NO_CV_THISTYPE: drops `const` and the like of member functions. Turns
+    /// `public: int __thiscall A::f(void) const` of `?f@A@@QBEHXZ` into `public: int __thiscall A::f(void)`.
     NO_THISTYPE = 0x60;
-    /// No `public: `, `protected: ` and `private: ` before a function: of `?f@A@@SAHXZ`,
-    /// `static int __cdecl A::f(void)` in place of `public: static int __cdecl A::f(void)`.
+    /// Drops `public` and the like, of functions only. Turns `public: static int __cdecl A::f(void)` of `?f@A@@SAHXZ`
+    /// into `static int __cdecl A::f(void)`.
     NO_ACCESS_SPECIFIERS = 0x80;
-    /// No `static ` and `virtual ` before a function: of `?f@A@@SAHXZ`, `public: int __cdecl A::f(void)` in place of
-    /// `public: static int __cdecl A::f(void)`.
+    /// Drops `static` and `virtual`, of functions only. Turns `public: static int __cdecl A::f(void)` of `?f@A@@SAHXZ`
+    /// into `public: int __cdecl A::f(void)`.
     NO_MEMBER_TYPE = 0x200;
-    /// Names of integers as Microsoft's compiler has them: of `?f@@YA_JXZ`, `__int64 __cdecl f(void)` in place of
-    /// `int64_t __cdecl f(void)`.
+    /// Prints `__int64` and `__int128`. Turns `int64_t __cdecl f(void)` of `?f@@YA_JXZ` into `__int64 __cdecl f(void)`.
     MS_TYPENAMES = 0x400;
     /// Changes nothing.
     DECODE_32_BIT = 0x800;
-    /// The name alone: of `?x@ns@@3HA`, `ns::x` in place of `int ns::x`.
+    /// Prints the name only. Turns `int ns::x` of `?x@ns@@3HA` into `ns::x`.
     NAME_ONLY = 0x1000;
-    /// No `class `, `struct `, `union ` and `enum `: of `?f@@YAXVA@@H@Z`, `void __cdecl f(A,int)` in place of
-    /// `void __cdecl f(class A,int)`.
+    /// Drops `class`, `struct`, `union` and `enum`. Turns `void __cdecl f(class A,int)` of `?f@@YAXVA@@H@Z` into
+    /// `void __cdecl f(A,int)`.
     NO_CLASS_TYPE = 0x100000;
-    /// A space after each comma: of `?f@@YAXHH@Z`, `void __cdecl f(int, int)` in place of `void __cdecl f(int,int)`.
+    /// Prints a space after each comma. Turns `void __cdecl f(int,int)` of `?f@@YAXHH@Z` into
+    /// `void __cdecl f(int, int)`.
     SPACE_AFTER_COMMA = 0x200000;
-    /// No space before `*` and `&`: of `?x@@3PEAHEA`, `int*x` in place of `int *x`.
+    /// Drops the space before `*` and `&`. Turns `int *x` of `?x@@3PEAHEA` into `int*x`.
     HUG_TYPE = 0x400000;
-    /// Fewer spaces after `*` and `&`: of `?x@@3QEBHEB`, `int const *const x` in place of `int const * const x`.
+    /// Drops the space after `*` and `&`; under HUG_TYPE prints one before them after a word. Turns
+    /// `int const * const x` of `?x@@3QEBHEB` into `int const *const x`.
     SPACE_BEFORE_POINTER = 0x800000;
-    /// `__ptr64` after a function: of `?f@A@@QEBAHXZ`, `public: int __cdecl A::f(void) const __ptr64` in place of
-    /// `public: int __cdecl A::f(void) const`.
+    /// Prints `__ptr64` after the parameters of a member function. Turns `public: int __cdecl A::f(void) const` of
+    /// `?f@A@@QEBAHXZ` into `public: int __cdecl A::f(void) const __ptr64`.
     WITH_PTR64 = 0x1000000;
 }
 

@@ -53,22 +53,22 @@ class Grammar(enum.Enum):
 class Flags(enum.IntFlag):
     """Chooses how a declaration is printed. Flags are combined with |."""
 
-    NO_MS_KEYWORDS = 0x2  # no __cdecl and the like
-    NO_FUNCTION_RETURNS = 0x4  # of functions the name and the parameters alone
-    NO_MS_THISTYPE = 0x20  # this one and the next: no const after a member function
-    NO_CV_THISTYPE = 0x40
-    NO_THISTYPE = 0x60  # both of these
-    NO_ACCESS_SPECIFIERS = 0x80  # no public:, protected: and private: of functions
-    NO_MEMBER_TYPE = 0x200  # no static and virtual of functions
-    MS_TYPENAMES = 0x400  # __int64, and not int64_t
+    NO_MS_KEYWORDS = 0x2  # drops __cdecl and the like, of pointers to functions too
+    NO_FUNCTION_RETURNS = 0x4  # drops everything before the name
+    NO_MS_THISTYPE = 0x20  # changes nothing alone
+    NO_CV_THISTYPE = 0x40  # changes nothing alone
+    NO_THISTYPE = 0x60  # NO_MS_THISTYPE and NO_CV_THISTYPE: drops const and the like of member functions
+    NO_ACCESS_SPECIFIERS = 0x80  # drops public and the like, of functions only
+    NO_MEMBER_TYPE = 0x200  # drops static and virtual, of functions only
+    MS_TYPENAMES = 0x400  # prints __int64 and __int128
     DECODE_32_BIT = 0x800  # changes nothing
-    NAME_ONLY = 0x1000  # the name alone
-    NO_CLASS_TYPE = 0x100000  # no class, struct, union and enum before names
-    SPACE_AFTER_COMMA = 0x200000  # (int, int)
-    HUG_TYPE = 0x400000  # int*x, and not int *x
-    SPACE_BEFORE_POINTER = 0x800000
-    WITH_PTR64 = 0x1000000  # __ptr64
-    LLVM = 0xE00400  # four of these: spelling near llvm-undname's
+    NAME_ONLY = 0x1000  # prints the name only
+    NO_CLASS_TYPE = 0x100000  # drops class, struct, union and enum
+    SPACE_AFTER_COMMA = 0x200000  # prints a space after each comma
+    HUG_TYPE = 0x400000  # drops the space before * and &
+    SPACE_BEFORE_POINTER = 0x800000  # drops the space after * and &; under HUG_TYPE prints one before them after a word
+    WITH_PTR64 = 0x1000000  # prints __ptr64 after the parameters of a member function
+    LLVM = 0xE00400  # four of these: spelling near that of llvm-undname
 
 
 class Status(enum.IntEnum):
