@@ -146,10 +146,10 @@ extern "C" {
 /** Status of a call. */
 enum msvc_demangler_status {
     MSVC_DEMANGLER_OK = 0,
-    MSVC_DEMANGLER_INVALID = 1,        /**< the input begins with no symbol, whatever the limits are */
+    MSVC_DEMANGLER_INVALID = 1,        /**< the input begins with no symbol of the grammar, under any limit */
     MSVC_DEMANGLER_NOT_UTF8 = 2,       /**< the input is not UTF-8 */
     MSVC_DEMANGLER_OUT_OF_MEMORY = 3,  /**< there is too little memory */
-    MSVC_DEMANGLER_TOO_MANY_NODES = 4, /**< what was read has more than max_nodes nodes */
+    MSVC_DEMANGLER_TOO_MANY_NODES = 4, /**< the input begins with no symbol of at most max_nodes nodes */
     MSVC_DEMANGLER_TOO_LONG = 5        /**< the declaration has more than max_bytes bytes */
 };
 
@@ -196,9 +196,9 @@ MSVC_DEMANGLER_ASSERT(offsetof(struct msvc_demangler_result, length) == 2 * size
  * | TOO_LONG       | longer than allowed (offset: 10, remaining: "")      | end of the symbol              |
  *
  * The texts of INVALID, TOO_MANY_NODES and TOO_LONG are examples, and may change; no two statuses share a message.
- * INVALID means that the input has no declaration under any limit; after TOO_MANY_NODES a call with a larger limit may
- * return one. If the input may be no symbol, as "main", print the input itself unless the status is OK. Each limit may
- * be MSVC_DEMANGLER_UNLIMITED; the other one still holds.
+ * INVALID means that the input has no declaration in this grammar, under any limit; after TOO_MANY_NODES a call with a
+ * larger limit may return one. If the input may be no symbol, as "main", print the input itself unless the status is
+ * OK. Each limit may be MSVC_DEMANGLER_UNLIMITED; the other one still holds.
  *
  * @code
  * const char symbol[] = "?f@@YAXH@Z and more";

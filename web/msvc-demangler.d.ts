@@ -41,7 +41,11 @@ export declare const Flags: {
 
 /** An error of a call, with its message. */
 export declare class DemangleError extends Error {
-  /** INVALID: the text begins with no symbol. The others: bytes are not UTF-8, and a limit is exceeded. */
+  /**
+   * INVALID: the text begins with no symbol of the grammar, under any limit. NOT_UTF8: bytes are not UTF-8.
+   * TOO_MANY_NODES: it begins with no symbol of at most maxNodes nodes. TOO_LONG: the declaration has more than
+   * maxBytes bytes.
+   */
   readonly code: 'INVALID' | 'NOT_UTF8' | 'TOO_MANY_NODES' | 'TOO_LONG';
   /** Where in the symbol that is: in code units of a string, or in bytes. For TOO_LONG it is where the symbol ends. */
   readonly offset: number;

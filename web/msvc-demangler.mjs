@@ -212,10 +212,13 @@ export function demangle(symbol, flags = Flags.LLVM,
   return text;
 }
 
+/** The messages of calls that write no text. */
+const MESSAGES = { INVALID: 'no symbol', NOT_UTF8: 'not UTF-8', TOO_MANY_NODES: 'more nodes than allowed' };
+
 /** Throws the error of a call that writes no text, unless it succeeded. */
 function succeed(found, symbol, input) {
   if (found.code === 'OK') return;
-  const message = `no symbol within the limit (offset: ${found.offset})`;
+  const message = `${MESSAGES[found.code]} (offset: ${found.offset})`;
   throw new DemangleError(message, found.code, place(symbol, input, found.offset));
 }
 

@@ -42,7 +42,8 @@ impl Error {
         }
     }
 
-    /// Returns the limit that the symbol exceeds; `None` for any other error.
+    /// Returns the limit that the error is about: the input has no tree of so few nodes, or a longer declaration.
+    /// `None` with an offset means that it has no tree of any size, or is not UTF-8.
     ///
     /// ```
     /// use msvc_demangler::{demangle, demangle_within, DemangleFlags, Limit};

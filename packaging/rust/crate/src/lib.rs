@@ -120,11 +120,12 @@ pub fn symbol_length(input: &str) -> Result<usize> {
 pub fn symbol_length_within(input: impl AsRef<[u8]>, flags: DemangleFlags, nodes: usize) -> Result<usize> {
     let input = input.as_ref();
     let result = library::prefix(input, flags.bits(), nodes);
-    if result.status == library::OK {
-        return Ok(result.length);
+    match result.status {
+        library::OK => Ok(result.length),
+        library::OUT_OF_MEMORY => Err(Error::new(result, "out of memory".to_owned())),
+        // This call has no message. Demangling fails too, and has one.
+        _ => demangle_within(input, flags, nodes, DEFAULT_BYTE_LIMIT).map(|_| result.length),
     }
-    // This call has no message. Demangling fails at the same place, and has one.
-    demangle_within(input, flags, nodes, DEFAULT_BYTE_LIMIT).map(|_| result.length)
 }
 
 /// Returns `text` with each symbol inside it replaced by its declaration. All other bytes stay, and so does a symbol

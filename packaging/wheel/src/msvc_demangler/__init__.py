@@ -75,10 +75,10 @@ class Status(enum.IntEnum):
     """What a call ended with."""
 
     OK = 0
-    INVALID = 1  # the input begins with no symbol
+    INVALID = 1  # the input begins with no symbol of the grammar, under any limit
     NOT_UTF8 = 2  # the input is not UTF-8
     OUT_OF_MEMORY = 3  # a MemoryError, and no DemangleError
-    TOO_MANY_NODES = 4  # the symbol has more than max_nodes nodes
+    TOO_MANY_NODES = 4  # the input begins with no symbol of at most max_nodes nodes
     TOO_LONG = 5  # the declaration has more than max_bytes bytes
 
 
@@ -142,6 +142,14 @@ def _word(flags: int, grammar: Grammar) -> int:
         raise TypeError(f"expected a Grammar, not {type(grammar).__name__}")
     full = operator.index(flags) | _FULL
     return full if grammar is Grammar.FULL else full ^ _FULL
+
+
+# The messages of the call that measures a symbol, which writes none.
+_UNMEASURED = {
+    Status.INVALID: b"no symbol",
+    Status.NOT_UTF8: b"not UTF-8",
+    Status.TOO_MANY_NODES: b"more nodes than allowed",
+}
 
 
 def _check(result: _Result, message: bytes) -> None:
@@ -222,11 +230,12 @@ def filter_stream(reader: _Stream, writer: _Stream, flags: int = Flags.LLVM, *,
 def symbol_length(text: str | _Bytes, *, grammar: Grammar = Grammar.FULL, max_nodes: int = DEFAULT_NODES) -> int:
     """Returns how long the symbol is that the text begins with: in characters of a str, else in bytes.
 
-    Raises DemangleError if it begins with none, or with one of more than max_nodes nodes, and MemoryError.
+    Raises DemangleError if it begins with none of at most max_nodes nodes, and MemoryError.
     """
     given = _bytes(text)
     result = _prefix(given, len(given), _word(0, grammar), _limit(max_nodes))
-    _check(result, b"no symbol within the limit (offset: %d)" % result.offset)
+    if result.status != Status.OK:
+        _check(result, b"%s (offset: %d)" % (_UNMEASURED.get(result.status, b""), result.offset))
     return len(given[:result.length].decode()) if isinstance(text, str) else int(result.length)
 
 
