@@ -66,7 +66,7 @@ pub data IsNotRead (g : Grammar) (limits : Limits) (symbol : List ℕ) : (status
       → IsNotRead g limits symbol 2 offset not_utf8_text
   -- OUT_OF_MEMORY
   out_of_memory : IsUtf8 symbol → IsNotRead g limits symbol 3 0 out_of_memory_text
-  -- TOO_MANY_NODES: nodes are limited, and the message is about the limit on nodes
+  -- TOO_MANY_NODES: nodes are limited, no beginning of the symbol is one within the limit, and the message is about it
   too_many_nodes : {offset : ℕ} {text : List ℕ} → IsUtf8 symbol → IsNone g limits.nodes symbol
       → is_some limits.nodes ≡ true
       → IsRejection g symbol errors.too_many_nodes offset text

@@ -27,7 +27,7 @@ pub const NOT_UTF8: u32 = 2;
 /// The status of a call that ran out of memory.
 pub const OUT_OF_MEMORY: u32 = 3;
 
-/// The status of a symbol with more nodes than allowed.
+/// The status of a text that begins with no symbol within the limit on nodes, and may begin with a larger one.
 const TOO_MANY_NODES: u32 = 4;
 
 /// The status of a symbol whose declaration has more bytes than allowed.
@@ -54,7 +54,7 @@ pub struct CallResult {
     pub length: usize,
 }
 
-/// Returns the status of a rejected symbol by the limit that it exceeds.
+/// Returns the status of a rejected symbol by the limit that its error is about.
 fn status_of(limit: Option<Limit>) -> u32
     ensures { IsStatusOf limit result }
 {

@@ -24,7 +24,7 @@ pub record FailsIn (D : Dialect) (nodes : Option ℕ) (text : List ℕ) (reason 
   -- no beginning of the text is a symbol, or none within the limit, if the reason is the limit on nodes
   pub none : UnlessMemory text reason
       (λ offset. IsNoSymbolIn D.grammar (limit_meant (limit_of_failure reason) nodes) text)
-  -- a text without a question mark at its beginning is rejected at offset 0
+  -- a text that begins otherwise than symbols of the dialect is rejected at offset 0
   pub begins : UnlessMemory text reason (λ offset. (D.Begins text → ⊥) → offset ≡ 0)
   -- the reason is no limit, if there is none
   pub limit : MayBeAbout nodes (limit_of_failure reason)

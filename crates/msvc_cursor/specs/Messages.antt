@@ -58,7 +58,7 @@ abbrev pub limit_of_message : Message → Option Limit
 limit_of_message messages.TooManyNodes = Some Nodes
 limit_of_message _ = None
 
--- the limit that a symbol exceeds
+-- the limit that a failure is about
 abbrev pub limit_of_failure : Failure → Option Limit
 limit_of_failure failure.Memory = None
 limit_of_failure (failure.Rejected message left) = limit_of_message message

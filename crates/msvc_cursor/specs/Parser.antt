@@ -97,24 +97,27 @@ reads_on extra about = false
 -- unless the reader stops at the limit on nodes. No reader fails for the length of a declaration.
 abbrev pub Rejects : {Y : Type 0} → (extra : ℕ) → Failure → Option Y → Type 0
 Rejects extra failure.Memory read = Unit {0}
-Rejects extra (failure.Rejected message left) read = cond (reads_on extra (limit_of_message message)) (Unit {0}) (read ≡ None)
+Rejects extra (failure.Rejected message left) read =
+    cond (reads_on extra (limit_of_message message)) (Unit {0}) (read ≡ None)
 Rejects extra (failure.TooLong length) read = ⊥
 
--- the result of a reader, seen by view, is what its rule reads; on failure, last_error is the reason
+-- the result of a reader, seen by view, is what its rule reads with so many nodes more; on failure, last_error is the
+-- reason
 abbrev pub Gives : {X Y : Type 0} → ℕ → (X → Y) → Failure → Result X Failed → Option Y → Type 0
 Gives extra view last_error (Ok x) read = read ≡ Some (view x)
 Gives extra view last_error (Err e) read = Rejects extra last_error read
 
--- the result of a function that returns the reason of its failure, seen by view, is what a rule reads
+-- the result of a function that returns the reason of its failure, seen by view, is what a rule reads with so many nodes
+-- more
 abbrev pub IsRead : {X Y : Type 0} → ℕ → (X → Y) → Result X Failure → Option Y → Type 0
 IsRead extra view (Ok x) read = read ≡ Some (view x)
 IsRead extra view (Err e) read = Rejects extra e read
 
 -- The result of a reader, seen by view, is what its rule reads of the unread bytes: its value, the bytes left and the
--- state after it.
-abbrev pub ReadsAs : {L A : Type 0} {g h : _} {X Y : Type 0} → (X → Y) → Parser L A g h → Parser L A g h → Result X
-    Failed
-    → (List ℕ → state.State → Found Y) → Type 0
+-- state after it. It holds for every number of nodes that the rule may make beyond the reader's limit: a rejection about
+-- no limit therefore means that the rule reads nothing under any.
+abbrev pub ReadsAs : {L A : Type 0} {g h : _} {X Y : Type 0} → (X → Y) → Parser L A g h → Parser L A g h
+    → Result X Failed → (List ℕ → state.State → Found Y) → Type 0
 ReadsAs view before after result reading = (extra : ℕ)
     → Gives extra (λ x. (view x, after.rest.now, beyond extra (state_of after))) after.last_error.reason result
     (reading before.rest.now (beyond extra (state_of before)))

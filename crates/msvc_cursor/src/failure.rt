@@ -184,7 +184,7 @@ impl Failure {
         matches!(self, Failure::Memory)
     }
 
-    /// Returns the limit that the symbol exceeds; `None` for any other failure.
+    /// Returns the limit that the failure is about; `None` for any other.
     pub fn limit(self) -> Option<Limit>
         ensures { result ≡ limit_of_failure self }
     {

@@ -76,7 +76,7 @@ pub fn demangle(alloc: Global, input: &str, flags: DemangleFlags) -> Result<Stri
 /// # Errors
 ///
 /// Fails where [`parse_within`] does. Fails with "longer than allowed" if the declaration has more than `bytes` bytes;
-/// the offset is the number of bytes read. [`Error::limit`] returns the limit that a symbol exceeds.
+/// the offset is the number of bytes read. [`Error::limit`] returns the limit that an error is about.
 ///
 /// # Examples
 ///

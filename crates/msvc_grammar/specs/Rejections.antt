@@ -9,8 +9,8 @@ use Rattle.msvc_grammar.specs.Grammar.{crate_grammar}
 abbrev pub IsNoSymbol : (nodes : Option ℕ) → List ℕ → Type 0
 IsNoSymbol nodes text = IsNoSymbolIn crate_grammar nodes text
 
--- A text is rejected out of memory, or at an offset. Then no beginning of the text is a symbol, however many nodes it
--- has; if the rejection is about the limit on nodes, none is within it. Of an ASCII text the rejection shows what stands
--- at the offset.
+-- A text is rejected out of memory, or at an offset. A rejection about the limit on nodes means that no beginning of the
+-- text is a symbol within it, any other that none is a symbol of any size. Of an ASCII text the rejection shows what
+-- stands at the offset.
 abbrev pub IsRejectedRightly : (nodes : Option ℕ) → List ℕ → ErrorRepr → Type 0
 IsRejectedRightly nodes text e = IsRejectedRightlyIn crate_grammar nodes text e

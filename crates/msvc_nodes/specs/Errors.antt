@@ -52,7 +52,7 @@ message_limit message =
     if pointwise (λ a b. a == b) message too_many_nodes then Some Nodes
     else if pointwise (λ a b. a == b) message too_long then Some Bytes else None
 
--- the limit that an error says a symbol exceeds
+-- the limit that an error is about
 abbrev pub limit_of : ErrorRepr → Option Limit
 limit_of (ParseError message context offset) = message_limit (cow_str_bytes message)
 limit_of _ = None

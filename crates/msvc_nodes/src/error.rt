@@ -91,7 +91,7 @@ impl Error {
         matches!(&self.repr, ErrorRepr::Memory)
     }
 
-    /// Returns the limit that a symbol exceeds; `None` for any other error.
+    /// Returns the limit that the error is about; `None` for any other error.
     pub fn limit(&self) -> Option<Limit>
         ensures { result ≡ limit_of self.now }
     {
@@ -101,7 +101,7 @@ impl Error {
         }
     }
 
-    /// Tests whether a symbol exceeds a limit.
+    /// Tests whether the error is about a limit.
     pub fn is_over_limit(&self) -> bool
         ensures { result ≡ is_some (limit_of self.now) }
     {

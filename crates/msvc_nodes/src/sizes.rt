@@ -15,8 +15,11 @@ pub const TREE_ARENA: usize = 1 << 15;
 /// The declarations of most trees.
 pub const TREE_TEXT: usize = 128;
 
-/// Items of the printer's stack: more than most symbols need.
-pub const FIRST_ITEMS: usize = 32;
+/// The longest symbol that has a small arena.
+const SHORT: usize = 25;
+
+/// The arena of such a symbol. With what the arena adds, `malloc` of glibc takes the block from a list of its size.
+const SHORT_ARENA: usize = 960;
 
 /// The most that is requested ahead for a declaration.
 const MAX_TEXT: usize = 1 << 16;
@@ -81,11 +84,18 @@ pub fn arena_to_print(input: &str, nodes: Option<usize>) -> usize
     ensures max { result ≤ 2 ^ 20 }
 {
     match input.as_bytes() {
+        [b'?', rest @ ..] if rest.len() < SHORT => SHORT_ARENA,
         [b'?', ..] => needed(READING, input.len(), nodes)
             .saturating_add(needed(PRINTING, input.len(), nodes))
             .min(MAX_ARENA),
         _ => 0,
     }
+}
+
+/// Returns how many items the printer's stack begins with in an arena that has `left` bytes left: few in a small arena,
+/// else more than most symbols need.
+pub fn first_items(left: usize) -> usize {
+    if left < SHORT_ARENA { 10 } else { 32 }
 }
 
 /// Returns the bytes of the declarations of most symbols of `bytes` bytes.

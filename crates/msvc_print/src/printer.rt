@@ -20,7 +20,7 @@ use crate::types::write_array_prefix;
 use bumpalo::Bump;
 use msvc_nodes::flags::DemangleFlags;
 use msvc_nodes::nodes::TypedSymbol;
-use msvc_nodes::sizes::FIRST_ITEMS;
+use msvc_nodes::sizes::first_items;
 use std::alloc::{AllocError, Allocator};
 
 /// The state of the printer. Both parts are borrowed: of a struct that owns memory, the prover does not learn what a
@@ -97,7 +97,7 @@ pub fn print_part<'a, 'b, W: Wording, B: Allocator, A: Allocator>(
 ) -> Result<(), AllocError>
     ensures { OnOk result (Writes (part_of symbol.now part style.bits) out.old out.new) }
 {
-    let mut stack = Vec::with_capacity(arena, FIRST_ITEMS)?;
+    let mut stack = Vec::with_capacity(arena, first_items(arena.chunk_capacity()))?;
     push_part(&mut stack, symbol, part, style)?;
     let mut printer = Printer {
         stack: &mut stack,

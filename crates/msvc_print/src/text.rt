@@ -67,7 +67,7 @@ impl<A: Allocator> Text<A> {
         }
     }
 
-    /// Requests memory for `additional` more bytes, whatever the limit. Changes no byte.
+    /// Requests memory for `additional` more bytes, whatever the limit, and fills it. Changes no byte of the text.
     ///
     /// Fails only if an allocation fails.
     pub fn try_reserve(&mut self, additional: usize) -> Result<(), AllocError>
@@ -75,7 +75,9 @@ impl<A: Allocator> Text<A> {
     {
         self.reserved = true;
         let filled = self.bytes.len() - self.written;
-        self.bytes.reserve(additional.saturating_sub(filled))
+        self.bytes.reserve(additional.saturating_sub(filled))?;
+        fill_ahead(&mut self.bytes, additional);
+        Ok(())
     }
 
     /// Requests memory for `bytes` bytes ahead, unless that was done before. Changes no byte.

@@ -89,8 +89,9 @@ pub fn parse_prefix<'a>(alloc: Global, input: &'a str) -> Result<(ParseResult<'a
 ///
 /// # Errors
 ///
-/// Fails where [`parse`] does. Fails with "more nodes than allowed", and an offset into `input`, if the tree has more
-/// nodes: reading stops at the first node beyond the limit. Where both apply, either error may be returned.
+/// Fails where [`parse`] does, or with "more nodes than allowed" at the first node too many: then `input` begins with no
+/// symbol within the limit, but may begin with a larger one. Any other error with an offset means that it begins with no
+/// symbol of any size.
 ///
 /// # Examples
 ///

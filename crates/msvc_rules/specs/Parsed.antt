@@ -33,7 +33,7 @@ pub record IsParsedIn (D : Dialect) (text : List ℕ) (tree : SymbolTree) : Type
   pub texts : EachName IsUtf8 tree
   -- if the text begins with a hash, the tree is that hash
   pub hashes : D.Stands text tree
-  -- the text begins as symbols do, with a question mark
+  -- the text begins as symbols of the dialect do
   pub begins : D.Begins text
 
 -- What holds of the grammar at this text, whatever a call returns.
@@ -52,7 +52,7 @@ pub record IsRejectedIn (D : Dialect) (nodes : Option ℕ) (text : List ℕ) (e 
   -- out of memory, or the text begins with no symbol, or none within the limit that the error is about: then the error
   -- has an offset in the text
   pub rejected : IsRejectedRightlyIn D.grammar nodes text e
-  -- a text without a question mark at its beginning is rejected at offset 0
+  -- a text that begins otherwise than symbols of the dialect is rejected at offset 0
   pub begins : (D.Begins text → ⊥) → IsRejectionAt text 0 e
   -- a text that begins with a hash is rejected only out of memory, if there is no limit
   pub hashes : nodes ≡ None → D.AreRead text e
@@ -77,7 +77,7 @@ pub record AreReferencesIn (D : Dialect) (text : List ℕ) (notes : List Note) :
   pub derived : DerivesIn D.grammar text tree rest notes
   -- the grammar derives nothing else from the text
   pub only : IsOnlyIn D.grammar text tree rest notes
-  -- the text begins as symbols do, with a question mark
+  -- the text begins as symbols of the dialect do
   pub begins : D.Begins text
   -- each digit stands after the one before it
   pub rising : AreRising notes

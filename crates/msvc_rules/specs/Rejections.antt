@@ -26,9 +26,9 @@ abbrev pub IsNoSymbolIn : Grammar → (nodes : Option ℕ) → List ℕ → Type
 IsNoSymbolIn G nodes text = (tree : SymbolTree) (rest : List ℕ) (notes : List Note) → DerivesIn G text tree rest notes
     → IsBeyond nodes (node_count tree)
 
--- A text is rejected out of memory, or at an offset. Then no beginning of the text is a symbol, however many nodes it
--- has; if the rejection is about the limit on nodes, none is within it. Of an ASCII text the rejection shows what stands
--- at the offset.
+-- A text is rejected out of memory, or at an offset. A rejection about the limit on nodes means that no beginning of the
+-- text is a symbol within it, any other that none is a symbol of any size. Of an ASCII text the rejection shows what
+-- stands at the offset.
 abbrev pub IsRejectedRightlyIn : Grammar → (nodes : Option ℕ) → List ℕ → ErrorRepr → Type 0
 IsRejectedRightlyIn G nodes text (error.ParseError message context at) =
     (at ≤ length text) × IsNoSymbolIn G (limit_meant (limit_of (error.ParseError message context at)) nodes) text

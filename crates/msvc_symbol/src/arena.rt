@@ -56,8 +56,8 @@ impl<A: Allocator + Copy> Arena<A> {
         &self.bump
     }
 
-    /// Empties the arena, makes it large enough to read and to print the symbol that `input` begins with, and returns
-    /// it. Requests no memory for a text that doesn't begin with `?`.
+    /// Empties the arena, requests what the symbol that `input` begins with is expected to need, and returns it. Requests
+    /// no memory for a text that doesn't begin with `?`.
     ///
     /// # Errors
     ///

@@ -11,7 +11,7 @@ use msvc_nodes::list::List;
 use std::alloc::{AllocError, Allocator};
 
 /// How many items to reserve for a list at first. It is the least by which a list grows.
-const FIRST_ITEMS: usize = 16;
+const FIRST_ITEMS: usize = 8;
 
 impl<'b, T: Copy, A: Allocator> NestedList<'b, T, A> {
     /// Creates an empty list.
