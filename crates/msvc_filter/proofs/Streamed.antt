@@ -2,14 +2,9 @@
 use Rattle.std.proofs.Common.{◌≡◌, ◌≢◌, ◌≤◌, ◌<◌, ◌+◌, ◌++◌, ◌∷◌, [], ◌∙◌, inl, inr, ℕ, List, Result, Ok, Err, length}
 use Rattle.std.proofs.Common.{refl, sym, ap}
 use Rattle.std.proofs.Common.{drop, length-drop, subst, arith, append_assoc, append-nil, length-append}
-use Rattle.std.proofs.Common.{take, IfSome}
-use Rattle.std.specs.Borrow.{Bor}
-use Rattle.std.specs.Io.{StartsWith}
-use Rattle.std.specs.Io.BufRead.{DropsConsumable, FillKeeps}
 use Rattle.std.specs.declared.option.Option.{Option}
 use Rattle.std.specs.Io.KnownBytes.{Appends, Consumes}
-use Rattle.std.proofs.BufReadLemmas.{Consumes_shown}
-use Rattle.std.proofs.KnownBytes.{Appends-nil, Appends-trans, Consumes-kept, Consumes-nil, Consumes-trans}
+use Rattle.std.proofs.KnownBytes.{Appends-nil, Appends-trans, Consumes-nil, Consumes-trans}
 use Rattle.std.proofs.lemmas.List.Elements.{All-nil, All-append}
 use Rattle.msvc_symbol.specs.Grammars.{Choice}
 use Rattle.msvc_filter.specs.Filtered.{IsFilteredIn, IsFilteredText, Part, nothing, text_of_parts}
@@ -278,21 +273,6 @@ Streaming-line_fault fault how scan reader reads later writer writes on piece fr
       sym (append_assoc part front (10 ∷ [])),
     )) written
     (λ whole is. whole-text how scan (piece ++ (front ++ 10 ∷ [])) whole is) h
-
--- what is consumed of the bytes that a reader showed
-pub Consumes-front : {E : Type 0} (reads shows later : Option (List ℕ)) (limit : Option ℕ) (count : ℕ)
-    (polled : Result (Bor (List ℕ)) E) (shown : Bor (List ℕ)) → polled ≡ Ok shown → FillKeeps reads shows limit polled
-    → count ≤ length shown.now → IfSome reads (λ xs. StartsWith xs shown.now)
-    → IfSome reads (λ xs. length shown.now ≡ 0 → xs ≡ []) → DropsConsumable shows later limit count
-    → Consumes reads later (take count shown.now)
-Consumes-front reads shows later limit count polled shown is keeps within front end drops =
-    let filled = subst (FillKeeps reads shows limit) is keeps in
-    (Consumes_shown reads shows later limit shown.now count within front end filled.0 filled.1 drops).0
-
--- nothing is consumed by a poll
-pub Consumes-polled : {E : Type 0} (reads shows : Option (List ℕ)) (limit : Option ℕ)
-    (polled : Result (Bor (List ℕ)) E) → FillKeeps reads shows limit polled → Consumes reads shows []
-Consumes-polled reads shows limit polled keeps = Consumes-kept reads reads shows [] (Consumes-nil reads) keeps.0
 
 -- where the reader was polled and nothing more was taken
 Consumes-none : (reader reads later : Option (List ℕ)) (bytes more : List ℕ) → Consumes reader reads bytes

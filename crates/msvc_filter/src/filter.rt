@@ -2,7 +2,7 @@
 
 ghost use Rattle.std.specs.Prelude.{◌≡◌, ◌≤◌, ◌+◌, ◌++◌, ◌∷◌, ℕ, List, [], IfErr, IfNone, IfOk, IfSome};
 ghost use Rattle.std.specs.Prelude.{MatchResult};
-ghost use Rattle.std.specs.Prelude.{OnOk, OnSome, Some, drop, length, map, slice_index, take, true, vec_len};
+ghost use Rattle.std.specs.Prelude.{OnOk, OnSome, Some, drop, length, map, slice_index, take, true};
 ghost use Rattle.std.specs.Io.KnownBytes.{Appends, Consumes, IsAtEnd};
 ghost use Rattle.msvc_nodes.specs.Trees.{SymbolTree};
 ghost use Rattle.msvc_rules.specs.Counts.{node_count};
@@ -33,7 +33,9 @@ use msvc_cursor::failure::Failure;
 use msvc_cursor::limits::{DEFAULT_BYTE_LIMIT, DEFAULT_NODE_LIMIT, Limits};
 use msvc_nodes::flags::DemangleFlags;
 use msvc_print::NamePlace;
-use msvc_streams::{Fault, Polls, Taken, Watched, consume, fail, fill_buf, line_end, write_all};
+use msvc_streams::{
+    Fault, Polls, Taken, Watched, consume, drop_front, fail, fill_buf, line_end, write_all,
+};
 use msvc_symbol::{Demangler, Grammar};
 use std::alloc::{AllocError, Allocator, Global};
 use std::io::{BufRead, Write};
@@ -297,16 +299,6 @@ fn write_decided<W: Write>(
         }
         Err(_) => Err(Fault::Memory),
     }
-}
-
-/// Removes the first bytes.
-fn drop_front(bytes: &mut Vec<u8>, count: usize)
-    requires { count ≤ vec_len bytes.old }
-    ensures { bytes.new.items ≡ drop count bytes.old.items }
-{
-    let rest = bytes.len() - count;
-    bytes.copy_within(count.., 0);
-    bytes.truncate(rest);
 }
 
 /// Writes the filtered text of the rest of a line. `text` has the capacity for it.

@@ -212,3 +212,7 @@ LineRun-rest laws r reader reads later writer writes on part more so taken none 
 pub empty-of_length : (bytes : List ℕ) → length bytes ≡ 0 → bytes ≡ []
 empty-of_length [] h = refl
 empty-of_length (x ∷ xs) h = absurd (omega arith)
+
+-- the flag of a reader that failed, in place of others
+abbrev pub read_failed : FailureFlag
+read_failed = record { before = false; after = true }

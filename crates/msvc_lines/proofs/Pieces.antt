@@ -77,6 +77,12 @@ pub lines_of-append : (finished part : List ℕ) → IsLines finished → part �
 lines_of-append finished part lines some one =
     ap (map line_of) (pieces-line finished part lines some one) ∙ map-append line_of (pieces finished) (part ∷ [])
 
+-- and those of any bytes after lines that were finished
+pub lines_of-more : (finished more : List ℕ) → IsLines finished
+    → lines_of (finished ++ more) ≡ lines_of finished ++ lines_of more
+lines_of-more finished more lines =
+    ap (map line_of) (pieces-append finished more lines) ∙ map-append line_of (pieces finished) (pieces more)
+
 pub lines_of-nil : lines_of [] ≡ []
 unfolding pieces
 lines_of-nil = refl

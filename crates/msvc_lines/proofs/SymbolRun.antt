@@ -18,7 +18,7 @@ abbrev pub SymbolRun : (P : List ℕ → List ℕ → Type 0) → List (List ℕ
 SymbolRun P done writer writes = (text : List ℕ) × Appends writer writes text × IsSymbolsText P done text
 
 -- the text of symbols, and then of one more
-IsSymbolsText-last : {P : List ℕ → List ℕ → Type 0} {done : List (List ℕ)} {symbol text first : List ℕ}
+pub IsSymbolsText-last : {P : List ℕ → List ℕ → Type 0} {done : List (List ℕ)} {symbol text first : List ℕ}
     → IsSymbolsText P done text → P symbol first → IsSymbolsText P (done ++ symbol ∷ []) (text ++ first)
 IsSymbolsText-last {P = P} {symbol = symbol} {first = first} nothing h =
     subst (IsSymbolsText P (symbol ∷ [])) (append-nil first) (answered h nothing)

@@ -21,7 +21,9 @@ use msvc_debug::write_tree;
 use msvc_nodes::error::Error;
 use msvc_nodes::flags::DemangleFlags;
 use msvc_print::Text;
-use msvc_streams::{Fault, Polls, Taken, Watched, read_piece, write_all, write_line};
+use msvc_streams::{
+    Fault, Polls, Taken, Watched, consume, fail, fill_buf, line_end, write_all, write_line,
+};
 use msvc_symbol::{Arena, Grammar, print, read};
 use std::alloc::{AllocError, Global};
 use std::io::{BufRead, Write};
@@ -163,6 +165,10 @@ fn error_line(alloc: Global, error: &Error) -> Result<String, AllocError>
 
 /// Demangles each line of `input`, to its end, as [`undname_one`] does. Skips lines that are not UTF-8.
 ///
+/// A line that the reader shows whole is read from the reader's buffer, and consumed once it is answered, also if a
+/// write failed; so reader and writers must not share a borrow that lasts from `fill_buf` to `consume`, as of a
+/// `RefCell`.
+///
 /// # Limits
 ///
 /// None: a symbol of some 40,000 levels overflows a stack of 8 MB.
@@ -202,11 +208,32 @@ pub fn undname_lines<R: BufRead, W: Write, E: Write>(
     let mut piece = Vec::new(alloc);
     let mut polls = Polls::none();
     'pieces: loop {
-        match read_piece(input, &mut polls, &mut piece)? {
-            Taken::Part => {}
+        let shown = match fill_buf(input, &mut polls) {
+            Ok(shown) => shown,
+            Err(failure) => return Err(fail(input, failure)),
+        };
+        let (end, taken) = line_end(shown);
+        match taken {
+            Taken::Line if piece.is_empty() => {
+                // A line that the reader shows whole is not copied.
+                let line = &shown[..end];
+                let put = undname_line(alloc, &mut arena, &mut text, line, out, err, verbose);
+                consume(input, end);
+                put?;
+            }
             Taken::Line => {
+                if piece.extend_from_slice(&shown[..end]).is_err() {
+                    return Err(Fault::Memory);
+                }
+                consume(input, end);
                 undname_line(alloc, &mut arena, &mut text, &piece, out, err, verbose)?;
                 piece.clear();
+            }
+            Taken::Part => {
+                if piece.extend_from_slice(&shown[..end]).is_err() {
+                    return Err(Fault::Memory);
+                }
+                consume(input, end);
             }
             Taken::End => {
                 if piece.is_empty() {

@@ -1,3 +1,5 @@
 pub mod CallSequence
 pub mod FirstByte
+pub mod LastLine
+pub mod Polling
 pub mod WholeLines

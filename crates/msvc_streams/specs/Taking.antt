@@ -1,5 +1,5 @@
 -- What one call takes from a reader.
-use Rattle.std.specs.Prelude.{ℕ, List, [], ◌≡◌, ◌≢◌, Result, Ok, Err}
+use Rattle.std.specs.Prelude.{ℕ, List, [], ◌≡◌, ◌≢◌, Bool, true, false, Result, Ok, Err}
 use Rattle.msvc_streams.specs.Runs.{IsWithoutEnd, IsWithEnd}
 use Rattle.msvc_streams.specs.declared.watched.Fault.{Fault}
 use Rattle.msvc_streams.specs.declared.watched.Taken.{Taken}
@@ -11,7 +11,8 @@ IsCut Part bytes = (bytes ≢ []) × IsWithoutEnd bytes
 IsCut Line bytes = IsWithEnd bytes
 IsCut End bytes = bytes ≡ []
 
--- the bytes that a call has taken are what its answer says, and none after a fault
-abbrev pub TakenAs : Result Taken Fault → List ℕ → Type 0
-TakenAs (Ok taken) bytes = IsCut taken bytes
-TakenAs (Err fault) bytes = bytes ≡ []
+-- what a call takes that answers whether it took any bytes: none at the reader's end, and none after a fault
+abbrev pub IsTaken : Result Bool Fault → List ℕ → Type 0
+IsTaken (Ok true) taken = Unit {0}
+IsTaken (Ok false) taken = taken ≡ []
+IsTaken (Err fault) taken = taken ≡ []

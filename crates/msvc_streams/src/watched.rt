@@ -10,7 +10,7 @@ ghost use Rattle.std.specs.Io.KnownBytes.{Appends, Consumes, IsAtEnd, Keeps};
 ghost use Rattle.msvc_streams.specs.contracts.watched.Watched.{the_row};
 ghost use Rattle.msvc_streams.specs.Faults.{SetsFailureFlag, failure_flag, no_stream};
 ghost use Rattle.msvc_streams.specs.Polled.{Counts, is_at_limit, polled};
-ghost use Rattle.msvc_streams.specs.Taking.{IsCut, TakenAs};
+ghost use Rattle.msvc_streams.specs.Taking.{IsCut, IsTaken};
 
 use byte_search::find_byte;
 use std::io::{BufRead, Write};
@@ -149,19 +149,18 @@ pub fn consume<R: BufRead>(input: &mut Watched<R>, count: usize)
     input.stream.consume(count);
 }
 
-/// Polls the reader once, and appends the bytes that it takes to `bytes`: up to a line feed, or all that the reader
-/// shows.
+/// Polls the reader once, and appends all bytes that it shows to `block`. Returns whether it showed any.
 ///
 /// Returns the fault of a failed call at once, also of an interrupted one, and takes nothing then. No clause states
 /// that the reader is polled no second time, since a reader's contract describes its bytes and counts no calls.
-pub fn read_piece<R: BufRead>(
+pub fn read_block<R: BufRead>(
     input: &mut Watched<R>,
     polls: &mut Polls,
-    bytes: &mut Vec<u8>,
-) -> Result<Taken, Fault>
-    ensures taken { (taken : List ℕ) × (bytes.new.items ≡ bytes.old.items ++ taken)
-        × Consumes (R.remaining input.old.stream) (R.remaining input.new.stream) taken × TakenAs result taken }
-    ensures end { IfOk result (λ t. t ≡ Taken.End →
+    block: &mut Vec<u8>,
+) -> Result<bool, Fault>
+    ensures taken { (taken : List ℕ) × (block.new.items ≡ block.old.items ++ taken)
+        × Consumes (R.remaining input.old.stream) (R.remaining input.new.stream) taken × IsTaken result taken }
+    ensures end { IfOk result (λ more. more ≡ false →
         OnSome (R.remaining input.old.stream) (IsAtEnd (R.remaining input.new.stream))) }
     ensures sets_failed { SetsFailureFlag result (failure_flag input.old input.new) no_stream no_stream }
     ensures counted { IfOk result (λ _. Counts polls.old polls.new) }
@@ -171,15 +170,12 @@ pub fn read_piece<R: BufRead>(
         Ok(shown) => shown,
         Err(failure) => return Err(fail(input, failure)),
     };
-    let (end, taken) = line_end(shown);
-    if matches!(taken, Taken::End) {
-        return Ok(taken);
-    }
-    if bytes.extend_from_slice(&shown[..end]).is_err() {
+    let count = shown.len();
+    if block.extend_from_slice(shown).is_err() {
         return Err(Fault::Memory);
     }
-    consume(input, end);
-    Ok(taken)
+    consume(input, count);
+    Ok(count > 0)
 }
 
 /// Returns the number of the shown bytes that are taken at once, and their kind.
@@ -199,7 +195,7 @@ impl<W: Write> Watched<W> {
     /// Writes some bytes once, and returns the number that the writer took. A writer that takes none has failed.
     ///
     /// Returns the fault of a failed call at once, also of an interrupted one. No clause states that nothing is written
-    /// after it, for the reason at `read_piece`.
+    /// after it, for the reason at `read_block`.
     pub(crate) fn write_some(&mut self, bytes: &[u8]) -> Result<usize, Fault>
         ensures bound { IfOk result (λ n. n ≤ length bytes.now) }
         ensures moves { IfOk result (λ n. 0 < n) }

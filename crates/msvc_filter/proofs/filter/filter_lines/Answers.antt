@@ -8,7 +8,8 @@ use Rattle.msvc_filter.specs.Choices.{chosen}
 use Rattle.msvc_filter.specs.WordStates.{IsDecidedText, IsDecidedTextOf, IsRestText}
 use Rattle.msvc_streams.specs.Taking.{IsCut}
 use Rattle.msvc_streams.specs.declared.watched.Taken.TheVariants.{Part}
-use Rattle.msvc_filter.proofs.Streamed.{Consumes-front, Consumes-polled, Streaming-end, Streaming-line}
+use Rattle.msvc_streams.proofs.Polling.{Consumes-front, Consumes-polled}
+use Rattle.msvc_filter.proofs.Streamed.{Streaming-end, Streaming-line}
 use Rattle.msvc_filter.proofs.Streamed.{Streaming-line_fault, Streaming-polled, Streaming-put}
 use Rattle.msvc_filter.proofs.Streamed.{Streaming-put_fault, Streaming-start}
 use Rattle.msvc_filter.proofs.filter.filter_lines.Goals as goal

@@ -1,0 +1,91 @@
+-- What the program `undname` prints, and how it ends.
+use Rattle.std.specs.Prelude.{ℕ, List, [], ◌∷◌, ◌++◌, ◌≡◌, ◌≢◌, ◌⊎◌, Bool, Result, Ok, Err, MatchResult, codes}
+use Rattle.msvc_streams.specs.Faults.{FailureFlag, IsSet, Stays}
+use Rattle.msvc_streams.specs.Runs.{IsLines, IsWithoutEnd}
+use Rattle.msvc_streams.specs.declared.watched.Fault.{Fault}
+use Rattle.msvc_streams.specs.declared.watched.Fault.TheVariants.{Read, Write, Memory}
+use Rattle.msvc_lines.specs.Answers.{IsFilterText, IsLineText}
+use Rattle.msvc_lines.specs.Arguments.{IsSymbolsText}
+use Rattle.msvc_lines.specs.Reports.{AreReports, IsReport}
+
+-- What has been printed of the text of some bytes, where P states what the text of bytes is, when a fault came: the text
+-- of the lines that were answered. A failed write leaves out the end of this text, and may cut a line.
+pub record LeavesLines (fault : Fault) (P : List ℕ → List ℕ → Type 0) (taken text : List ℕ) : Type 0 where
+  -- the bytes that were answered, and the others
+  pub answered : List ℕ
+  pub left : List ℕ
+  pub is_taken : taken ≡ answered ++ left
+  -- what is missing of the text
+  pub more : List ℕ
+  pub is_text : P answered (text ++ more)
+  pub whole : fault ≢ Write → more ≡ []
+  pub lines : fault ≢ Write → IsLines answered
+  -- when a read fails, no whole line is left
+  pub unended : fault ≡ Read → IsWithoutEnd left
+
+-- What is printed of the text of the bytes that were taken: all of it, or what was printed before a fault.
+abbrev pub PrintsLines : {A : Type 0} → Result A Fault → (P : List ℕ → List ℕ → Type 0) → List ℕ → List ℕ → Type 0
+PrintsLines result P taken text = MatchResult result (λ _. P taken text) (λ fault. LeavesLines fault P taken text)
+
+-- the same of the text of symbols, where P states what that of one symbol is
+pub record LeavesSymbols (fault : Fault) (P : List ℕ → List ℕ → Type 0) (symbols : List (List ℕ)) (text : List ℕ)
+    : Type 0 where
+  pub answered : List (List ℕ)
+  pub left : List (List ℕ)
+  pub are : symbols ≡ answered ++ left
+  pub more : List ℕ
+  pub is_text : IsSymbolsText P answered (text ++ more)
+  pub whole : fault ≢ Write → more ≡ []
+
+abbrev pub PrintsSymbols : {A : Type 0} → Result A Fault → (P : List ℕ → List ℕ → Type 0) → List (List ℕ) → List ℕ
+    → Type 0
+PrintsSymbols result P symbols text =
+    MatchResult result (λ _. IsSymbolsText P symbols text) (λ fault. LeavesSymbols fault P symbols text)
+
+-- What is printed for the symbols among the words or, without symbols, for the bytes that were taken, where T states what
+-- the text of bytes is, and P what that of one symbol is.
+abbrev pub Prints : {A : Type 0} → Result A Fault → (T P : List ℕ → List ℕ → Type 0) → List (List ℕ) → List ℕ → List ℕ
+    → Type 0
+Prints result T P [] taken text = PrintsLines result T taken text
+Prints result T P (symbol ∷ symbols) taken text = (taken ≡ []) × PrintsSymbols result P (symbol ∷ symbols) text
+
+-- what is printed to standard output: the answers
+abbrev pub PrintsAnswers : {A : Type 0} → Result A Fault → List (List ℕ) → List ℕ → List ℕ → Type 0
+PrintsAnswers result symbols taken text = Prints result IsFilterText IsLineText symbols taken text
+
+-- what is printed to standard error: the reports
+abbrev pub PrintsReports : {A : Type 0} → Result A Fault → (verbose : Bool) → List (List ℕ) → List ℕ → List ℕ → Type 0
+PrintsReports result verbose symbols taken text =
+    Prints result (AreReports verbose) (IsReport verbose) symbols taken text
+
+-- A fault sets the flag of the stream that failed: a failed write that of an output. Without a fault no flag is set.
+abbrev pub SetsFlagOf : Fault → (reader out err : FailureFlag) → Type 0
+SetsFlagOf Read reader out err = IsSet reader × Stays out
+SetsFlagOf Write reader out err = Stays reader × (IsSet out ⊎ IsSet err)
+SetsFlagOf Memory reader out err = Stays reader × Stays out
+
+abbrev pub SetsFlags : {A : Type 0} → Result A Fault → (reader out err : FailureFlag) → Type 0
+SetsFlags result reader out err =
+    MatchResult result (λ _. Stays reader × Stays out × Stays err) (λ fault. SetsFlagOf fault reader out err)
+
+-- the line that reports a fault
+abbrev pub fault_line : Fault → List ℕ
+fault_line Read = codes "undname: read failed" ++ 10 ∷ []
+fault_line Write = codes "undname: write failed" ++ 10 ∷ []
+fault_line Memory = codes "undname: out of memory" ++ 10 ∷ []
+
+-- what is printed to standard error after all reports: nothing, or the line of a fault, if it can be written
+abbrev pub PrintsFault : {A : Type 0} → Result A Fault → List ℕ → Type 0
+PrintsFault result text =
+    MatchResult result (λ _. text ≡ []) (λ fault. (more : List ℕ) × (fault_line fault ≡ text ++ more))
+
+-- the exit status
+abbrev pub status_of : {A : Type 0} → Result A Fault → ℕ
+status_of (Ok done) = 0
+status_of (Err fault) = 1
+
+-- the fault of a run over a slice, which is read without a fault
+abbrev pub slice_fault : Fault → Fault
+slice_fault Write = Write
+slice_fault Read = Memory
+slice_fault Memory = Memory
