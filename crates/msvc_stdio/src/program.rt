@@ -1,9 +1,8 @@
 //! The arguments of a program, and how it ends.
 
-use crate::Input;
-use msvc_demangler::{Fault, Watched};
+use msvc_demangler::Fault;
 use std::env;
-use std::io::{self, ErrorKind, Write};
+use std::io::{self, ErrorKind};
 use std::process::ExitCode;
 
 /// Bytes that a program reads, or writes, at once.
@@ -46,16 +45,4 @@ pub fn failure(rt: &HostRuntime, program: &str, fault: Fault) -> ExitCode {
     };
     let _ = eprintln!(rt; "{program}: {reason}");
     ExitCode::FAILURE
-}
-
-/// Returns how a run over `input` ended: at a failed write if the output could not be flushed before a read.
-pub fn ended<R: Drop, W: Write>(
-    input: Watched<Input<'_, R, W>>,
-    done: Result<(), Fault>,
-) -> Result<(), Fault> {
-    if input.into_inner().flush_failed {
-        Err(Fault::Write)
-    } else {
-        done
-    }
 }

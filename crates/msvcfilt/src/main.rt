@@ -16,7 +16,7 @@ use clap::{ArgMatches, Command};
 use msvc_demangler::{
     DemangleFlags, Demangler, Fault, Watched, filter_text_colored, filter_text_without,
 };
-use msvc_stdio::{BUFFER_LENGTH, Input, Shared, arguments, ended, failure};
+use msvc_stdio::{BUFFER_LENGTH, arguments, failure};
 use options::{Color, Settings};
 use std::alloc::Global;
 use std::cell::{Cell, RefCell};
@@ -24,7 +24,7 @@ use std::env::{self, VarError};
 use std::fs::File;
 use std::io::{BufRead, BufReader, BufWriter, Error, ErrorKind, IsTerminal, Read, Write};
 use std::process::ExitCode;
-use streams::{Output, Source};
+use streams::{Input, Output, Shared, Source, ended};
 
 /// The program's name.
 const PROGRAM: &str = "msvcfilt";
