@@ -3,7 +3,7 @@
 //! next. A rejected symbol is printed unchanged, and the error goes to standard error; `-v`, as the first argument,
 //! also prints each tree there. Any other argument is a symbol.
 //!
-//! The exit status is 0, or 1 if standard input can't be read, a line can't be written, or an allocation fails, or 2 if
+//! The exit status is 0, or 1 if standard input can't be read, a line can't be written, or memory runs out, or 2 if
 //! an argument isn't UTF-8. Then standard error has a message, and the lines before are printed.
 #![tactic(auto)]
 
