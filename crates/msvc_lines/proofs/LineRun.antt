@@ -1,6 +1,6 @@
 -- A run over lines, on its way.
 use Rattle.std.proofs.Common.{◌≡◌, ◌≢◌, ◌++◌, ◌∷◌, [], ℕ, List, true, false, Result, Ok, Err, ◌⊎◌}
-use Rattle.std.proofs.Common.{ap, sym, subst, refl, ◌∙◌, append_assoc, append-nil, inl, inr, length, arith}
+use Rattle.std.proofs.Common.{ap, sym, subst, refl, ◌∙◌, append_assoc, append-nil, inl, inr}
 use Rattle.std.specs.declared.option.Option.{Option}
 use Rattle.std.specs.Io.KnownBytes.{Appends, Consumes}
 use Rattle.std.proofs.KnownBytes.{Appends-nil, Appends-trans, Consumes-nil, Consumes-trans}
@@ -208,10 +208,6 @@ LineRun-rest laws r reader reads later writer writes on part more so taken none 
   Appends-trans _ _ _ _ _ so.written written,
   WritesText-line laws r so.finished part so.text text so.lines some (inl so.unended) so.is is,
 )
-
-pub empty-of_length : (bytes : List ℕ) → length bytes ≡ 0 → bytes ≡ []
-empty-of_length [] h = refl
-empty-of_length (x ∷ xs) h = absurd (omega arith)
 
 -- the flag of a reader that failed, in place of others
 abbrev pub read_failed : FailureFlag

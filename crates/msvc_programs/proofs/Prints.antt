@@ -1,6 +1,6 @@
 -- What is printed for lines and for symbols, on the way.
-use Rattle.std.proofs.Common.{◌≡◌, ◌≢◌, ◌++◌, ◌∷◌, [], ℕ, List, Bool, Result, Ok, Err, Option, IfErr, ap, sym, subst, true, false, ◌⊎◌}
-use Rattle.std.proofs.Common.{refl, ◌∙◌, append_assoc, append-nil, inl, inr, length, take, drop}
+use Rattle.std.proofs.Common.{◌≡◌, ◌≢◌, ◌++◌, ◌∷◌, [], ◌⊎◌, ℕ, List, Bool, true, false, Result, Ok, Err, Option, IfErr}
+use Rattle.std.proofs.Common.{ap, sym, subst, refl, ◌∙◌, append_assoc, append-nil, inl, inr, length, take, drop}
 use Rattle.std.specs.Io.KnownBytes.{Appends, Consumes}
 use Rattle.std.proofs.KnownBytes.{Appends-nil, Appends-trans, Consumes-nil, Consumes-trans}
 use Rattle.std.proofs.Math.Seq.{take-append_seam}
@@ -19,7 +19,8 @@ use Rattle.msvc_lines.specs.Reports.{AreReports, IsReport}
 use Rattle.msvc_lines.proofs.Pieces.{lines_of-more}
 use Rattle.msvc_lines.proofs.SymbolRun.{IsSymbolsText-last}
 use Rattle.msvc_lines.proofs.Texts.{IsText-append, answers-joined, reports-joined}
-use Rattle.msvc_programs.specs.Programs.{LeavesLines, LeavesSymbols, Prints, PrintsAnswers, PrintsLines, PrintsReports, SetsFlagOf, SetsFlags, slice_fault}
+use Rattle.msvc_programs.specs.Programs.{Leaves, LeavesLines, Prints, PrintsAnswers, PrintsLines, PrintsReports}
+use Rattle.msvc_programs.specs.Programs.{SetsFlagOf, slice_fault}
 
 -- T says what the text of bytes is: that of lines, and of what comes after them.
 pub record AreJoined (T : List ℕ → List ℕ → Type 0) : Type 0 where
@@ -46,37 +47,87 @@ IsLines-more : (first second : List ℕ) → IsLines first → IsLines second �
 IsLines-more first second lines (inl e) = subst IsLines (sym (ap (λ l. first ++ l) e ∙ append-nil first)) lines
 IsLines-more first second lines (inr h) = subst IsLines (sym (ap (λ l. first ++ l) h.1)) (IsLines-append first h.0)
 
+-- the text of the first items is printed
+whole-text : (X : Type 0) (e : Fault) (P : List X → List ℕ → Type 0) (answered left : List X) (text : List ℕ)
+    → P answered text → Leaves X e P (answered ++ left) text
+whole-text X e P answered left text is = record {
+  answered = answered;
+  left = left;
+  are = refl;
+  more = [];
+  is_text = subst (P answered) (sym (append-nil text)) is;
+  whole = λ cut. refl;
+}
+
+-- or was cut by a failed write
+cut-text : (X : Type 0) (P : List X → List ℕ → Type 0) (answered left : List X) (text more : List ℕ)
+    → P answered (text ++ more) → Leaves X Write P (answered ++ left) text
+cut-text X P answered left text more is = record {
+  answered = answered;
+  left = left;
+  are = refl;
+  more = more;
+  is_text = is;
+  whole = λ cut. absurd (cut refl);
+}
+
+-- the same of bytes
+whole-lines : {T : List ℕ → List ℕ → Type 0} (e : Fault) (finished left text : List ℕ) → IsLines finished
+    → T finished text → (e ≡ Read → IsWithoutEnd left) → LeavesLines e T (finished ++ left) text
+unfolding whole-text
+whole-lines {T = T} e finished left text lines is unended = record {
+  leaves = whole-text ℕ e T finished left text is;
+  lines = λ cut. lines;
+  unended = unended;
+}
+
+cut-lines : {T : List ℕ → List ℕ → Type 0} (answered left text more : List ℕ) → T answered (text ++ more)
+    → LeavesLines Write T (answered ++ left) text
+cut-lines {T = T} answered left text more is = record {
+  leaves = cut-text ℕ T answered left text more is;
+  lines = λ cut. absurd (cut refl);
+  unended = λ same. let no : Write ≡ Read = same in cc;
+}
+
 -- what is printed after lines whose text is written
 pub PrintsLines-more : {A : Type 0} {T : List ℕ → List ℕ → Type 0} (laws : AreJoined T) (r : Result A Fault)
     (finished bytes text after : List ℕ) → IsLines finished → T finished text → IfErr r (λ e. e ≢ Read)
     → PrintsLines r T bytes after → PrintsLines r T (finished ++ bytes) (text ++ after)
 PrintsLines-more laws (Ok done) finished bytes text after lines is other h =
     laws.more finished bytes text after lines is h
-PrintsLines-more {T = T} laws (Err e) finished bytes text after lines is other h = record {
-  answered = finished ++ h.answered;
-  left = h.left;
-  is_taken = ap (λ l. finished ++ l) h.is_taken ∙ sym (append_assoc finished h.answered h.left);
-  more = h.more;
-  is_text = subst (T (finished ++ h.answered)) (sym (append_assoc text after h.more))
-      (laws.more finished h.answered text (after ++ h.more) lines is h.is_text);
-  whole = h.whole;
-  lines = λ cut. IsLines-more finished h.answered lines (h.lines cut);
-  unended = λ same. absurd (other same);
-}
+PrintsLines-more {T = T} laws (Err e) finished bytes text after lines is other h =
+    let l = h.leaves in
+    record {
+      leaves = record {
+        answered = finished ++ l.answered;
+        left = l.left;
+        are = ap (λ b. finished ++ b) l.are ∙ sym (append_assoc finished l.answered l.left);
+        more = l.more;
+        is_text = subst (T (finished ++ l.answered)) (sym (append_assoc text after l.more))
+            (laws.more finished l.answered text (after ++ l.more) lines is l.is_text);
+        whole = l.whole;
+      };
+      lines = λ cut. IsLines-more finished l.answered lines (h.lines cut);
+      unended = λ same. absurd (other same);
+    }
 
 -- where bytes after those are left
 LeavesLines-rest : {T : List ℕ → List ℕ → Type 0} (e : Fault) (bytes rest text : List ℕ) → e ≢ Read
     → LeavesLines e T bytes text → LeavesLines e T (bytes ++ rest) text
-LeavesLines-rest e bytes rest text other h = record {
-  answered = h.answered;
-  left = h.left ++ rest;
-  is_taken = ap (λ l. l ++ rest) h.is_taken ∙ append_assoc h.answered h.left rest;
-  more = h.more;
-  is_text = h.is_text;
-  whole = h.whole;
-  lines = h.lines;
-  unended = λ same. absurd (other same);
-}
+LeavesLines-rest e bytes rest text other h =
+    let l = h.leaves in
+    record {
+      leaves = record {
+        answered = l.answered;
+        left = l.left ++ rest;
+        are = ap (λ b. b ++ rest) l.are ∙ append_assoc l.answered l.left rest;
+        more = l.more;
+        is_text = l.is_text;
+        whole = l.whole;
+      };
+      lines = h.lines;
+      unended = λ same. absurd (other same);
+    }
 
 -- The text of some lines is written, and a part of the next was taken.
 pub record BlockRun (T : List ℕ → List ℕ → Type 0) (reader reads writer writes : Option (List ℕ)) (block : List ℕ)
@@ -143,7 +194,8 @@ pub BlockRun-fault : {T : List ℕ → List ℕ → Type 0} (laws : AreJoined T)
     → Did T (Err e) reader later writer on
 BlockRun-fault {T = T} laws e reader reads later writer writes on part more block end so taken same other text
     written h =
-    let leaves = PrintsLines-more {A = Unit {0}} laws (Err e) so.finished (take end block) so.text text so.lines so.is other h in
+    let leaves =
+    PrintsLines-more {A = Unit {0}} laws (Err e) so.finished (take end block) so.text text so.lines so.is other h in
     let all = append_assoc so.finished (take end block) (drop end block)
     ∙ ap (λ l. so.finished ++ l) (take-append-drop end block) in (
       so.finished ++ block,
@@ -179,16 +231,7 @@ BlockRun-polled {T = T} e reader reads later writer writes part more so taken no
   Consumes-more reader reads later writer writes part more part so taken (sym (append-nil part) ∙ ap (λ l. part ++ l)
       (sym none)),
   so.written,
-  record {
-    answered = so.finished;
-    left = part;
-    is_taken = refl;
-    more = [];
-    is_text = subst (T so.finished) (sym (append-nil so.text)) so.is;
-    whole = λ cut. refl;
-    lines = λ cut. so.lines;
-    unended = λ same. so.unended;
-  },
+  whole-lines e so.finished part so.text so.lines so.is (λ same. so.unended),
 )
 
 -- the flags where a call of the reader failed, or there was no memory for what it shows
@@ -202,15 +245,6 @@ flags-polled Write was entry later out err marks same kept = absurd (no_writer m
     no_writer (inl out) = let no : false ≡ true = out.0 in cc
     no_writer (inr err) = let no : false ≡ true = err.1 in cc
 flags-polled Memory was entry later out err marks same kept = (marks.0 ∙ same, kept)
-
--- the flags of a run that has no reader, beside a reader
-pub flags-beside : {A : Type 0} (r : Result A Fault) (before later : Bool) (out err : FailureFlag)
-    → SetsFlags r no_stream out err → IfErr r (λ e. e ≢ Read) → later ≡ before
-    → SetsFlags r (record { before = before; after = later }) out err
-flags-beside (Ok done) before later out err marks other same = (same, marks.1, marks.2)
-flags-beside (Err Read) before later out err marks other same = absurd (other refl)
-flags-beside (Err Write) before later out err marks other same = (same, marks.1)
-flags-beside (Err Memory) before later out err marks other same = (same, marks.1)
 
 -- the flags after the line of a fault
 pub flags-reported : (e : Fault) (reader out : FailureFlag) (before after later : Bool)
@@ -261,29 +295,16 @@ Prints-held T P (Err Read) done symbols block rest taken whole text none split a
     let no : Read ≡ Write = other in cc
 Prints-held T P (Err Memory) done symbols block rest taken whole text none split at_end is other h =
     let no : Memory ≡ Write = other in cc
-Prints-held T P (Err Write) done [] block rest taken whole text none split at_end is other h = record {
-  answered = block;
-  left = [];
-  is_taken = sym (append-nil block);
-  more = h.0;
-  is_text = subst (λ l. T l (text ++ h.0)) (all_taken block rest taken split (at_end refl))
-      (subst (T taken) (sym h.1) is);
-  whole = λ cut. absurd (cut refl);
-  lines = λ cut. absurd (cut refl);
-  unended = λ same. let no : Write ≡ Read = same in cc;
-}
+Prints-held T P (Err Write) done [] block rest taken whole text none split at_end is other h =
+    subst (λ l. LeavesLines Write T l text) (append-nil taken ∙ all_taken block rest taken split (at_end refl))
+    (cut-lines taken [] text h.0 (subst (T taken) (sym h.1) is))
 Prints-held T P (Ok ended) done (symbol ∷ symbols) block rest taken whole text none split at_end is other h =
     (none (λ e. cc), subst (IsSymbolsText P (symbol ∷ symbols)) (sym h) is.1)
 Prints-held T P (Err Write) done (symbol ∷ symbols) block rest taken whole text none split at_end is other h = (
   none (λ e. cc),
-  record {
-    answered = symbol ∷ symbols;
-    left = [];
-    are = sym (append-nil (symbol ∷ symbols));
-    more = h.0;
-    is_text = subst (IsSymbolsText P (symbol ∷ symbols)) (sym h.1) is.1;
-    whole = λ cut. absurd (cut refl);
-  },
+  subst (λ l. Leaves (List ℕ) Write (IsSymbolsText P) l text) (append-nil (symbol ∷ symbols))
+      (cut-text (List ℕ) (IsSymbolsText P) (symbol ∷ symbols) [] text h.0
+      (subst (IsSymbolsText P (symbol ∷ symbols)) (sym h.1) is.1)),
 )
 
 pub answers-held : (r : Result (Unit {0}) Fault) (done : Unit {0}) (symbols : List (List ℕ))
@@ -303,68 +324,35 @@ reports-held r done verbose symbols block rest taken whole text none split at_en
     Prints-held (AreReports verbose) (IsReport verbose) r done symbols block rest taken whole text none split at_end
     (each-report {A = Unit {0}} (Ok done) verbose symbols taken whole is) fault h
 
-slice_fault-read : (e : Fault) → slice_fault e ≢ Read
-slice_fault-read Read same = let no : Memory ≡ Read = same in cc
-slice_fault-read Write same = let no : Write ≡ Read = same in cc
-slice_fault-read Memory same = let no : Memory ≡ Read = same in cc
-
 -- what such a run leaves of lines
 LeavesLines-unheld : {T : List ℕ → List ℕ → Type 0} (e : Fault) (block rest taken text : List ℕ)
     → block ≡ taken ++ rest → LeavesOff e T taken text → LeavesLines (slice_fault e) T block text
-LeavesLines-unheld {T = T} Read block rest taken text split (finished, part, e, lines, unended, is) = record {
-  answered = finished;
-  left = part ++ rest;
-  is_taken = split ∙ ap (λ l. l ++ rest) e ∙ append_assoc finished part rest;
-  more = [];
-  is_text = subst (T finished) (sym (append-nil text)) is;
-  whole = λ cut. refl;
-  lines = λ cut. lines;
-  unended = λ same. absurd (slice_fault-read Read same);
-}
-LeavesLines-unheld Write block rest taken text split (finished, part, before, begun, more, e, lines, one, is, w, all) =
-    record {
-      answered = taken;
-      left = rest;
-      is_taken = split;
-      more = more;
-      is_text = all;
-      whole = λ cut. absurd (cut refl);
-      lines = λ cut. absurd (cut refl);
-      unended = λ same. absurd (slice_fault-read Write same);
-    }
-LeavesLines-unheld {T = T} Memory block rest taken text split (finished, part, e, lines, one, is) = record {
-  answered = finished;
-  left = part ++ rest;
-  is_taken = split ∙ ap (λ l. l ++ rest) e ∙ append_assoc finished part rest;
-  more = [];
-  is_text = subst (T finished) (sym (append-nil text)) is;
-  whole = λ cut. refl;
-  lines = λ cut. lines;
-  unended = λ same. absurd (slice_fault-read Memory same);
-}
+LeavesLines-unheld {T = T} Read block rest taken text split (finished, part, e, lines, unended, is) =
+    subst (λ l. LeavesLines Memory T l text)
+    (sym (split ∙ ap (λ l. l ++ rest) e ∙ append_assoc finished part rest))
+    (whole-lines Memory finished (part ++ rest) text lines is (λ same. let no : Memory ≡ Read = same in cc))
+LeavesLines-unheld {T = T} Write block rest taken text split
+    (finished, part, before, begun, more, e, lines, one, is, w, all) =
+    subst (λ l. LeavesLines Write T l text) (sym split) (cut-lines taken rest text more all)
+LeavesLines-unheld {T = T} Memory block rest taken text split (finished, part, e, lines, one, is) =
+    subst (λ l. LeavesLines Memory T l text)
+    (sym (split ∙ ap (λ l. l ++ rest) e ∙ append_assoc finished part rest))
+    (whole-lines Memory finished (part ++ rest) text lines is (λ same. let no : Memory ≡ Read = same in cc))
 
 -- and of symbols
 LeavesSymbols-unheld : {P : List ℕ → List ℕ → Type 0} (e : Fault) (symbols : List (List ℕ)) (text : List ℕ)
-    → LeavesOffAt e P symbols text → LeavesSymbols (slice_fault e) P symbols text
+    → LeavesOffAt e P symbols text → Leaves (List ℕ) (slice_fault e) (IsSymbolsText P) symbols text
 LeavesSymbols-unheld Read symbols text (done, left, symbol, before, begun, are, w, is, part) = absurd part
-LeavesSymbols-unheld {P = P} Write symbols text (done, left, symbol, before, begun, are, w, is, part) = record {
-  answered = done ++ symbol ∷ [];
-  left = left;
-  are = are ∙ sym (append_assoc done (symbol ∷ []) left);
-  more = part.0;
-  is_text = subst (IsSymbolsText P (done ++ symbol ∷ []))
-      (sym (ap (λ l. l ++ part.0) w ∙ append_assoc before begun part.0)) (IsSymbolsText-last is part.1);
-  whole = λ cut. absurd (cut refl);
-}
-LeavesSymbols-unheld {P = P} Memory symbols text (done, left, symbol, before, begun, are, w, is, part) = record {
-  answered = done;
-  left = symbol ∷ left;
-  are = are;
-  more = [];
-  is_text = subst (IsSymbolsText P done)
-      (sym (append-nil text ∙ w ∙ ap (λ l. before ++ l) part ∙ append-nil before)) is;
-  whole = λ cut. refl;
-}
+LeavesSymbols-unheld {P = P} Write symbols text (done, left, symbol, before, begun, are, w, is, part) =
+    subst (λ l. Leaves (List ℕ) Write (IsSymbolsText P) l text)
+    (sym (are ∙ sym (append_assoc done (symbol ∷ []) left)))
+    (cut-text (List ℕ) (IsSymbolsText P) (done ++ symbol ∷ []) left text part.0
+    (subst (IsSymbolsText P (done ++ symbol ∷ []))
+    (sym (ap (λ l. l ++ part.0) w ∙ append_assoc before begun part.0)) (IsSymbolsText-last is part.1)))
+LeavesSymbols-unheld {P = P} Memory symbols text (done, left, symbol, before, begun, are, w, is, part) =
+    subst (λ l. Leaves (List ℕ) Memory (IsSymbolsText P) l text) (sym are)
+    (whole-text (List ℕ) Memory (IsSymbolsText P) done (symbol ∷ left) text
+    (subst (IsSymbolsText P done) (sym (w ∙ ap (λ l. before ++ l) part ∙ append-nil before)) is))
 
 Prints-unheld : (T P : List ℕ → List ℕ → Type 0) (e : Fault) (symbols : List (List ℕ))
     (block rest taken text : List ℕ) → (symbols ≢ [] → block ≡ []) → block ≡ taken ++ rest

@@ -8,42 +8,37 @@ use Rattle.msvc_lines.specs.Answers.{IsFilterText, IsLineText}
 use Rattle.msvc_lines.specs.Arguments.{IsSymbolsText}
 use Rattle.msvc_lines.specs.Reports.{AreReports, IsReport}
 
--- What has been printed of the text of some bytes, where P states what the text of bytes is, when a fault came: the text
--- of the lines that were answered. A failed write leaves out the end of this text, and may cut a line.
-pub record LeavesLines (fault : Fault) (P : List ℕ → List ℕ → Type 0) (taken text : List ℕ) : Type 0 where
-  -- the bytes that were answered, and the others
-  pub answered : List ℕ
-  pub left : List ℕ
-  pub is_taken : taken ≡ answered ++ left
+-- What has been printed when a fault came, where P states what the text of some items is: the text of the first items.
+-- A failed write leaves out an end of this text.
+pub record Leaves (X : Type 0) (fault : Fault) (P : List X → List ℕ → Type 0) (items : List X) (text : List ℕ)
+    : Type 0 where
+  -- the items that were answered, and the others
+  pub answered : List X
+  pub left : List X
+  pub are : items ≡ answered ++ left
   -- what is missing of the text
   pub more : List ℕ
   pub is_text : P answered (text ++ more)
   pub whole : fault ≢ Write → more ≡ []
-  pub lines : fault ≢ Write → IsLines answered
-  -- when a read fails, no whole line is left
-  pub unended : fault ≡ Read → IsWithoutEnd left
+
+-- The same of the bytes that were taken. Only a failed write cuts a line, and when a read fails, no whole line is left.
+pub record LeavesLines (fault : Fault) (P : List ℕ → List ℕ → Type 0) (taken text : List ℕ) : Type 0 where
+  pub leaves : Leaves ℕ fault P taken text
+  pub lines : fault ≢ Write → IsLines leaves.answered
+  pub unended : fault ≡ Read → IsWithoutEnd leaves.left
 
 -- What is printed of the text of the bytes that were taken: all of it, or what was printed before a fault.
 abbrev pub PrintsLines : {A : Type 0} → Result A Fault → (P : List ℕ → List ℕ → Type 0) → List ℕ → List ℕ → Type 0
 PrintsLines result P taken text = MatchResult result (λ _. P taken text) (λ fault. LeavesLines fault P taken text)
 
 -- the same of the text of symbols, where P states what that of one symbol is
-pub record LeavesSymbols (fault : Fault) (P : List ℕ → List ℕ → Type 0) (symbols : List (List ℕ)) (text : List ℕ)
-    : Type 0 where
-  pub answered : List (List ℕ)
-  pub left : List (List ℕ)
-  pub are : symbols ≡ answered ++ left
-  pub more : List ℕ
-  pub is_text : IsSymbolsText P answered (text ++ more)
-  pub whole : fault ≢ Write → more ≡ []
-
 abbrev pub PrintsSymbols : {A : Type 0} → Result A Fault → (P : List ℕ → List ℕ → Type 0) → List (List ℕ) → List ℕ
     → Type 0
 PrintsSymbols result P symbols text =
-    MatchResult result (λ _. IsSymbolsText P symbols text) (λ fault. LeavesSymbols fault P symbols text)
+    MatchResult result (λ _. IsSymbolsText P symbols text) (λ fault. Leaves (List ℕ) fault (IsSymbolsText P) symbols text)
 
--- What is printed for the symbols among the words or, without symbols, for the bytes that were taken, where T states what
--- the text of bytes is, and P what that of one symbol is.
+-- What is printed for the symbols among the words or, without symbols, for the bytes that were taken, where T states
+-- what the text of bytes is, and P what that of one symbol is.
 abbrev pub Prints : {A : Type 0} → Result A Fault → (T P : List ℕ → List ℕ → Type 0) → List (List ℕ) → List ℕ → List ℕ
     → Type 0
 Prints result T P [] taken text = PrintsLines result T taken text

@@ -150,7 +150,7 @@ fn answer_lines<R: BufRead, W: Write, E: Write>(
     }
 }
 
-/// Answers the symbols among the words or, if there are none, the lines of `block`. Writes all reports at once, and then
+/// Answers the symbols among the words or, if there are none, the lines of `block`. Writes all reports at once, then
 /// all answers.
 fn answer<W: Write, E: Write>(
     alloc: Global,

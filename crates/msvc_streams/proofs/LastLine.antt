@@ -23,5 +23,6 @@ after_last block from at last =
     let place : get_or behind i 0 ≡ get_or rest (at + 1 + i) 0 =
     get_or-drop (from + at + 1) block i 0 ∙ ap (λ k. get_or block k 0) (omega arith)
     ∙ sym (get_or-drop from block (at + 1 + i) 0) in
-    let within : at + 1 + i < length rest = omega (arith, inside, length-drop (from + at + 1) block, length-drop from block) in
+    let within : at + 1 + i < length rest =
+    omega (arith, inside, length-drop (from + at + 1) block, length-drop from block) in
     last.0.after (at + 1 + i) (omega arith) within (eq-eqb (get_or rest (at + 1 + i) 0) 10 (sym place ∙ is)))

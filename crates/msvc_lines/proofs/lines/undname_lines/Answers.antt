@@ -58,7 +58,8 @@ returns-in_err-put-in-Line-clause-text g c =
     let fault = c.in_err-put-in-Line.field-0.0 in
     rw (p.1, p.2)
     (LineRun-fault answers-joined fault _ _ _ _ _ _ c.pieces.piece.items cut.0 c.pieces.invariant.0
-    (subst (Consumes _ _) cut.2 taken) cut.1 text.0 text.1 (subst (λ l. WritesPart fault (IsText (line_of l ∷ [])) text.0) joined text.2))
+    (subst (Consumes _ _) cut.2 taken) cut.1 text.0 text.1
+    (subst (λ l. WritesPart fault (IsText (line_of l ∷ [])) text.0) joined text.2))
 
 pub returns-in_err-undname_line-in-Line-2-clause-text : goal.returns-in_err-undname_line-in-Line-2-clause-text
 returns-in_err-undname_line-in-Line-2-clause-text g c =
@@ -75,7 +76,8 @@ returns-in_err-undname_line-in-Line-2-clause-text g c =
     let fault = c.in_err-undname_line-in-Line-2.field-0.0 in
     rw (p.1, p.2)
     (LineRun-fault answers-joined fault _ _ _ _ _ _ c.pieces.piece.items cut.0 c.pieces.invariant.0
-    (subst (Consumes _ _) cut.2 taken) cut.1 text.0 text.1 (subst (λ l. WritesPart fault (IsText (line_of l ∷ [])) text.0) line text.2))
+    (subst (Consumes _ _) cut.2 taken) cut.1 text.0 text.1
+    (subst (λ l. WritesPart fault (IsText (line_of l ∷ [])) text.0) line text.2))
 
 pub returns-then-is_empty-2-clause-text : goal.returns-then-is_empty-2-clause-text
 returns-then-is_empty-2-clause-text g c =
@@ -96,7 +98,8 @@ returns-in-End-clause-text g c =
 pub returns-in-Err-clause-errors : goal.returns-in-Err-clause-errors
 returns-in-Err-clause-errors g c =
     let none = Consumes-polled _ _ _ _ c.fill_buf.follows.holds-at-none.0 in
-    rw c.fail.ensures.fault (LineRun-polled (reports-joined c.args.verbose) Read read_failed _ _ _ _ _ _ [] c.pieces.invariant.4
+    rw c.fail.ensures.fault
+    (LineRun-polled (reports-joined c.args.verbose) Read read_failed _ _ _ _ _ _ [] c.pieces.invariant.4
     (subst (λ s. Consumes (g.R.Read.remaining c.pieces.input.stream) (g.R.Read.remaining s) [])
     (sym c.fail.ensures.stream) none) refl (refl, refl, refl))
 
@@ -125,7 +128,8 @@ returns-in_err-put-in-Line-clause-errors g c =
     let fault = c.in_err-put-in-Line.field-0.0 in
     rw (p.1, p.2)
     (LineRun-fault (reports-joined c.args.verbose) fault _ _ _ _ _ _ c.pieces.piece.items cut.0 c.pieces.invariant.4
-    (subst (Consumes _ _) cut.2 taken) cut.1 text.0 text.1 (subst (λ l. WritesPart fault (IsTextOf (IsReport c.args.verbose) (line_of l ∷ [])) text.0) joined text.2))
+    (subst (Consumes _ _) cut.2 taken) cut.1 text.0 text.1
+    (subst (λ l. WritesPart fault (IsTextOf (IsReport c.args.verbose) (line_of l ∷ [])) text.0) joined text.2))
 
 pub returns-in_err-undname_line-in-Line-2-clause-errors : goal.returns-in_err-undname_line-in-Line-2-clause-errors
 returns-in_err-undname_line-in-Line-2-clause-errors g c =
@@ -142,7 +146,8 @@ returns-in_err-undname_line-in-Line-2-clause-errors g c =
     let fault = c.in_err-undname_line-in-Line-2.field-0.0 in
     rw (p.1, p.2)
     (LineRun-fault (reports-joined c.args.verbose) fault _ _ _ _ _ _ c.pieces.piece.items cut.0 c.pieces.invariant.4
-    (subst (Consumes _ _) cut.2 taken) cut.1 text.0 text.1 (subst (λ l. WritesPart fault (IsTextOf (IsReport c.args.verbose) (line_of l ∷ [])) text.0) line text.2))
+    (subst (Consumes _ _) cut.2 taken) cut.1 text.0 text.1
+    (subst (λ l. WritesPart fault (IsTextOf (IsReport c.args.verbose) (line_of l ∷ [])) text.0) line text.2))
 
 pub returns-then-is_empty-2-clause-errors : goal.returns-then-is_empty-2-clause-errors
 returns-then-is_empty-2-clause-errors g c =
@@ -158,7 +163,8 @@ returns-in-End-clause-errors g c =
     let some : c.pieces.piece.items ≢ [] = search rules in
     LineRun-rest (reports-joined c.args.verbose) r _ _ _ _ _ _ _ [] c.pieces.invariant.4
     (Consumes-polled _ _ _ _ c.fill_buf.follows.holds-at-none.0) refl some text.0 text.1
-    (subst (λ l. Writes r (IsTextOf (IsReport c.args.verbose) (line_of l ∷ [])) text.0) c.deref-in-End.ensures.value text.2)
+    (subst (λ l. Writes r (IsTextOf (IsReport c.args.verbose) (line_of l ∷ [])) text.0)
+    c.deref-in-End.ensures.value text.2)
 
 pub pieces-preserved-then-is_empty : goal.pieces-preserved-then-is_empty
 pieces-preserved-then-is_empty g c =

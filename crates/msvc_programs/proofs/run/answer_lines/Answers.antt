@@ -55,7 +55,8 @@ returns-in-Err-answer-clause-text g c =
     let end = c.lines_len-end.result in
     let shown = c.deref-in-blocks-2-2.result.now in
     let lines = subst (λ s. PrintsAnswers {A = Unit {0}} (Err fault) s (take end shown) t.0) c.requires t.2 in
-    let leaves = subst (λ l. LeavesLines fault IsFilterText (take end l) t.0) c.deref-in-blocks-2-2.ensures.value lines in
+    let leaves = subst (λ l. LeavesLines fault IsFilterText (take end l) t.0)
+    c.deref-in-blocks-2-2.ensures.value lines in
     BlockRun-fault answers fault _ _ _ _ _ _ _ e.0 _ end c.blocks-2.invariant.0 e.2 e.1 c.in-Err-answer.ensures.fault
     t.0 t.1 leaves
 
