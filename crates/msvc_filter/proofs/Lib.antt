@@ -1,3 +1,4 @@
+pub mod Blocks
 pub mod CandidatePrefix
 pub mod Failed
 pub mod Filled

@@ -90,7 +90,8 @@ Streaming-put how scan after reader reads later writer writes on piece more text
     }
 
 -- the text of the line, where that of what is left comes
-line-text : (how : Choice) (scan : WordState) (reader reads writer writes : Option (List ℕ)) (piece more text : List ℕ)
+pub line-text : (how : Choice) (scan : WordState) (reader reads writer writes : Option (List ℕ))
+    (piece more text : List ℕ)
     → (so : Streaming how reader reads writer writes piece scan) → IsRestText how scan (piece ++ more) text
     → IsFilteredText how (so.part ++ more) (text_of_parts so.parts ++ text)
 line-text how scan reader reads writer writes piece more text so rest = (
@@ -99,36 +100,52 @@ line-text how scan reader reads writer writes piece more text so rest = (
   ap (λ t. text_of_parts so.parts ++ t) rest.2 ∙ sym (text-append so.parts rest.0),
 )
 
+-- what ends with a line feed is lines
+pub IsLines-ended : (finished part front : List ℕ) → IsLines (finished ++ (part ++ (front ++ 10 ∷ [])))
+IsLines-ended finished part front = subst (λ l. IsLines (finished ++ l)) (append_assoc part front (10 ∷ []))
+    (IsLines-append finished (part ++ front))
+
+-- lines are finished, and more was taken of the next
+pub Streaming-lines : (how : Choice) (scan after : WordState) (reader reads later writer writes on : Option (List ℕ))
+    (piece front rest text : List ℕ) → Streaming how reader reads writer writes piece scan
+    → Consumes reads later ((front ++ 10 ∷ []) ++ rest) → IsWithoutEnd rest → Appends writes on text
+    → IsRestText how scan (piece ++ (front ++ 10 ∷ [])) text → Keeps after 10 []
+    → Streaming how reader later writer on rest after
+Streaming-lines how scan after reader reads later writer writes on piece front rest text so taken unended written is
+    keeps =
+    let end = front ++ 10 ∷ [] in
+    let line = so.part ++ end in
+    record {
+      finished = so.finished ++ line;
+      part = rest;
+      before = so.before ++ (text_of_parts so.parts ++ text);
+      parts = [];
+      taken = subst (Consumes reader later)
+          (append_assoc so.finished so.part (end ++ rest)
+          ∙ ap (λ l. so.finished ++ l) (sym (append_assoc so.part end rest))
+          ∙ sym (append_assoc so.finished line rest)) (Consumes-trans _ _ _ _ _ so.taken taken);
+      written = subst (Appends writer on)
+          (append_assoc so.before (text_of_parts so.parts) text
+          ∙ sym (append-nil (so.before ++ (text_of_parts so.parts ++ text))))
+          (Appends-trans _ _ _ _ _ so.written written);
+      lines = IsLines-ended so.finished so.part front;
+      unended = unended;
+      is = filtered-after how so.finished line so.before (text_of_parts so.parts ++ text) so.lines so.is
+          (line-text how scan reader reads writer writes piece end text so is);
+      held = omega arith;
+      short = λ few. refl;
+      on = λ more others h. parts-kept how (fresh 10) (Keeps-fresh 10) (h 10 [] keeps);
+    }
+
 -- the line is finished
 pub Streaming-line : (how : Choice) (scan after : WordState) (reader reads later writer writes on : Option (List ℕ))
     (piece front text : List ℕ) → Streaming how reader reads writer writes piece scan
     → Consumes reads later (front ++ 10 ∷ []) → Appends writes on text
     → IsRestText how scan (piece ++ (front ++ 10 ∷ [])) text → Keeps after 10 []
     → Streaming how reader later writer on [] after
-Streaming-line how scan after reader reads later writer writes on piece front text so taken written rest keeps =
-    let end = front ++ 10 ∷ [] in
-    let line = so.part ++ end in
-    record {
-      finished = so.finished ++ line;
-      part = [];
-      before = so.before ++ (text_of_parts so.parts ++ text);
-      parts = [];
-      taken = subst (Consumes reader later)
-          (append_assoc so.finished so.part end ∙ sym (append-nil (so.finished ++ line)))
-          (Consumes-trans _ _ _ _ _ so.taken taken);
-      written = subst (Appends writer on)
-          (append_assoc so.before (text_of_parts so.parts) text
-          ∙ sym (append-nil (so.before ++ (text_of_parts so.parts ++ text))))
-          (Appends-trans _ _ _ _ _ so.written written);
-      lines = subst (λ l. IsLines (so.finished ++ l)) (append_assoc so.part front (10 ∷ []))
-          (IsLines-append so.finished (so.part ++ front));
-      unended = All-nil (λ b. b ≢ 10);
-      is = filtered-after how so.finished line so.before (text_of_parts so.parts ++ text) so.lines so.is
-          (line-text how scan reader reads writer writes piece end text so rest);
-      held = omega arith;
-      short = λ few. refl;
-      on = λ more others h. parts-kept how (fresh 10) (Keeps-fresh 10) (h 10 [] keeps);
-    }
+Streaming-line how scan after reader reads later writer writes on piece front text so taken written is keeps =
+    Streaming-lines how scan after reader reads later writer writes on piece front [] text so
+    (subst (Consumes reads later) (sym (append-nil (front ++ 10 ∷ []))) taken) (All-nil (λ b. b ≢ 10)) written is keeps
 
 -- what is settled of bytes that are many
 pub put-made : (how : Choice) (scan after : WordState) (left text : List ℕ) (until at : ℕ)
@@ -148,7 +165,7 @@ WritesPart-map Read P Q f text h = h
 WritesPart-map Write P Q f text h = (h.0, f (text ++ h.0) h.1)
 WritesPart-map Memory P Q f text h = h
 
-the_text : (how : Choice) (bytes text : List ℕ) → IsFilteredText how bytes text → IsFilteredIn how bytes text
+pub the_text : (how : Choice) (bytes text : List ℕ) → IsFilteredText how bytes text → IsFilteredIn how bytes text
 the_text how bytes text is = (is, λ other h. filtered-only how bytes text other is h)
 
 -- what a run has done
@@ -160,7 +177,8 @@ abbrev pub DidPart : Choice → Fault → (reader reads writer writes : Option (
 DidPart how fault reader reads writer writes = (taken text : List ℕ) × Consumes reader reads taken
     × Appends writer writes text × LeavesFilteredIn fault how taken text
 
-leave : (fault : Fault) (how : Choice) (finished part before begun more : List ℕ) → IsLines finished → IsOfOneLine part
+pub leave : (fault : Fault) (how : Choice) (finished part before begun more : List ℕ) → IsLines finished
+    → IsOfOneLine part
     → (fault ≡ Read → IsWithoutEnd part) → IsFilteredText how finished before
     → IsFilteredText how part (begun ++ more) → (fault ≢ Write → length part ≤ max_held → begun ≡ [])
     → LeavesFilteredIn fault how (finished ++ part) (before ++ begun)
@@ -183,7 +201,7 @@ leave fault how finished part before begun more lines one unended is begins shor
 }
 
 -- some text of what is left exists
-rest-text : (how : Choice) (scan : WordState) (left : List ℕ) → (text : List ℕ) × IsRestText how scan left text
+pub rest-text : (how : Choice) (scan : WordState) (left : List ℕ) → (text : List ℕ) × IsRestText how scan left text
 rest-text how scan left =
     let made = rest-exists how (length left) scan left (omega arith) in
     (text_of_parts made.0, (made.0, made.1, refl))

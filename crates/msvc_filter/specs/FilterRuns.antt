@@ -41,3 +41,22 @@ WritesFilteredIn result how taken text =
 -- the same in the crate's grammar
 abbrev pub WritesFiltered : {A : Type 0} → Result A Fault → (flags : ℕ) → List ℕ → List ℕ → Type 0
 WritesFiltered result flags taken text = WritesFilteredIn result (under Crate flags) taken text
+
+-- What a run over blocks of lines that failed has written for the bytes that it took from the reader: the text of the
+-- first of them, or a beginning of the text of all of them after a failed write.
+pub record LeavesFilteredBlocks (fault : Fault) (how : Choice) (taken text : List ℕ) : Type 0 where
+  -- the written text is a beginning of the text of all bytes that were taken
+  pub more : List ℕ
+  pub begins : IsFilteredIn how taken (text ++ more)
+  -- the bytes that were answered, and those for which memory did not suffice
+  pub first : List ℕ
+  pub left : List ℕ
+  pub is_taken : taken ≡ first ++ left
+  pub all_read : fault ≡ Read → left ≡ []
+  -- what is written of the bytes that were answered
+  pub leaves : fault ≢ Write → LeavesFilteredIn fault how first text
+
+-- What such a run has written: the text of all bytes that it took, or what it has written up to a fault.
+abbrev pub WritesFilteredBlocks : {A : Type 0} → Result A Fault → Choice → List ℕ → List ℕ → Type 0
+WritesFilteredBlocks result how taken text =
+    MatchResult result (λ _. IsFilteredIn how taken text) (λ fault. LeavesFilteredBlocks fault how taken text)

@@ -1,6 +1,9 @@
 -- What the filter's scan knows of the bytes before a place, and what it has found.
 use Rattle.std.specs.Prelude.{ℕ, List, [], ◌∷◌, ◌+◌, ◌++◌, ◌≡◌, ◌≢◌, ◌≤◌, ◌<◌, ◌⊎◌, All, Option, Some, false}
-use Rattle.std.specs.Prelude.{Bool, ◌||◌, not, drop, length, map, take}
+use Rattle.std.specs.Prelude.{Bool, ◌||◌, Result, MatchResult, not, drop, length, map, take}
+use Rattle.msvc_streams.specs.Runs.{IsLines}
+use Rattle.msvc_streams.specs.declared.watched.Fault.{Fault}
+use Rattle.msvc_streams.specs.declared.watched.Fault.TheVariants.{Read, Write, Memory}
 use Rattle.msvc_symbol.specs.Grammars.{Choice}
 use Rattle.msvc_symbol.specs.declared.grammar.Grammar.{Grammar}
 use Rattle.msvc_filter.specs.Filtered.{IsFilteredFrom, IsSymbol, Part, declared, kept, text_of_parts}
@@ -95,3 +98,16 @@ pub record IsDecidedText (how : Choice) (scan : WordState) (left text : List ℕ
 abbrev pub IsDecidedTextOf : Choice → WordState → List ℕ → List ℕ → Type 0
 IsDecidedTextOf how scan left text = (after : WordState) × (rest : List ℕ) × IsDecidedText how scan left text after
     rest
+
+-- What is written for lines, of which the first may have begun before, when a fault came: a beginning of their text if
+-- a write failed, and the text of the first of them if memory did not suffice.
+abbrev pub LeavesLines : Fault → Choice → WordState → (lines text : List ℕ) → Type 0
+LeavesLines Read how scan lines text = ⊥
+LeavesLines Write how scan lines text = (more : List ℕ) × IsRestText how scan lines (text ++ more)
+LeavesLines Memory how scan lines text = (first left : List ℕ) × (lines ≡ first ++ left) × IsLines first
+    × IsRestText how scan first text × (first ≡ [] → text ≡ [])
+
+-- what is written for lines
+abbrev pub WritesLines : {A : Type 0} → Result A Fault → Choice → WordState → (lines text : List ℕ) → Type 0
+WritesLines result how scan lines text =
+    MatchResult result (λ _. IsRestText how scan lines text) (λ fault. LeavesLines fault how scan lines text)

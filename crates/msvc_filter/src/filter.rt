@@ -2,7 +2,7 @@
 
 ghost use Rattle.std.specs.Prelude.{◌≡◌, ◌≤◌, ◌+◌, ◌++◌, ◌∷◌, ℕ, List, [], IfErr, IfNone, IfOk, IfSome};
 ghost use Rattle.std.specs.Prelude.{MatchResult};
-ghost use Rattle.std.specs.Prelude.{OnOk, OnSome, Some, drop, length, map, slice_index, take, true};
+ghost use Rattle.std.specs.Prelude.{OnOk, OnSome, Some, drop, length, map, take, true};
 ghost use Rattle.std.specs.Io.KnownBytes.{Appends, Consumes, IsAtEnd};
 ghost use Rattle.msvc_nodes.specs.Trees.{SymbolTree};
 ghost use Rattle.msvc_rules.specs.Counts.{node_count};
@@ -18,10 +18,10 @@ ghost use Rattle.msvc_filter.specs.SliceWriters.{IsSliceWriter, space_after};
 ghost use Rattle.msvc_filter.specs.Filtered.{AreOnlyParts, AreOnlyPartsIn, IsNoStart, IsNoneWithin, Part};
 ghost use Rattle.msvc_filter.specs.Filtered.{declared, fitting, kept, max_declared, max_nodes};
 ghost use Rattle.msvc_filter.specs.Filtered.{text_of_parts};
-ghost use Rattle.msvc_streams.specs.Runs.{Writes, WritesPart};
-ghost use Rattle.msvc_filter.specs.FilterRuns.{WritesFiltered, WritesFilteredIn};
+ghost use Rattle.msvc_streams.specs.Runs.{IsWithoutEnd, Writes, WritesPart};
+ghost use Rattle.msvc_filter.specs.FilterRuns.{WritesFiltered, WritesFilteredBlocks, WritesFilteredIn};
 ghost use Rattle.msvc_filter.specs.WordStates.{ArePartsUpTo, IsFilteredUpTo, IsFound};
-ghost use Rattle.msvc_filter.specs.WordStates.{IsDecidedText, IsDecidedTextOf, IsRestText};
+ghost use Rattle.msvc_filter.specs.WordStates.{IsDecidedText, IsDecidedTextOf, IsRestText, WritesLines};
 ghost use Rattle.msvc_filter.specs.WordStates.{IsSymbolShown, Keeps};
 ghost use Rattle.msvc_filter.specs.SymbolBounds.{is_start};
 
@@ -34,7 +34,8 @@ use msvc_cursor::limits::{DEFAULT_BYTE_LIMIT, DEFAULT_NODE_LIMIT, Limits};
 use msvc_nodes::flags::DemangleFlags;
 use msvc_print::NamePlace;
 use msvc_streams::{
-    Fault, Polls, Taken, Watched, consume, drop_front, fail, fill_buf, line_end, write_all,
+    Fault, Polls, Taken, Watched, consume, drop_front, fail, fill_buf, line_end, lines_len,
+    read_block, write_all,
 };
 use msvc_symbol::{Demangler, Grammar};
 use std::alloc::{AllocError, Allocator, Global};
@@ -42,12 +43,15 @@ use std::io::{BufRead, Write};
 
 /// How symbols are read and shown.
 #[derive(Clone, Copy)]
-struct How {
-    grammar: Grammar,
-    flags: DemangleFlags,
+pub struct How {
+    /// The grammar of the symbols.
+    pub grammar: Grammar,
+    /// What declarations show.
+    pub flags: DemangleFlags,
     /// What Full leaves out: flags of `llvm-undname`.
-    left_out: u64,
-    is_colored: bool,
+    pub left_out: u64,
+    /// Whether declarations are colored, and names bold, by control sequences.
+    pub is_colored: bool,
 }
 
 /// The most bytes of a line that are held before a piece of the line is written.
@@ -163,8 +167,8 @@ pub fn filter_text_without<R: BufRead, W: Write>(
     filter_lines(demangler, how, input, out)
 }
 
-/// Copies `input` to `out`, as [`filter_text_without`] does, with declarations in cyan, and the name of each symbol bold,
-/// as control sequences set them in a terminal.
+/// Copies `input` to `out`, as [`filter_text_without`] does, with declarations in cyan, and the name of each symbol
+/// bold, as control sequences set them in a terminal.
 ///
 /// # Errors
 ///
@@ -271,6 +275,102 @@ fn filter_lines<R: BufRead, W: Write>(
     }
 }
 
+/// Copies `input` to `out` with each symbol in it replaced by its declaration, all lines that `input` shows at once.
+///
+/// Writes the text of all whole lines that `input` has shown before it polls `input` again, and holds only the bytes of
+/// the next line then. A line of more than 65,536 bytes is written in pieces, so that a line of any length takes no
+/// more memory.
+///
+/// # Limits
+///
+/// Those of [`filter_text`] on a symbol and its declaration.
+///
+/// # Errors
+///
+/// Returns the first fault, as [`filter_text`] does.
+pub fn filter_blocks<R: BufRead, W: Write>(
+    demangler: &mut Demangler,
+    how: How,
+    input: &mut Watched<R>,
+    out: &mut Watched<W>,
+) -> Result<(), Fault>
+    ensures text { (taken text : List ℕ) × Consumes (R.remaining input.old.stream) (R.remaining input.new.stream) taken
+        × Appends (W.contents out.old.stream) (W.contents out.new.stream) text
+        × WritesFilteredBlocks result (chosen how) taken text }
+    ensures end { OnOk result (OnSome (R.remaining input.old.stream) (IsAtEnd (R.remaining input.new.stream))) }
+    ensures sets_failed { SetsFailureFlag result (failure_flag input.old input.new) (failure_flag out.old out.new)
+        no_stream }
+{
+    let alloc = demangler.alloc();
+    let mut text = Vec::new(alloc);
+    let mut block = Vec::new(alloc);
+    let mut scan = WordState::new(b'\n');
+    let mut polls = Polls::none();
+    'blocks: loop {
+        let from = block.len();
+        if !read_block(input, &mut polls, &mut block)? {
+            return write_rest(demangler, how, &mut text, &block, scan, out);
+        }
+        let end = lines_len(&block, from);
+        if end == 0 {
+            write_decided(demangler, how, &mut text, &mut block, &mut scan, out)?;
+        } else {
+            write_lines(demangler, how, &mut text, &block[..end], scan, out)?;
+            drop_front(&mut block, end);
+            scan = WordState::new(b'\n');
+        }
+    }
+}
+
+/// Writes the filtered text of whole lines: of all at once or, if memory doesn't suffice for it, line by line.
+fn write_lines<W: Write>(
+    demangler: &mut Demangler,
+    how: How,
+    text: &mut Vec<u8>,
+    lines: &[u8],
+    scan: WordState,
+    out: &mut Watched<W>,
+) -> Result<(), Fault>
+    ensures text { (written : List ℕ) × Appends (W.contents out.old.stream) (W.contents out.new.stream) written
+        × WritesLines result (chosen how) scan lines.now written }
+    ensures sets_failed { SetsFailureFlag result no_stream (failure_flag out.old out.new) no_stream }
+{
+    match write_rest(demangler, how, text, lines, scan, out) {
+        Ok(()) => Ok(()),
+        Err(Fault::Memory) => write_each_line(demangler, how, text, lines, scan, out),
+        Err(fault) => Err(fault),
+    }
+}
+
+/// Writes the filtered text of whole lines, line by line.
+#[cold]
+fn write_each_line<W: Write>(
+    demangler: &mut Demangler,
+    how: How,
+    text: &mut Vec<u8>,
+    lines: &[u8],
+    mut scan: WordState,
+    out: &mut Watched<W>,
+) -> Result<(), Fault>
+    ensures text { (written : List ℕ) × Appends (W.contents out.old.stream) (W.contents out.new.stream) written
+        × WritesLines result (chosen how) scan lines.now written }
+    ensures sets_failed { SetsFailureFlag result no_stream (failure_flag out.old out.new) no_stream }
+{
+    let mut left = lines;
+    'lines: loop {
+        match line_end(left) {
+            (end, Taken::Line) => {
+                write_rest(demangler, how, text, &left[..end], scan, out)?;
+                scan = WordState::new(b'\n');
+                left = &left[end..];
+            }
+            (_, Taken::Part | Taken::End) => {
+                return write_rest(demangler, how, text, left, scan, out);
+            }
+        }
+    }
+}
+
 /// Writes the decided bytes of a line whose end was not read, if more bytes of it are held than [`MAX_HELD`], and
 /// leaves the other bytes in `piece`.
 fn write_decided<W: Write>(
@@ -285,6 +385,7 @@ fn write_decided<W: Write>(
         × MatchResult result (λ _. IsDecidedText (chosen how) scan.old piece.old.items written scan.new
         piece.new.items)
         (λ fault. WritesPart fault (IsDecidedTextOf (chosen how) scan.old piece.old.items) written) }
+    ensures unended { IfOk result (λ _. IsWithoutEnd piece.old.items → IsWithoutEnd piece.new.items) }
     ensures sets_failed { SetsFailureFlag result no_stream (failure_flag out.old out.new) no_stream }
 {
     if piece.len() <= MAX_HELD {
@@ -668,8 +769,8 @@ fn match_symbol<A: Allocator + Copy>(
     }
 }
 
-/// Shows the symbol that `input` begins with as the demangler's text, and returns the number of bytes that were read for
-/// it. Returns `None` if there is no symbol, or one that exceeds a limit; the text is unspecified then.
+/// Shows the symbol that `input` begins with as the demangler's text, and returns the number of bytes that were read
+/// for it. Returns `None` if there is no symbol, or one that exceeds a limit; the text is unspecified then.
 fn demangle_candidate<A: Allocator + Copy>(
     demangler: &mut Demangler<A>,
     how: How,

@@ -1,1 +1,2 @@
+pub mod InputRun
 pub mod Prints

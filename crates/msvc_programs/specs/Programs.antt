@@ -1,5 +1,5 @@
 -- What the program `undname` prints, and how it ends.
-use Rattle.std.specs.Prelude.{ℕ, List, [], ◌∷◌, ◌++◌, ◌≡◌, ◌≢◌, ◌⊎◌, Bool, Result, Ok, Err, MatchResult, codes}
+use Rattle.std.specs.Prelude.{ℕ, List, [], ◌∷◌, ◌++◌, ◌≡◌, ◌≢◌, ◌⊎◌, Bool, Result, Ok, Err, MatchResult}
 use Rattle.msvc_streams.specs.Faults.{FailureFlag, IsSet, Stays}
 use Rattle.msvc_streams.specs.Runs.{IsLines, IsWithoutEnd}
 use Rattle.msvc_streams.specs.declared.watched.Fault.{Fault}
@@ -35,7 +35,8 @@ PrintsLines result P taken text = MatchResult result (λ _. P taken text) (λ fa
 abbrev pub PrintsSymbols : {A : Type 0} → Result A Fault → (P : List ℕ → List ℕ → Type 0) → List (List ℕ) → List ℕ
     → Type 0
 PrintsSymbols result P symbols text =
-    MatchResult result (λ _. IsSymbolsText P symbols text) (λ fault. Leaves (List ℕ) fault (IsSymbolsText P) symbols text)
+    MatchResult result (λ _. IsSymbolsText P symbols text)
+    (λ fault. Leaves (List ℕ) fault (IsSymbolsText P) symbols text)
 
 -- What is printed for the symbols among the words or, without symbols, for the bytes that were taken, where T states
 -- what the text of bytes is, and P what that of one symbol is.
@@ -62,17 +63,6 @@ SetsFlagOf Memory reader out err = Stays reader × Stays out
 abbrev pub SetsFlags : {A : Type 0} → Result A Fault → (reader out err : FailureFlag) → Type 0
 SetsFlags result reader out err =
     MatchResult result (λ _. Stays reader × Stays out × Stays err) (λ fault. SetsFlagOf fault reader out err)
-
--- the line that reports a fault
-abbrev pub fault_line : Fault → List ℕ
-fault_line Read = codes "undname: read failed" ++ 10 ∷ []
-fault_line Write = codes "undname: write failed" ++ 10 ∷ []
-fault_line Memory = codes "undname: out of memory" ++ 10 ∷ []
-
--- what is printed to standard error after all reports: nothing, or the line of a fault, if it can be written
-abbrev pub PrintsFault : {A : Type 0} → Result A Fault → List ℕ → Type 0
-PrintsFault result text =
-    MatchResult result (λ _. text ≡ []) (λ fault. (more : List ℕ) × (fault_line fault ≡ text ++ more))
 
 -- the exit status
 abbrev pub status_of : {A : Type 0} → Result A Fault → ℕ

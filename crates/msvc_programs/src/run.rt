@@ -1,17 +1,19 @@
 //! The run of the program `undname` over its words and streams.
 
-ghost use Rattle.std.specs.Prelude.{◌≡◌, ◌≢◌, ◌++◌, [], ℕ, List, IfErr, OnOk, OnSome, map, string_bytes};
+ghost use Rattle.std.specs.Prelude.{◌≡◌, ◌≢◌, ◌++◌, [], ℕ, List, IfErr, OnOk, OnSome, codes, map};
+ghost use Rattle.std.specs.Prelude.{string_bytes};
 ghost use Rattle.std.specs.Prelude.{Result as Outcome, false, true};
 ghost use Rattle.std.specs.Io.KnownBytes.{Appends, Consumes, IsAtEnd};
 ghost use Rattle.msvc_streams.specs.Faults.{failure_flag, no_stream};
 ghost use Rattle.msvc_streams.specs.Runs.{Writes};
 ghost use Rattle.msvc_lines.specs.Arguments.{is_verbose, symbols_of};
-ghost use Rattle.msvc_programs.specs.Programs.{PrintsAnswers, PrintsFault, PrintsLines, PrintsReports, SetsFlags};
+ghost use Rattle.msvc_programs.specs.Faults.{PrintsFault};
+ghost use Rattle.msvc_programs.specs.Programs.{PrintsAnswers, PrintsLines, PrintsReports, SetsFlags, status_of};
 ghost use Rattle.msvc_programs.specs.Programs as spec;
-ghost use Rattle.msvc_programs.specs.Programs.{fault_line, status_of};
 ghost use Rattle.msvc_lines.specs.Answers.{IsFilterText};
 ghost use Rattle.msvc_lines.specs.Reports.{AreReports};
 
+use crate::faults::report_fault;
 use msvc_lines::undname_run;
 use msvc_streams::{Fault, Polls, Watched, drop_front, lines_len, read_block, write_all};
 use std::alloc::Global;
@@ -40,7 +42,7 @@ pub fn undname<R: BufRead, W: Write, E: Write>(
         × ((taken text line : List ℕ) × Consumes (R.remaining input.old.stream) (R.remaining input.new.stream) taken
         × Appends (E.contents err.old.stream) (E.contents err.new.stream) (text ++ line)
         × PrintsReports done (is_verbose (map string_bytes words.now)) (symbols_of (map string_bytes words.now)) taken
-        text × PrintsFault done line)
+        text × PrintsFault (codes "undname") done line)
         × (symbols_of (map string_bytes words.now) ≡ []
         → OnOk done (OnSome (R.remaining input.old.stream) (IsAtEnd (R.remaining input.new.stream))))
         × SetsFlags done (failure_flag input.old input.new) (failure_flag out.old out.new)
@@ -50,24 +52,10 @@ pub fn undname<R: BufRead, W: Write, E: Write>(
     match done {
         Ok(()) => 0,
         Err(fault) => {
-            report_fault(fault, err);
+            report_fault("undname", fault, err);
             1
         }
     }
-}
-
-/// Writes the line of a fault, if it can be written.
-fn report_fault<E: Write>(fault: Fault, err: &mut Watched<E>)
-    ensures line { (text more : List ℕ) × Appends (E.contents err.old.stream) (E.contents err.new.stream) text
-        × (fault_line fault ≡ text ++ more) }
-    ensures failed { err.old.failed ≡ true → err.new.failed ≡ true }
-{
-    let line = match fault {
-        Fault::Read => b"undname: read failed\n".as_slice(),
-        Fault::Write => b"undname: write failed\n".as_slice(),
-        Fault::Memory => b"undname: out of memory\n".as_slice(),
-    };
-    let _ = write_all(err, line);
 }
 
 /// Answers the symbols among the words or, if there are none, the lines of `input`.

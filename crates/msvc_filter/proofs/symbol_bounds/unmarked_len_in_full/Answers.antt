@@ -1,4 +1,4 @@
-use Rattle.std.proofs.Common.{◌≡◌, ◌≤◌, ◌<◌, ◌+◌, ◌∙◌, arith, false, length, sym}
+use Rattle.std.proofs.Common.{◌≡◌, ◌<◌, ◌∙◌, arith, false, length, sym}
 use Rattle.std.proofs.lemmas.List.Elements.{All-more}
 use Rattle.msvc_symbol.specs.declared.grammar.Grammar.TheVariants.{Full}
 use Rattle.msvc_filter.specs.SymbolBounds.{is_mark}
