@@ -60,11 +60,20 @@ pub fn msvcfilt<R: BufRead + Drop, H: Host<R>, W: Write, E: Write>(
         × SetsFailureFlag done no_stream (failure_flag out.old out.new) no_stream }
 {
     let mut demangler = Demangler::new(alloc);
-    let done = if as_symbols {
-        filter_symbols(&mut demangler, how, arguments, out)
-    } else {
-        filter_inputs(&mut demangler, how, arguments, host, out)
-    };
+    let done = filter_arguments(&mut demangler, how, arguments, as_symbols, host, out);
+    end(done, host, err)
+}
+
+/// Returns the exit status of a run that ended so, after a report if a fault ended it.
+fn end<R: BufRead, H: Host<R>, E: Write>(
+    done: Result<bool, Fault>,
+    host: &H,
+    err: &mut Watched<E>,
+) -> u8
+    ensures status { result ≡ status_of_inputs done }
+    ensures line { (line : List ℕ) × Appends (E.contents err.old.stream) (E.contents err.new.stream) line
+        × PrintsFault (codes "msvcfilt") done line }
+{
     match done {
         Ok(true) => 0,
         Ok(false) => 1,
@@ -74,6 +83,26 @@ pub fn msvcfilt<R: BufRead + Drop, H: Host<R>, W: Write, E: Write>(
             }
             1
         }
+    }
+}
+
+/// Filters the inputs that the arguments name, or the arguments as symbols. Returns whether all was read to its end.
+fn filter_arguments<R: BufRead + Drop, H: Host<R>, W: Write>(
+    demangler: &mut Demangler,
+    how: How,
+    arguments: &[&str],
+    as_symbols: bool,
+    host: &H,
+    out: &mut Watched<W>,
+) -> Result<bool, Fault>
+    ensures text { (text : List ℕ) × Appends (W.contents out.old.stream) (W.contents out.new.stream) text
+        × WritesArguments (chosen how) (H.bytes host.now) as_symbols (map text_of arguments.now) result text }
+    ensures sets_failed { SetsFailureFlag result no_stream (failure_flag out.old out.new) no_stream }
+{
+    if as_symbols {
+        filter_symbols(demangler, how, arguments, out)
+    } else {
+        filter_inputs(demangler, how, arguments, host, out)
     }
 }
 
